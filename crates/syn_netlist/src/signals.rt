@@ -1,0 +1,163 @@
+//! Lists of numbers without repeats, by marks.
+
+ghost use Rattle.std.specs.Prelude.{◌≡◌, ◌++◌, ◌+◌, ◌<◌, [], ◌∷◌, IfOk, OnOk, flat_map, length, map, true, false, slice_set, slice_index_or, if◌then◌else◌};
+ghost use Rattle.syn_netlist.specs.Kept.{latches_below};
+ghost use Rattle.syn_netlist.specs.Marks.{AreMarks, first_numbers, observed_numbers, output_number, read_numbers, source_numbers, without_numbers, has_number};
+ghost use Rattle.syn_netlist.specs.Numbers.{all_below};
+
+use crate::Latch;
+use std::alloc::{AllocError, Global};
+
+/// The numbers of the sources: inputs, clocks that are no inputs, latch outputs. All are below the count.
+pub(crate) fn source_numbers(
+    alloc: Global,
+    count: u32,
+    inputs: &[u32],
+    clocks: &[u32],
+    latches: &[Latch],
+) -> Result<Vec<u32>, AllocError>
+    requires inputs { all_below count inputs.now ≡ true }
+    requires clocks { all_below count clocks.now ≡ true }
+    ensures { IfOk result (λ v. v.items ≡ source_numbers inputs.now clocks.now latches.now) }
+{
+    let clocks = without(alloc, count, inputs, clocks)?;
+    let outputs = latch_outputs(alloc, latches)?;
+    let mut all = inputs.to_vec(alloc)?;
+    all.extend_from_slice(&clocks)?;
+    all.extend_from_slice(&outputs)?;
+    Ok(all)
+}
+
+/// The numbers of the observed signals: outputs, then what each latch reads, each once. All are below the count.
+pub(crate) fn observed_numbers(
+    alloc: Global,
+    count: u32,
+    outputs: &[u32],
+    latches: &[Latch],
+) -> Result<Vec<u32>, AllocError>
+    requires outputs { all_below count outputs.now ≡ true }
+    requires latches { latches_below count latches.now ≡ true }
+    ensures { IfOk result (λ v. v.items ≡ observed_numbers outputs.now latches.now) }
+{
+    let read = latch_reads(alloc, latches)?;
+    let mut all = outputs.to_vec(alloc)?;
+    all.extend_from_slice(&read)?;
+    firsts(alloc, count, &all)
+}
+
+/// Marks for so many numbers, none of them set.
+pub(crate) fn no_marks(alloc: Global, count: u32) -> Result<Vec<bool>, AllocError>
+    ensures length { IfOk result (λ v. length v.items ≡ count) }
+    ensures marks { IfOk result (λ v. AreMarks [] v.items) }
+{
+    vec![in alloc; false; count as usize]
+}
+
+/// Marks these numbers alone, in marks of which none is set.
+pub(crate) fn mark(marks: &mut [bool], numbers: &[u32])
+    requires below { all_below (length marks.old) numbers.now ≡ true }
+    requires none { AreMarks [] marks.old }
+    ensures { AreMarks numbers.now marks.new }
+{
+    for n in numbers {
+        marks[*n as usize] = true;
+    }
+}
+
+/// The numbers that are not among the others, in their order. All are below the count.
+fn without(
+    alloc: Global,
+    count: u32,
+    others: &[u32],
+    numbers: &[u32],
+) -> Result<Vec<u32>, AllocError>
+    requires others { all_below count others.now ≡ true }
+    requires numbers { all_below count numbers.now ≡ true }
+    ensures { IfOk result (λ v. v.items ≡ without_numbers others.now numbers.now) }
+{
+    let mut marks = no_marks(alloc, count)?;
+    mark(marks.as_mut_slice(), others);
+    unmarked(alloc, others, marks.as_slice(), numbers)
+}
+
+// The numbers that are not marked; the others are.
+fn unmarked(
+    alloc: Global,
+    others: &[u32],
+    marks: &[bool],
+    numbers: &[u32],
+) -> Result<Vec<u32>, AllocError>
+    requires marks { AreMarks others.now marks.now }
+    requires numbers { all_below (length marks.now) numbers.now ≡ true }
+    ensures { IfOk result (λ v. v.items ≡ without_numbers others.now numbers.now) }
+{
+    let _ = others;
+    let mut found = Vec::new(alloc);
+    for n in numbers {
+        if !marks[*n as usize] {
+            found.push(*n)?;
+        }
+    }
+    Ok(found)
+}
+
+/// Each number once, at its first place. All are below the count.
+fn firsts(alloc: Global, count: u32, numbers: &[u32]) -> Result<Vec<u32>, AllocError>
+    requires { all_below count numbers.now ≡ true }
+    ensures { IfOk result (λ v. v.items ≡ first_numbers numbers.now) }
+{
+    let mut marks = no_marks(alloc, count)?;
+    let places = marks.as_mut_slice();
+    let mut found = Vec::new(alloc);
+    for n in numbers {
+        add_first(places, &mut found, *n)?;
+    }
+    Ok(found)
+}
+
+// Appends a number, and marks it, where it is not marked.
+fn add_first(marks: &mut [bool], found: &mut Vec<u32>, n: u32) -> Result<(), AllocError>
+    requires below { n < length marks.old }
+    requires marks { AreMarks found.old.items marks.old }
+    ensures found { OnOk result (found.new.items ≡ (if has_number found.old.items n then found.old.items else (found.old.items ++ n ∷ []))) }
+    ensures marks { OnOk result (AreMarks found.new.items marks.new) }
+{
+    if !marks[n as usize] {
+        found.push(n)?;
+        marks[n as usize] = true;
+    }
+    Ok(())
+}
+
+/// The outputs of latches.
+fn latch_outputs(alloc: Global, latches: &[Latch]) -> Result<Vec<u32>, AllocError>
+    ensures { IfOk result (λ v. v.items ≡ map output_number latches.now) }
+{
+    latches.iter().map(|latch| latch.output).collect(alloc)
+}
+
+/// What latches read.
+pub(crate) fn latch_reads(alloc: Global, latches: &[Latch]) -> Result<Vec<u32>, AllocError>
+    ensures { IfOk result (λ v. v.items ≡ flat_map read_numbers latches.now) }
+{
+    let mut read = Vec::new(alloc);
+    for latch in latches {
+        push_reads(&mut read, *latch)?;
+    }
+    Ok(read)
+}
+
+// Appends what a latch reads.
+fn push_reads(read: &mut Vec<u32>, latch: Latch) -> Result<(), AllocError>
+    ensures { OnOk result (read.new.items ≡ read.old.items ++ read_numbers latch) }
+{
+    read.push(latch.feed)?;
+    match latch.kind {
+        Some((_, Some(control))) => {
+            read.push(control)?;
+            Ok(())
+        }
+        Some((_, None)) => Ok(()),
+        None => Ok(()),
+    }
+}
