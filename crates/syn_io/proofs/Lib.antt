@@ -1,0 +1,3 @@
+pub mod Replacing
+pub mod Portions
+pub mod LineParts
