@@ -1,5 +1,6 @@
 -- The netlist that a graph is written as: a table for each AND, then one for each observed signal that is no source.
-use Rattle.std.specs.Prelude.{◌≡◌, ℕ, zero, suc, ◌+◌, ◌-◌, ◌%◌, ◌==◌, not, if◌then◌else◌, true, List, [], ◌∷◌, ◌++◌, length, map, filter, take, drop, decimal}
+use Rattle.std.specs.Prelude.{◌≡◌, ℕ, zero, suc, ◌+◌, ◌-◌, ◌%◌, ◌==◌, not, if◌then◌else◌, true, List, [], ◌∷◌, ◌++◌, length, map, filter, take, drop}
+use Rattle.std.specs.Int.Digits.{digits_of}
 use Rattle.syn_rows.specs.declared.Lit.{Lit}
 use Rattle.syn_rows.specs.declared.Row.{Row}
 use Rattle.syn_rows.specs.declared.Row.TheVariants.{Free, Source, And, Alias}
@@ -11,18 +12,26 @@ use Rattle.syn_netlist.specs.Order.{Ordered}
 use Rattle.syn_shapes.specs.GraphShape.{GraphShape, rows_of, observed_of, and_tables}
 use Rattle.syn_shapes.specs.Graphs.{IsGraph}
 
--- the word of an inner node: `n` and a number in decimal digits
+-- the character of a digit
+abbrev pub digit_char : ℕ → ℕ
+digit_char d = 48 + d
+
+-- the word of an inner node: `n` and a number in decimal digits, of any length
 abbrev pub inner_word : ℕ → List ℕ
-inner_word k = 110 ∷ decimal k
+inner_word k = 110 ∷ map digit_char (digits_of 10 k)
 
 -- so many numbers from the first on
 abbrev pub numbers_from : ℕ → ℕ → List ℕ
 numbers_from first zero = []
 numbers_from first (suc count) = first ∷ numbers_from (first + 1) count
 
+-- those of the first so many of n1, n2, .. that are not taken
+abbrev pub free_names : List (List ℕ) → ℕ → List (List ℕ)
+free_names taken count = filter (λ w. not (has taken w)) (map inner_word (numbers_from 1 count))
+
 -- the first so many of n1, n2, .. that are not taken
 abbrev pub inner_names : List (List ℕ) → ℕ → List (List ℕ)
-inner_names taken count = take count (filter (λ w. not (has taken w)) (map inner_word (numbers_from 1 (count + length taken))))
+inner_names taken count = take count (free_names taken (count + length taken))
 
 -- the rows behind node 0 and the sources
 abbrev pub gates_of : Frame → List Row → List Row
@@ -47,6 +56,7 @@ gate_table names Source word = []
 gate_table names (And a b) word = record { inputs = lit_name names a ∷ lit_name names b ∷ []; output = word; rows = (sign_of a ∷ sign_of b ∷ []) ∷ []; on = true } ∷ []
 gate_table names (Alias a) word = []
 
+-- the tables of rows, with these names in order
 abbrev pub gate_tables : List (List ℕ) → List Row → List (List ℕ) → List Table
 gate_tables names [] words = []
 gate_tables names (row ∷ rows) [] = []
@@ -71,7 +81,7 @@ network frame rows lits =
     let names = sources frame ++ inner in
     record { frame = frame; tables = gate_tables names (gates_of frame rows) inner ++ ends_from (sources frame) names (observed frame) lits }
 
--- Where the sources are distinct and the clocks are, the netlist of a graph is ordered and of graph shape, spells the graph's rows and literals, and has a two-input table for each AND.
+-- The netlist of a graph is ordered and of graph shape, spells the graph's rows and literals, and has a two-input table for each AND.
 pub record NetworkSpells (frame : Frame) (rows : List Row) (lits : List Lit) : Type 0 where
   pub ordered : Ordered (network frame rows lits)
   pub shape : GraphShape (network frame rows lits)
@@ -79,5 +89,6 @@ pub record NetworkSpells (frame : Frame) (rows : List Row) (lits : List Lit) : T
   pub same_lits : observed_of (network frame rows lits) ≡ lits
   pub ands : length (and_tables (network frame rows lits)) ≡ length (gates_of frame rows)
 
+-- This holds of every graph of a frame whose clocks are distinct and whose sources are.
 abbrev pub NetworkOfGraph : Type 0
 NetworkOfGraph = (frame : Frame) (rows : List Row) (lits : List Lit) → distinct frame.clocks ≡ true → distinct (sources frame) ≡ true → IsGraph frame rows lits → NetworkSpells frame rows lits
