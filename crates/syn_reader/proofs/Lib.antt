@@ -1,0 +1,20 @@
+pub mod Words
+pub mod Latches
+pub mod TableLaws
+pub mod Spelled
+pub mod Fine
+pub mod Faultless
+pub mod Sets
+pub mod CircleLaws
+pub mod Once
+pub mod OneFault
+pub mod Naming
+pub mod FormLaws
+pub mod NumberedTables
+pub mod LineWords
+pub mod SameForm
+pub mod PlainFrames
+pub mod FormFaults
+pub mod FormSpells
+pub mod FormBack
+mod FormCounts
