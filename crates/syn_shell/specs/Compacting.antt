@@ -1,0 +1,53 @@
+-- Rows of which some are dropped: the others move down in their order.
+use Rattle.std.specs.Prelude.{◌≡◌, ℕ, zero, suc, ◌+◌, ◌*◌, ◌%◌, ◌<◌, ◌≤◌, ◌||◌, nat_lt, if◌then◌else◌, Bool, All, List, [], ◌∷◌, ◌++◌, length, map, slice_index}
+use Rattle.syn_rows.specs.declared.Lit.{Lit}
+use Rattle.syn_rows.specs.declared.Row.{Row}
+use Rattle.syn_rows.specs.declared.Row.TheVariants.{Free, Source, And, Alias}
+use Rattle.syn_rows.specs.Rows.{node_of}
+use Rattle.syn_rows.specs.Values.{value_in, rows_function}
+use Rattle.syn_rows.specs.Reach.{Reached}
+use Rattle.syn_shapes.specs.Graphs.{IsHashed, lit_at}
+
+-- node 0 and the sources are kept, and so is each node of the set
+abbrev pub is_kept : ℕ → (ℕ → Bool) → ℕ → Bool
+is_kept count set n = nat_lt n (count + 1) || set n
+
+-- how many nodes below n are kept: where a kept node n moves to
+abbrev pub kept_below : (ℕ → Bool) → ℕ → ℕ
+kept_below keep zero = 0
+kept_below keep (suc n) = kept_below keep n + (if keep n then 1 else 0)
+
+-- a literal whose node moves keeps its sign
+abbrev pub moved_lit : (ℕ → ℕ) → Lit → Lit
+moved_lit place l = record { 0 = 2 * place (node_of l) + l.0 % 2 }
+
+abbrev pub moved_row : (ℕ → ℕ) → Row → Row
+moved_row place Free = Free
+moved_row place Source = Source
+moved_row place (And a b) = And (moved_lit place a) (moved_lit place b)
+moved_row place (Alias a) = Alias (moved_lit place a)
+
+-- the kept rows of a list that begins with node n's, moved
+abbrev pub kept_from : (ℕ → Bool) → ℕ → List Row → List Row
+kept_from keep n [] = []
+kept_from keep n (row ∷ rows) = (if keep n then moved_row (kept_below keep) row ∷ [] else []) ++ kept_from keep (n + 1) rows
+
+abbrev pub kept_rows : (ℕ → Bool) → List Row → List Row
+kept_rows keep rows = kept_from keep 0 rows
+
+abbrev pub kept_lits : (ℕ → Bool) → List Lit → List Lit
+kept_lits keep lits = map (moved_lit (kept_below keep)) lits
+
+-- What compaction gives: hashed rows of which every AND is reached, no more of them than before, and literals that have the same values for all values of the sources. A literal of a source stays.
+pub record IsCompaction (count : ℕ) (rows : List Row) (lits : List Lit) (new_rows : List Row) (new_lits : List Lit) : Type 0 where
+  pub hashed : IsHashed count new_rows
+  pub same_count : length new_lits ≡ length lits
+  pub within : All (λ l. node_of l < length new_rows) new_lits
+  pub reached : (n : ℕ) → count < n → n < length new_rows → Reached new_rows new_lits n
+  pub fewer : length new_rows ≤ length rows
+  pub same_function : (bits : List Bool) → rows_function new_rows new_lits bits ≡ rows_function rows lits bits
+  pub sources_stay : (i : ℕ) (l : Lit) → i < length lits → node_of l < count + 1 → lit_at lits i ≡ l → lit_at new_lits i ≡ l
+
+-- the list has the places of its first nodes
+abbrev pub IsPlaces : List ℕ → (ℕ → ℕ) → Type 0
+IsPlaces places place = (n : ℕ) → n < length places → slice_index places n ≡ place n

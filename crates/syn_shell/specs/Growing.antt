@@ -1,0 +1,22 @@
+-- Rows that grow: what stays of them, and the values of literals by them.
+use Rattle.std.specs.Prelude.{◌≡◌, ℕ, ◌&&◌, ◌||◌, Bool, false, List, ◌++◌}
+use Rattle.syn_rows.specs.declared.Lit.{Lit}
+use Rattle.syn_rows.specs.declared.Row.{Row}
+use Rattle.syn_rows.specs.Values.{lit_value, value_in, values_of}
+
+-- the new rows begin with the old ones
+pub record Extends (old new : List Row) : Type 0 where
+  pub more : List Row
+  pub is : new ≡ old ++ more
+
+-- the value of a literal by rows, for given values of the open rows
+abbrev pub value_by : (ℕ → Bool) → List Row → Lit → Bool
+value_by given rows l = lit_value (value_in (values_of given rows)) l
+
+-- for all given values, node 0's false, the literal's value by the new rows is the AND of the two literals' by the old ones
+abbrev pub IsAnd : List Row → Lit → Lit → List Row → Lit → Type 0
+IsAnd old a b new l = (given : ℕ → Bool) → given 0 ≡ false → value_by given new l ≡ (value_by given old a && value_by given old b)
+
+-- the same of the OR
+abbrev pub IsOr : List Row → Lit → Lit → List Row → Lit → Type 0
+IsOr old a b new l = (given : ℕ → Bool) → given 0 ≡ false → value_by given new l ≡ (value_by given old a || value_by given old b)

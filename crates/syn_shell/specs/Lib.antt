@@ -1,0 +1,11 @@
+pub mod Growing
+pub mod Covering
+pub mod Naming
+pub mod Numbered
+pub mod Compacting
+pub mod Graphs
+pub mod Outside
+pub mod Lines
+pub mod Steps
+pub mod Runs
+pub mod Stopping

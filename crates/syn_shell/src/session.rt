@@ -1,0 +1,156 @@
+//! The session: the network, and the commands that make, show and write it.
+
+ghost use Rattle.std.specs.Prelude.{◌≡◌, ◌⊎◌, ℕ, ◌+◌, ◌≤◌, ◌<◌, ◌^◌, List, length, IfOk, IfErr, IfSome, IsErrOf, OnOk, Ok, Err, Some, None, true};
+ghost use Rattle.syn_io.specs.Outside.{file_at, Rose};
+ghost use Rattle.syn_netlist.specs.Lists.{sources, observed};
+ghost use Rattle.syn_netlist.specs.Costs.{cost_of};
+ghost use Rattle.syn_netlist.specs.Views.{netlist_in};
+ghost use Rattle.syn_netlist.specs.Frames.{frame_in};
+ghost use Rattle.syn_netlist.specs.Meaning.{SameMeaning};
+ghost use Rattle.syn_netlist.specs.Order.{Ordered, observes_defined};
+ghost use Rattle.syn_reader.specs.FirstForm.{IsFirstForm};
+ghost use Rattle.syn_reader.specs.Reading.{Reads};
+ghost use Rattle.syn_reader.specs.Limits.{Within};
+ghost use Rattle.syn_shapes.specs.GraphShape.{GraphShape, and_tables};
+ghost use Rattle.syn_shapes.specs.Printed.{printed};
+ghost use Rattle.syn_shell.specs.Graphs.{network_in, network_of};
+ghost use Rattle.syn_shell.specs.Outside.{disk, FileIs, FilesStand, OthersStand, screen};
+ghost use Rattle.syn_shell.specs.Steps.{file_limit, IsReadAs, IsUnbuilt, ReadRefused, SessionStep, WriteRefused, ParseRefused, IsGraphOf};
+
+use crate::commands::Command;
+use crate::graph::Graph;
+use crate::network::graph_of;
+use crate::lines::print_stats;
+use crate::refusal::Refusal;
+use crate::spelling::netlist_of;
+use std::alloc::{AllocError, Global};
+use syn_io::{Files, GetFault, PutFault, Sink};
+use syn_netlist::Netlist;
+use syn_reader::ReadFault;
+
+const FILE_LIMIT: u64 = 16_777_216;
+
+/// What a run keeps from command to command: the network, as a graph.
+#[derive(Debug, Drop)]
+pub(crate) struct Session {
+    network: Option<Graph>,
+}
+
+// The bytes of a file.
+fn get<F: Files>(alloc: Global, name: &str, files: &mut F) -> Result<Vec<u8>, Refusal>
+    ensures file { IfOk result (λ bytes. FileIs name.now (disk (F.told files.old) (F.faults files.old)) bytes.items) }
+    ensures short { IfOk result (λ bytes. length bytes.items ≤ file_limit) }
+    ensures refused { IfErr result (ReadRefused name.now (disk (F.told files.old) (F.faults files.old)) (disk (F.told files.new) (F.faults files.new))) }
+    ensures stand { FilesStand (disk (F.told files.old) (F.faults files.old)) (disk (F.told files.new) (F.faults files.new)) }
+{
+    match files.get(alloc, name, FILE_LIMIT) {
+        Ok(bytes) => Ok(bytes),
+        Err(GetFault::Failed) => Err(Refusal::GetFailed),
+        Err(GetFault::TooLong) => Err(Refusal::FileTooLong),
+        Err(GetFault::NoMemory) => Err(Refusal::NoMemory),
+    }
+}
+
+// The netlist that bytes of the first form spell.
+fn parse(alloc: Global, bytes: &[u8]) -> Result<Netlist, Refusal>
+    requires { length bytes.now ≤ file_limit }
+    ensures first_form { IfOk result (λ n. IsFirstForm bytes.now) }
+    ensures reads { IfOk result (λ n. Reads bytes.now (netlist_in n)) }
+    ensures within { IfOk result (λ n. Within (netlist_in n)) }
+    ensures ordered { IfOk result (λ n. Ordered (netlist_in n)) }
+    ensures observes { IfOk result (λ n. observes_defined (netlist_in n) ≡ true) }
+    ensures names { IfOk result (λ n. length n.frame.names < 2 ^ 31) }
+    ensures refused { IfErr result (ParseRefused bytes.now) }
+{
+    match syn_reader::read(alloc, bytes) {
+        Ok(netlist) => Ok(netlist),
+        Err(ReadFault::Unbuilt) => Err(Refusal::Unbuilt),
+        Err(ReadFault::NoMemory) => Err(Refusal::NoMemory),
+    }
+}
+
+// The graph of a file's netlist.
+fn read<F: Files>(alloc: Global, name: &str, files: &mut F) -> Result<Graph, Refusal>
+    ensures read { IfOk result (λ graph. IsReadAs name.now (disk (F.told files.old) (F.faults files.old)) (network_of graph)) }
+    ensures refused { IfErr result (ReadRefused name.now (disk (F.told files.old) (F.faults files.old)) (disk (F.told files.new) (F.faults files.new))) }
+    ensures stand { FilesStand (disk (F.told files.old) (F.faults files.old)) (disk (F.told files.new) (F.faults files.new)) }
+{
+    let bytes = get(alloc, name, files)?;
+    let netlist = parse(alloc, bytes.as_slice())?;
+    let graph = graph_of(alloc, netlist)?;
+    Ok(graph)
+}
+
+// Writes bytes to a file.
+fn put<F: Files>(alloc: Global, name: &str, bytes: &[u8], files: &mut F) -> Result<(), Refusal>
+    ensures file { OnOk result (FileIs name.now (disk (F.told files.new) (F.faults files.new)) bytes.now) }
+    ensures refused { IfErr result (λ refusal. (refusal ≡ Refusal.NoMemory) ⊎ ((refusal ≡ Refusal.PutFailed) × Rose (F.faults files.old) (F.faults files.new))) }
+    ensures others { OthersStand name.now (disk (F.told files.old) (F.faults files.old)) (disk (F.told files.new) (F.faults files.new)) }
+{
+    match files.put(alloc, name, bytes) {
+        Ok(()) => Ok(()),
+        Err(PutFault::Failed) => Err(Refusal::PutFailed),
+        Err(PutFault::NoMemory) => Err(Refusal::NoMemory),
+    }
+}
+
+// The bytes of a graph's netlist.
+fn printed(alloc: Global, graph: &Graph) -> Result<Vec<u8>, AllocError>
+    ensures { IfOk result (λ bytes. bytes.items ≡ printed (network_of graph.now)) }
+{
+    let netlist = netlist_of(alloc, &graph.frame, graph.rows.as_slice(), graph.observed.as_slice())?;
+    let bytes = syn_shapes::print(alloc, &netlist)?;
+    Ok(bytes)
+}
+
+// Writes the netlist of a graph to a file.
+fn write<F: Files>(
+    alloc: Global,
+    graph: &Graph,
+    name: &str,
+    files: &mut F,
+) -> Result<(), Refusal>
+    ensures file { OnOk result (FileIs name.now (disk (F.told files.new) (F.faults files.new)) (printed (network_of graph.now))) }
+    ensures refused { IfErr result (WriteRefused (Some (network_of graph.now)) name.now (disk (F.told files.old) (F.faults files.old)) (disk (F.told files.new) (F.faults files.new))) }
+    ensures others { OthersStand name.now (disk (F.told files.old) (F.faults files.old)) (disk (F.told files.new) (F.faults files.new)) }
+{
+    let bytes = printed(alloc, graph)?;
+    put(alloc, name, bytes.as_slice(), files)
+}
+
+impl Session {
+    /// No network yet.
+    pub(crate) fn new() -> Session
+        ensures { network_in result.network ≡ None }
+    {
+        Session { network: None }
+    }
+
+    /// Does one command. Refused, it leaves the network.
+    pub(crate) fn step<F: Files, O: Sink>(
+        &mut self,
+        alloc: Global,
+        command: &Command,
+        files: &mut F,
+        out: &mut O,
+    ) -> Result<(), Refusal>
+        ensures { SessionStep command.now (network_in self.old.network) (disk (F.told files.old) (F.faults files.old)) (screen (O.told out.old) (O.faults out.old))
+            result (network_in self.new.network) (disk (F.told files.new) (F.faults files.new)) (screen (O.told out.new) (O.faults out.new)) }
+    {
+        match command {
+            Command::Read(name) => {
+                let graph = read(alloc, name.as_str(), files)?;
+                self.network = Some(graph);
+                Ok(())
+            }
+            Command::PrintStats => match &self.network {
+                None => Err(Refusal::NoNetwork),
+                Some(graph) => print_stats(alloc, graph, out),
+            },
+            Command::Write(name) => match &self.network {
+                None => Err(Refusal::NoNetwork),
+                Some(graph) => write(alloc, graph, name.as_str(), files),
+            },
+        }
+    }
+}

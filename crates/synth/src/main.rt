@@ -1,0 +1,39 @@
+//! `synth`, a logic-synthesis shell: runs the script of its words over the system's files and standard output.
+#![tactic(auto)]
+
+use std::alloc::Global;
+use std::env;
+use std::io;
+use std::process::ExitCode;
+use syn_io::{MemLines, RealFiles, RealSink};
+
+const NO_MEMORY: u8 = 8;
+
+// The words of the command line. One that isn't UTF-8 leaves none, which is a faulty command line.
+fn words(rt: &HostRuntime, alloc: Global) -> Result<Vec<String>, u8> {
+    match env::args(rt) {
+        Ok(words) => words.collect(alloc).map_err(|_| NO_MEMORY),
+        Err(error) => match error.kind() {
+            io::ErrorKind::OutOfMemory => Err(NO_MEMORY),
+            _ => Ok(Vec::new(alloc)),
+        },
+    }
+}
+
+fn main(rt: HostRuntime) -> ExitCode {
+    let alloc = rt.alloc();
+    let words = match words(&rt, alloc) {
+        Ok(words) => words,
+        Err(status) => return ExitCode::from(status),
+    };
+    let mut files = RealFiles::new(&rt);
+    let mut lines = MemLines::new(Vec::new(alloc), Vec::new(alloc));
+    let mut out = RealSink::new(&rt);
+    ExitCode::from(syn_shell::run(
+        alloc,
+        words.as_slice(),
+        &mut files,
+        &mut lines,
+        &mut out,
+    ))
+}
