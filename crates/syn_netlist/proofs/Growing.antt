@@ -1,14 +1,16 @@
 -- What stays as names grow: numbers below the count stay below it and keep their words.
-use Rattle.std.proofs.Common.{◌≡◌, ℕ, ◌<◌, ◌≤◌, ◌&&◌, nat_lt, true, List, [], ◌∷◌, ◌++◌, length, map, Option, Some, None, refl, sym, ap, ap₂, ◌∙◌, inl, inr, arith, append_assoc, append-nil, length-append}
+use Rattle.std.proofs.Common.{◌≡◌, ℕ, ◌<◌, ◌≤◌, ◌&&◌, not, nat_lt, Bool, true, List, [], ◌∷◌, ◌++◌, length, map, bytes_eq, Option, Some, None, refl, sym, ap, ap₂, ◌∙◌, inl, inr, arith, append_assoc, append-nil, length-append}
+use Rattle.std.specs.List.{list_all}
 use Rattle.std.proofs.lemmas.Bool.{and_parts, and_from, cases_Bool, cond-true, cond-false, ltb-true, lt-ltb}
 use Rattle.std.proofs.lemmas.Grind.{common_steps}
 use Rattle.syn_netlist.specs.declared.LatchKind.{LatchKind}
 use Rattle.syn_netlist.specs.declared.Latch.{Latch}
 use Rattle.syn_netlist.specs.declared.tables.Table.{Table}
-use Rattle.syn_netlist.specs.Kept.{latch_in, latches_below, latch_numbers, control_number}
+use Rattle.syn_netlist.specs.Kept.{latch_in, latches_below, latch_numbers, control_number, no_nil_control, nil_word}
 use Rattle.syn_netlist.specs.Numbers.{word_at, words_at, with_word, all_below, kind_at, Grows}
 use Rattle.syn_netlist.specs.Tables.{table_in, tables_below}
 use Rattle.syn_netlist.specs.Words.{has}
+use Rattle.syn_netlist.specs.Lists.{control_of}
 use Rattle.syn_netlist.specs.Lists as lists
 
 pub Grows-same : (names : List (List ℕ)) → Grows names names
@@ -99,3 +101,15 @@ tables_below-more m n (t ∷ ts) le h =
     let parts = and_parts (nat_lt t.output m && all_below m t.inputs) (tables_below m ts) h in
     let here = and_parts (nat_lt t.output m) (all_below m t.inputs) parts.0 in
     and_from (nat_lt t.output n && all_below n t.inputs) (tables_below n ts) (and_from (nat_lt t.output n) (all_below n t.inputs) (below-more m n t.output le here.0) (all_below-more m n t.inputs le here.1)) (tables_below-more m n ts le parts.1)
+
+-- the controls by their words
+
+control_words : (names : List (List ℕ)) (kind : Option (LatchKind × Option ℕ)) → list_all (λ i. not (bytes_eq nil_word (word_at names i))) (control_number kind) ≡ list_all (λ w. not (bytes_eq nil_word w)) (control_of (kind_at names kind))
+control_words names None = refl
+control_words names (Some (kind, None)) = refl
+control_words names (Some (kind, Some i)) = refl
+
+-- no control is named `NIL`, said of the latches in words
+pub no_nil_words : (names : List (List ℕ)) (latches : List Latch) → no_nil_control names latches ≡ list_all (λ latch. list_all (λ w. not (bytes_eq nil_word w)) (control_of latch.kind)) (map (latch_in names) latches)
+no_nil_words names [] = refl
+no_nil_words names (l ∷ ls) = ap₂ (λ (a b : Bool). a && b) (control_words names l.kind) (no_nil_words names ls)

@@ -42,7 +42,7 @@ nil_word = 78 ∷ 73 ∷ 76 ∷ []
 abbrev pub no_nil_control : List (List ℕ) → List Latch → Bool
 no_nil_control names latches = list_all (λ latch. list_all (λ i. not (bytes_eq nil_word (word_at names i))) (control_number latch.kind)) latches
 
--- a character of a row: `0`, `1` or `-`
+-- a character of a row: `0`, `1` or `-` (BLIF manual, section .names)
 abbrev pub is_row_character : ℕ → Bool
 is_row_character c = (c == 48) || (c == 49) || (c == 45)
 
@@ -50,10 +50,11 @@ is_row_character c = (c == 48) || (c == 49) || (c == 45)
 abbrev pub row_fits : ℕ → List ℕ → Bool
 row_fits inputs row = (length row == inputs) && list_all is_row_character row
 
+-- each row fits
 abbrev pub rows_fit : ℕ → List (List ℕ) → Bool
 rows_fit inputs rows = list_all (row_fits inputs) rows
 
--- rows that are there may list the on-set or the off-set, no rows list the on-set
+-- rows that are there may list the on-set or the off-set; no rows list the on-set (this project's choice)
 abbrev pub polarity_fits : List (List ℕ) → Bool → Bool
 polarity_fits [] on = on
 polarity_fits (row ∷ rows) on = true

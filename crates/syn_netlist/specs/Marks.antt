@@ -17,6 +17,7 @@ abbrev pub first_numbers : List ℕ → List ℕ
 first_numbers [] = []
 first_numbers (n ∷ ns) = n ∷ without_numbers (n ∷ []) (first_numbers ns)
 
+-- the number of the name that a latch defines
 abbrev pub output_number : Latch → ℕ
 output_number latch = latch.output
 

@@ -5,6 +5,7 @@ use Rattle.syn_netlist.specs.declared.tables.Table.{Table}
 use Rattle.syn_netlist.specs.Lists as lists
 use Rattle.syn_netlist.specs.Numbers.{word_at, words_at, all_below}
 
+-- each number stands for the word at its place in the names
 abbrev pub table_in : List (List ℕ) → Table → lists.Table
 table_in names table = record { inputs = words_at names table.inputs; output = word_at names table.output; rows = table.rows; on = table.on }
 

@@ -9,16 +9,19 @@ use Rattle.syn_netlist.specs.declared.tables.Table.{Table}
 use Rattle.syn_netlist.specs.Marks.{has_number}
 use Rattle.syn_netlist.specs.Numbers.{word_at, all_below}
 
+-- the numbers of what a table reads
 abbrev pub table_inputs : Table → List ℕ
 table_inputs table = table.inputs
 
+-- the number of what a table defines
 abbrev pub table_output : Table → ℕ
 table_output table = table.output
 
--- the inputs and the output of the table with a number
+-- the numbers of what the table with this number reads
 abbrev pub inputs_at : List Table → ℕ → List ℕ
 inputs_at tables t = slice_index_or (map table_inputs tables) t []
 
+-- the number of what the table with this number defines
 abbrev pub output_at : List Table → ℕ → ℕ
 output_at tables t = slice_index_or (map table_output tables) t 0
 
@@ -35,14 +38,17 @@ maker_at makers name = slice_index_or makers name None
 pub record AreMakers (tables : List Table) (makers : List (Option ℕ)) : Type 0 where
   pub at : (name : ℕ) → name < length makers → MatchOption (maker_at makers name) (has_number (map table_output tables) name ≡ false) (λ t. (t < length tables) × (output_at tables t ≡ name))
 
+-- the stage of a table
 abbrev pub stage_at : List Stage → ℕ → Stage
 stage_at stages t = slice_index_or stages t Waiting
 
+-- it is on the path
 abbrev pub is_open : Stage → Bool
 is_open Waiting = false
 is_open Open = true
 is_open Done = false
 
+-- it and all that it reads are done
 abbrev pub is_done : Stage → Bool
 is_done Waiting = false
 is_done Open = false
@@ -59,6 +65,7 @@ abbrev pub maker_done : List Stage → Option ℕ → Bool
 maker_done stages None = true
 maker_done stages (Some t) = is_done (stage_at stages t)
 
+-- a name is finished: no table makes it, or one that is done
 abbrev pub is_finished : List (Option ℕ) → List Stage → ℕ → Bool
 is_finished makers stages name = maker_done stages (maker_at makers name)
 

@@ -28,6 +28,7 @@ pub struct Frame {
     pub outputs: Items<u32>,
     /// The latches in order.
     pub latches: Items<Latch>,
+    // The model's name is a word; all numbers are below the count of names; no control is named `NIL`; no name is defined twice, apart from an input that is a clock too.
     pub ghost model_is_word: { is_word model ≡ true },
     pub ghost inputs_below: { all_below (length names) inputs ≡ true },
     pub ghost clocks_below: { all_below (length names) clocks ≡ true },
@@ -44,7 +45,7 @@ impl Frame {
     ghost use Rattle.syn_netlist.specs.Lists.{observed, sources};
     ghost use Rattle.syn_netlist.specs.Numbers.{all_below, words_at};
 
-    /// The numbers of the sources in order: inputs, clocks that are no inputs, latch outputs.
+    /// The numbers of the sources in order: inputs, clocks that are no inputs, latch outputs. Each source stands once.
     pub fn sources(&self, alloc: Global) -> Result<Vec<u32>, AllocError>
         ensures words { IfOk result (λ v. words_at self.now.names v.items ≡ sources (frame_in self.now)) }
         ensures below { IfOk result (λ v. all_below (length self.now.names) v.items ≡ true) }

@@ -17,6 +17,7 @@ pub struct Netlist {
     pub frame: Frame,
     /// The tables in order; their numbers are of the frame's names.
     pub tables: Items<Table>,
+    // The tables' numbers are below the count of names; no name is defined twice, apart from an input that is a clock too.
     pub ghost tables_below: { tables_below (length frame.names) tables ≡ true },
     pub ghost once: { distinct (sources (frame_in frame) ++ map output_of (map (table_in frame.names) tables)) ≡ true },
 }

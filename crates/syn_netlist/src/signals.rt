@@ -77,21 +77,7 @@ fn without(
 {
     let mut marks = no_marks(alloc, count)?;
     mark(marks.as_mut_slice(), others);
-    unmarked(alloc, others, marks.as_slice(), numbers)
-}
-
-// The numbers that are not marked; the others are.
-fn unmarked(
-    alloc: Global,
-    others: &[u32],
-    marks: &[bool],
-    numbers: &[u32],
-) -> Result<Vec<u32>, AllocError>
-    requires marks { AreMarks others.now marks.now }
-    requires numbers { all_below (length marks.now) numbers.now ≡ true }
-    ensures { IfOk result (λ v. v.items ≡ without_numbers others.now numbers.now) }
-{
-    let _ = others;
+    let marks = marks.as_slice();
     let mut found = Vec::new(alloc);
     for n in numbers {
         if !marks[*n as usize] {

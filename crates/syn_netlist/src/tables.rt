@@ -17,6 +17,7 @@ pub struct Table {
     pub rows: Items<Word>,
     /// Whether the rows list where the output is true; true where there are no rows.
     pub on: bool,
+    // Each row fits the inputs, and no rows list the on-set.
     pub ghost rows_fit: { rows_fit (length inputs) rows ≡ true },
     pub ghost polarity: { polarity_fits rows on ≡ true },
 }
