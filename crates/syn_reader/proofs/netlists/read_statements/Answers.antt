@@ -123,6 +123,6 @@ returns-clause-names c =
     let same = spelled_is final c.frame_of-frame.result.names _ (frame_in c.frame_of-frame.result) c.in_ok-tables.tables.items h.model h.inputs.items c.in_ok-outputs.outputs.items (words_at h.names h.inputs.items) read
     c.netlist_of.ensures.netlist c.frame_of-frame.ensures.frame c.frame_of-frame.ensures.names is.inputs_same c.in_ok-outputs.ensures.numbers in
     let count : length (words_at h.names h.inputs.items ++ map output_of ts) ≡ length (words_at h.names h.inputs.items) + length ts =
-        length-append (words_at h.names h.inputs.items) (map output_of ts) ∙ ap (λ k. length (words_at h.names h.inputs.items) + k) (length-map ts output_of) in
+    length-append (words_at h.names h.inputs.items) (map output_of ts) ∙ ap (λ k. length (words_at h.names h.inputs.items) + k) (length-map ts output_of) in
     ap length (c.netlist_of.ensures.names ∙ c.frame_of-frame.ensures.names ∙ is.names) ∙ count
     ∙ sym (ap (λ (m : Netlist). length m.frame.inputs + length m.tables) same)
