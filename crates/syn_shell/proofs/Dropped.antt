@@ -1,19 +1,19 @@
 -- Rows of which the unreached ones are dropped are a graph's, with the same function.
-use Rattle.std.proofs.Common.{◌≡◌, ◌≢◌, ℕ, zero, suc, ◌+◌, ◌-◌, ◌*◌, ◌/◌, ◌%◌, ◌<◌, ◌≤◌, ◌||◌, ◌&&◌, ◌==◌, nat_lt, nat_le, nat_eq, not, if◌then◌else◌, Bool, true, false, All, List, [], ◌∷◌, ◌++◌, length, map, get_or, refl, sym, ap, ap₂, ◌∙◌, subst, arith, inl, inr}
+use Rattle.std.proofs.Common.{◌≡◌, ◌≢◌, ℕ, zero, suc, ◌+◌, ◌*◌, ◌%◌, ◌<◌, ◌≤◌, ◌&&◌, nat_lt, nat_le, nat_eq, not, if◌then◌else◌, Bool, true, false, All, List, [], ◌∷◌, length, map, get_or, refl, sym, ap, ap₂, ◌∙◌, subst, arith, inl, inr}
 use Rattle.std.proofs.lemmas.List.{length-map, get_or-map, get_or_past}
-use Rattle.std.proofs.lemmas.List.Elements.{All-map, All-tail, All-head, All-get_or}
-use Rattle.std.proofs.lemmas.Bool.{cases_Bool, cases_eq, cases_lt, and_parts, and_from, or_cases, or_left, or_right, both_ways, lt-ltb, ltb-true, le-leb, leb-true, ne_eqb, eqb-false, not-true, not_from_false}
+use Rattle.std.proofs.lemmas.List.Elements.{All-map, All-tail, All-head}
+use Rattle.std.proofs.lemmas.Bool.{cases_lt, and_parts, and_from, or_cases, or_right, both_ways, lt-ltb, ltb-true, le-leb, leb-true, ne_eqb, eqb-false, not-true, not_from_false}
 use Rattle.syn_rows.specs.declared.Lit.{Lit}
 use Rattle.syn_rows.specs.declared.Row.{Row}
 use Rattle.syn_rows.specs.declared.Row.TheVariants.{Free, Source, And, Alias}
-use Rattle.syn_rows.specs.Rows.{node_of, row_at, AllRefs, Rises, InOrder, refs_below, in_order_from, refs_within}
+use Rattle.syn_rows.specs.Rows.{node_of, row_at, AllRefs, InOrder, refs_below, in_order_from, refs_within}
 use Rattle.syn_rows.proofs.Folds.{AllRefs-weaker, in_order_means, in_order_since}
 use Rattle.std.specs.List.{list_all}
 use Rattle.syn_rows.specs.Values.{lit_value, RowFits, Fits, is_open, HasGiven, given_by, value_in, values_of, rows_function, OneValuation}
 use Rattle.syn_rows.specs.Reach.{HasObserved, IsClosed, Reached, IsReachedSet}
 use Rattle.syn_shapes.specs.Graphs.{is_gate, IsHashed, lit_at}
 use Rattle.syn_shell.specs.Compacting.{is_kept, kept_below, moved_lit, moved_row, kept_rows, kept_lits, IsCompaction}
-use Rattle.syn_shell.proofs.Kept.{below_kept, below_kept_rises, below_rises, below_le, kept_apart, kept_onto, front_kept, front_stays, length-kept, kept_at, kept_there}
+use Rattle.syn_shell.proofs.Kept.{below_kept_rises, below_rises, below_le, kept_apart, kept_onto, front_kept, front_stays, length-kept, kept_at, kept_there}
 
 -- hashed rows
 

@@ -1,19 +1,18 @@
 -- From built rows to a graph: what is kept of them is a graph, and the netlist that it is written as means the same.
-use Rattle.std.proofs.Common.{◌≡◌, ℕ, ◌+◌, ◌-◌, ◌<◌, ◌≤◌, Bool, true, All, List, map, length, get_or, drop, refl, sym, ap, ap₂, ◌∙◌, subst, arith}
+use Rattle.std.proofs.Common.{◌≡◌, ◌+◌, ◌<◌, ◌≤◌, Bool, true, List, map, length, refl, ap₂, ◌∙◌, arith}
 use Rattle.std.proofs.lemmas.List.{length-drop}
 use Rattle.syn_rows.specs.declared.Lit.{Lit}
 use Rattle.syn_rows.specs.declared.Row.{Row}
-use Rattle.syn_rows.specs.Rows.{node_of}
 use Rattle.syn_rows.specs.Values.{rows_function}
-use Rattle.syn_netlist.specs.Words.{distinct, has}
+use Rattle.syn_netlist.specs.Words.{distinct}
 use Rattle.syn_netlist.specs.Numbers.{word_at}
 use Rattle.syn_netlist.specs.Lists.{Frame, Netlist, sources, observed}
 use Rattle.syn_netlist.specs.Costs.{cost_of}
-use Rattle.syn_netlist.specs.Values.{Consistent, HasFunction}
+use Rattle.syn_netlist.specs.Values.{HasFunction}
 use Rattle.syn_netlist.specs.Meaning.{SameFromFunction}
-use Rattle.syn_shapes.specs.GraphShape.{GraphHasFunction, and_tables, rows_of, observed_of, place}
-use Rattle.syn_shapes.specs.Graphs.{IsGraph, lit_at, source_lit}
-use Rattle.syn_shapes.specs.Spelling.{NetworkOfGraph, NetworkSpells, network, gates_of}
+use Rattle.syn_shapes.specs.GraphShape.{GraphHasFunction, rows_of, observed_of, place}
+use Rattle.syn_shapes.specs.Graphs.{IsGraph, source_lit}
+use Rattle.syn_shapes.specs.Spelling.{NetworkOfGraph, NetworkSpells, network}
 use Rattle.syn_shell.specs.Compacting.{IsCompaction}
 use Rattle.syn_shell.specs.Naming.{HasOwnSources}
 use Rattle.syn_shell.specs.Steps.{IsGraphOf}

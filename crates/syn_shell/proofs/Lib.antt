@@ -14,3 +14,4 @@ pub mod Matching
 pub mod Rising
 pub mod Tabling
 pub mod Whole
+mod Visits

@@ -1,5 +1,5 @@
 -- The line of a graph is the line of the netlist that it is written as.
-use Rattle.std.proofs.Common.{◌≡◌, ℕ, ◌+◌, ◌-◌, Bool, true, List, map, length, drop, refl, sym, ap, ap₂, ◌∙◌, subst, arith}
+use Rattle.std.proofs.Common.{◌≡◌, ℕ, ◌+◌, ◌-◌, true, List, map, length, sym, ap, ap₂, ◌∙◌, subst, arith}
 use Rattle.std.proofs.lemmas.List.{length-drop}
 use Rattle.syn_rows.specs.declared.Lit.{Lit}
 use Rattle.syn_rows.specs.declared.Row.{Row}
@@ -10,7 +10,7 @@ use Rattle.syn_netlist.specs.Words.{distinct}
 use Rattle.syn_netlist.specs.Lists.{Frame, Netlist, sources}
 use Rattle.syn_shapes.specs.GraphShape.{GraphCountsAnds, and_tables, rows_of, observed_of}
 use Rattle.syn_shapes.specs.Graphs.{IsGraph}
-use Rattle.syn_shapes.specs.Spelling.{NetworkOfGraph, NetworkSpells, network, gates_of}
+use Rattle.syn_shapes.specs.Spelling.{NetworkOfGraph, NetworkSpells, network}
 use Rattle.syn_shell.specs.Lines.{greatest, depth_of, numbers_text, IsNumbersLine}
 
 pub numbers_line_is : NetworkOfGraph → GraphCountsAnds → (frame : Frame) (rows : List Row) (lits : List Lit) (ands depth : ℕ) (line : List ℕ) → distinct frame.clocks ≡ true → distinct (sources frame) ≡ true

@@ -9,7 +9,7 @@ use Rattle.syn_rows.specs.Rows.{node_of, row_at, AllRefs, InOrder, fold_rows}
 use Rattle.syn_rows.specs.Values.{lit_value, row_value, value_in, values_of}
 use Rattle.syn_rows.proofs.Folds.{length-values, fold_kept, values_step}
 use Rattle.syn_shapes.specs.Graphs.{is_gate, IsHashed}
-use Rattle.syn_shell.specs.Growing.{Extends, value_by}
+use Rattle.syn_shell.specs.Growing.{Extends, KeepsValues, value_by}
 
 -- rows that grow
 
@@ -42,6 +42,9 @@ lit_value-same v w l e = ap (λ b. if nat_eq (l.0 % 2) 0 then b else not b) e
 -- and so do their literals
 pub literal_kept : (given : ℕ → Bool) (old new : List Row) → Extends old new → (l : Lit) → node_of l < length old → value_by given new l ≡ value_by given old l
 literal_kept given old new e l lt = lit_value-same (value_in (values_of given new)) (value_in (values_of given old)) l (value_kept given old new e (node_of l) lt)
+
+pub literals_keep : (old new : List Row) → Extends old new → KeepsValues old new
+literals_keep old new e given l lt = literal_kept given old new e l lt
 
 -- hashed rows
 

@@ -1,9 +1,9 @@
 -- Scripts: the run of a name, and the one place where a script can be cut.
-use Rattle.std.proofs.Common.{◌≡◌, ◌≢◌, ℕ, zero, suc, ◌+◌, ◌<◌, ◌≤◌, ◌&&◌, not, nat_lt, nat_le, nat_eq, if◌then◌else◌, Bool, true, false, List, [], ◌∷◌, ◌++◌, length, take, drop, get_or, codes, bytes_eq, refl, sym, ap, ◌∙◌, subst, arith, inl, inr}
+use Rattle.std.proofs.Common.{◌≡◌, ◌≢◌, ℕ, zero, suc, ◌<◌, ◌≤◌, ◌&&◌, not, nat_lt, nat_le, nat_eq, Bool, true, false, List, [], ◌∷◌, ◌++◌, length, take, drop, get_or, codes, bytes_eq, refl, sym, ap, ◌∙◌, arith, inl, inr}
 use Rattle.std.specs.List.{list_all}
 use Rattle.std.proofs.lemmas.List.{take_at, drop_at, append_cancel_left, take-append-drop}
 use Rattle.std.proofs.lemmas.Bool.{cases_Bool, and_parts, and_from, both_ways, cond-true, cond-false, ltb-true, leb-true, le-leb, eq-eqb, ne_eqb}
-use Rattle.syn_netlist.proofs.Sets.{word_same, same_word}
+use Rattle.syn_netlist.proofs.Sets.{word_same}
 use Rattle.syn_shell.specs.Runs.{is_name_byte, is_file_name, name_run, SpellsScript, script_limit}
 
 -- the run of a name before a byte that is none
@@ -72,9 +72,10 @@ pub script_cuts : (text rest source target : List ℕ) → SpellsScript text sou
 script_cuts text rest source target s e =
     let tail : List ℕ = codes "; print_stats; write_blif " ++ target in
     let rest_is : rest ≡ source ++ tail = append_cancel_left (codes "read_blif ") rest (source ++ tail) (sym e ∙ s.text_is) in
-    let run : name_run rest ≡ length source = ap name_run rest_is ∙ run_before source 59 (codes " print_stats; write_blif " ++ target) (name_bytes source s.source_is_name) refl in
-    (ap (λ n. take n rest) run ∙ ap (take (length source)) rest_is ∙ take_at source tail (length source) refl,
-    ap (λ n. drop n rest) run ∙ ap (drop (length source)) rest_is ∙ drop_at source tail (length source) refl)
+    let run : name_run rest ≡ length source = ap name_run rest_is ∙ run_before source 59 (codes " print_stats; write_blif " ++ target) (name_bytes source s.source_is_name) refl in (
+      ap (λ n. take n rest) run ∙ ap (take (length source)) rest_is ∙ take_at source tail (length source) refl,
+      ap (λ n. drop n rest) run ∙ ap (drop (length source)) rest_is ∙ drop_at source tail (length source) refl,
+    )
 
 -- the test of a name that isn't empty
 pub name_tested : (name : List ℕ) (run : ℕ) → run ≡ name_run name → nat_eq (length name) 0 ≡ false → nat_eq run (length name) ≡ is_file_name name

@@ -1,9 +1,9 @@
 -- What a sink takes of two pieces, one after the other.
-use Rattle.std.proofs.Common.{◌≡◌, ℕ, ◌+◌, ◌≤◌, ◌^◌, min, List, [], ◌∷◌, ◌++◌, refl, sym, ap, ◌∙◌, subst, arith, Option, None, Some, IfSome, Result, Ok, Err}
+use Rattle.std.proofs.Common.{◌≡◌, ℕ, List, [], ◌++◌, sym, ap, ◌∙◌, subst, arith, Option, None, Some, IfSome, Result, Ok, Err}
 use Rattle.std.specs.Option.{IsSomeAnd}
-use Rattle.std.specs.Result.{OnErr, OnOk}
+use Rattle.std.specs.Result.{OnErr}
 use Rattle.std.proofs.lemmas.List.{append_assoc, append-nil}
-use Rattle.syn_io.specs.Outside.{Rose, GrewByPart}
+use Rattle.syn_io.specs.Outside.{GrewByPart}
 use Rattle.syn_shell.specs.Outside.{Screen, Took, TookPart}
 
 -- as facts on the optional contents alone

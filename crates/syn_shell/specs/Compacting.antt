@@ -4,7 +4,7 @@ use Rattle.syn_rows.specs.declared.Lit.{Lit}
 use Rattle.syn_rows.specs.declared.Row.{Row}
 use Rattle.syn_rows.specs.declared.Row.TheVariants.{Free, Source, And, Alias}
 use Rattle.syn_rows.specs.Rows.{node_of}
-use Rattle.syn_rows.specs.Values.{value_in, rows_function}
+use Rattle.syn_rows.specs.Values.{rows_function}
 use Rattle.syn_rows.specs.Reach.{Reached}
 use Rattle.syn_shapes.specs.Graphs.{IsHashed, lit_at}
 

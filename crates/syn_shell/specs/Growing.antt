@@ -1,7 +1,8 @@
 -- Rows that grow: what stays of them, and the values of literals by them.
-use Rattle.std.specs.Prelude.{◌≡◌, ℕ, ◌&&◌, ◌||◌, Bool, false, List, ◌++◌}
+use Rattle.std.specs.Prelude.{◌≡◌, ℕ, ◌<◌, ◌&&◌, ◌||◌, Bool, false, List, ◌++◌, length}
 use Rattle.syn_rows.specs.declared.Lit.{Lit}
 use Rattle.syn_rows.specs.declared.Row.{Row}
+use Rattle.syn_rows.specs.Rows.{node_of}
 use Rattle.syn_rows.specs.Values.{lit_value, value_in, values_of}
 
 -- the new rows begin with the old ones
@@ -12,6 +13,10 @@ pub record Extends (old new : List Row) : Type 0 where
 -- the value of a literal by rows, for given values of the open rows
 abbrev pub value_by : (ℕ → Bool) → List Row → Lit → Bool
 value_by given rows l = lit_value (value_in (values_of given rows)) l
+
+-- literals of older nodes keep their values
+abbrev pub KeepsValues : List Row → List Row → Type 0
+KeepsValues old new = (given : ℕ → Bool) (l : Lit) → node_of l < length old → value_by given new l ≡ value_by given old l
 
 -- for all given values, node 0's false, the literal's value by the new rows is the AND of the two literals' by the old ones
 abbrev pub IsAnd : List Row → Lit → Lit → List Row → Lit → Type 0

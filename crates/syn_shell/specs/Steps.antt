@@ -12,7 +12,7 @@ use Rattle.syn_reader.specs.FirstForm.{IsFirstForm}
 use Rattle.syn_shell.specs.declared.commands.Command.{Command}
 use Rattle.syn_shell.specs.declared.commands.Command.TheVariants.{Read, PrintStats, Write}
 use Rattle.syn_shell.specs.declared.refusal.Refusal.{Refusal}
-use Rattle.syn_shell.specs.declared.refusal.Refusal.TheVariants.{Words, Unbuilt, NoNetwork, GetFailed, FileTooLong, PutFailed, SinkFailed, NoMemory}
+use Rattle.syn_shell.specs.declared.refusal.Refusal.TheVariants.{Unbuilt, NoNetwork, GetFailed, FileTooLong, PutFailed, SinkFailed, NoMemory}
 use Rattle.syn_shell.specs.Outside.{Disk, Screen, FilesStand, FileIs, OthersStand, Took, TookPart}
 use Rattle.syn_shell.specs.Lines.{IsNumbersLine}
 

@@ -1,5 +1,5 @@
 -- What the shell's own code tells of a run: the refusal at which it stopped.
-use Rattle.std.specs.Prelude.{ℕ, List, Option, Some, None, Result, Ok, Err, Vec}
+use Rattle.std.specs.Prelude.{Option, Some, None, Result, Ok, Err, Vec}
 use Rattle.std.specs.Global.{Global}
 use Rattle.syn_netlist.specs.Lists.{Netlist}
 use Rattle.syn_shell.specs.declared.commands.Command.{Command}

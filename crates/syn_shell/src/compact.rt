@@ -1,4 +1,4 @@
-//! Compaction: rows that the observed literals don't reach are dropped.
+//! Compaction: rows in the order in which the observed literals visit them, without those that they don't reach.
 
 ghost use Rattle.std.specs.Prelude.{◌++◌, if◌then◌else◌, OnOk, ◌≡◌, ℕ, ◌+◌, ◌*◌, ◌^◌, ◌<◌, ◌≤◌, ◌||◌, nat_lt, All, IfOk, length, map, true, vec_len, List, [], ◌∷◌, slice_index};
 ghost use Rattle.syn_rows.specs.Rows.{AllRefs, node_of, in_order_from};
@@ -7,6 +7,7 @@ ghost use Rattle.syn_rows.specs.Reach.{IsReachedSet};
 ghost use Rattle.syn_shapes.specs.Graphs.{IsHashed};
 ghost use Rattle.syn_shell.specs.Compacting.{IsCompaction, is_kept, IsPlaces, kept_below, kept_lits, kept_rows, moved_lit, moved_row};
 
+use crate::visit::in_visiting_order;
 use std::alloc::{AllocError, Global};
 use syn_rows::{Lit, Row};
 
@@ -86,12 +87,7 @@ fn kept_rows(
 }
 
 // Adds a row, moved, where it is kept.
-fn push_kept(
-    kept: &mut Vec<Row>,
-    keep: bool,
-    row: Row,
-    places: &[u32],
-) -> Result<(), AllocError>
+fn push_kept(kept: &mut Vec<Row>, keep: bool, row: Row, places: &[u32]) -> Result<(), AllocError>
     requires there { AllRefs (λ m. m < length places.now) row }
     requires small { All (λ place. place < 2 ^ 31) places.now }
     ensures { (place : ℕ → ℕ) → IsPlaces places.now place → OnOk result (kept.new.items ≡ kept.old.items ++ (if keep then moved_row place row ∷ [] else [])) }
@@ -115,8 +111,8 @@ fn moved_lits(alloc: Global, lits: &[Lit], places: &[u32]) -> Result<Vec<Lit>, A
     Ok(moved)
 }
 
-/// Drops the rows that the literals don't reach; the others move down in their order.
-pub(crate) fn drop_unreached(
+// Drops the rows that the literals don't reach; the others move down in their order.
+fn drop_unreached(
     alloc: Global,
     count: u32,
     rows: &[Row],
@@ -136,4 +132,26 @@ pub(crate) fn drop_unreached(
         rows: kept,
         observed: moved,
     })
+}
+
+/// The rows that the observed literals reach, in the order in which these visit them.
+pub(crate) fn compact(
+    alloc: Global,
+    source_count: u32,
+    rows: &[Row],
+    observed: &[Lit],
+) -> Result<Rows, AllocError>
+    requires hashed { IsHashed source_count rows.now }
+    requires within { All (λ l. node_of l < length rows.now) observed.now }
+    requires few { length rows.now + 1 < 2 ^ 29 }
+    ensures { IfOk result (λ r. IsCompaction source_count rows.now observed.now r.rows.items r.observed.items) }
+{
+    let ordered = in_visiting_order(alloc, source_count, rows, observed)?;
+    let kept = drop_unreached(
+        alloc,
+        source_count,
+        ordered.rows.as_slice(),
+        ordered.observed.as_slice(),
+    )?;
+    Ok(kept)
 }

@@ -12,6 +12,7 @@ mod script;
 mod session;
 mod spelling;
 mod strash;
+mod visit;
 mod whole_run;
 
 pub use whole_run::run;

@@ -140,7 +140,12 @@ fn put_refusal<O: Sink>(out: &mut O, refusal: Refusal, name: &[u8]) -> Result<()
 {
     match refusal {
         Refusal::SinkFailed => Ok(()),
-        _ => put_four(out, b"refused: ", cause_text(refusal), shown_name(refusal, name)),
+        _ => put_four(
+            out,
+            b"refused: ",
+            cause_text(refusal),
+            shown_name(refusal, name),
+        ),
     }
 }
 
@@ -178,11 +183,7 @@ fn network_line(alloc: Global, graph: &Graph) -> Result<Vec<u8>, AllocError>
 }
 
 /// Prints the network's line.
-pub(crate) fn print_stats<O: Sink>(
-    alloc: Global,
-    graph: &Graph,
-    out: &mut O,
-) -> Result<(), Refusal>
+pub(crate) fn print_stats<O: Sink>(alloc: Global, graph: &Graph, out: &mut O) -> Result<(), Refusal>
     ensures printed { OnOk result ((line : List ℕ) × IsNumbersLine (network_of graph.now) line
         × Took line (screen (O.told out.old) (O.faults out.old)) (screen (O.told out.new) (O.faults out.new))) }
     ensures refused { IfErr result (StatsRefused (Some (network_of graph.now)) (screen (O.told out.old) (O.faults out.old)) (screen (O.told out.new) (O.faults out.new))) }

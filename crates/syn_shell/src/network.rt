@@ -10,7 +10,7 @@ ghost use Rattle.syn_shell.specs.Graphs.{network_of};
 ghost use Rattle.syn_shell.specs.Steps.{IsGraphOf};
 
 use crate::build::build;
-use crate::compact::drop_unreached;
+use crate::compact;
 use crate::graph::Graph;
 use std::alloc::{AllocError, Global};
 use syn_netlist::{Frame, Netlist};
@@ -35,7 +35,12 @@ pub(crate) fn graph_of(alloc: Global, netlist: Netlist) -> Result<Graph, AllocEr
 {
     let built = build(alloc, &netlist)?;
     let source_count = source_count_of(alloc, &netlist.frame)?;
-    let kept = drop_unreached(alloc, source_count, built.rows.as_slice(), built.observed.as_slice())?;
+    let kept = compact::compact(
+        alloc,
+        source_count,
+        built.rows.as_slice(),
+        built.observed.as_slice(),
+    )?;
     syn_shapes::network_of_graph();
     syn_shapes::graph_has_function();
     syn_netlist::same_from_function();

@@ -19,8 +19,8 @@ ghost use Rattle.syn_shell.specs.Steps.{file_limit, IsReadAs, IsUnbuilt, ReadRef
 
 use crate::commands::Command;
 use crate::graph::Graph;
-use crate::network::graph_of;
 use crate::lines::print_stats;
+use crate::network::graph_of;
 use crate::refusal::Refusal;
 use crate::spelling::netlist_of;
 use std::alloc::{AllocError, Global};
@@ -98,18 +98,18 @@ fn put<F: Files>(alloc: Global, name: &str, bytes: &[u8], files: &mut F) -> Resu
 fn printed(alloc: Global, graph: &Graph) -> Result<Vec<u8>, AllocError>
     ensures { IfOk result (λ bytes. bytes.items ≡ printed (network_of graph.now)) }
 {
-    let netlist = netlist_of(alloc, &graph.frame, graph.rows.as_slice(), graph.observed.as_slice())?;
+    let netlist = netlist_of(
+        alloc,
+        &graph.frame,
+        graph.rows.as_slice(),
+        graph.observed.as_slice(),
+    )?;
     let bytes = syn_shapes::print(alloc, &netlist)?;
     Ok(bytes)
 }
 
 // Writes the netlist of a graph to a file.
-fn write<F: Files>(
-    alloc: Global,
-    graph: &Graph,
-    name: &str,
-    files: &mut F,
-) -> Result<(), Refusal>
+fn write<F: Files>(alloc: Global, graph: &Graph, name: &str, files: &mut F) -> Result<(), Refusal>
     ensures file { OnOk result (FileIs name.now (disk (F.told files.new) (F.faults files.new)) (printed (network_of graph.now))) }
     ensures refused { IfErr result (WriteRefused (Some (network_of graph.now)) name.now (disk (F.told files.old) (F.faults files.old)) (disk (F.told files.new) (F.faults files.new))) }
     ensures others { OthersStand name.now (disk (F.told files.old) (F.faults files.old)) (disk (F.told files.new) (F.faults files.new)) }

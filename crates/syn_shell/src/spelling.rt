@@ -1,9 +1,10 @@
 //! The netlist that a graph is written as.
 
-ghost use Rattle.std.specs.Prelude.{◌≡◌, ℕ, ◌+◌, ◌^◌, ◌<◌, ◌≤◌, nat_lt, if◌then◌else◌, List, [], ◌∷◌, ◌++◌, length, map, true, false, IfOk, OnOk};
+ghost use Rattle.std.specs.Prelude.{◌≡◌, ℕ, ◌+◌, ◌^◌, ◌<◌, ◌≤◌, if◌then◌else◌, List, [], ◌∷◌, ◌++◌, length, map, true, false, IfOk, OnOk};
 ghost use Rattle.std.specs.List.{list_all};
 ghost use Rattle.syn_rows.specs.Rows.{node_of};
 ghost use Rattle.syn_netlist.specs.Kept.{is_row_character};
+ghost use Rattle.syn_netlist.specs.Lists.{sources};
 ghost use Rattle.syn_netlist.specs.Marks.{AreMarks};
 ghost use Rattle.syn_netlist.specs.Numbers.{all_below, Grows, word_at, words_at};
 ghost use Rattle.syn_netlist.specs.Tables.{tables_below};
@@ -11,7 +12,6 @@ ghost use Rattle.syn_netlist.specs.Views.{frame_in, netlist_in, table_in};
 ghost use Rattle.syn_netlist.specs.Words.{distinct, has, is_word};
 ghost use Rattle.syn_shapes.specs.Graphs.{IsGraph};
 ghost use Rattle.syn_shapes.specs.Spelling.{end_table, ends_from, gate_table, gate_tables, inner_names, inner_word, network, sign_of};
-ghost use Rattle.syn_netlist.specs.Lists.{sources};
 ghost use Rattle.syn_shell.specs.Numbered.{IsNumbered, is_named, is_named_gate, is_within, number_of};
 
 use itoa::Buffer;
@@ -127,7 +127,7 @@ fn push_name(
     Ok(())
 }
 
-// Adds the inner name of a number, where it is not taken, to the names, and its number among them to the numbers.
+// Adds the inner name of k, where it is not taken, to the names, and its number among them to the numbers.
 fn add_inner_name(
     alloc: Global,
     taken: &NameSet,
@@ -254,7 +254,7 @@ fn wire_table(alloc: Global, nodes: &[u32], lit: Lit, output: u32) -> Result<Tab
     })
 }
 
-// The table of an observed signal.
+// The table of an observed signal, from its literal.
 fn end_table(alloc: Global, nodes: &[u32], lit: Lit, output: u32) -> Result<Table, AllocError>
     requires { is_within (length nodes.now) lit ≡ true }
     ensures words { IfOk result (λ t. (names : List (List ℕ)) → table_in names t ≡ end_table (words_at names nodes.now) (word_at names output) lit) }
@@ -445,7 +445,7 @@ fn tables_of(
     Ok(tables)
 }
 
-/// The netlist of a graph: a table for each AND, then one for each observed signal that is no source.
+/// The netlist of a graph: a table for each AND, then one for each observed signal that is no source. The names of the frame keep their numbers. The only error is want of memory.
 pub(crate) fn netlist_of(
     alloc: Global,
     frame: &Frame,

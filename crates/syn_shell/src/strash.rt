@@ -5,7 +5,7 @@ ghost use Rattle.syn_rows.specs.declared.Row.{Row};
 ghost use Rattle.syn_rows.specs.Rows.{node_of, row_at};
 ghost use Rattle.syn_rows.specs.Values.{lit_value};
 ghost use Rattle.syn_shapes.specs.Graphs.{is_gate, IsHashed};
-ghost use Rattle.syn_shell.specs.Growing.{Extends, IsAnd, IsOr};
+ghost use Rattle.syn_shell.specs.Growing.{Extends, IsAnd, IsOr, KeepsValues};
 
 use std::alloc::{AllocError, Global};
 use syn_rows::{Lit, Row};
@@ -44,6 +44,7 @@ impl Hashed {
         requires room { length self.old.rows.items + 1 < 2 ^ 29 }
         ensures sources { self.new.source_count ≡ self.old.source_count }
         ensures grows { Extends self.old.rows.items self.new.rows.items }
+        ensures kept { KeepsValues self.old.rows.items self.new.rows.items }
         ensures few { length self.new.rows.items ≤ length self.old.rows.items + 1 }
         ensures constant { b.0 < 2 → length self.new.rows.items ≡ length self.old.rows.items }
         ensures there { IfOk result (λ l. node_of l < length self.new.rows.items) }
@@ -64,6 +65,7 @@ impl Hashed {
         requires room { length self.old.rows.items + 1 < 2 ^ 29 }
         ensures sources { self.new.source_count ≡ self.old.source_count }
         ensures grows { Extends self.old.rows.items self.new.rows.items }
+        ensures kept { KeepsValues self.old.rows.items self.new.rows.items }
         ensures few { length self.new.rows.items ≤ length self.old.rows.items + 1 }
         ensures there { IfOk result (λ l. node_of l < length self.new.rows.items) }
         ensures value { IfOk result (λ l. IsOr self.old.rows.items a b self.new.rows.items l) }
@@ -79,6 +81,7 @@ impl Hashed {
         requires room { length self.old.rows.items + 1 < 2 ^ 29 }
         ensures sources { self.new.source_count ≡ self.old.source_count }
         ensures grows { Extends self.old.rows.items self.new.rows.items }
+        ensures kept { KeepsValues self.old.rows.items self.new.rows.items }
         ensures few { length self.new.rows.items ≤ length self.old.rows.items + 1 }
         ensures there { IfOk result (λ l. node_of l < length self.new.rows.items) }
         ensures value { IfOk result (λ l. IsAnd self.old.rows.items first second self.new.rows.items l) }

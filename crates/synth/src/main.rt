@@ -2,9 +2,8 @@
 #![tactic(auto)]
 
 use std::alloc::Global;
-use std::env;
-use std::io;
 use std::process::ExitCode;
+use std::{env, io};
 use syn_io::{MemLines, RealFiles, RealSink};
 
 const NO_MEMORY: u8 = 8;
@@ -29,11 +28,5 @@ fn main(rt: HostRuntime) -> ExitCode {
     let mut files = RealFiles::new(&rt);
     let mut lines = MemLines::new(Vec::new(alloc), Vec::new(alloc));
     let mut out = RealSink::new(&rt);
-    ExitCode::from(syn_shell::run(
-        alloc,
-        words.as_slice(),
-        &mut files,
-        &mut lines,
-        &mut out,
-    ))
+    ExitCode::from(syn_shell::run(alloc, words.as_slice(), &mut files, &mut lines, &mut out))
 }

@@ -1,13 +1,8 @@
 use Rattle.std.proofs.Common.{ap, sym, ◌∙◌, subst₂}
-use Rattle.syn_rows.specs.declared.Lit.{Lit}
-use Rattle.syn_rows.specs.declared.Row.{Row}
 use Rattle.syn_shell.proofs.Dropped.{hashed_within, hashed_order, all_lits_in, compaction}
-use Rattle.std.proofs.Common.{rules, ◌++◌, if◌then◌else◌, OnOk, ◌≡◌, ℕ, ◌+◌, ◌*◌, ◌^◌, ◌<◌, ◌≤◌, ◌||◌, nat_lt, All, IfOk, length, map, true, vec_len, List, [], ◌∷◌, slice_index, ◌-◌, ◌/◌, ◌%◌, Bool, false, nat_eq, slice_index_or, slice_set, bit_and, bit_or, Fits, w8, w32, w64, Bor, MutBor}
-use Rattle.syn_rows.specs.Rows.{AllRefs, node_of, in_order_from}
+use Rattle.std.proofs.Common.{◌≡◌, ℕ, length, List, Bool}
 use Rattle.syn_rows.specs.Values.{value_in}
-use Rattle.syn_rows.specs.Reach.{IsReachedSet}
-use Rattle.syn_shapes.specs.Graphs.{IsHashed}
-use Rattle.syn_shell.specs.Compacting.{IsCompaction, is_kept, IsPlaces, kept_below, kept_lits, kept_rows, moved_lit, moved_row}
+use Rattle.syn_shell.specs.Compacting.{IsCompaction, is_kept, IsPlaces, kept_below, kept_rows}
 use Rattle.syn_shell.proofs.compact.drop_unreached.Goals as goal
 
 -- src/compact.rt:130:17
@@ -24,11 +19,11 @@ kept_rows-requires-clause-order c = hashed_order c.args.count c.args.rows.now c.
 
 -- src/compact.rt:119:1
 pub returns : goal.returns
-returns c = 
+returns c =
     let set = value_in c.in_ok-marks.marks.items in
     let marks : c.as_slice.result.now ≡ c.in_ok-marks.marks.items = c.as_slice.ensures.value in
     let placed : IsPlaces c.as_slice-4.result.now (kept_below (is_kept c.args.count set)) =
-        subst₂ (λ (p : List ℕ) (m : List Bool). IsPlaces p (kept_below (is_kept c.args.count (value_in m)))) (sym c.as_slice-4.ensures.value) marks c.in_ok-places.ensures.places in
+    subst₂ (λ (p : List ℕ) (m : List Bool). IsPlaces p (kept_below (is_kept c.args.count (value_in m)))) (sym c.as_slice-4.ensures.value) marks c.in_ok-places.ensures.places in
     subst₂ (IsCompaction c.args.count c.args.rows.now c.args.observed.now)
     (sym (c.in_ok-kept.ensures ∙ ap (λ (m : List Bool). kept_rows (is_kept c.args.count (value_in m)) c.args.rows.now) c.as_slice-2.ensures.value))
     (sym (c.in_ok-moved.ensures (kept_below (is_kept c.args.count set)) placed))

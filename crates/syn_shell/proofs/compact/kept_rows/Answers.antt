@@ -3,12 +3,9 @@ use Rattle.std.proofs.lemmas.List.{drop_more}
 use Rattle.syn_rows.specs.declared.Row.TheVariants.{Free}
 use Rattle.syn_shell.proofs.Dropped.{refs_there}
 use Rattle.syn_shell.proofs.Kept.{kept_step}
-use Rattle.std.proofs.Common.{rules, ◌++◌, if◌then◌else◌, OnOk, ◌≡◌, ℕ, ◌+◌, ◌*◌, ◌^◌, ◌<◌, ◌≤◌, ◌||◌, nat_lt, All, IfOk, length, map, true, vec_len, List, [], ◌∷◌, slice_index, ◌-◌, ◌/◌, ◌%◌, Bool, false, nat_eq, slice_index_or, slice_set, bit_and, bit_or, Fits, w8, w32, w64, Bor, MutBor}
-use Rattle.syn_rows.specs.Rows.{AllRefs, node_of, in_order_from}
+use Rattle.std.proofs.Common.{◌+◌, length, slice_index_or}
 use Rattle.syn_rows.specs.Values.{value_in}
-use Rattle.syn_rows.specs.Reach.{IsReachedSet}
-use Rattle.syn_shapes.specs.Graphs.{IsHashed}
-use Rattle.syn_shell.specs.Compacting.{IsCompaction, is_kept, IsPlaces, kept_below, kept_lits, kept_rows, moved_lit, moved_row}
+use Rattle.syn_shell.specs.Compacting.{is_kept, kept_below, kept_rows}
 use Rattle.syn_shell.proofs.compact.kept_rows.Goals as goal
 
 -- src/compact.rt:83:9
@@ -17,7 +14,7 @@ push_kept-requires-clause-there c = refs_there c.args.rows.now c.loop-n.n (lengt
 
 -- src/compact.rt:82:5
 pub loop-n-preserved : goal.loop-n-preserved
-loop-n-preserved c = 
+loop-n-preserved c =
     let keep = is_kept c.args.count (value_in c.args.marks.now) in
     kept_step keep c.is_kept.result c.loop-n.n (slice_index_or c.args.rows.now c.loop-n.n Free) (drop (c.loop-n.n + 1) c.args.rows.now) (drop c.loop-n.n c.args.rows.now)
     c.loop-n.kept.items c.push_kept.new.kept.items (kept_rows keep c.args.rows.now) (drop_more c.args.rows.now c.loop-n.n Free c.loop-n-test.true) c.is_kept.ensures

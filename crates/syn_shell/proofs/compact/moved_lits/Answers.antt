@@ -1,12 +1,8 @@
 use Rattle.std.proofs.Common.{ap, ap₂, sym, ◌∙◌, take, get_or}
 use Rattle.std.proofs.lemmas.List.{take_more, map-append}
 use Rattle.syn_rows.specs.declared.Lit.{Lit}
-use Rattle.std.proofs.Common.{rules, ◌++◌, if◌then◌else◌, OnOk, ◌≡◌, ℕ, ◌+◌, ◌*◌, ◌^◌, ◌<◌, ◌≤◌, ◌||◌, nat_lt, All, IfOk, length, map, true, vec_len, List, [], ◌∷◌, slice_index, ◌-◌, ◌/◌, ◌%◌, Bool, false, nat_eq, slice_index_or, slice_set, bit_and, bit_or, Fits, w8, w32, w64, Bor, MutBor}
-use Rattle.syn_rows.specs.Rows.{AllRefs, node_of, in_order_from}
-use Rattle.syn_rows.specs.Values.{value_in}
-use Rattle.syn_rows.specs.Reach.{IsReachedSet}
-use Rattle.syn_shapes.specs.Graphs.{IsHashed}
-use Rattle.syn_shell.specs.Compacting.{IsCompaction, is_kept, IsPlaces, kept_below, kept_lits, kept_rows, moved_lit, moved_row}
+use Rattle.std.proofs.Common.{◌++◌, map, List, [], ◌∷◌}
+use Rattle.syn_shell.specs.Compacting.{moved_lit}
 use Rattle.syn_shell.proofs.compact.moved_lits.Goals as goal
 
 -- src/compact.rt:112:5

@@ -1,4 +1,4 @@
-use Rattle.std.proofs.Common.{◌≡◌, List, ℕ, length, take, bytes_eq, false, sym, ap, ◌∙◌}
+use Rattle.std.proofs.Common.{List, ℕ, bytes_eq, sym, ap, ◌∙◌}
 use Rattle.syn_shell.proofs.Scripts.{other_front}
 use Rattle.syn_shell.proofs.script.after.Goals as goal
 

@@ -1,4 +1,4 @@
-use Rattle.std.proofs.Common.{◌≡◌, ℕ, List, refl, sym, take, drop, ap, ◌∙◌}
+use Rattle.std.proofs.Common.{ℕ, refl, sym, take, drop, ap, ◌∙◌}
 use Rattle.syn_shell.proofs.Scripts.{cut_stops, cut_spells, cut_fits}
 use Rattle.syn_shell.proofs.script.names_in.Goals as goal
 

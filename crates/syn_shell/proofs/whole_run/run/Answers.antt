@@ -1,8 +1,8 @@
-use Rattle.std.proofs.Common.{◌≡◌, ℕ, List, [], map, refl, sym, ap, ◌∙◌, subst, Option, None, Some, MatchOption, string_bytes}
+use Rattle.std.proofs.Common.{◌≡◌, ℕ, List, [], map, refl, ap, ◌∙◌, subst, Option, Some, MatchOption, string_bytes}
 use Rattle.syn_shell.specs.declared.refusal.Refusal.TheVariants.{Words}
 use Rattle.syn_shell.specs.Outside.{Disk, Screen, disk, screen}
 use Rattle.syn_shell.specs.Runs.{DoesNothing, Refused, RunsScript, script_in}
-use Rattle.syn_shell.specs.Stopping.{outcome_of, RunsParsed}
+use Rattle.syn_shell.specs.Stopping.{outcome_of}
 use Rattle.syn_shell.proofs.Running.{script_runs}
 use Rattle.syn_shell.proofs.whole_run.run.Goals as goal
 

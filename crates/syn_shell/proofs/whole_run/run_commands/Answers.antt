@@ -1,9 +1,9 @@
-use Rattle.std.proofs.Common.{◌≡◌, ℕ, ◌+◌, List, [], ◌∷◌, length, drop, refl, sym, ap, subst, arith, Option, None, Some}
+use Rattle.std.proofs.Common.{◌+◌, drop, subst, Option, None, Some}
 use Rattle.std.proofs.lemmas.List.{drop_all}
 use Rattle.syn_netlist.specs.Lists.{Netlist}
 use Rattle.syn_shell.specs.Graphs.{network_in}
 use Rattle.syn_shell.specs.Outside.{Disk, Screen, disk, screen}
-use Rattle.syn_shell.specs.Runs.{Refused, RunsCommands}
+use Rattle.syn_shell.specs.Runs.{RunsCommands}
 use Rattle.syn_shell.proofs.Running.{left_at, goes_on, stops, ends}
 use Rattle.syn_shell.proofs.whole_run.run_commands.Goals as goal
 
@@ -25,12 +25,14 @@ pub returns-in-Err : goal.returns-in-Err
 returns-in-Err g c =
     let n = network_in c.step.new.self.network in
     let d : Disk = disk (g.F.Files.told c.step.new.files) (g.F.Files.faults c.step.new.files) in
-    let s : Screen = screen (g.O.Sink.told c.step.new.out) (g.O.Sink.faults c.step.new.out) in
-    (n, c.loop-command.invariant (Some (record { cause = c.in-Err.cause; name = c.name_in.result.now })) n d s
-    (stops (drop c.loop-command.command-index c.args.commands.now) (drop (c.loop-command.command-index + 1) c.args.commands.now) c.command-item.result c.in-Err.cause c.name_in.result.now
-    (network_in c.loop-command.session.network) n
-    (disk (g.F.Files.told c.loop-command.files) (g.F.Files.faults c.loop-command.files)) d (screen (g.O.Sink.told c.loop-command.out) (g.O.Sink.faults c.loop-command.out)) s
-    (left_at c.args.commands.now c.loop-command.command-index c.command-item.result c.loop-command-test.true c.command-item.is) c.name_in.ensures c.in-Err.ensures))
+    let s : Screen = screen (g.O.Sink.told c.step.new.out) (g.O.Sink.faults c.step.new.out) in (
+      n,
+      c.loop-command.invariant (Some (record { cause = c.in-Err.cause; name = c.name_in.result.now })) n d s
+          (stops (drop c.loop-command.command-index c.args.commands.now) (drop (c.loop-command.command-index + 1) c.args.commands.now) c.command-item.result c.in-Err.cause c.name_in.result.now
+          (network_in c.loop-command.session.network) n
+          (disk (g.F.Files.told c.loop-command.files) (g.F.Files.faults c.loop-command.files)) d (screen (g.O.Sink.told c.loop-command.out) (g.O.Sink.faults c.loop-command.out)) s
+          (left_at c.args.commands.now c.loop-command.command-index c.command-item.result c.loop-command-test.true c.command-item.is) c.name_in.ensures c.in-Err.ensures),
+    )
 
 pub returns : goal.returns
 returns g c =

@@ -1,4 +1,6 @@
-use Rattle.std.proofs.Common.{arith, rules}
+use Rattle.std.proofs.Common.{◌∷◌, [], arith, rules}
+use Rattle.syn_rows.specs.declared.Row.TheVariants.{And}
+use Rattle.syn_shell.proofs.Rising.{literals_keep}
 use Rattle.syn_shell.proofs.Joining.{found_value, made_value}
 use Rattle.syn_shell.proofs.strash.Hashed.gate.Goals as goal
 
@@ -11,3 +13,7 @@ pub returns-in_ok-push_and-in-None-clause-value : goal.returns-in_ok-push_and-in
 returns-in_ok-push_and-in-None-clause-value c =
     made_value c.args.self.now.source_count c.args.self.now.rows.items c.push_and.new.rows.items c.args.first c.args.second c.of-in-None.result
     (c.in_ok-push_and-in-None.ensures.hashed c.args.self.now.source_count c.args.self.now.hashed) c.requires.gate c.in_ok-push_and-in-None.ensures.ok (omega (arith, c.of-in-None.ensures))
+
+pub returns-in_ok-push_and-in-None-clause-kept : goal.returns-in_ok-push_and-in-None-clause-kept
+returns-in_ok-push_and-in-None-clause-kept c =
+    literals_keep c.args.self.now.rows.items c.push_and.new.rows.items (record { more = And c.args.first c.args.second ∷ []; is = c.in_ok-push_and-in-None.ensures.ok })
