@@ -1,0 +1,4 @@
+pub mod Gates
+pub mod Plans
+pub mod Factoring
+pub mod Tables

@@ -1,0 +1,12 @@
+use Rattle.std.proofs.Common.{◌-◌, ◌/◌, ◌^◌, ◌≤◌, ap, ◌∙◌, arith}
+use Rattle.std.proofs.Math.Nat.{pow-le-pow_right}
+use Rattle.std.proofs.lemmas.Nat.{one_shl}
+use Rattle.std.proofs.lemmas.Nat.Bits.{ones_shr}
+use Rattle.syn_truth.proofs.ones.Goals as goal
+
+pub returns : goal.returns
+returns c =
+    let below : 2 ^ c.args.vars ≤ 2 ^ 7 = pow-le-pow_right (omega arith) c.requires in
+    ap (λ k. (2 ^ 128 - 1) / 2 ^ (128 - k)) (one_shl c.args.vars 32 (omega arith))
+    ∙ ones_shr 128 (128 - 2 ^ c.args.vars) (omega arith)
+    ∙ ap (λ k. 2 ^ k - 1) (omega arith)
