@@ -1,0 +1,4 @@
+pub mod Leaves
+pub mod Values
+pub mod Fits
+pub mod Firsts

@@ -1,0 +1,10 @@
+pub mod Computed
+pub mod Imaging
+pub mod Keys
+pub mod Moving
+pub mod Numbers
+pub mod Ordering
+pub mod Permuting
+pub mod Steps
+pub mod Undoing
+pub mod Unique

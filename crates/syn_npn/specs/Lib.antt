@@ -1,0 +1,5 @@
+pub mod Images
+pub mod Permutations
+pub mod Transforms
+pub mod Values
+pub mod Walk

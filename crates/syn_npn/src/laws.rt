@@ -1,0 +1,8 @@
+//! What holds of all classes.
+
+ghost use Rattle.syn_npn.specs.Transforms.{OneCanon};
+
+/// A function has one class, and one transform that leads to it.
+pub fn one_canon()
+    ensures { OneCanon }
+{}
