@@ -1,0 +1,13 @@
+pub mod Lists
+pub mod Views
+pub mod Cores
+pub mod SameValue
+pub mod Events
+pub mod Sound
+pub mod Runs
+pub mod Openings
+pub mod Conditions
+pub mod Told
+pub mod Worked
+pub mod Splits
+pub mod Bounds
