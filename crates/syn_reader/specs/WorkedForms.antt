@@ -1,6 +1,6 @@
 -- Worked texts in the first form with their netlists, and texts that are not in it.
 use Rattle.std.specs.Prelude.{ℕ, ◌≡◌, true, false, List, [], ◌∷◌, ◌++◌, codes, Some, None}
-use Rattle.syn_netlist.specs.Lists.{Table, Netlist}
+use Rattle.syn_netlist.specs.Lists.{Table}
 use Rattle.syn_netlist.specs.Order.{reads_known}
 use Rattle.syn_reader.specs.Statements.{statements}
 use Rattle.syn_reader.specs.Reading.{first_fault_of_text}

@@ -1,0 +1,8 @@
+//! Runs of the shell whose outcomes were worked by hand.
+//!
+//! Nothing here is for other crates: the tests run the shell over files, lines and a sink in memory, and compare the
+//! status, what was printed and what was written.
+#![tactic(auto)]
+
+#[cfg(test)]
+mod tests;
