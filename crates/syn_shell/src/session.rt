@@ -104,7 +104,7 @@ fn printed(alloc: Global, graph: &Graph) -> Result<Vec<u8>, AllocError>
         graph.rows.as_slice(),
         graph.observed.as_slice(),
     )?;
-    let bytes = syn_shapes::print(alloc, &netlist)?;
+    let bytes = syn_text::print(alloc, &netlist)?;
     Ok(bytes)
 }
 

@@ -1,0 +1,7 @@
+pub mod Blanks
+pub mod Lexed
+pub mod WrittenFits
+pub mod WrittenSpells
+pub mod WrittenNames
+pub mod WrittenFaults
+pub mod WrittenReads
