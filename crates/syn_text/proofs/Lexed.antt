@@ -1,17 +1,17 @@
 -- Lines of words, read back: the logical lines of their bytes are these lines, and no byte of them is disallowed.
-use Rattle.std.proofs.Common.{◌≡◌, ℕ, suc, ◌+◌, ◌<◌, ◌≤◌, ◌==◌, ◌&&◌, ◌||◌, not, nat_lt, nat_le, Bool, true, false, if◌then◌else◌, List, [], ◌∷◌, ◌++◌, length, map, flat_map, filter, codes, refl, sym, ap, ap₂, ◌∙◌, subst, Option, Some, None, arith, append_assoc}
+use Rattle.std.proofs.Common.{◌≡◌, ℕ, suc, ◌+◌, ◌≤◌, ◌==◌, ◌&&◌, ◌||◌, not, nat_lt, nat_le, Bool, true, false, if◌then◌else◌, List, [], ◌∷◌, ◌++◌, length, map, flat_map, filter, codes, refl, sym, ap, ap₂, ◌∙◌, Option, Some, None, arith, append_assoc}
 use Rattle.std.specs.List.{list_all, onto_first}
 use Rattle.std.specs.Option.{option_or}
 use Rattle.std.proofs.lemmas.Bool.Decides.{nat_tests}
 use Rattle.std.proofs.lemmas.Bool.{both_ways, cond-true, cond-false, and_parts, and_from, or_right, not-true}
 use Rattle.syn_lex.specs.Words.{Word, text_of, is_word_byte, begins_word, grown, words_at}
-use Rattle.syn_lex.specs.Lines.{LogicalLine, is_nil, physical_lines, without_comment, may_stand, is_blank_end, bad_byte_of_line, bad_byte_of_lines, bad_byte, joins, joined, joined_lines, has_words, logical_lines}
+use Rattle.syn_lex.specs.Lines.{LogicalLine, is_nil, physical_lines, without_comment, may_stand, is_blank_end, bad_byte_of_line, bad_byte_of_lines, joins, joined, joined_lines, has_words}
 use Rattle.syn_netlist.specs.Words.{is_word}
 use Rattle.syn_shapes.specs.Printed.{blanked, line}
 use Rattle.syn_reader.specs.declared.Kind.{Kind}
 use Rattle.syn_reader.specs.declared.Kind.TheVariants as kinds
-use Rattle.syn_reader.specs.Statements.{Statement, begins_with_dot, kind_in, keywords, statement_at, statement_of, statements}
-use Rattle.syn_text.specs.Written.{Line, said, with_keyword, words_line, line_bytes, is_row_start, kind_fits, line_fits, numbered}
+use Rattle.syn_reader.specs.Statements.{Statement, begins_with_dot, statement_at, statement_of, statements}
+use Rattle.syn_text.specs.Written.{Line, said, with_keyword, words_line, line_bytes, line_fits, numbered}
 
 -- a byte of a line but its LF: of a word, or a blank
 pub record IsPlain (b : ℕ) : Type 0 where
@@ -98,17 +98,21 @@ word at text = record { at = at; text = text }
 
 word_in_front : (at b : ℕ) (bs rest : List ℕ) → list_all is_word_byte (b ∷ bs) ≡ true → begins_word rest ≡ false → (after : ℕ) × (words_at at ((b ∷ bs) ++ rest) ≡ word at (b ∷ bs) ∷ words_at after rest)
 word_in_front at b [] rest h e =
-    let p = and_parts (is_word_byte b) true h in
-    (suc at, cond-true (is_word_byte b) (if begins_word rest then grown at b (words_at (suc at) rest) else word at (b ∷ []) ∷ words_at (suc at) rest) (words_at (suc at) rest) p.0
-      ∙ cond-false (begins_word rest) (grown at b (words_at (suc at) rest)) (word at (b ∷ []) ∷ words_at (suc at) rest) e)
+    let p = and_parts (is_word_byte b) true h in (
+      suc at,
+      cond-true (is_word_byte b) (if begins_word rest then grown at b (words_at (suc at) rest) else word at (b ∷ []) ∷ words_at (suc at) rest) (words_at (suc at) rest) p.0
+          ∙ cond-false (begins_word rest) (grown at b (words_at (suc at) rest)) (word at (b ∷ []) ∷ words_at (suc at) rest) e,
+    )
 word_in_front at b (c ∷ cs) rest h e =
     let p = and_parts (is_word_byte b) (list_all is_word_byte (c ∷ cs)) h in
     let q = and_parts (is_word_byte c) (list_all is_word_byte cs) p.1 in
     let more = word_in_front (suc at) c cs rest p.1 e in
-    let x : List ℕ = (c ∷ cs) ++ rest in
-    (more.0, cond-true (is_word_byte b) (if begins_word x then grown at b (words_at (suc at) x) else word at (b ∷ []) ∷ words_at (suc at) x) (words_at (suc at) x) p.0
-      ∙ (cond-true (begins_word x) (grown at b (words_at (suc at) x)) (word at (b ∷ []) ∷ words_at (suc at) x) q.0
-      ∙ ap (grown at b) more.1))
+    let x : List ℕ = (c ∷ cs) ++ rest in (
+      more.0,
+      cond-true (is_word_byte b) (if begins_word x then grown at b (words_at (suc at) x) else word at (b ∷ []) ∷ words_at (suc at) x) (words_at (suc at) x) p.0
+          ∙ (cond-true (begins_word x) (grown at b (words_at (suc at) x)) (word at (b ∷ []) ∷ words_at (suc at) x) q.0
+          ∙ ap (grown at b) more.1),
+    )
 
 -- the words of a line's bytes
 words_of : (w : List ℕ) (ws : List (List ℕ)) (at : ℕ) → list_all is_word (w ∷ ws) ≡ true → map text_of (words_at at (w ++ blanked ws)) ≡ w ∷ ws

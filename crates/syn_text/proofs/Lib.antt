@@ -5,3 +5,4 @@ pub mod WrittenSpells
 pub mod WrittenNames
 pub mod WrittenFaults
 pub mod WrittenReads
+pub mod WellFormedNetlists

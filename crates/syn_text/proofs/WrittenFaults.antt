@@ -1,27 +1,26 @@
 -- No statement of a written netlist has a fault.
-use Rattle.std.proofs.Common.{◌≡◌, ℕ, zero, suc, ◌+◌, ◌<◌, ◌==◌, ◌&&◌, ◌||◌, not, nat_lt, Bool, true, false, if◌then◌else◌, List, [], ◌∷◌, ◌++◌, length, map, flat_map, codes, bytes_eq, refl, sym, ap, ap₂, ◌∙◌, subst, Option, Some, None, inl, inr, arith, append_assoc}
+use Rattle.std.proofs.Common.{◌≡◌, ℕ, zero, suc, ◌<◌, ◌&&◌, ◌||◌, not, nat_lt, Bool, true, false, if◌then◌else◌, List, [], ◌∷◌, ◌++◌, length, map, flat_map, bytes_eq, refl, sym, ap, ap₂, ◌∙◌, subst, Option, Some, None, arith, append_assoc}
 use Rattle.std.specs.List.{list_all, list_any}
-use Rattle.std.proofs.lemmas.Bool.{both_ways, cond-true, cond-false, and_parts, and_from, and_right, or_cases, or_parts, or_from, not-true, not_from_true, not_from_false, false_from_ne_true, cases_Bool}
+use Rattle.std.proofs.lemmas.Bool.{both_ways, cond-false, and_parts, and_from, and_right, or_parts, or_from, not-true, not_from_true, not_from_false, false_from_ne_true}
 use Rattle.syn_netlist.specs.Words.{has, distinct, without}
-use Rattle.syn_netlist.specs.Lists.{Latch, Table, Netlist, output_of, latch_output, sources}
+use Rattle.syn_netlist.specs.Lists.{Latch, Table, Netlist, output_of, latch_output}
 use Rattle.syn_netlist.specs.declared.LatchKind.{LatchKind}
 use Rattle.syn_netlist.specs.declared.LatchKind.TheVariants as types
-use Rattle.syn_netlist.specs.Order.{defined, DefinedOnce}
 use Rattle.syn_netlist.specs.Kept.{row_fits, rows_fit}
-use Rattle.syn_netlist.proofs.Sets.{same_word, word_same, has-append, has_head, has_tail, has_left, has_right, apart, distinct_right, distinct_head}
+use Rattle.syn_netlist.proofs.Sets.{same_word, word_same, has-append, has_head, has_tail, has_right, apart, distinct_right, distinct_head}
 use Rattle.syn_shapes.specs.Printed.{kind_word, kind_words, digit}
 use Rattle.syn_reader.specs.declared.Kind.{Kind}
 use Rattle.syn_reader.specs.declared.Kind.TheVariants as kinds
 use Rattle.syn_reader.specs.Statements.{Statement, is_end}
 use Rattle.syn_lex.specs.Lines.{is_nil}
-use Rattle.syn_reader.specs.Shapes.{last_word, all_but_last, is_row_of, is_input_part, output_word, row_words, latch_types, initial_values}
+use Rattle.syn_reader.specs.Shapes.{last_word, is_row_of, is_input_part, output_word, row_words, latch_types, initial_values}
 use Rattle.syn_reader.specs.Definitions.{Definition, name_of, definitions, may_share, forbids, first_forbidden}
 use Rattle.syn_reader.specs.LineFaults.{checks, first_fault_of_lines, table_above, is_stray, is_misshaped, first_row, has_bad_type, has_bad_init}
-use Rattle.syn_reader.proofs.Words.{all_but_snoc, last_snoc}
+use Rattle.syn_reader.proofs.Words.{all_but_snoc}
 use Rattle.syn_reader.proofs.Fine.{IsFine, fine_first}
 use Rattle.syn_text.specs.WellFormed.{latch_fits, table_fits, IsWellFormed}
-use Rattle.syn_text.specs.Written.{Line, latch_words, row_said, table_said, from_tables, from_latches, from_clocks, lines_of, numbered, written}
-use Rattle.syn_text.proofs.WrittenFits.{FitsLatch, FitsTable, latch_parts, table_parts}
+use Rattle.syn_text.specs.Written.{latch_words, row_said, from_tables, from_latches, from_clocks, numbered, written}
+use Rattle.syn_text.proofs.WrittenFits.{FitsLatch, latch_parts, table_parts}
 use Rattle.syn_text.proofs.WrittenNames.{defines, statement, names_in, table_defines}
 
 -- definitions that none before them forbids

@@ -1,16 +1,16 @@
 -- The lines of a netlist that can be written fit, and their bytes are the netlist's.
-use Rattle.std.proofs.Common.{◌≡◌, ℕ, zero, suc, ◌+◌, ◌<◌, ◌==◌, ◌&&◌, ◌||◌, not, nat_lt, Bool, true, false, if◌then◌else◌, List, [], ◌∷◌, ◌++◌, length, map, flat_map, codes, bytes_eq, refl, sym, ap, ap₂, ◌∙◌, subst, Option, Some, None, inl, inr, arith, append_assoc, append-nil}
+use Rattle.std.proofs.Common.{◌≡◌, ℕ, zero, suc, ◌<◌, ◌==◌, ◌&&◌, ◌||◌, not, nat_lt, Bool, true, false, List, [], ◌∷◌, ◌++◌, length, map, flat_map, codes, bytes_eq, refl, sym, ap, ap₂, ◌∙◌, subst, Option, Some, None, inl, inr, arith, append_assoc}
 use Rattle.std.specs.List.{list_all}
 use Rattle.std.proofs.lemmas.Bool.Decides.{nat_tests}
-use Rattle.std.proofs.lemmas.Bool.{both_ways, cond-true, cond-false, and_parts, and_from, or_cases, eqb-true, not-true}
+use Rattle.std.proofs.lemmas.Bool.{and_parts, and_from, or_cases, eqb-true}
 use Rattle.syn_netlist.specs.Words.{is_word, is_word_byte}
 use Rattle.syn_netlist.specs.Lists.{Latch, Table, Netlist, latch_reads, control_of}
 use Rattle.syn_netlist.specs.declared.LatchKind.{LatchKind}
 use Rattle.syn_netlist.specs.declared.LatchKind.TheVariants as types
 use Rattle.syn_netlist.specs.Kept.{nil_word, is_row_character, row_fits, rows_fit, polarity_fits}
-use Rattle.syn_shapes.specs.Printed.{line, blanked, kind_word, control_word, kind_words, digit, latch_line, row_line, table_lines, clock_line, printed}
+use Rattle.syn_shapes.specs.Printed.{line, kind_word, kind_words, digit, latch_line, row_line, table_lines, clock_line, printed}
 use Rattle.syn_reader.specs.declared.Kind.TheVariants as kinds
-use Rattle.syn_reader.specs.Shapes.{output_word, row_words}
+use Rattle.syn_reader.specs.Shapes.{output_word}
 use Rattle.syn_reader.proofs.Sets.{all_snoc}
 use Rattle.syn_text.specs.WellFormed.{latch_fits, table_fits, IsWellFormed}
 use Rattle.syn_text.specs.Written.{Line, said, line_bytes, line_fits, latch_words, row_said, table_said, from_tables, from_latches, from_clocks, lines_of}

@@ -1,22 +1,22 @@
 -- The names that the statements of a written netlist define and read.
-use Rattle.std.proofs.Common.{◌≡◌, ℕ, suc, ◌&&◌, ◌||◌, not, Bool, true, false, if◌then◌else◌, List, [], ◌∷◌, ◌++◌, map, flat_map, find, codes, bytes_eq, refl, sym, ap, ap₂, ◌∙◌, subst, ◌⊎◌, Option, Some, None, inl, inr, append_assoc, append-nil}
-use Rattle.std.specs.List.{list_all, list_any}
-use Rattle.std.proofs.lemmas.Bool.{both_ways, cond-true, cond-false, and_parts, and_from, and_right, or_cases, or_parts, or_from, not-true, not_from_true, not_from_false, false_from_ne_true}
-use Rattle.syn_netlist.specs.Words.{has, distinct, without}
-use Rattle.syn_netlist.specs.Lists.{Latch, Table, Netlist, output_of, latch_output, latch_reads, control_of, sources}
+use Rattle.std.proofs.Common.{◌≡◌, ℕ, suc, ◌||◌, not, Bool, true, false, if◌then◌else◌, List, [], ◌∷◌, ◌++◌, map, flat_map, find, bytes_eq, refl, sym, ap, ap₂, ◌∙◌, ◌⊎◌, Option, Some, None, inl, inr, append_assoc}
+use Rattle.std.specs.List.{list_all}
+use Rattle.std.proofs.lemmas.Bool.{both_ways, cond-true, and_parts, or_cases, or_from, not-true, not_from_false, false_from_ne_true}
+use Rattle.syn_netlist.specs.Words.{has, without}
+use Rattle.syn_netlist.specs.Lists.{Latch, Table, Netlist, output_of, latch_output, latch_reads, control_of}
 use Rattle.syn_netlist.specs.declared.LatchKind.{LatchKind}
 use Rattle.syn_netlist.specs.Order.{defined}
 use Rattle.syn_netlist.specs.Faults.{inputs_of, reads as netlist_reads, first_undriven as netlist_undriven}
 use Rattle.syn_netlist.specs.Kept.{nil_word}
-use Rattle.syn_netlist.proofs.Sets.{same_word, word_same, has-append, has_head, has_tail, has_left, has_right}
+use Rattle.syn_netlist.proofs.Sets.{has-append, has_tail, has_left, has_right}
 use Rattle.syn_reader.specs.declared.Kind.{Kind}
 use Rattle.syn_reader.specs.declared.Kind.TheVariants as kinds
 use Rattle.syn_reader.specs.Statements.{Statement}
-use Rattle.syn_reader.specs.Definitions.{Definition, name_of, names_defined, names_read, definitions, reads, first_undriven}
+use Rattle.syn_reader.specs.Definitions.{Definition, name_of, definitions, reads, first_undriven}
 use Rattle.syn_reader.proofs.Words.{all_but_snoc, last_snoc}
-use Rattle.syn_text.specs.WellFormed.{latch_fits, table_fits, IsWellFormed}
-use Rattle.syn_text.specs.Written.{Line, latch_words, row_said, table_said, from_tables, from_latches, from_clocks, lines_of, numbered, written}
-use Rattle.syn_text.proofs.WrittenFits.{FitsLatch, latch_parts}
+use Rattle.syn_text.specs.WellFormed.{latch_fits, IsWellFormed}
+use Rattle.syn_text.specs.Written.{latch_words, row_said, from_tables, from_latches, from_clocks, numbered, written}
+use Rattle.syn_text.proofs.WrittenFits.{latch_parts}
 
 abbrev pub defines : Kind → List ℕ → Definition
 defines kind name = record { by = kind; name = name }

@@ -1,18 +1,17 @@
 -- What a netlist is written as reads as that netlist.
-use Rattle.std.proofs.Common.{◌≡◌, ℕ, List, [], map, flat_map, refl, sym, ap, ap₂, ◌∙◌, subst, Option, Some, None, option_map}
+use Rattle.std.proofs.Common.{◌≡◌, ℕ, List, [], sym, ap, ◌∙◌, subst, Option, None, option_map}
 use Rattle.std.specs.Option.{option_or}
 use Rattle.syn_lex.specs.Lines.{bad_byte}
 use Rattle.syn_netlist.specs.Lists.{Netlist}
-use Rattle.syn_netlist.specs.Faults.{IsChecked, OrderableReachesNoCircle}
 use Rattle.syn_netlist.proofs.Checked.{orderable_reaches_no_circle}
 use Rattle.syn_shapes.specs.Printed.{printed}
 use Rattle.syn_reader.specs.Faults.{Fault, BadByte, Undriven}
-use Rattle.syn_reader.specs.Statements.{Statement, statements}
+use Rattle.syn_reader.specs.Statements.{statements}
 use Rattle.syn_reader.specs.Definitions.{first_undriven}
 use Rattle.syn_reader.specs.LineFaults.{checks, first_fault_of_lines}
-use Rattle.syn_reader.specs.Reading.{Spell, Reads, first_fault_of_text}
+use Rattle.syn_reader.specs.Reading.{Spell}
 use Rattle.syn_text.specs.WellFormed.{IsWellFormed, PrintedReads}
-use Rattle.syn_text.specs.Written.{lines_of, line_bytes, written}
+use Rattle.syn_text.specs.Written.{lines_of, written}
 use Rattle.syn_text.proofs.Lexed.{statements_of, no_bad_byte}
 use Rattle.syn_text.proofs.WrittenFits.{lines_fit, lines_bytes}
 use Rattle.syn_text.proofs.WrittenSpells.{spell_written}

@@ -1,20 +1,17 @@
 -- The statements of a written netlist spell it.
-use Rattle.std.proofs.Common.{◌≡◌, ◌≢◌, ℕ, zero, suc, ◌+◌, ◌<◌, ◌≤◌, ◌==◌, ◌&&◌, not, nat_lt, Bool, true, false, List, [], ◌∷◌, ◌++◌, length, map, codes, bytes_eq, refl, sym, ap, ap₂, ◌∙◌, subst, Option, Some, None, inl, inr, arith, append-nil}
+use Rattle.std.proofs.Common.{◌≡◌, ◌≢◌, ℕ, zero, suc, ◌+◌, ◌<◌, ◌≤◌, not, Bool, true, List, [], ◌∷◌, ◌++◌, map, codes, bytes_eq, refl, sym, ap, ap₂, subst, Option, Some, None, inl, arith, append-nil}
 use Rattle.std.specs.List.{list_all}
-use Rattle.std.proofs.lemmas.Bool.{both_ways, and_parts, and_from, not-true}
-use Rattle.syn_netlist.specs.Words.{is_word}
-use Rattle.syn_netlist.specs.Lists.{Latch, Table, Frame, Netlist, control_of}
+use Rattle.std.proofs.lemmas.Bool.{both_ways, and_parts, not-true}
+use Rattle.syn_netlist.specs.Lists.{Latch, Table, Netlist, control_of}
 use Rattle.syn_netlist.specs.declared.LatchKind.{LatchKind}
 use Rattle.syn_netlist.specs.declared.LatchKind.TheVariants as types
-use Rattle.syn_netlist.specs.Kept.{nil_word, is_row_character, row_fits, rows_fit, polarity_fits}
-use Rattle.syn_shapes.specs.Printed.{kind_word, kind_words, digit}
-use Rattle.syn_reader.specs.declared.Kind.TheVariants as kinds
-use Rattle.syn_reader.specs.Statements.{Statement}
-use Rattle.syn_reader.specs.Shapes.{IsLatch, IsTable, type_and_control, control_name, nil_control, row_words, is_input_part}
-use Rattle.syn_reader.specs.Reading.{no_netlist, with_model, with_inputs, with_clocks, with_outputs, rows_below, Spell}
+use Rattle.syn_netlist.specs.Kept.{nil_word, polarity_fits}
+use Rattle.syn_shapes.specs.Printed.{kind_words, digit}
+use Rattle.syn_reader.specs.Shapes.{IsLatch, IsTable, type_and_control, control_name, nil_control, row_words}
+use Rattle.syn_reader.specs.Reading.{no_netlist, rows_below, Spell}
 use Rattle.syn_reader.proofs.Words.{word_same}
 use Rattle.syn_text.specs.WellFormed.{latch_fits, table_fits, IsWellFormed}
-use Rattle.syn_text.specs.Written.{Line, latch_words, row_said, table_said, from_tables, from_latches, from_clocks, lines_of, numbered, written}
+use Rattle.syn_text.specs.Written.{latch_words, row_said, from_tables, from_latches, from_clocks, numbered, written}
 use Rattle.syn_text.proofs.WrittenFits.{FitsLatch, FitsTable, latch_parts, table_parts}
 
 -- a table is spelled by its line and its rows

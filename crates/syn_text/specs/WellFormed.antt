@@ -1,5 +1,5 @@
 -- Netlists that can be written, and the law that what is written reads as the netlist.
-use Rattle.std.specs.Prelude.{ℕ, ◌≡◌, ◌&&◌, ◌==◌, not, nat_lt, Bool, true, List, length, bytes_eq}
+use Rattle.std.specs.Prelude.{◌≡◌, ◌&&◌, not, nat_lt, Bool, true, length, bytes_eq}
 use Rattle.std.specs.List.{list_all}
 use Rattle.syn_netlist.specs.Words.{is_word}
 use Rattle.syn_netlist.specs.Lists.{Latch, Table, Netlist, latch_reads, control_of}

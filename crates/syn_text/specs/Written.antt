@@ -1,5 +1,5 @@
 -- The lines of a written netlist, and the statements that they are.
-use Rattle.std.specs.Prelude.{ℕ, suc, ◌&&◌, not, Bool, true, false, List, [], ◌∷◌, ◌++◌, map, flat_map, codes}
+use Rattle.std.specs.Prelude.{ℕ, suc, ◌&&◌, not, Bool, true, false, List, [], ◌∷◌, ◌++◌, map, codes}
 use Rattle.std.specs.List.{list_all}
 use Rattle.syn_netlist.specs.Words.{is_word}
 use Rattle.syn_netlist.specs.Lists.{Latch, Table, Netlist}
