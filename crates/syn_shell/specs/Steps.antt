@@ -2,13 +2,10 @@
 use Rattle.std.specs.Prelude.{◌≡◌, ℕ, ◌≤◌, ◌<◌, List, length, Option, Some, None, IfSome, IsSomeAnd, Result, Ok, Err, ⊤, string_bytes}
 use Rattle.syn_io.specs.Outside.{Rose, file_at}
 use Rattle.syn_netlist.specs.Lists.{Netlist}
-use Rattle.syn_netlist.specs.Costs.{cost_of}
-use Rattle.syn_netlist.specs.Meaning.{SameMeaning}
-use Rattle.syn_netlist.specs.Order.{Ordered}
-use Rattle.syn_shapes.specs.GraphShape.{GraphShape, and_tables}
 use Rattle.syn_shapes.specs.Printed.{printed}
 use Rattle.syn_reader.specs.Reading.{Reads}
 use Rattle.syn_reader.specs.FirstForm.{IsFirstForm}
+use Rattle.syn_build.specs.Building.{IsGraphOf}
 use Rattle.syn_shell.specs.declared.commands.Command.{Command}
 use Rattle.syn_shell.specs.declared.commands.Command.TheVariants.{Read, PrintStats, Write}
 use Rattle.syn_shell.specs.declared.refusal.Refusal.{Refusal}
@@ -19,13 +16,6 @@ use Rattle.syn_shell.specs.Lines.{IsNumbersLine}
 -- the most bytes of a file that is read
 abbrev pub file_limit : ℕ
 file_limit = 16777216
-
--- What the network is to the netlist that it was made of: it means the same, reads only earlier signals, has the shape of a graph, and no more ANDs than the netlist costs.
-pub record IsGraphOf (netlist m : Netlist) : Type 0 where
-  pub same : SameMeaning netlist m
-  pub ordered : Ordered m
-  pub shape : GraphShape m
-  pub fewer : length (and_tables m) ≤ cost_of netlist
 
 -- What an accepted read makes of a file: its bytes are of the first form and spell a netlist, and the network is that netlist's graph.
 pub record IsReadAs (name : List ℕ) (files : Disk) (m : Netlist) : Type 0 where
