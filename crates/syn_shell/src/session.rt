@@ -101,7 +101,7 @@ fn printed(alloc: Global, graph: &Graph) -> Result<Vec<u8>, AllocError>
     ensures { IfOk result (λ bytes. bytes.items ≡ printed (network_of graph.now)) }
 {
     let netlist = netlist_of(alloc, graph)?;
-    let bytes = syn_shapes::print(alloc, &netlist)?;
+    let bytes = syn_text::print(alloc, &netlist)?;
     Ok(bytes)
 }
 

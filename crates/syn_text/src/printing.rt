@@ -1,12 +1,15 @@
 //! The bytes of a written netlist, line by line.
 
 ghost use Rattle.std.specs.Prelude.{◌≡◌, ◌<◌, List, [], ◌∷◌, ◌++◌, codes, flat_map, length, map, true, IfOk, OnOk};
+ghost use Rattle.syn_netlist.specs.Faults.{IsChecked};
 ghost use Rattle.syn_netlist.specs.Kept.{control_number, latch_numbers, latches_below};
 ghost use Rattle.syn_netlist.specs.Numbers.{all_below, kind_at, word_at, words_at};
 ghost use Rattle.syn_netlist.specs.Tables.{tables_below};
 ghost use Rattle.syn_netlist.specs.Views.{frame_in, latch_in, netlist_in, table_in};
+ghost use Rattle.syn_reader.specs.Reading.{Reads};
 ghost use Rattle.syn_shapes.specs.Printed.{blanked, clock_line, digit, frame_lines, kind_word, kind_words, latch_line, line, output_word, printed, row_line, table_lines};
 
+use crate::laws::{printed_reads, well_formed};
 use std::alloc::{AllocError, Global};
 use syn_netlist::{Frame, Latch, LatchKind, Names, Netlist, Table, Word};
 
@@ -225,15 +228,25 @@ fn push_frame(out: &mut Vec<u8>, frame: &Frame) -> Result<(), AllocError>
     push_latches(out, &frame.names, frame.latches.as_slice())
 }
 
-/// The bytes of a netlist as it is written: the lines of its frame, its tables in order, the end. The only error is want of memory.
-pub fn print(alloc: Global, netlist: &Netlist) -> Result<Vec<u8>, AllocError>
-    ensures bytes { IfOk result (λ v. v.items ≡ printed (netlist_in netlist.now)) }
+// The lines of its frame, its tables in order, the end.
+fn print_lines(alloc: Global, netlist: &Netlist) -> Result<Vec<u8>, AllocError>
+    ensures { IfOk result (λ bytes. bytes.items ≡ printed (netlist_in netlist.now)) }
 {
     let mut out = Vec::new(alloc);
     push_frame(&mut out, &netlist.frame)?;
     push_tables(&mut out, &netlist.frame.names, netlist.tables.as_slice())?;
     push_bytes(&mut out, b".end\n")?;
     Ok(out)
+}
+
+/// The bytes of a netlist as it is written: the lines of its frame, its tables in order, the end. Those of a netlist without a fault read as that netlist, and as no other. The only error is want of memory.
+pub fn print(alloc: Global, netlist: &Netlist) -> Result<Vec<u8>, AllocError>
+    ensures printed { IfOk result (λ bytes. bytes.items ≡ printed (netlist_in netlist.now)) }
+    ensures reads_back { IsChecked (netlist_in netlist.now) → IfOk result (λ bytes. Reads bytes.items (netlist_in netlist.now)) }
+{
+    well_formed(netlist);
+    printed_reads();
+    print_lines(alloc, netlist)
 }
 
 #[cfg(test)]

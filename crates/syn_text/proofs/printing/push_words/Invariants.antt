@@ -1,7 +1,7 @@
 use Rattle.std.proofs.Common.{◌≡◌, ◌++◌, drop, length, true}
 use Rattle.syn_netlist.specs.Numbers.{all_below, words_at}
 use Rattle.syn_shapes.specs.Printed.{blanked}
-use Rattle.syn_shapes.proofs.printing.push_words.Given as goal
+use Rattle.syn_text.proofs.printing.push_words.Given as goal
 
 abbrev pub invariant-loop-n : goal.invariant-loop-n
 invariant-loop-n l = record {

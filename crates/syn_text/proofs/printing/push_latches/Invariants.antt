@@ -1,7 +1,7 @@
 use Rattle.std.proofs.Common.{◌≡◌, ◌++◌, flat_map, map, drop, length, true}
 use Rattle.syn_netlist.specs.Kept.{latch_in, latches_below}
 use Rattle.syn_shapes.specs.Printed.{latch_line}
-use Rattle.syn_shapes.proofs.printing.push_latches.Given as goal
+use Rattle.syn_text.proofs.printing.push_latches.Given as goal
 
 abbrev pub invariant-loop-latch : goal.invariant-loop-latch
 invariant-loop-latch l = record {

@@ -1,0 +1,8 @@
+pub mod Blanks
+pub mod Lexed
+pub mod WrittenFits
+pub mod WrittenSpells
+pub mod WrittenNames
+pub mod WrittenFaults
+pub mod WrittenReads
+pub mod WellFormedNetlists
