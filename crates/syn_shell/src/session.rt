@@ -28,7 +28,7 @@ use syn_graph::Graph;
 use syn_io::{Files, GetFault, PutFault, Sink};
 use syn_netlist::Netlist;
 use syn_reader::ReadFault;
-use syn_spelling::netlist_of;
+use syn_text::netlist_of;
 
 const FILE_LIMIT: u64 = 16_777_216;
 

@@ -6,3 +6,7 @@ pub mod WrittenNames
 pub mod WrittenFaults
 pub mod WrittenReads
 pub mod WellFormedNetlists
+mod Finding
+mod Framing
+mod Tabling
+mod Whole

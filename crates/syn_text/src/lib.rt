@@ -1,8 +1,10 @@
-//! The bytes of a written netlist, and that these bytes read as the netlist.
+//! The netlist that a graph is written as, its bytes, and that these bytes read as the netlist.
 #![tactic(auto)]
 
 mod laws;
 mod printing;
+mod spelling;
 
 pub use laws::{printed_reads, well_formed};
 pub use printing::print;
+pub use spelling::netlist_of;

@@ -1,4 +1,0 @@
-mod Finding
-mod Framing
-mod Tabling
-mod Whole
