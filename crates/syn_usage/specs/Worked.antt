@@ -14,6 +14,7 @@ abbrev pub IsRefused : List (List ℕ) → Type 0
 IsRefused words = refusals (called_with words) ≢ []
 
 pub record Worked : Type 0 where
+  pub nothing_at_all : (refusals [] ≡ []) × (script_in [] ≡ None)
   pub none : Gives [] None
   pub script : Gives (codes "-c" ∷ codes "ps; b" ∷ []) (Some (codes "ps; b"))
   pub empty_script : Gives (codes "-c" ∷ [] ∷ []) (Some [])

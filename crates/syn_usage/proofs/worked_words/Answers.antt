@@ -5,6 +5,7 @@ use Rattle.syn_usage.proofs.worked_words.Goals as goal
 pub returns : goal.returns
 unfolding clap_on_literals
 returns c = record {
+  nothing_at_all = (refl, refl);
   none = (refl, refl);
   script = (refl, refl);
   empty_script = (refl, refl);
