@@ -8,6 +8,7 @@ ghost use Rattle.syn_netlist.specs.Views.{netlist_in};
 ghost use Rattle.syn_netlist.specs.Frames.{frame_in};
 ghost use Rattle.syn_netlist.specs.Meaning.{SameMeaning};
 ghost use Rattle.syn_netlist.specs.Order.{Ordered, observes_defined};
+ghost use Rattle.syn_netlist.specs.Faults.{IsChecked};
 ghost use Rattle.syn_reader.specs.FirstForm.{IsFirstForm};
 ghost use Rattle.syn_reader.specs.Reading.{Reads};
 ghost use Rattle.syn_reader.specs.Limits.{Within};
@@ -59,13 +60,15 @@ fn parse(alloc: Global, bytes: &[u8]) -> Result<Netlist, Refusal>
     ensures first_form { IfOk result (λ n. IsFirstForm bytes.now) }
     ensures reads { IfOk result (λ n. Reads bytes.now (netlist_in n)) }
     ensures within { IfOk result (λ n. Within (netlist_in n)) }
-    ensures ordered { IfOk result (λ n. Ordered (netlist_in n)) }
-    ensures observes { IfOk result (λ n. observes_defined (netlist_in n) ≡ true) }
+    ensures checked { IfOk result (λ n. IsChecked (netlist_in n)) }
     ensures names { IfOk result (λ n. length n.frame.names < 2 ^ 31) }
     ensures refused { IfErr result (ParseRefused bytes.now) }
 {
     match syn_reader::read(alloc, bytes) {
-        Ok(netlist) => Ok(netlist),
+        Ok(netlist) => {
+            syn_netlist::check(&netlist, alloc).map_err(|_| Refusal::NoMemory)?;
+            Ok(netlist)
+        }
         Err(ReadFault::Unbuilt) => Err(Refusal::Unbuilt),
         Err(ReadFault::NoMemory) => Err(Refusal::NoMemory),
     }
