@@ -2,9 +2,6 @@ mod Dropped
 mod Graphing
 mod Kept
 mod Numbers
-mod Refusing
-mod Running
-mod Scripts
 mod Taking
 pub mod Finding
 pub mod Framing

@@ -2,17 +2,22 @@
 #![tactic(auto)]
 
 mod build;
-mod commands;
 mod compact;
 mod graph;
+mod graph_stub;
+mod line_mode;
 mod lines;
 mod network;
 mod refusal;
-mod script;
+mod scripts;
 mod session;
 mod spelling;
 mod strash;
+mod telling;
+mod usage;
 mod visit;
 mod whole_run;
 
+pub use refusal::Refusal;
+pub use session::Session;
 pub use whole_run::run;
