@@ -1,9 +1,3 @@
-pub mod Growing
-pub mod Covering
-pub mod Naming
-pub mod Numbered
-pub mod Compacting
-pub mod Visiting
 pub mod Graphs
 pub mod Outside
 pub mod Lines

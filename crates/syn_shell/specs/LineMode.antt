@@ -54,4 +54,4 @@ RunsLines [] taken before i refusals after i' = EndsHere taken before i refusals
 RunsLines (line ∷ lines) taken before i refusals after i' =
     (j : Input) × (outcome : Option Refused) × (done : State) × (taken < most_lines) × GaveLine line i j × RunsScript line before outcome done
     × (((told : State) × (more : List Refused) × GoesOn outcome done told × (refusals ≡ listed outcome ++ more) × RunsLines lines (taken + 1) told j more after i')
-      ⊎ (EndsBySink outcome done after × (refusals ≡ listed outcome) × (lines ≡ []) × (i' ≡ j)))
+    ⊎ (EndsBySink outcome done after × (refusals ≡ listed outcome) × (lines ≡ []) × (i' ≡ j)))

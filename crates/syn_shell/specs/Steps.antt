@@ -4,7 +4,6 @@ use Rattle.syn_io.specs.Outside.{Rose, file_at}
 use Rattle.syn_rows.specs.Rows.{node_of}
 use Rattle.syn_rows.specs.Levels.{level_in, levels_of}
 use Rattle.syn_netlist.specs.Lists.{Netlist}
-use Rattle.syn_netlist.specs.Costs.{cost_of}
 use Rattle.syn_netlist.specs.Meaning.{SameMeaning}
 use Rattle.syn_netlist.specs.Order.{Ordered}
 use Rattle.syn_shapes.specs.GraphShape.{GraphShape, and_tables, observed_of, rows_of}
@@ -16,6 +15,7 @@ use Rattle.syn_reader.specs.declared.ReadFault.{ReadFault}
 use Rattle.syn_reader.specs.Causes.{fault_in}
 use Rattle.syn_reader.specs.Limits.{Within, IsFirstFault}
 use Rattle.syn_reader.specs.Reading.{Reads}
+use Rattle.syn_build.specs.Building.{IsGraphOf}
 use Rattle.syn_shell.specs.declared.refusal.Refusal.{Refusal}
 use Rattle.syn_shell.specs.declared.refusal.Refusal.TheVariants.{Read, FileTooLong, NoNetwork, GetFailed, PutFailed, SinkFailed, NoMemory}
 use Rattle.syn_shell.specs.Outside.{Disk, Screen, FilesStand, FileIs, OthersStand, Took, TookPart}
@@ -24,13 +24,6 @@ use Rattle.syn_shell.specs.Lines.{IsNumbersLine}
 -- the most bytes of a file that is read
 abbrev pub file_limit : ℕ
 file_limit = 16777216
-
--- What the network is to the netlist that it was made of: it means the same, reads only earlier signals, has the shape of a graph, and no more ANDs than the netlist costs.
-pub record IsGraphOf (netlist m : Netlist) : Type 0 where
-  pub same : SameMeaning netlist m
-  pub ordered : Ordered m
-  pub shape : GraphShape m
-  pub fewer : length (and_tables m) ≤ cost_of netlist
 
 -- What an accepted read makes of a file: its bytes spell a netlist within the limits, and the network is that netlist's graph.
 pub record IsReadAs (name : List ℕ) (files : Disk) (m : Netlist) : Type 0 where

@@ -6,15 +6,15 @@ ghost use Rattle.syn_rows.specs.Rows.{node_of};
 ghost use Rattle.syn_rows.specs.Levels.{level_in, levels_of};
 ghost use Rattle.syn_netlist.specs.Frames.{frame_in};
 ghost use Rattle.syn_netlist.specs.Lists.{Frame};
-ghost use Rattle.syn_shell.specs.Graphs.{network_of};
+ghost use Rattle.syn_graph.specs.Graphs.{network_of};
 ghost use Rattle.syn_shell.specs.Lines.{greatest, IsNumbersLine, numbers_text};
 ghost use Rattle.syn_shell.specs.Outside.{screen, Took};
 ghost use Rattle.syn_shell.specs.Steps.{StatsRefused};
 
-use crate::graph::Graph;
 use crate::refusal::Refusal;
 use itoa::Buffer;
 use std::alloc::{AllocError, Global};
+use syn_graph::Graph;
 use syn_io::Sink;
 use syn_netlist::Frame;
 use syn_rows::Lit;
@@ -55,7 +55,7 @@ fn greatest_level(levels: &[u32], lits: &[Lit]) -> u32
 
 // How deep a graph is: the greatest level of an observed node.
 fn depth(alloc: Global, graph: &Graph) -> Result<u32, AllocError>
-    ensures { IfOk result (λ depth. depth ≡ greatest (map (λ l. level_in (levels_of graph.now.rows.items) (node_of l)) graph.now.observed.items)) }
+    ensures { IfOk result (λ depth. depth ≡ greatest (map (λ l. level_in (levels_of graph.now.rows) (node_of l)) graph.now.observed)) }
 {
     let levels = syn_rows::levels(alloc, graph.rows.as_slice())?;
     Ok(greatest_level(levels.as_slice(), graph.observed.as_slice()))

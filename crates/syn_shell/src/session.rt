@@ -7,20 +7,22 @@ ghost use Rattle.syn_netlist.specs.Views.{netlist_in};
 ghost use Rattle.syn_reader.specs.Reading.{Reads};
 ghost use Rattle.syn_reader.specs.Limits.{Within};
 ghost use Rattle.syn_shapes.specs.Printed.{printed};
-ghost use Rattle.syn_shell.specs.Graphs.{network_in, network_of};
+ghost use Rattle.syn_graph.specs.Graphs.{network_of};
+ghost use Rattle.syn_build.specs.Building.{IsGraphOf};
+ghost use Rattle.syn_shell.specs.Graphs.{network_in};
 ghost use Rattle.syn_shell.specs.Outside.{disk, FileIs, FilesStand, OthersStand, screen};
 ghost use Rattle.syn_shell.specs.Steps.{file_limit, IsBalanced, IsReadAs, ParseRefused, ReadRefused, RemakingRefused, SessionStep, StaysBalanced, WriteRefused};
 
-use crate::graph::Graph;
 use crate::graph_stub::graph_of;
 use crate::lines::print_stats;
 use crate::refusal::Refusal;
-use crate::spelling::netlist_of;
 use std::alloc::{AllocError, Global};
 use std::marker::Model;
+use syn_graph::Graph;
 use syn_io::{Files, GetFault, PutFault, Sink};
 use syn_netlist::Netlist;
 use syn_reader::ReadFault;
+use syn_spelling::netlist_of;
 use syn_words::Command;
 
 const FILE_LIMIT: u64 = 16_777_216;
@@ -101,12 +103,7 @@ fn put<F: Files>(alloc: Global, name: &str, bytes: &[u8], files: &mut F) -> Resu
 fn printed(alloc: Global, graph: &Graph) -> Result<Vec<u8>, AllocError>
     ensures { IfOk result (λ bytes. bytes.items ≡ printed (network_of graph.now)) }
 {
-    let netlist = netlist_of(
-        alloc,
-        &graph.frame,
-        graph.rows.as_slice(),
-        graph.observed.as_slice(),
-    )?;
+    let netlist = netlist_of(alloc, graph)?;
     let bytes = syn_shapes::print(alloc, &netlist)?;
     Ok(bytes)
 }

@@ -67,7 +67,12 @@ fn put_cycle<O: Sink>(out: &mut O, names: &[Word]) -> Result<(), SinkFailed>
 }
 
 // Puts a number between two texts.
-fn put_number<O: Sink>(out: &mut O, before: &[u8], number: u64, after: &[u8]) -> Result<(), SinkFailed>
+fn put_number<O: Sink>(
+    out: &mut O,
+    before: &[u8],
+    number: u64,
+    after: &[u8],
+) -> Result<(), SinkFailed>
     ensures { Puts result (joined (before.now ∷ decimal number ∷ after.now ∷ [])) (screen (O.told out.old) (O.faults out.old)) (screen (O.told out.new) (O.faults out.new)) }
 {
     let mut buffer = Buffer::new();
@@ -79,7 +84,10 @@ fn put_at_place<O: Sink>(out: &mut O, at: u32, what: &[u8]) -> Result<(), SinkFa
     ensures { Puts result (at_place at what.now) (screen (O.told out.old) (O.faults out.old)) (screen (O.told out.new) (O.faults out.new)) }
 {
     let mut buffer = Buffer::new();
-    put_all(out, &[b"script ", buffer.format(at as u64).as_bytes(), b": ", what])
+    put_all(
+        out,
+        &[b"script ", buffer.format(at as u64).as_bytes(), b": ", what],
+    )
 }
 
 // Puts what is wrong in a line of a file.
@@ -87,7 +95,10 @@ fn put_at_line<O: Sink>(out: &mut O, line: u32, what: &[u8]) -> Result<(), SinkF
     ensures { Puts result (at_line line what.now) (screen (O.told out.old) (O.faults out.old)) (screen (O.told out.new) (O.faults out.new)) }
 {
     let mut buffer = Buffer::new();
-    put_all(out, &[b"line ", buffer.format(line as u64).as_bytes(), b": ", what])
+    put_all(
+        out,
+        &[b"line ", buffer.format(line as u64).as_bytes(), b": ", what],
+    )
 }
 
 // Puts the name that a line of a file defines once more.
@@ -95,7 +106,16 @@ fn put_defined_twice<O: Sink>(out: &mut O, line: u32, name: &[u8]) -> Result<(),
     ensures { Puts result (joined (codes "line " ∷ decimal line ∷ codes ": " ∷ name.now ∷ codes " defined twice" ∷ [])) (screen (O.told out.old) (O.faults out.old)) (screen (O.told out.new) (O.faults out.new)) }
 {
     let mut buffer = Buffer::new();
-    put_all(out, &[b"line ", buffer.format(line as u64).as_bytes(), b": ", name, b" defined twice"])
+    put_all(
+        out,
+        &[
+            b"line ",
+            buffer.format(line as u64).as_bytes(),
+            b": ",
+            name,
+            b" defined twice",
+        ],
+    )
 }
 
 // Puts what a fault of a script says.

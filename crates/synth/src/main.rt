@@ -1,10 +1,11 @@
-//! `synth`, a logic-synthesis shell: runs the script of its words over the system's files and standard output.
+//! `synth`, a logic-synthesis shell: runs the script of its words, or each line of standard input, over the system's
+//! files and standard output.
 #![tactic(auto)]
 
 use std::alloc::Global;
 use std::process::ExitCode;
 use std::{env, io};
-use syn_io::{MemLines, RealFiles, RealSink};
+use syn_io::{RealFiles, RealLines, RealSink};
 
 const NO_MEMORY: u8 = 8;
 
@@ -25,8 +26,10 @@ fn main(rt: HostRuntime) -> ExitCode {
         Ok(words) => words,
         Err(status) => return ExitCode::from(status),
     };
+    let Ok(mut lines) = RealLines::new(alloc, rt.reader()) else {
+        return ExitCode::from(NO_MEMORY);
+    };
     let mut files = RealFiles::new(&rt);
-    let mut lines = MemLines::new(Vec::new(alloc), Vec::new(alloc));
     let mut out = RealSink::new(&rt);
     ExitCode::from(syn_shell::run(alloc, words.as_slice(), &mut files, &mut lines, &mut out))
 }

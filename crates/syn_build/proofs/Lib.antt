@@ -1,0 +1,3 @@
+mod Graphing
+mod Known
+mod Matching

@@ -1,0 +1,3 @@
+pub mod Covering
+pub mod Naming
+pub mod Building

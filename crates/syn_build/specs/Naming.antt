@@ -1,0 +1,24 @@
+-- Literals of names: one for each number of a name, once the name is known.
+use Rattle.std.specs.Prelude.{◌≡◌, ℕ, ◌<◌, Bool, true, List, length, map}
+use Rattle.syn_rows.specs.declared.Lit.{Lit}
+use Rattle.syn_rows.specs.declared.Row.{Row}
+use Rattle.syn_rows.specs.Values.{given_by}
+use Rattle.syn_netlist.specs.Words.{has}
+use Rattle.syn_netlist.specs.Lists.{Frame, Netlist, sources, observed}
+use Rattle.syn_netlist.specs.Numbers.{word_at}
+use Rattle.syn_netlist.specs.Values.{Consistent}
+use Rattle.syn_shapes.specs.GraphShape.{place}
+use Rattle.syn_shapes.specs.Graphs.{lit_at, source_lit}
+use Rattle.syn_strash.specs.Growing.{value_by}
+use Rattle.syn_build.specs.Covering.{AllThere}
+
+-- The literals by numbers of names: a source has the plain literal of its node, and where the sources' nodes have the values of a consistent valuation, the literal of each known name has its value.
+pub record IsNamed (n : Netlist) (names known : List (List ℕ)) (rows : List Row) (lits : List Lit) : Type 0 where
+  pub count : length lits ≡ length names
+  pub there : AllThere rows lits
+  pub own : (i : ℕ) → i < length names → has (sources n.frame) (word_at names i) ≡ true → lit_at lits i ≡ source_lit (place (word_at names i) (sources n.frame))
+  pub values : (v : List ℕ → Bool) → Consistent n v → (i : ℕ) → i < length names → has known (word_at names i) ≡ true → value_by (given_by (map v (sources n.frame))) rows (lit_at lits i) ≡ v (word_at names i)
+
+-- an observed signal that is a source has that source's plain literal
+abbrev pub HasOwnSources : Frame → List Lit → Type 0
+HasOwnSources frame lits = (i : ℕ) → i < length lits → has (sources frame) (word_at (observed frame) i) ≡ true → lit_at lits i ≡ source_lit (place (word_at (observed frame) i) (sources frame))

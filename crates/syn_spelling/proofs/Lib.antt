@@ -1,0 +1,4 @@
+mod Finding
+mod Framing
+mod Tabling
+mod Whole

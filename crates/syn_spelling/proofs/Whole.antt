@@ -1,0 +1,119 @@
+-- The whole netlist of a graph, from the numbers of its names.
+use Rattle.std.proofs.Common.{◌≡◌, ℕ, suc, ◌+◌, ◌-◌, ◌^◌, ◌<◌, ◌≤◌, ◌&&◌, nat_le, true, false, List, [], ◌∷◌, ◌++◌, length, map, take, drop, refl, sym, ap, ap₂, ◌∙◌, arith}
+use Rattle.std.specs.List.{list_all, AllByRecursion, flat_map}
+use Rattle.std.proofs.lemmas.Bool.{and_from, both_ways, true_from_ne_false, le-leb}
+use Rattle.std.proofs.lemmas.List.{take_rest, length-map, length-append, length-drop, map-append}
+use Rattle.std.proofs.lemmas.List.Elements.{recursion_from_All}
+use Rattle.syn_rows.specs.declared.Lit.{Lit}
+use Rattle.syn_rows.specs.declared.Row.{Row}
+use Rattle.syn_rows.specs.declared.Row.TheVariants.{And}
+use Rattle.syn_rows.specs.Rows.{node_of}
+use Rattle.syn_netlist.specs.declared.frames.Frame as code
+use Rattle.syn_netlist.specs.Frames.{frame_in}
+use Rattle.syn_netlist.specs.Lists.{Frame, Table, output_of, latch_reads, sources, observed}
+use Rattle.syn_netlist.specs.Numbers.{word_at, words_at, all_below}
+use Rattle.syn_netlist.specs.Words.{has, distinct}
+use Rattle.syn_netlist.proofs.Growing.{words_at-grows, all_below-more, length-grows}
+use Rattle.syn_netlist.proofs.Places.{all_below-append}
+use Rattle.syn_shapes.specs.Graphs.{IsGraph}
+use Rattle.syn_shapes.specs.Spelling.{inner_names, gate_names, gates_of, gate_tables, ends_from, network}
+use Rattle.syn_shapes.proofs.Inner.{no_more, length-inner_names}
+use Rattle.syn_shapes.proofs.Gates.{AreGates, hashed_gates, gate_parts, first_there, first_below, second_there}
+use Rattle.syn_shapes.proofs.Ends.{firsts_distinct}
+use Rattle.syn_shapes.proofs.Networks.{network_spells}
+use Rattle.syn_spelling.specs.Numbered.{is_named, is_within, is_named_gate, IsNumbered}
+use Rattle.syn_spelling.proofs.Finding.{not_there}
+
+-- what the parts have of a graph
+
+gates_named : (count n : ℕ) (rows : List Row) → AreGates n rows → n + length rows ≤ count + 1 → list_all (is_named_gate count) rows ≡ true
+gates_named count n [] g fits = refl
+gates_named count n (And a b ∷ rows) g fits =
+    let parts = gate_parts n a b g.0 in
+    let below = first_below n a b parts in
+    and_from (is_named count a && is_named count b) (list_all (is_named_gate count) rows)
+    (and_from (is_named count a) (is_named count b) (named a (first_there n a b parts) (omega (arith, below, fits))) (named b (second_there n a b parts) (omega (arith, parts.below, fits))))
+    (gates_named count (suc n) rows g.1 (omega (arith, fits)))
+  where
+    named : (l : Lit) → 1 ≤ node_of l → node_of l ≤ count → is_named count l ≡ true
+    named l low high = and_from (nat_le 1 (node_of l)) (nat_le (node_of l) count) (le-leb 1 (node_of l) low) (le-leb (node_of l) count high)
+gates_named count n (row ∷ rows) g fits = absurd (both_ways false refl g.0)
+
+all_within : (count : ℕ) (lits : List Lit) → AllByRecursion (λ l. node_of l ≤ count) lits → list_all (is_within count) lits ≡ true
+all_within count [] h = refl
+all_within count (l ∷ ls) h = and_from (is_within count l) (list_all (is_within count) ls) (le-leb (node_of l) count h.0) (all_within count ls h.1)
+
+pub length-sources : (frame : Frame) (old : List (List ℕ)) (srcs : List ℕ) → words_at old srcs ≡ sources frame → length srcs ≡ length (sources frame)
+length-sources frame old srcs e = sym (length-map srcs (word_at old)) ∙ ap (λ (ws : List (List ℕ)). length ws) e
+
+-- there are no more observed signals than names
+pub few_signals : (frame : Frame) (old : List (List ℕ)) (signals : List ℕ) → words_at old signals ≡ observed frame → all_below (length old) signals ≡ true → length signals ≤ length old
+few_signals frame old signals e below =
+    let fewer = no_more (observed frame) old (firsts_distinct (frame.outputs ++ flat_map latch_reads frame.latches))
+    (λ w h. true_from_ne_false (has old w) (λ none. both_ways (has (words_at old signals) w) (not_there old signals w below none) (ap (λ (ws : List (List ℕ)). has ws w) e ∙ h))) in
+    omega (arith, fewer, ap (λ (ws : List (List ℕ)). length ws) e, length-map signals (word_at old))
+
+-- what is taken are fewer than the names and the rows together allow
+pub few_taken : (frame : Frame) (rows : List Row) (names : List (List ℕ)) (srcs signals : List ℕ) → length (sources frame) < length rows → length names + length rows < 2 ^ 32 → words_at names srcs ≡ sources frame
+    → words_at names signals ≡ observed frame → all_below (length names) signals ≡ true → length (srcs ++ signals) < 2 ^ 34
+few_taken frame rows names srcs signals there few src_words signal_words below =
+    omega (arith, there, few, length-append srcs signals, length-sources frame names srcs src_words, few_signals frame names signals signal_words below)
+
+-- the names that were found are those of the gates
+pub found_names : (frame : Frame) (rows : List Row) (names : List (List ℕ)) (srcs signals : List ℕ) (count : ℕ) (found : List (List ℕ)) → words_at names srcs ≡ sources frame → words_at names signals ≡ observed frame
+    → count ≡ length rows - (length srcs + 1) → found ≡ inner_names (words_at names (srcs ++ signals)) count → found ≡ gate_names frame rows
+found_names frame rows names srcs signals count found src_words signal_words e h =
+    let gates : count ≡ length (gates_of frame rows) = omega (arith, e, length-sources frame names srcs src_words, length-drop (length (sources frame) + 1) rows) in
+    h ∙ ap₂ (λ (ts : List (List ℕ)) (k : ℕ). inner_names ts k) (map-append (word_at names) srcs signals ∙ ap₂ (λ (xs ys : List (List ℕ)). xs ++ ys) src_words signal_words) gates
+
+pub length-inner : (frame : Frame) (rows : List Row) (names more : List (List ℕ)) (srcs signals inner : List ℕ) → IsNumbered frame rows names more srcs signals inner → length inner ≡ length (gates_of frame rows)
+length-inner frame rows names more srcs signals inner n =
+    sym (length-map inner (word_at more)) ∙ ap (λ (ws : List (List ℕ)). length ws) n.inner_words ∙ length-inner_names (sources frame ++ observed frame) (length (gates_of frame rows))
+
+-- the slice of rows behind the sources
+pub gates_slice : (frame : Frame) (rows : List Row) (names : List (List ℕ)) (srcs : List ℕ) → words_at names srcs ≡ sources frame → take (length rows - (length srcs + 1)) (drop (length srcs + 1) rows) ≡ gates_of frame rows
+gates_slice frame rows names srcs e = take_rest rows (length srcs + 1) ∙ ap (λ k. drop (k + 1) rows) (length-sources frame names srcs e)
+
+length-nodes : (frame : Frame) (rows : List Row) (lits : List Lit) (names more : List (List ℕ)) (srcs signals inner : List ℕ) → IsGraph frame rows lits → IsNumbered frame rows names more srcs signals inner → length (srcs ++ inner) + 1 ≡ length rows
+length-nodes frame rows lits names more srcs signals inner graph n =
+    omega (arith, length-append srcs inner, length-sources frame names srcs n.source_words, length-inner frame rows names more srcs signals inner n, length-drop (length (sources frame) + 1) rows, graph.hashed.there)
+
+pub gates_are_named : (frame : Frame) (rows : List Row) (lits : List Lit) (names more : List (List ℕ)) (srcs signals inner : List ℕ) → IsGraph frame rows lits → IsNumbered frame rows names more srcs signals inner
+    → list_all (is_named_gate (length (srcs ++ inner))) (gates_of frame rows) ≡ true
+gates_are_named frame rows lits names more srcs signals inner graph n =
+    gates_named (length (srcs ++ inner)) (length (sources frame) + 1) (gates_of frame rows) (hashed_gates (length (sources frame)) rows graph.hashed)
+    (omega (arith, length-nodes frame rows lits names more srcs signals inner graph n, length-drop (length (sources frame) + 1) rows, graph.hashed.there))
+
+pub lits_are_within : (frame : Frame) (rows : List Row) (lits : List Lit) (names more : List (List ℕ)) (srcs signals inner : List ℕ) → IsGraph frame rows lits → IsNumbered frame rows names more srcs signals inner
+    → list_all (is_within (length (srcs ++ inner))) lits ≡ true
+lits_are_within frame rows lits names more srcs signals inner graph n =
+    all_within (length (srcs ++ inner)) lits
+    (recursion_from_All (λ l. node_of l ≤ length (srcs ++ inner)) lits (λ k d lt. omega (arith, graph.within k d lt, length-nodes frame rows lits names more srcs signals inner graph n)))
+
+pub count_of_lits : (frame : Frame) (rows : List Row) (lits : List Lit) (names : List (List ℕ)) (signals : List ℕ) → IsGraph frame rows lits → words_at names signals ≡ observed frame → length lits ≡ length signals
+count_of_lits frame rows lits names signals graph e = graph.count ∙ sym (ap (λ (ws : List (List ℕ)). length ws) e) ∙ length-map signals (word_at names)
+
+-- the tables in words
+
+pub tables_are : (frame : Frame) (rows : List Row) (lits : List Lit) (names more : List (List ℕ)) (srcs signals inner : List ℕ) → IsNumbered frame rows names more srcs signals inner
+    → gate_tables (words_at more (srcs ++ inner)) (gates_of frame rows) (words_at more inner) ++ ends_from (words_at names srcs) (words_at more (srcs ++ inner)) (words_at more signals) lits ≡ (network frame rows lits).tables
+tables_are frame rows lits names more srcs signals inner n =
+    ap₂ (λ (xs ys : List Table). xs ++ ys) (ap₂ (λ (ns is : List (List ℕ)). gate_tables ns (gates_of frame rows) is) nodes n.inner_words)
+    (ap₂ (λ (ks ns : List (List ℕ)). ends_from ks ns (words_at more signals) lits) n.source_words nodes ∙ ap (λ (ws : List (List ℕ)). ends_from (sources frame) (sources frame ++ gate_names frame rows) ws lits) signals_are)
+  where
+    nodes : words_at more (srcs ++ inner) ≡ sources frame ++ gate_names frame rows
+    nodes = map-append (word_at more) srcs inner ∙ ap₂ (λ (xs ys : List (List ℕ)). xs ++ ys) (words_at-grows names more srcs n.grows n.source_below ∙ n.source_words) n.inner_words
+
+    signals_are : words_at more signals ≡ observed frame
+    signals_are = words_at-grows names more signals n.grows n.signal_below ∙ n.signal_words
+
+pub nodes_below : (frame : Frame) (rows : List Row) (names more : List (List ℕ)) (srcs signals inner : List ℕ) → IsNumbered frame rows names more srcs signals inner → all_below (length more) (srcs ++ inner) ≡ true
+nodes_below frame rows names more srcs signals inner n =
+    all_below-append (length more) srcs inner (all_below-more (length names) (length more) srcs (length-grows names more n.grows) n.source_below) n.inner_below
+
+pub signals_below : (frame : Frame) (rows : List Row) (names more : List (List ℕ)) (srcs signals inner : List ℕ) → IsNumbered frame rows names more srcs signals inner → all_below (length more) signals ≡ true
+signals_below frame rows names more srcs signals inner n = all_below-more (length names) (length more) signals (length-grows names more n.grows) n.signal_below
+
+-- the netlist of a graph defines no name twice
+pub network_once : (frame : code.Frame) (rows : List Row) (lits : List Lit) → IsGraph (frame_in frame) rows lits → distinct (sources (frame_in frame) ++ map output_of (network (frame_in frame) rows lits).tables) ≡ true
+network_once frame rows lits graph = (network_spells (frame_in frame) rows lits frame.clocks_once frame.sources_once graph).ordered.once.all

@@ -1,0 +1,5 @@
+mod Dropped
+mod Kept
+pub mod Joining
+pub mod Rising
+mod Visits

@@ -1,0 +1,110 @@
+-- Values of literals while rows grow, and rows that stay hashed.
+use Rattle.std.proofs.Common.{if◌then◌else◌, ◌%◌, ◌≡◌, ℕ, ◌+◌, ◌<◌, ◌≤◌, Bool, true, false, not, ◌&&◌, nat_eq, nat_lt, nat_le, List, [], ◌∷◌, ◌++◌, length, get_or, replicate, refl, sym, ap, ◌∙◌, subst, arith, inl, inr, append_assoc, append-nil, length-append}
+use Rattle.std.proofs.lemmas.List.{length_push, get_or_append_left, get_or_push, get_or_past, get_or-replicate, length-replicate}
+use Rattle.std.proofs.lemmas.Bool.{cases_lt, and_parts, ltb-true}
+use Rattle.syn_rows.specs.declared.Lit.{Lit}
+use Rattle.syn_rows.specs.declared.Row.{Row}
+use Rattle.syn_rows.specs.declared.Row.TheVariants.{Free, Source, And, Alias}
+use Rattle.syn_rows.specs.Rows.{node_of, row_at, AllRefs, InOrder, fold_rows}
+use Rattle.syn_rows.specs.Values.{lit_value, row_value, value_in, values_of}
+use Rattle.syn_rows.proofs.Folds.{length-values, fold_kept, values_step}
+use Rattle.syn_shapes.specs.Graphs.{is_gate, IsHashed}
+use Rattle.syn_strash.specs.Growing.{Extends, KeepsValues, value_by}
+
+-- rows that grow
+
+pub extends_itself : (rows : List Row) → Extends rows rows
+extends_itself rows = record { more = []; is = sym (append-nil rows) }
+
+pub extends_through : (a b c : List Row) → Extends a b → Extends b c → Extends a c
+extends_through a b c e f = record { more = e.more ++ f.more; is = f.is ∙ ap (λ (rows : List Row). rows ++ f.more) e.is ∙ append_assoc a e.more f.more }
+
+pub extends_same : (old new : List Row) → new ≡ old → Extends old new
+extends_same old new e = record { more = []; is = e ∙ sym (append-nil old) }
+
+pub extends_longer : (old new : List Row) → Extends old new → length old ≤ length new
+extends_longer old new e = omega (arith, ap length e.is, length-append old e.more)
+
+fold-append : {A : Type 0} (step : (ℕ → A) → ℕ → Row → A) (d : A) (done : List A) (rows more : List Row) → fold_rows step d done (rows ++ more) ≡ fold_rows step d (fold_rows step d done rows) more
+fold-append step d done [] more = refl
+fold-append step d done (row ∷ rows) more = fold-append step d (done ++ step (λ n. get_or done n d) (length done) row ∷ []) rows more
+
+-- older nodes keep their values
+pub value_kept : (given : ℕ → Bool) (old new : List Row) → Extends old new → (n : ℕ) → n < length old → value_in (values_of given new) n ≡ value_in (values_of given old) n
+value_kept given old new e n lt =
+    ap (λ (rows : List Row). value_in (values_of given rows) n) e.is
+    ∙ ap (λ (values : List Bool). value_in values n) (fold-append (row_value given) false [] old e.more)
+    ∙ fold_kept (row_value given) false (values_of given old) e.more n false (omega (arith, length-values given old))
+
+lit_value-same : (v w : ℕ → Bool) (l : Lit) → v (node_of l) ≡ w (node_of l) → lit_value v l ≡ lit_value w l
+lit_value-same v w l e = ap (λ b. if nat_eq (l.0 % 2) 0 then b else not b) e
+
+-- and so do their literals
+pub literal_kept : (given : ℕ → Bool) (old new : List Row) → Extends old new → (l : Lit) → node_of l < length old → value_by given new l ≡ value_by given old l
+literal_kept given old new e l lt = lit_value-same (value_in (values_of given new)) (value_in (values_of given old)) l (value_kept given old new e (node_of l) lt)
+
+pub literals_keep : (old new : List Row) → Extends old new → KeepsValues old new
+literals_keep old new e given l lt = literal_kept given old new e l lt
+
+-- hashed rows
+
+pub gate_refs : (n : ℕ) (row : Row) → is_gate n row ≡ true → AllRefs (λ m. m < n) row
+gate_refs n Free h = tt
+gate_refs n Source h = tt
+gate_refs n (And a b) h =
+    let low = and_parts (nat_le 2 a.0) (nat_lt a.0 b.0 && (not (nat_eq (node_of a) (node_of b)) && nat_lt (node_of b) n)) h in
+    let rest = and_parts (nat_lt a.0 b.0) (not (nat_eq (node_of a) (node_of b)) && nat_lt (node_of b) n) low.1 in
+    let last = and_parts (not (nat_eq (node_of a) (node_of b))) (nat_lt (node_of b) n) rest.1 in
+    let less : a.0 < b.0 = ltb-true a.0 b.0 rest.0 in
+    let under : node_of b < n = ltb-true (node_of b) n last.1 in
+    (omega arith, under)
+gate_refs n (Alias a) h = absurd (cc)
+
+pub hashed_in_order : (count : ℕ) (rows : List Row) → IsHashed count rows → InOrder rows
+hashed_in_order count rows h n = elim (cases_lt n (count + 1)) [
+  | inl lt ↦ subst (AllRefs (λ m. m < n)) (sym (h.front n lt)) tt
+  | inr ge ↦ elim (cases_lt n (length rows)) [
+    | inl lt ↦ gate_refs n (row_at rows n) (h.gates n (omega arith) lt)
+    | inr past ↦ subst (AllRefs (λ m. m < n)) (sym (get_or_past rows n Free past)) tt
+  ]
+]
+
+pub source_value : (count : ℕ) (rows : List Row) → IsHashed count rows → (given : ℕ → Bool) (n : ℕ) → n < count + 1 → value_in (values_of given rows) n ≡ given n
+source_value count rows h given n lt =
+    values_step rows (hashed_in_order count rows h) given n (omega (arith, h.there))
+    ∙ ap (λ row. row_value given (value_in (values_of given rows)) n row) (h.front n lt)
+
+pub gate_value : (count : ℕ) (rows : List Row) → IsHashed count rows → (given : ℕ → Bool) (n : ℕ) (a b : Lit) → n < length rows → row_at rows n ≡ And a b
+    → value_in (values_of given rows) n ≡ (value_by given rows a && value_by given rows b)
+gate_value count rows h given n a b lt e =
+    values_step rows (hashed_in_order count rows h) given n lt
+    ∙ ap (λ row. row_value given (value_in (values_of given rows)) n row) e
+
+-- a pair that isn't there yet, as a new row
+pub hashed_push : (count : ℕ) (rows : List Row) (row : Row) → IsHashed count rows → is_gate (length rows) row ≡ true → ((n : ℕ) → row_at rows n ≡ row → ⊥) → IsHashed count (rows ++ row ∷ [])
+hashed_push count rows row h gate fresh = record {
+  there = omega (arith, h.there, length_push rows row);
+  front = λ n lt. get_or_append_left rows (row ∷ []) Free n (omega (arith, h.there)) ∙ h.front n lt;
+  gates = λ n after lt. elim (cases_lt n (length rows)) [
+    | inl inside ↦ subst (λ r. is_gate n r ≡ true) (sym (get_or_append_left rows (row ∷ []) Free n inside)) (h.gates n after inside)
+    | inr ge ↦
+        let here : n ≡ length rows = omega (arith, length_push rows row) in
+        subst (λ r. is_gate n r ≡ true) (sym (get_or_push rows row Free n (sym here))) (ap (λ k. is_gate k row) here ∙ gate)
+  ];
+  once = λ m n after less lt same. elim (cases_lt n (length rows)) [
+    | inl inside ↦
+        h.once m n after less inside
+        (sym (get_or_append_left rows (row ∷ []) Free m (omega arith)) ∙ same ∙ get_or_append_left rows (row ∷ []) Free n inside)
+    | inr ge ↦
+        let here : n ≡ length rows = omega (arith, length_push rows row) in
+        fresh m (sym (get_or_append_left rows (row ∷ []) Free m (omega arith)) ∙ same ∙ get_or_push rows row Free n (sym here))
+  ];
+}
+
+pub hashed_new : (count : ℕ) (rows : List Row) → rows ≡ replicate (count + 1) Source → IsHashed count rows
+hashed_new count rows e = subst (IsHashed count) (sym e) (record {
+  there = omega (arith, length-replicate (count + 1) Source);
+  front = λ n lt. get_or-replicate (count + 1) n Source Free lt;
+  gates = λ n after lt. absurd (omega (arith, length-replicate (count + 1) Source));
+  once = λ m n after less lt same. absurd (omega (arith, length-replicate (count + 1) Source));
+})

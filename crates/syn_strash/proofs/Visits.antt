@@ -1,0 +1,309 @@
+-- Nodes that are visited one after the other.
+use Rattle.std.proofs.Common.{◌≡◌, ◌≢◌, ℕ, zero, suc, ◌+◌, ◌-◌, ◌*◌, ◌%◌, ◌<◌, ◌≤◌, ◌&&◌, nat_le, nat_eq, not, if◌then◌else◌, Bool, false, All, List, [], ◌∷◌, length, map, get_or, set, refl, sym, ap, ap₂, ◌∙◌, subst, arith, inl, inr, Option, Some, None, IsSome}
+use Rattle.std.proofs.lemmas.List.{get_or-set_same, get_or-set_other, length-set, get_or_past}
+use Rattle.std.proofs.lemmas.List.Sums.{sum_by-set}
+use Rattle.std.proofs.lemmas.Bool.{cases_Bool, cases_eq, cases_lt, cond-true, cond-false, le-leb, lt-leb, eqb-true, eqb-false, both_ways}
+use Rattle.syn_rows.specs.declared.Lit.{Lit}
+use Rattle.syn_rows.specs.declared.Row.{Row}
+use Rattle.syn_rows.specs.declared.Row.TheVariants.{Free, Source, And, Alias}
+use Rattle.syn_rows.specs.Rows.{node_of, row_at}
+use Rattle.syn_rows.specs.Values.{lit_value, value_in, values_of}
+use Rattle.syn_shapes.specs.Graphs.{IsHashed}
+use Rattle.syn_strash.specs.Growing.{value_by, KeepsValues, IsAnd}
+use Rattle.syn_strash.specs.Visiting.{visited, with_sign, literal_of, both, fan_ins_of, unvisited, IsVisit, FirstsOf, StaysVisited, AllVisited, IsRebuilt}
+use Rattle.syn_strash.specs.Compacting.{IsCompaction}
+use Rattle.syn_rows.specs.Values.{given_by}
+use Rattle.std.specs.Option.{is_some}
+use Rattle.std.proofs.lemmas.List.{length-map}
+use Rattle.std.proofs.lemmas.List.Elements.{All-nil, All-cons}
+use Rattle.syn_shapes.specs.Graphs.{lit_at}
+use Rattle.std.proofs.lemmas.Bool.{eq-eqb}
+use Rattle.syn_strash.proofs.Rising.{source_value, gate_value}
+use Rattle.syn_strash.proofs.Joining.{plain_value, not_value}
+use Rattle.syn_strash.proofs.Dropped.{gate_is_and}
+
+-- what stands for a literal
+
+signed_value : (w : ℕ → Bool) (lit l x : Lit) (b : Bool) → with_sign lit (Some l) ≡ Some x → w (node_of l) ≡ w (node_of l) → lit_value w l ≡ b → lit_value w x ≡ (if nat_eq (lit.0 % 2) 0 then b else not b)
+signed_value w lit l x b e same h = elim (cases_Bool (nat_eq (lit.0 % 2) 0)) [
+  | inl t ↦
+      let at : l ≡ x = some_same l x (sym (ap (λ (y : Lit). Some y) (cond-true (nat_eq (lit.0 % 2) 0) l (flipped l) t)) ∙ e) in
+      ap (lit_value w) (sym at) ∙ h ∙ sym (cond-true (nat_eq (lit.0 % 2) 0) b (not b) t)
+  | inr f ↦
+      let at : flipped l ≡ x = some_same (flipped l) x (sym (ap (λ (y : Lit). Some y) (cond-false (nat_eq (lit.0 % 2) 0) l (flipped l) f)) ∙ e) in
+      ap (lit_value w) (sym at) ∙ not_value w l (flipped l) refl ∙ ap not h ∙ sym (cond-false (nat_eq (lit.0 % 2) 0) b (not b) f)
+]
+  where
+    flipped : Lit → Lit
+    flipped m = record { 0 = if nat_eq (m.0 % 2) 0 then m.0 + 1 else m.0 - 1 }
+
+    some_same : (y z : Lit) → Some y ≡ Some z → y ≡ z
+    some_same y z p = cc
+
+signed_node : (lit l x : Lit) → with_sign lit (Some l) ≡ Some x → node_of x ≡ node_of l
+signed_node lit l x e = elim (cases_Bool (nat_eq (lit.0 % 2) 0)) [
+  | inl t ↦
+      let at : l ≡ x = some_same l x (sym (ap (λ (y : Lit). Some y) (cond-true (nat_eq (lit.0 % 2) 0) l (flipped l) t)) ∙ e) in
+      ap node_of (sym at)
+  | inr f ↦
+      let at : flipped l ≡ x = some_same (flipped l) x (sym (ap (λ (y : Lit). Some y) (cond-false (nat_eq (lit.0 % 2) 0) l (flipped l) f)) ∙ e) in
+      ap node_of (sym at) ∙ flipped_node l
+]
+  where
+    flipped : Lit → Lit
+    flipped m = record { 0 = if nat_eq (m.0 % 2) 0 then m.0 + 1 else m.0 - 1 }
+
+    some_same : (y z : Lit) → Some y ≡ Some z → y ≡ z
+    some_same y z p = cc
+
+    flipped_node : (m : Lit) → node_of (flipped m) ≡ node_of m
+    flipped_node m = elim (cases_Bool (nat_eq (m.0 % 2) 0)) [
+      | inl t ↦ let number : (flipped m).0 ≡ m.0 + 1 = cond-true (nat_eq (m.0 % 2) 0) (m.0 + 1) (m.0 - 1) t in let even = eqb-true (m.0 % 2) 0 t in omega (arith, number, even)
+      | inr f ↦ let number : (flipped m).0 ≡ m.0 - 1 = cond-false (nat_eq (m.0 % 2) 0) (m.0 + 1) (m.0 - 1) f in let odd : m.0 % 2 ≢ 0 = eqb-false (m.0 % 2) 0 f in omega (arith, number, odd)
+    ]
+
+-- what stands for a literal was visited with it
+sign_parts : (lit : Lit) (o : Option Lit) (x : Lit) → with_sign lit o ≡ Some x → (l : Lit) × (o ≡ Some l) × (with_sign lit (Some l) ≡ Some x)
+sign_parts lit None x e = absurd (cc)
+sign_parts lit (Some l) x e = (l, refl, e)
+
+-- it has the literal's value, and its node is there
+pub record StandsFor (rows new : List Row) (lit x : Lit) : Type 0 where
+  pub there : node_of x < length new
+  pub value : (given : ℕ → Bool) → given 0 ≡ false → value_by given new x ≡ value_by given rows lit
+
+pub stands_for : (count : ℕ) (rows : List Row) (literals : List (Option Lit)) (new : List Row) → IsVisit count rows literals new → (lit x : Lit) → literal_of literals lit ≡ Some x → StandsFor rows new lit x
+stands_for count rows literals new visit lit x e =
+    let (l, at, signed) = sign_parts lit (visited literals (node_of lit)) x e in
+    let node = signed_node lit l x signed in
+    let inside = visit.there (node_of lit) l at in
+    record {
+      there = omega (arith, node, inside);
+      value = λ given at_0. signed_value (value_in (values_of given new)) lit l x (value_in (values_of given rows) (node_of lit)) signed refl (visit.values (node_of lit) l at given at_0);
+    }
+
+both_parts : (o p : Option Lit) (x y : Lit) → both o p ≡ Some (x, y) → (o ≡ Some x) × (p ≡ Some y)
+both_parts None p x y e = absurd (cc)
+both_parts (Some a) None x y e = absurd (cc)
+both_parts (Some a) (Some b) x y e = let pair : (a, b) ≡ (x, y) = first_of_some (a, b) (x, y) e in (ap (λ (q : Lit × Lit). Some q.0) pair, ap (λ (q : Lit × Lit). Some q.1) pair)
+  where
+    first_of_some : (p q : Lit × Lit) → Some p ≡ Some q → p ≡ q
+    first_of_some p q h = cc
+
+-- one more node
+
+pub visit_more : (count : ℕ) (rows : List Row) (literals : List (Option Lit)) (new more : List Row) (n : ℕ) (a b x y l : Lit) → IsHashed count rows → IsVisit count rows literals new → n < length rows
+    → visited literals n ≡ None → row_at rows n ≡ And a b → literal_of literals a ≡ Some x → literal_of literals b ≡ Some y
+    → KeepsValues new more → length new ≤ length more → length more ≤ length new + 1 → node_of l < length more → IsAnd new x y more l → IsVisit count rows (set literals n (Some l)) more
+visit_more count rows literals new more n a b x y l hashed visit lt none is fa fb keeps longer few there joined = record {
+  all = length-set literals n (Some l) ∙ visit.all;
+  there = λ m k e. elim (cases_eq m n) [
+    | inl same ↦ let at : l ≡ k = some_same l k (sym (here m same) ∙ e) in subst (λ (z : Lit). node_of z < length more) at there
+    | inr other ↦ let inside = visit.there m k (sym (get_or-set_other literals n m (Some l) None other) ∙ e) in omega (arith, inside, longer)
+  ];
+  values = λ m k e given at_0. elim (cases_eq m n) [
+    | inl same ↦
+        let at : l ≡ k = some_same l k (sym (here m same) ∙ e) in
+        ap (value_by given more) (sym at) ∙ joined given at_0 ∙ ap₂ (λ p q. p && q) (first.value given at_0) (second.value given at_0)
+        ∙ sym (ap (value_in (values_of given rows)) same ∙ gate_value count rows hashed given n a b lt is)
+    | inr other ↦
+        let old = sym (get_or-set_other literals n m (Some l) None other) ∙ e in
+        keeps given k (visit.there m k old) ∙ visit.values m k old given at_0
+  ];
+  front = λ m low. elim (cases_eq m n) [
+    | inl same ↦ absurd (none_front m same (visit.front m low))
+    | inr other ↦ get_or-set_other literals n m (Some l) None other ∙ visit.front m low
+  ];
+  few = omega (arith, sum_by-set unvisited literals n (Some l) None inside, ap unvisited none, visit.few, few);
+}
+  where
+    inside : n < length literals
+    inside = omega (arith, visit.all)
+
+    first : StandsFor rows new a x
+    first = stands_for count rows literals new visit a x fa
+
+    second : StandsFor rows new b y
+    second = stands_for count rows literals new visit b y fb
+
+    some_same : (p q : Lit) → Some p ≡ Some q → p ≡ q
+    some_same p q h = cc
+
+    here : (m : ℕ) → m ≡ n → visited (set literals n (Some l)) m ≡ Some l
+    here m same = ap (visited (set literals n (Some l))) same ∙ get_or-set_same literals n (Some l) None inside
+
+    none_front : (m : ℕ) → m ≡ n → {z : Lit} → visited literals m ≡ Some z → ⊥
+    none_front m same {z} e = clash (sym e ∙ (ap (visited literals) same ∙ none))
+      where
+        clash : Some z ≡ None → ⊥
+        clash h = cc
+
+pub stays_more : (literals : List (Option Lit)) (n : ℕ) (l : Lit) → visited literals n ≡ None → StaysVisited literals (set literals n (Some l))
+stays_more literals n l none m k e = elim (cases_eq m n) [
+  | inl same ↦ absurd (clash k (sym e ∙ (ap (visited literals) same ∙ none)))
+  | inr other ↦ get_or-set_other literals n m (Some l) None other ∙ e
+]
+  where
+    clash : (z : Lit) → Some z ≡ None → ⊥
+    clash z h = cc
+
+pub row_parts : (literals : List (Option Lit)) (row : Row) (x y : Lit) → fan_ins_of literals row ≡ Some (x, y) → (a : Lit) × (b : Lit) × (row ≡ And a b) × (literal_of literals a ≡ Some x) × (literal_of literals b ≡ Some y)
+row_parts literals Free x y e = absurd (cc)
+row_parts literals Source x y e = absurd (cc)
+row_parts literals (And a b) x y e = let parts = both_parts (literal_of literals a) (literal_of literals b) x y e in (a, b, refl, parts.0, parts.1)
+row_parts literals (Alias a) x y e = absurd (cc)
+
+-- the beginning
+
+pub visit_begins : (count : ℕ) (rows : List Row) (literals : List (Option Lit)) (new : List Row) → IsHashed count rows → IsHashed count new → length new ≡ count + 1 → FirstsOf count (length rows) literals → IsVisit count rows literals new
+visit_begins count rows literals new hashed made size firsts = record {
+  all = firsts.all;
+  there = λ n l e. let at = known n l e in omega (arith, at.0, at.1, size);
+  values = λ n l e given at_0.
+      let at = known n l e in
+      let number : l.0 ≡ 2 * n = at.1 in
+      let node : node_of l ≡ n = omega arith in
+      plain_value (value_in (values_of given new)) l (omega arith) ∙ ap (value_in (values_of given new)) node ∙ source_value count new made given n at.0 ∙ sym (source_value count rows hashed given n at.0);
+  front = λ n lt. firsts.each n (omega (arith, hashed.there)) ∙ cond-true (nat_le n count) (Some (record { 0 = 2 * n })) None (le-leb n count (omega arith));
+  few = omega (arith, firsts.few, size);
+}
+  where
+    number_of : (l m : Lit) → Some l ≡ Some m → l.0 ≡ m.0
+    number_of l m e = ap (λ (z : Lit). z.0) (let same : l ≡ m = cc in same)
+
+    clash : (z : Lit) → None ≡ Some z → ⊥
+    clash z h = cc
+
+    known : (n : ℕ) (l : Lit) → visited literals n ≡ Some l → (n < count + 1) × (l.0 ≡ 2 * n)
+    known n l e = elim (cases_lt n (length rows)) [
+      | inl lt ↦ elim (cases_lt count n) [
+        | inl above ↦ absurd (clash l (sym (firsts.each n lt ∙ cond-false (nat_le n count) (Some (record { 0 = 2 * n })) None (lt-leb n count above)) ∙ e))
+        | inr low ↦ (omega arith, number_of l (record { 0 = 2 * n }) (sym e ∙ (firsts.each n lt ∙ cond-true (nat_le n count) (Some (record { 0 = 2 * n })) None (le-leb n count low))))
+      ]
+      | inr past ↦ absurd (clash l (sym (get_or_past literals n None (omega (arith, firsts.all))) ∙ e))
+    ]
+
+-- all nodes
+
+some_sign : (lit : Lit) (o : Option Lit) → IsSome o → IsSome (with_sign lit o)
+some_sign lit None h = h
+some_sign lit (Some l) h = h
+
+both_some : (o p : Option Lit) → IsSome o → IsSome p → IsSome (both o p)
+both_some None p h k = h
+both_some (Some a) None h k = k
+both_some (Some a) (Some b) h k = refl
+
+-- where all nodes below one were visited, its fan-ins were
+pub ready_below : (count : ℕ) (rows : List Row) (literals : List (Option Lit)) (n : ℕ) → IsHashed count rows → AllVisited n literals → count < n → n < length rows → IsSome (fan_ins_of literals (row_at rows n))
+ready_below count rows literals n hashed all above lt =
+    let (a, b, is, gate) = gate_is_and n (row_at rows n) (hashed.gates n above lt) in
+    let first = some_sign a (visited literals (node_of a)) (all (node_of a) (omega (arith, gate.rising, gate.below))) in
+    let second = some_sign b (visited literals (node_of b)) (all (node_of b) gate.below) in
+    subst (λ (row : Row). IsSome (fan_ins_of literals row)) (sym is) (both_some (literal_of literals a) (literal_of literals b) first second)
+
+some_of : (o : Option Lit) (l : Lit) → o ≡ Some l → IsSome o
+some_of o l e = subst IsSome (sym e) refl
+
+some_is : (o : Option Lit) → IsSome o → (l : Lit) × (o ≡ Some l)
+some_is None h = absurd (both_ways false refl h)
+some_is (Some l) h = (l, refl)
+
+-- what was visited is visited still
+pub still_visited : (old new : List (Option Lit)) (count : ℕ) → StaysVisited old new → AllVisited count old → AllVisited count new
+still_visited old new count stays all n lt = let (l, e) = some_is (visited old n) (all n lt) in some_of (visited new n) l (stays n l e)
+
+pub visited_more : (count : ℕ) (rows new_rows : List Row) (old new : List (Option Lit)) (n : ℕ) → IsHashed count rows → IsVisit count rows new new_rows → StaysVisited old new → AllVisited n old → n < length rows
+    → (n < length rows → IsSome (fan_ins_of old (row_at rows n)) → IsSome (visited new n)) → AllVisited (n + 1) new
+visited_more count rows new_rows old new n hashed visit stays all lt made m low = elim (cases_lt m n) [
+  | inl below ↦ still_visited old new n stays all m below
+  | inr ge ↦
+      let same : n ≡ m = omega arith in
+      subst (λ k. IsSome (visited new k)) same (elim (cases_lt count n) [
+        | inl above ↦ made lt (ready_below count rows old n hashed all above lt)
+        | inr front ↦ some_of (visited new n) (record { 0 = 2 * n }) (visit.front n (omega arith))
+      ])
+]
+
+pub none_where : (o : Option Lit) (b : Bool) → b ≡ is_some o → b ≡ false → o ≡ None
+none_where None b e f = refl
+none_where (Some l) b e f = absurd (both_ways b f e)
+
+-- the rows made again
+
+one_less : (x : Option Lit) (xs : List (Option Lit)) (y : Option Lit) (ys : List (Option Lit)) → x ∷ xs ≡ y ∷ ys → (x ≡ y) × (xs ≡ ys)
+one_less x xs y ys e = (cc, cc)
+
+found_there : (count : ℕ) (rows : List Row) (literals : List (Option Lit)) (new : List Row) → IsVisit count rows literals new → (found lits : List Lit) → map (λ l. Some l) found ≡ map (literal_of literals) lits → All (λ l. node_of l < length new) found
+found_there count rows literals new visit [] lits e = All-nil (λ (l : Lit). node_of l < length new)
+found_there count rows literals new visit (f ∷ fs) [] e = absurd (cc)
+found_there count rows literals new visit (f ∷ fs) (l ∷ ls) e =
+    let parts = one_less (Some f) (map (λ (x : Lit). Some x) fs) (literal_of literals l) (map (literal_of literals) ls) e in
+    let s = stands_for count rows literals new visit l f (sym parts.0) in
+    All-cons (λ (x : Lit). node_of x < length new) f fs s.there (found_there count rows literals new visit fs ls parts.1)
+
+found_values : (count : ℕ) (rows : List Row) (literals : List (Option Lit)) (new : List Row) → IsVisit count rows literals new → (given : ℕ → Bool) → given 0 ≡ false → (found lits : List Lit) → map (λ l. Some l) found ≡ map (literal_of literals) lits
+    → map (value_by given new) found ≡ map (value_by given rows) lits
+found_values count rows literals new visit given at_0 [] [] e = refl
+found_values count rows literals new visit given at_0 [] (l ∷ ls) e = absurd (cc)
+found_values count rows literals new visit given at_0 (f ∷ fs) [] e = absurd (cc)
+found_values count rows literals new visit given at_0 (f ∷ fs) (l ∷ ls) e =
+    let parts = one_less (Some f) (map (λ (x : Lit). Some x) fs) (literal_of literals l) (map (literal_of literals) ls) e in
+    let s = stands_for count rows literals new visit l f (sym parts.0) in
+    ap₂ (λ (b : Bool) (bs : List Bool). b ∷ bs) (s.value given at_0) (found_values count rows literals new visit given at_0 fs ls parts.1)
+
+found_at : (literals : List (Option Lit)) (found lits : List Lit) → map (λ l. Some l) found ≡ map (literal_of literals) lits → (i : ℕ) → i < length lits → Some (lit_at found i) ≡ literal_of literals (lit_at lits i)
+found_at literals [] [] e i lt = absurd (omega arith)
+found_at literals [] (l ∷ ls) e i lt = absurd (cc)
+found_at literals (f ∷ fs) [] e i lt = absurd (omega arith)
+found_at literals (f ∷ fs) (l ∷ ls) e zero lt = (one_less (Some f) (map (λ (x : Lit). Some x) fs) (literal_of literals l) (map (literal_of literals) ls) e).0
+found_at literals (f ∷ fs) (l ∷ ls) e (suc i) lt = found_at literals fs ls (one_less (Some f) (map (λ (x : Lit). Some x) fs) (literal_of literals l) (map (literal_of literals) ls) e).1 i (omega arith)
+
+-- a literal of a node that stands for itself stands for itself
+own_literal : (l : Lit) → with_sign l (Some (record { 0 = 2 * node_of l })) ≡ Some l
+own_literal l = elim (cases_Bool (nat_eq (l.0 % 2) 0)) [
+  | inl t ↦
+      let even = eqb-true (l.0 % 2) 0 t in
+      let number : 2 * node_of l ≡ l.0 = omega (arith, even) in
+      ap (λ (y : Lit). Some y) (cond-true (nat_eq (l.0 % 2) 0) (record { 0 = 2 * node_of l }) (next (2 * node_of l)) t ∙ ap (λ (k : ℕ). let m : Lit = record { 0 = k } in m) number)
+  | inr f ↦
+      let odd : l.0 % 2 ≢ 0 = eqb-false (l.0 % 2) 0 f in
+      let up : (if nat_eq ((2 * node_of l) % 2) 0 then 2 * node_of l + 1 else 2 * node_of l - 1) ≡ 2 * node_of l + 1 = cond-true (nat_eq ((2 * node_of l) % 2) 0) (2 * node_of l + 1) (2 * node_of l - 1) (eq-eqb ((2 * node_of l) % 2) 0 (omega arith)) in
+      let number : 2 * node_of l + 1 ≡ l.0 = omega (arith, odd) in
+      ap (λ (y : Lit). Some y) (cond-false (nat_eq (l.0 % 2) 0) (record { 0 = 2 * node_of l }) (next (2 * node_of l)) f ∙ ap (λ (k : ℕ). let m : Lit = record { 0 = k } in m) (up ∙ number))
+]
+  where
+    next : ℕ → Lit
+    next k = record { 0 = if nat_eq (k % 2) 0 then k + 1 else k - 1 }
+
+pub rebuilt : (count : ℕ) (rows : List Row) (lits : List Lit) (literals : List (Option Lit)) (new : List Row) (found : List Lit) → IsHashed count new → IsVisit count rows literals new → map (λ l. Some l) found ≡ map (literal_of literals) lits
+    → IsRebuilt count rows lits new found
+rebuilt count rows lits literals new found hashed visit e = record {
+  hashed = hashed;
+  same_count = sym (length-map found (λ l. Some l)) ∙ ap length e ∙ length-map lits (literal_of literals);
+  within = found_there count rows literals new visit found lits e;
+  fewer = omega (arith, visit.few);
+  same_function = λ bits. found_values count rows literals new visit (given_by bits) refl found lits e;
+  sources_stay = λ i l lt low at.
+      let own : visited literals (node_of l) ≡ Some (record { 0 = 2 * node_of l }) = visit.front (node_of l) low in
+      some_same (lit_at found i) l (found_at literals found lits e i lt ∙ ap (literal_of literals) at ∙ ap (with_sign l) own ∙ own_literal l);
+}
+  where
+    some_same : (p q : Lit) → Some p ≡ Some q → p ≡ q
+    some_same p q h = cc
+
+-- made again and then compacted, rows are compacted
+pub rebuilt_compaction : (count : ℕ) (rows mid new : List Row) (lits mid_lits new_lits : List Lit) → IsRebuilt count rows lits mid mid_lits → IsCompaction count mid mid_lits new new_lits → IsCompaction count rows lits new new_lits
+rebuilt_compaction count rows mid new lits mid_lits new_lits r c = record {
+  hashed = c.hashed;
+  same_count = c.same_count ∙ r.same_count;
+  within = c.within;
+  reached = c.reached;
+  fewer = omega (arith, c.fewer, r.fewer);
+  same_function = λ bits. c.same_function bits ∙ r.same_function bits;
+  sources_stay = λ i l lt low at. c.sources_stay i l (omega (arith, r.same_count)) low (r.sources_stay i l lt low at);
+}
+
+-- each observed literal's node was visited
+pub lits_visited : (count : ℕ) (literals : List (Option Lit)) (lits : List Lit) → AllVisited count literals → All (λ l. node_of l < count) lits → All (λ l. IsSome (visited literals (node_of l))) lits
+lits_visited count literals lits all inside i d lt = all (node_of (get_or lits i d)) (inside i d lt)

@@ -1,0 +1,9 @@
+//! Structural hashing: rows in which no pair of literals stands twice, and compaction.
+#![tactic(auto)]
+
+mod compaction;
+mod strash;
+mod visit;
+
+pub use compaction::{Rows, compact};
+pub use strash::{FALSE, Hashed, TRUE};
