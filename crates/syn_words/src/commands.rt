@@ -1,6 +1,6 @@
 //! Commands of a script: their names, and the words behind them.
 
-ghost use Rattle.std.specs.Prelude.{◌≡◌, ◌⊎◌, ℕ, List, [], ◌∷◌, true, option_map, Some, None, IfOk, IfErr, OnOk, string_bytes};
+ghost use Rattle.std.specs.Prelude.{◌≡◌, ◌⊎◌, ℕ, [], ◌∷◌, true, option_map, Some, None, IfOk, IfErr, OnOk, string_bytes};
 ghost use Rattle.std.specs.List.{list_all};
 ghost use Rattle.syn_words.specs.Commands.{fault_of, fault_of_extra, fault_of_name, names, spelled, spoken, taken_by};
 ghost use Rattle.syn_words.specs.Words.{is_word_byte};

@@ -9,7 +9,7 @@
 //! `Keyword`. No memory is taken but for the list and the names of files.
 #![tactic(auto)]
 
-ghost use Rattle.std.specs.Prelude.{◌≡◌, ◌⊎◌, ℕ, ◌<◌, ◌^◌, List, length, map, Some, IfOk, IfErr, IsOkUnless};
+ghost use Rattle.std.specs.Prelude.{◌≡◌, ◌⊎◌, ◌<◌, ◌^◌, List, length, map, Some, IfOk, IfErr, IsOkUnless};
 ghost use Rattle.syn_words.specs.Commands.{SpokenCommand, spoken};
 ghost use Rattle.syn_words.specs.Scripts.{fault_of_all, IsFirstFault, IsScript, spelled_all};
 

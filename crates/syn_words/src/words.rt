@@ -1,6 +1,6 @@
 //! The words of a script, and its commands as words.
 
-ghost use Rattle.std.specs.Prelude.{◌≡◌, ℕ, ◌+◌, ◌^◌, ◌<◌, ◌≤◌, List, [], ◌∷◌, length, true, IfSome, IfNone};
+ghost use Rattle.std.specs.Prelude.{◌≡◌, ◌+◌, ◌^◌, ◌<◌, ◌≤◌, [], ◌∷◌, length, true, IfSome, IfNone};
 ghost use Rattle.std.specs.List.{list_all};
 ghost use Rattle.syn_words.specs.Bytes.{bad_byte, may_stand};
 ghost use Rattle.syn_words.specs.Phrases.{IsCut, phrases, phrases_at, piece_len, pieces};
