@@ -1,5 +1,5 @@
 -- The literals of names: of the sources, then table by table, then of the observed signals.
-use Rattle.std.proofs.Common.{◌≡◌, ℕ, zero, suc, ◌+◌, ◌<◌, Bool, true, false, ◌&&◌, ◌||◌, nat_lt, bytes_eq, List, [], ◌∷◌, ◌++◌, map, sum_by, length, get_or, take, drop, set, refl, sym, ap, ap₂, ◌∙◌, subst, inl, inr, append_assoc, arith}
+use Rattle.std.proofs.Common.{◌≡◌, ℕ, zero, suc, ◌+◌, ◌<◌, Bool, true, false, ◌&&◌, ◌||◌, nat_lt, bytes_eq, List, [], ◌∷◌, ◌++◌, map, sum_by, length, get_or, take, drop, set, refl, sym, ap, ap₂, ◌∙◌, subst, inl, inr, append_assoc, append-nil, arith}
 use Rattle.std.specs.List.{list_all}
 use Rattle.std.proofs.lemmas.List.{drop_more, take_more, get_or-map, get_or-set_same, get_or-set_other, length-map, length-set, map_push}
 use Rattle.std.proofs.lemmas.List.Sums.{sum_by-drop_more}
@@ -12,19 +12,22 @@ use Rattle.syn_rows.specs.Values.{given_by, rows_function, value_in, values_of}
 use Rattle.syn_netlist.specs.Words.{has, distinct}
 use Rattle.syn_netlist.specs.declared.tables.Table.{Table as NumberedTable}
 use Rattle.syn_netlist.specs.Lists.{Netlist, Table, output_of, sources, observed}
-use Rattle.syn_netlist.specs.Costs.{row_cost, table_cost}
+use Rattle.syn_netlist.specs.Costs.{cost_of, row_cost, table_cost}
 use Rattle.syn_netlist.specs.Tables.{table_in, tables_below}
 use Rattle.syn_netlist.specs.Numbers.{all_below, word_at, words_at}
 use Rattle.syn_netlist.specs.Covers.{cover_value}
 use Rattle.syn_netlist.specs.Values.{table_value, Consistent, HasFunction}
-use Rattle.syn_netlist.specs.Order.{defined, reads_known, observes_defined, Ordered, OrderedHasOne}
+use Rattle.syn_netlist.specs.Order.{defined, reads_known, observes_defined, Ordered, OrderedHasOne, OrderKeepsFunction}
+use Rattle.syn_netlist.specs.Faults.{no_table, tables_at, PutsInOrder}
+use Rattle.syn_netlist.proofs.Checked.{checked_observes}
+use Rattle.std.proofs.lemmas.List.Sorted.{IsPermutation-sym, sum_by-IsPermutation}
 use Rattle.syn_netlist.proofs.Sets.{same_word, has-append, apart, has_head, has_tail}
 use Rattle.syn_netlist.proofs.Places.{one_number}
 use Rattle.syn_shapes.specs.GraphShape.{place}
 use Rattle.syn_shapes.specs.Graphs.{IsHashed, lit_at, source_lit}
 use Rattle.syn_strash.specs.Growing.{Extends, value_by}
 use Rattle.syn_build.specs.Covering.{AllThere, IsCover}
-use Rattle.syn_build.specs.Naming.{HasOwnSources, IsNamed}
+use Rattle.syn_build.specs.Naming.{HasOwnSources, in_order, IsNamed}
 use Rattle.syn_strash.proofs.Rising.{literal_kept, source_value}
 use Rattle.syn_strash.proofs.Joining.{plain_value}
 use Rattle.syn_build.proofs.Matching.{there_kept}
@@ -214,24 +217,60 @@ table_inside count ts k t below lt at =
     go (u ∷ us) h zero l = (and_parts (nat_lt u.output count && all_below count u.inputs) (tables_below count us) h).0
     go (u ∷ us) h (suc j) l = go us (and_parts (nat_lt u.output count && all_below count u.inputs) (tables_below count us) h).1 j (omega arith)
 
--- the table in words at a place
-pub table_at : (names : List (List ℕ)) (ts : List NumberedTable) (k : ℕ) (t : NumberedTable) → k < length ts → t ≡ get_or ts k t → table_in names t ≡ get_or (map (table_in names) ts) k (table_in names t)
-table_at names ts k t lt at = ap (table_in names) at ∙ sym (get_or-map (table_in names) ts k t (table_in names t) lt)
+-- What is known of the table at a place of the order, from its number and the numbered table: the table in words stands there, and the tables from there on cost as much as it and the rest.
+pub record IsTaken (n : Netlist) (order : List ℕ) (k : ℕ) (t : Table) : Type 0 where
+  pub inside : k < length (in_order n order).tables
+  pub at : t ≡ get_or (in_order n order).tables k t
+  pub cost : sum_by table_cost (drop k (in_order n order).tables) ≡ sum_by row_cost t.rows + sum_by table_cost (drop (k + 1) (in_order n order).tables)
 
--- what the tables from a place on cost
-pub cost_at : (names : List (List ℕ)) (ts : List NumberedTable) (k : ℕ) (t : NumberedTable) → k < length ts → t ≡ get_or ts k t
-    → sum_by table_cost (drop k (map (table_in names) ts)) ≡ sum_by row_cost t.rows + sum_by table_cost (drop (k + 1) (map (table_in names) ts))
-cost_at names ts k t lt at = cost_more (map (table_in names) ts) k (table_in names t) (omega (arith, length-map ts (table_in names))) (table_at names ts k t lt at)
+pub taken : (n : Netlist) (names : List (List ℕ)) (ts : List NumberedTable) (order : List ℕ) (k : ℕ) (t : NumberedTable) → n.tables ≡ map (table_in names) ts → k < length order
+    → get_or order k 0 < length ts → t ≡ get_or ts (get_or order k 0) t → IsTaken n order k (table_in names t)
+taken n names ts order k t is lt low same = record {
+  inside = inside;
+  at = at;
+  cost = cost_more (in_order n order).tables k (table_in names t) inside at;
+}
+  where
+    inside : k < length (in_order n order).tables
+    inside = omega (arith, length-map order (λ i. get_or n.tables i no_table))
+
+    at : table_in names t ≡ get_or (in_order n order).tables k (table_in names t)
+    at =
+        ap (table_in names) same
+        ∙ sym (get_or-map (table_in names) ts (get_or order k 0) t no_table low)
+        ∙ ap (λ (us : List Table). get_or us (get_or order k 0) no_table) (sym is)
+        ∙ sym (get_or-map (λ i. get_or n.tables i no_table) order k 0 (table_in names t) lt)
+
+-- a number of an order is of a table that is there
+pub number_there : (n : Netlist) (names : List (List ℕ)) (ts : List NumberedTable) (order : List ℕ) (k : ℕ) → n.tables ≡ map (table_in names) ts → all_below (length n.tables) order ≡ true
+    → k < length order → get_or order k 0 < length ts
+number_there n names ts order k is below lt = omega (arith, number_below (length n.tables) order below k 0 lt, ap length is, length-map ts (table_in names))
+
+pub known_first : (n : Netlist) → known_at n 0 ≡ sources n.frame
+known_first n = append-nil (sources n.frame)
+
+-- the tables in another order cost the same
+pub order_costs : (n : Netlist) (order : List ℕ) → PutsInOrder n order → cost_of (in_order n order) ≡ cost_of n
+order_costs n order puts = sum_by-IsPermutation table_cost n.tables (tables_at n order) puts.ordered.permuted
 
 -- observed signals
 
-pub observed_function : (n : Netlist) (names : List (List ℕ)) (numbers : List ℕ) (rows : List Row) (lits found : List Lit) → OrderedHasOne → Ordered n → observes_defined n ≡ true
+ordered_function : (n : Netlist) (names : List (List ℕ)) (numbers : List ℕ) (rows : List Row) (lits found : List Lit) → OrderedHasOne → Ordered n → observes_defined n ≡ true
     → IsNamed n names (defined n) rows lits → words_at names numbers ≡ observed n.frame → all_below (length names) numbers ≡ true → found ≡ map (lit_at lits) numbers
     → HasFunction n (rows_function rows found)
-observed_function n names numbers rows lits found has_one order all named e below is = subst (λ (ls : List Lit). HasFunction n (rows_function rows ls)) (sym is) (record {
+ordered_function n names numbers rows lits found has_one order all named e below is = subst (λ (ls : List Lit). HasFunction n (rows_function rows ls)) (sym is) (record {
   total = (has_one n order).0;
   value = λ v cv. ap (map v) (sym e) ∙ sym (literals_valued n names (defined n) rows lits named v cv numbers below (ap (list_all (has (defined n))) e ∙ all));
 })
+
+-- the function doesn't depend on the order of the tables
+pub observed_function : (n : Netlist) (order : List ℕ) (names : List (List ℕ)) (numbers : List ℕ) (rows : List Row) (lits found : List Lit) → OrderedHasOne → OrderKeepsFunction → PutsInOrder n order
+    → IsNamed (in_order n order) names (defined (in_order n order)) rows lits → words_at names numbers ≡ observed n.frame → all_below (length names) numbers ≡ true → found ≡ map (lit_at lits) numbers
+    → HasFunction n (rows_function rows found)
+observed_function n order names numbers rows lits found has_one keeps puts named e below is =
+    keeps (in_order n order) n.tables (rows_function rows found) (IsPermutation-sym n.tables (tables_at n order) puts.ordered.permuted)
+    (ordered_function (in_order n order) names numbers rows lits found has_one puts.ordered.ordered
+    (checked_observes n (record { driven = puts.driven; order = tables_at n order; ordered = puts.ordered })) named e below is)
 
 pub observed_there : (n : Netlist) (names known : List (List ℕ)) (numbers : List ℕ) (rows : List Row) (lits found : List Lit) → IsNamed n names known rows lits → all_below (length names) numbers ≡ true → found ≡ map (lit_at lits) numbers
     → AllThere rows found

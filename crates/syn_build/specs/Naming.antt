@@ -7,10 +7,16 @@ use Rattle.syn_netlist.specs.Words.{has}
 use Rattle.syn_netlist.specs.Lists.{Frame, Netlist, sources, observed}
 use Rattle.syn_netlist.specs.Numbers.{word_at}
 use Rattle.syn_netlist.specs.Values.{Consistent}
+use Rattle.syn_netlist.specs.Order.{with_tables}
+use Rattle.syn_netlist.specs.Faults.{tables_at}
 use Rattle.syn_shapes.specs.GraphShape.{place}
 use Rattle.syn_shapes.specs.Graphs.{lit_at, source_lit}
 use Rattle.syn_strash.specs.Growing.{value_by}
 use Rattle.syn_build.specs.Covering.{AllThere}
+
+-- the netlist with its tables in the order of these numbers
+abbrev pub in_order : Netlist → List ℕ → Netlist
+in_order n order = with_tables n (tables_at n order)
 
 -- The literals by numbers of names: a source has the plain literal of its node, and where the sources' nodes have the values of a consistent valuation, the literal of each known name has its value.
 pub record IsNamed (n : Netlist) (names known : List (List ℕ)) (rows : List Row) (lits : List Lit) : Type 0 where

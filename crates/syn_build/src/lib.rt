@@ -1,7 +1,7 @@
 //! From a netlist to its graph.
 #![tactic(auto)]
 
-mod build;
 mod network;
+mod tables;
 
 pub use network::graph_of;

@@ -1,15 +1,15 @@
 //! From a netlist to its graph.
 
-ghost use Rattle.std.specs.Prelude.{◌≡◌, ◌<◌, ◌≤◌, ◌^◌, length, IfOk, true};
+ghost use Rattle.std.specs.Prelude.{◌≡◌, ◌+◌, ◌<◌, ◌^◌, length, IfOk, true};
 ghost use Rattle.syn_netlist.specs.Frames.{frame_in};
 ghost use Rattle.syn_netlist.specs.Lists.{sources};
 ghost use Rattle.syn_netlist.specs.Views.{netlist_in};
-ghost use Rattle.syn_netlist.specs.Order.{Ordered, observes_defined};
+ghost use Rattle.syn_netlist.specs.Faults.{IsChecked};
 ghost use Rattle.syn_netlist.specs.Costs.{cost_of};
 ghost use Rattle.syn_graph.specs.Graphs.{network_of};
 ghost use Rattle.syn_build.specs.Building.{IsGraphOf};
 
-use crate::build::build;
+use crate::tables::build_tables;
 use std::alloc::{AllocError, Global};
 use syn_graph::Graph;
 use syn_netlist::{Frame, Items, Netlist};
@@ -24,17 +24,15 @@ fn source_count_of(alloc: Global, frame: &Frame) -> Result<u32, AllocError>
     Ok(sources.as_slice().len() as u32)
 }
 
-/// The graph of a netlist whose tables stand in order: its tables are built, and the rows that no observed signal
-/// reaches are dropped.
+/// The graph of a checked netlist: its tables are built, each after the tables of its inputs, and the rows that no
+/// observed signal reaches are dropped. The only error is want of memory.
 pub fn graph_of(alloc: Global, netlist: Netlist) -> Result<Graph, AllocError>
-    requires sources { length (sources (frame_in netlist.frame)) ≤ 1048576 }
-    requires cost { cost_of (netlist_in netlist) ≤ 1048576 }
-    requires ordered { Ordered (netlist_in netlist) }
-    requires observes { observes_defined (netlist_in netlist) ≡ true }
+    requires checked { IsChecked (netlist_in netlist) }
+    requires room { length (sources (frame_in netlist.frame)) + cost_of (netlist_in netlist) + 2 < 2 ^ 29 }
     requires names { length netlist.frame.names < 2 ^ 31 }
     ensures { IfOk result (λ graph. IsGraphOf (netlist_in netlist) (network_of graph)) }
 {
-    let built = build(alloc, &netlist)?;
+    let built = build_tables(alloc, &netlist)?;
     let source_count = source_count_of(alloc, &netlist.frame)?;
     let kept = compact(
         alloc,

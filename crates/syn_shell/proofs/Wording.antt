@@ -1,5 +1,5 @@
 -- What is run by what the words mean.
-use Rattle.std.proofs.Common.{◌≡◌, ℕ, List, [], ◌∷◌, refl, sym, ap, ◌∙◌, subst, inl, inr, Option, None, Some, Result, Ok, Err, String, Global, string_bytes}
+use Rattle.std.proofs.Common.{◌≡◌, ℕ, List, [], ◌∷◌, refl, sym, ap, ◌∙◌, subst, inl, inr, Option, None, Some}
 use Rattle.syn_netlist.specs.Lists.{Netlist}
 use Rattle.syn_shell.specs.declared.refusal.Refusal.{Refusal}
 use Rattle.syn_shell.specs.declared.refusal.Refusal.TheVariants.{Words, Script, Read, FileTooLong, LineTooLong, TooManyLines, NoNetwork, GetFailed, PutFailed, LineFailed, SinkFailed, NoMemory}
@@ -7,12 +7,12 @@ use Rattle.syn_shell.specs.declared.telling.Telling.{Telling}
 use Rattle.syn_shell.specs.declared.telling.Telling.TheVariants.{Whole, Cut}
 use Rattle.syn_shell.specs.Outside.{Disk, Screen, Input, State, state}
 use Rattle.syn_shell.specs.Scripts.{Refused, nameless}
-use Rattle.syn_shell.specs.Usage.{Usage, OneScript, EachLine, Faulty, usage_of, Understood}
+use Rattle.syn_shell.specs.Usage.{Usage, OneScript, EachLine, Faulty, usage_of, Understood, WordsRefused}
 use Rattle.syn_shell.specs.Runs.{Ran, RunsNothing, RunsUsage, RunsWords, status_of}
 use Rattle.syn_shell.specs.Stopping.{status_in, Leaves, RanLines, TellsAs}
 use Rattle.syn_shell.proofs.Hearing.{nothing_run, nothing_status}
 
-words_refused : (words : List (List ℕ)) (cause : Refusal) (st after : State) (i : Input) (refusals : List Refused) → Understood words (Err cause) → RunsNothing cause st refusals after → RunsWords words st i refusals after i
+words_refused : (words : List (List ℕ)) (cause : Refusal) (st after : State) (i : Input) (refusals : List Refused) → WordsRefused words cause → RunsNothing cause st refusals after → RunsWords words st i refusals after i
 words_refused words Words st after i refusals h nothing = inl (subst (λ (u : Usage). RunsUsage u st i refusals after i) (sym h) (nothing, refl))
 words_refused words (Script fault) st after i refusals h nothing = absurd h
 words_refused words (Read fault) st after i refusals h nothing = absurd h
@@ -27,7 +27,7 @@ words_refused words SinkFailed st after i refusals h nothing = absurd h
 words_refused words NoMemory st after i refusals h nothing = inr (nothing, refl)
 
 -- words that are refused
-pub ran_nothing : (words : List (List ℕ)) (cause : Refusal) (t : Telling) (d : Disk) (s s' : Screen) (i : Input) (status : ℕ) → Understood words (Err cause) → TellsAs t (nameless cause) s s' → status ≡ status_in t
+pub ran_nothing : (words : List (List ℕ)) (cause : Refusal) (t : Telling) (d : Disk) (s s' : Screen) (i : Input) (status : ℕ) → WordsRefused words cause → TellsAs t (nameless cause) s s' → status ≡ status_in t
     → Ran words d s i d s' i status
 ran_nothing words cause t d s s' i status h tells is = record {
   network = None;
@@ -73,8 +73,7 @@ ran_lines words d d' s s' i i' status usage (m, (lines, refusals, runs, is)) = r
 }
 
 -- words with a script that was run
-pub ran_left : (words : List (List ℕ)) (r : Result (Option (String Global)) Refusal) (script : String Global) (text : List ℕ) (left : Option Telling) (n m : Option Netlist) (d d' : Disk) (s s' : Screen) (i : Input) (status : ℕ)
-    → Understood words r → r ≡ Ok (Some script) → text ≡ string_bytes script → n ≡ None → Leaves left text (state n d s) (state m d' s') → status ≡ status_left left → Ran words d s i d' s' i status
-ran_left words r script text left n m d d' s s' i status h r_is text_is none leaves is =
-    let usage : usage_of words ≡ OneScript (string_bytes script) = subst (λ (x : Result (Option (String Global)) Refusal). Understood words x) r_is h in
+pub ran_left : (words : List (List ℕ)) (script text : List ℕ) (left : Option Telling) (n m : Option Netlist) (d d' : Disk) (s s' : Screen) (i : Input) (status : ℕ)
+    → usage_of words ≡ OneScript script → text ≡ script → n ≡ None → Leaves left text (state n d s) (state m d' s') → status ≡ status_left left → Ran words d s i d' s' i status
+ran_left words script text left n m d d' s s' i status usage text_is none leaves is =
     ran_script words text left m d d' s s' i status (usage ∙ ap OneScript (sym text_is)) (subst (λ (o : Option Netlist). Leaves left text (state o d s) (state m d' s')) none leaves) is

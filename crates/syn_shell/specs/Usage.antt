@@ -1,6 +1,7 @@
--- What the words of a call mean.
-use Rattle.std.specs.Prelude.{◌≡◌, ℕ, if◌then◌else◌, List, [], ◌∷◌, codes, bytes_eq, Option, Some, None, Result, Ok, Err, ⊤, String, string_bytes}
-use Rattle.std.specs.Global.{Global}
+-- What is run by what the words of a call mean.
+use Rattle.std.specs.Prelude.{◌≡◌, ℕ, List, [], ◌∷◌, Option, Some, None, ⊤}
+use Rattle.clap.specs.Words.{Kinds}
+use Rattle.syn_usage.specs.Usage.{refusals, script_in}
 use Rattle.syn_shell.specs.declared.refusal.Refusal.{Refusal}
 use Rattle.syn_shell.specs.declared.refusal.Refusal.TheVariants.{Words, NoMemory}
 
@@ -10,18 +11,22 @@ pub data Usage : Type 0 where
   EachLine : Usage
   Faulty : Usage
 
--- The program's name alone, or with `-c` and a script.
-abbrev pub usage_of : List (List ℕ) → Usage
-usage_of [] = Faulty
-usage_of (program ∷ []) = EachLine
-usage_of (program ∷ option ∷ []) = Faulty
-usage_of (program ∷ option ∷ script ∷ []) = if bytes_eq option (codes "-c") then OneScript script else Faulty
-usage_of (program ∷ option ∷ script ∷ word ∷ words) = Faulty
+abbrev pub usage_by : Kinds → Option (List ℕ) → Usage
+usage_by [] (Some script) = OneScript script
+usage_by [] None = EachLine
+usage_by (refusal ∷ more) script = Faulty
 
--- What is answered of the words: a script, none, or a refusal of faulty words or for want of memory.
-abbrev pub Understood : List (List ℕ) → Result (Option (String Global)) Refusal → Type 0
-Understood words (Ok (Some script)) = usage_of words ≡ OneScript (string_bytes script)
-Understood words (Ok None) = usage_of words ≡ EachLine
-Understood words (Err Words) = usage_of words ≡ Faulty
-Understood words (Err NoMemory) = ⊤
-Understood words (Err other) = ⊥
+-- Words are faulty where the command refuses them for any cause. Without a script the lines are run.
+abbrev pub usage_of : List (List ℕ) → Usage
+usage_of words = usage_by (refusals words) (script_in words)
+
+-- What an answer of a script, or of none, says of the words.
+abbrev pub Understood : List (List ℕ) → Option (List ℕ) → Type 0
+Understood words (Some script) = usage_of words ≡ OneScript script
+Understood words None = usage_of words ≡ EachLine
+
+-- Why words are refused: they are faulty, or memory was refused.
+abbrev pub WordsRefused : List (List ℕ) → Refusal → Type 0
+WordsRefused words Words = usage_of words ≡ Faulty
+WordsRefused words NoMemory = ⊤
+WordsRefused words other = ⊥

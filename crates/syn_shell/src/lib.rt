@@ -1,7 +1,6 @@
 //! The shell: what reads, shows and writes netlists.
 #![tactic(auto)]
 
-mod graph_stub;
 mod line_mode;
 mod lines;
 mod refusal;

@@ -8,16 +8,15 @@ ghost use Rattle.syn_reader.specs.Reading.{Reads};
 ghost use Rattle.syn_reader.specs.Limits.{Within};
 ghost use Rattle.syn_shapes.specs.Printed.{printed};
 ghost use Rattle.syn_graph.specs.Graphs.{network_of};
-ghost use Rattle.syn_build.specs.Building.{IsGraphOf};
 ghost use Rattle.syn_shell.specs.Graphs.{network_in};
 ghost use Rattle.syn_shell.specs.Outside.{disk, FileIs, FilesStand, OthersStand, screen};
 ghost use Rattle.syn_shell.specs.Steps.{file_limit, IsBalanced, IsReadAs, ParseRefused, ReadRefused, RemakingRefused, SessionStep, StaysBalanced, WriteRefused};
 
-use crate::graph_stub::graph_of;
 use crate::lines::print_stats;
 use crate::refusal::Refusal;
 use std::alloc::{AllocError, Global};
 use std::marker::Model;
+use syn_build::graph_of;
 use syn_graph::Graph;
 use syn_io::{Files, GetFault, PutFault, Sink};
 use syn_netlist::Netlist;

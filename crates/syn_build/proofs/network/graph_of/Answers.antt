@@ -24,7 +24,7 @@ invariant_of-result-clause-graph c =
     c.in_ok-source_count.ensures c.as_slice.ensures.value c.as_slice-2.ensures.value c.in_ok-kept.ensures))
 
 pub invariant_of-result-clause-few : goal.invariant_of-result-clause-few
-invariant_of-result-clause-few c = omega (arith, ap length c.of.ensures, c.in_ok-kept.ensures.fewer, ap length c.as_slice.ensures.value, c.in_ok-built.ensures.few, c.requires.sources, c.requires.cost)
+invariant_of-result-clause-few c = omega (arith, ap length c.of.ensures, c.in_ok-kept.ensures.fewer, ap length c.as_slice.ensures.value, c.in_ok-built.ensures.few, c.requires.room)
 
 pub returns : goal.returns
 returns c =

@@ -10,7 +10,7 @@ returns-in-Err g c = record {
   ran =
       ran_nothing (map string_bytes c.args.words.now) c.in-Err.cause c.tell.result (disk (g.F.Files.told c.args.files.now) (g.F.Files.faults c.args.files.now))
       (screen (g.O.Sink.told c.args.out.now) (g.O.Sink.faults c.args.out.now)) (screen (g.O.Sink.told c.tell.new.out) (g.O.Sink.faults c.tell.new.out))
-      (input (g.L.Lines.told c.args.lines.now) (g.L.Lines.faults c.args.lines.now)) c.status.result c.in-Err.ensures c.tell.ensures c.status.ensures;
+      (input (g.L.Lines.told c.args.lines.now) (g.L.Lines.faults c.args.lines.now)) c.status.result c.in-Err.ensures.refused c.tell.ensures c.status.ensures;
 }
 
 pub returns-in-None : goal.returns-in-None
@@ -19,8 +19,8 @@ returns-in-None g c =
     let after : State = state c.run_script.new.session (disk (g.F.Files.told c.run_script.new.files) (g.F.Files.faults c.run_script.new.files)) (screen (g.O.Sink.told c.run_script.new.out) (g.O.Sink.faults c.run_script.new.out)) in
     record {
       ran =
-          ran_left (map string_bytes c.args.words.now) c.script_in.result c.in-Ok-Some.script c.as_bytes.result.now None c.new-session.result c.run_script.new.session before.files after.files before.sink after.sink
-          (input (g.L.Lines.told c.args.lines.now) (g.L.Lines.faults c.args.lines.now)) 0 c.script_in.ensures (c.in-Ok-Some.is ∙ ap (λ x. Ok x) c.in-Ok-Some.field-0-is) c.as_bytes.ensures.value c.new-session.ensures
+          ran_left (map string_bytes c.args.words.now) c.in-Ok-Some.script.now c.as_bytes.result.now None c.new-session.result c.run_script.new.session before.files after.files before.sink after.sink
+          (input (g.L.Lines.told c.args.lines.now) (g.L.Lines.faults c.args.lines.now)) 0 (rw c.in-Ok-Some.field-0-is at c.in-Ok-Some.ensures.script) c.as_bytes.ensures.value c.new-session.ensures
           (subst (λ (r : Option Telling). Leaves r c.as_bytes.result.now before after) c.in-None.is c.run_script.ensures) refl;
     }
 
@@ -30,7 +30,7 @@ returns g c =
     let after : State = state c.run_script.new.session (disk (g.F.Files.told c.run_script.new.files) (g.F.Files.faults c.run_script.new.files)) (screen (g.O.Sink.told c.run_script.new.out) (g.O.Sink.faults c.run_script.new.out)) in
     record {
       ran =
-          ran_left (map string_bytes c.args.words.now) c.script_in.result c.in-Ok-Some.script c.as_bytes.result.now (Some c.in-Some.telling) c.new-session.result c.run_script.new.session before.files after.files before.sink after.sink
-          (input (g.L.Lines.told c.args.lines.now) (g.L.Lines.faults c.args.lines.now)) c.status-in-Some.result c.script_in.ensures (c.in-Ok-Some.is ∙ ap (λ x. Ok x) c.in-Ok-Some.field-0-is) c.as_bytes.ensures.value c.new-session.ensures
+          ran_left (map string_bytes c.args.words.now) c.in-Ok-Some.script.now c.as_bytes.result.now (Some c.in-Some.telling) c.new-session.result c.run_script.new.session before.files after.files before.sink after.sink
+          (input (g.L.Lines.told c.args.lines.now) (g.L.Lines.faults c.args.lines.now)) c.status-in-Some.result (rw c.in-Ok-Some.field-0-is at c.in-Ok-Some.ensures.script) c.as_bytes.ensures.value c.new-session.ensures
           (subst (λ (r : Option Telling). Leaves r c.as_bytes.result.now before after) c.in-Some.is c.run_script.ensures) c.status-in-Some.ensures;
     }

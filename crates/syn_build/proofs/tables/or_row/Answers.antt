@@ -1,5 +1,5 @@
 use Rattle.syn_build.proofs.Matching.{or_match_from}
-use Rattle.syn_build.proofs.build.or_row.Goals as goal
+use Rattle.syn_build.proofs.tables.or_row.Goals as goal
 
 pub returns-clause-value : goal.returns-clause-value
 returns-clause-value c =

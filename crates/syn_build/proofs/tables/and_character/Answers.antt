@@ -4,7 +4,7 @@ use Rattle.syn_rows.specs.Values.{value_in, values_of}
 use Rattle.syn_strash.specs.Growing.{IsAnd, value_by}
 use Rattle.syn_build.specs.Covering.{IsFit}
 use Rattle.syn_strash.proofs.Rising.{source_value}
-use Rattle.syn_build.proofs.build.and_character.Goals as goal
+use Rattle.syn_build.proofs.tables.and_character.Goals as goal
 
 pub returns-clause-value : goal.returns-clause-value
 returns-clause-value c =

@@ -1,4 +1,4 @@
-//! From a checked netlist with its tables in order to rows with observed literals.
+//! From a checked netlist to rows with observed literals.
 
 ghost use Rattle.std.specs.Prelude.{◌≡◌, ◌≢◌, ℕ, ◌+◌, ◌^◌, ◌<◌, ◌≤◌, ◌&&◌, not, All, Bool, false, true, length, map, count_by, if◌then◌else◌, slice_index, IfOk, OnOk};
 ghost use Rattle.std.specs.List.{sum_by};
@@ -8,17 +8,18 @@ ghost use Rattle.syn_netlist.specs.Covers.{fits_bit};
 ghost use Rattle.syn_netlist.specs.Costs.{cost_of, is_sign, row_cost};
 ghost use Rattle.syn_netlist.specs.Lists.{observed, sources};
 ghost use Rattle.syn_netlist.specs.Numbers.{all_below, words_at};
-ghost use Rattle.syn_netlist.specs.Order.{defined, observes_defined, Ordered};
+ghost use Rattle.syn_netlist.specs.Faults.{IsChecked, PutsInOrder};
+ghost use Rattle.syn_netlist.specs.Order.{defined};
 ghost use Rattle.syn_netlist.specs.Values.{HasFunction};
 ghost use Rattle.syn_netlist.specs.Views.{frame_in, netlist_in};
 ghost use Rattle.syn_netlist.specs.Words.{distinct};
 ghost use Rattle.syn_shapes.specs.Graphs.{IsHashed, lit_at, source_lit};
 ghost use Rattle.syn_strash.specs.Growing.{Extends};
 ghost use Rattle.syn_build.specs.Covering.{AllThere, IsCover, IsFit, IsMatch, IsOrMatch};
-ghost use Rattle.syn_build.specs.Naming.{HasOwnSources, IsNamed};
+ghost use Rattle.syn_build.specs.Naming.{HasOwnSources, in_order, IsNamed};
 
 use std::alloc::{AllocError, Global};
-use syn_netlist::{Netlist, Table, Word};
+use syn_netlist::{NetFault, Netlist, Table, Word};
 use syn_rows::{Lit, Row};
 use syn_strash::{FALSE, Hashed, TRUE};
 
@@ -31,14 +32,24 @@ pub struct Built {
     pub observed: Vec<Lit>,
 }
 
-/// The rows and observed literals that the tables give, one after the other.
-///
-/// An AND is sought by a plain walk over the rows, so the time grows with the square of their number.
-pub fn build(alloc: Global, netlist: &Netlist) -> Result<Built, AllocError>
-    requires ordered { Ordered (netlist_in netlist.now) }
-    requires defined { observes_defined (netlist_in netlist.now) ≡ true }
-    requires sources { length (sources (frame_in netlist.now.frame)) ≤ 1048576 }
-    requires cost { cost_of (netlist_in netlist.now) ≤ 1048576 }
+// The numbers of the tables in the order in which they are made: in file order, each after the tables of its inputs in
+// input order.
+fn making_order(alloc: Global, netlist: &Netlist) -> Result<Vec<u32>, AllocError>
+    requires { IsChecked (netlist_in netlist.now) }
+    ensures { IfOk result (λ order. PutsInOrder (netlist_in netlist.now) order.items) }
+{
+    syn_netlist::checked_has_no_fault();
+    match syn_netlist::table_order(netlist, alloc) {
+        Ok(order) => Ok(order),
+        Err(NetFault::NoMemory) => Err(AllocError),
+        Err(_) => unreachable!(),
+    }
+}
+
+/// The rows and observed literals that the tables give, each made after the tables of its inputs.
+pub fn build_tables(alloc: Global, netlist: &Netlist) -> Result<Built, AllocError>
+    requires checked { IsChecked (netlist_in netlist.now) }
+    requires room { length (sources (frame_in netlist.now.frame)) + cost_of (netlist_in netlist.now) + 1 < 2 ^ 29 }
     ensures hashed { IfOk result (λ b. IsHashed (length (sources (frame_in netlist.now.frame))) b.rows.items) }
     ensures few { IfOk result (λ b. length b.rows.items ≤ length (sources (frame_in netlist.now.frame)) + 1 + cost_of (netlist_in netlist.now)) }
     ensures count { IfOk result (λ b. length b.observed.items ≡ length (observed (frame_in netlist.now.frame))) }
@@ -47,9 +58,17 @@ pub fn build(alloc: Global, netlist: &Netlist) -> Result<Built, AllocError>
     ensures function { IfOk result (λ b. HasFunction (netlist_in netlist.now) (rows_function b.rows.items b.observed.items)) }
 {
     syn_netlist::ordered_has_one();
+    syn_netlist::order_keeps_function();
+    let order = making_order(alloc, netlist)?;
     let sources = netlist.frame.sources(alloc)?;
     let mut hashed = Hashed::new(alloc, sources.len())?;
-    let literals = named_literals(alloc, netlist, &mut hashed, sources.as_slice())?;
+    let literals = named_literals(
+        alloc,
+        netlist,
+        order.as_slice(),
+        &mut hashed,
+        sources.as_slice(),
+    )?;
     let signals = netlist.frame.observed(alloc)?;
     let observed = literals_of(alloc, literals.as_slice(), signals.as_slice())?;
     let Hashed {
@@ -63,23 +82,24 @@ pub fn build(alloc: Global, netlist: &Netlist) -> Result<Built, AllocError>
 fn named_literals(
     alloc: Global,
     netlist: &Netlist,
+    order: &[u32],
     hashed: &mut Hashed,
     numbers: &[u32],
 ) -> Result<Vec<Lit>, AllocError>
-    requires ordered { Ordered (netlist_in netlist.now) }
+    requires order { PutsInOrder (netlist_in netlist.now) order.now }
     requires words { words_at netlist.now.frame.names numbers.now ≡ sources (frame_in netlist.now.frame) }
     requires below { all_below (length netlist.now.frame.names) numbers.now ≡ true }
-    requires few { length numbers.now ≤ 1048576 }
+    requires few { length numbers.now + 1 < 2 ^ 29 }
     requires count { hashed.old.source_count ≡ length numbers.now }
     requires rows { length hashed.old.rows.items ≡ length numbers.now + 1 }
     requires room { length hashed.old.rows.items + cost_of (netlist_in netlist.now) < 2 ^ 29 }
     ensures sources { hashed.new.source_count ≡ hashed.old.source_count }
     ensures few { length hashed.new.rows.items ≤ length hashed.old.rows.items + cost_of (netlist_in netlist.now) }
-    ensures named { IfOk result (λ v. IsNamed (netlist_in netlist.now) netlist.now.frame.names (defined (netlist_in netlist.now)) hashed.new.rows.items v.items) }
+    ensures named { IfOk result (λ v. IsNamed (in_order (netlist_in netlist.now) order.now) netlist.now.frame.names (defined (in_order (netlist_in netlist.now) order.now)) hashed.new.rows.items v.items) }
 {
     let count = netlist.frame.names.len();
     let mut literals = source_literals(alloc, count, numbers)?;
-    name_tables(alloc, netlist, hashed, literals.as_mut_slice())?;
+    name_tables(alloc, netlist, order, hashed, literals.as_mut_slice())?;
     Ok(literals)
 }
 
@@ -87,7 +107,7 @@ fn named_literals(
 fn source_literals(alloc: Global, count: u32, numbers: &[u32]) -> Result<Vec<Lit>, AllocError>
     requires below { all_below count numbers.now ≡ true }
     requires once { (i j : ℕ) → i < j → j < length numbers.now → slice_index numbers.now i ≢ slice_index numbers.now j }
-    requires few { length numbers.now ≤ 1048576 }
+    requires few { length numbers.now + 1 < 2 ^ 29 }
     ensures count { IfOk result (λ v. length v.items ≡ count) }
     ensures there { IfOk result (λ v. All (λ l. node_of l ≤ length numbers.now) v.items) }
     ensures own { IfOk result (λ v. (i : ℕ) → i < length numbers.now → lit_at v.items (slice_index numbers.now i) ≡ source_lit i) }
@@ -109,7 +129,7 @@ fn constants(alloc: Global, count: u32) -> Result<Vec<Lit>, AllocError>
 fn give_sources(literals: &mut [Lit], numbers: &[u32])
     requires below { all_below (length literals.old) numbers.now ≡ true }
     requires once { (i j : ℕ) → i < j → j < length numbers.now → slice_index numbers.now i ≢ slice_index numbers.now j }
-    requires few { length numbers.now ≤ 1048576 }
+    requires few { length numbers.now + 1 < 2 ^ 29 }
     requires none { All (λ l. node_of l ≡ 0) literals.old }
     ensures there { All (λ l. node_of l ≤ length numbers.now) literals.new }
     ensures own { (i : ℕ) → i < length numbers.now → lit_at literals.new (slice_index numbers.now i) ≡ source_lit i }
@@ -131,23 +151,25 @@ fn literals_of(alloc: Global, literals: &[Lit], numbers: &[u32]) -> Result<Vec<L
     Ok(found)
 }
 
-// Gives each table's output its literal, table by table, where the sources have theirs.
+// Gives each table's output its literal, table by table in the given order, where the sources have theirs.
 fn name_tables(
     alloc: Global,
     netlist: &Netlist,
+    order: &[u32],
     hashed: &mut Hashed,
     literals: &mut [Lit],
 ) -> Result<(), AllocError>
-    requires ordered { Ordered (netlist_in netlist.now) }
+    requires order { PutsInOrder (netlist_in netlist.now) order.now }
     requires names { distinct netlist.now.frame.names ≡ true }
-    requires named { IsNamed (netlist_in netlist.now) netlist.now.frame.names (sources (frame_in netlist.now.frame)) hashed.old.rows.items literals.old }
+    requires named { IsNamed (in_order (netlist_in netlist.now) order.now) netlist.now.frame.names (sources (frame_in netlist.now.frame)) hashed.old.rows.items literals.old }
     requires room { length hashed.old.rows.items + cost_of (netlist_in netlist.now) < 2 ^ 29 }
     ensures sources { hashed.new.source_count ≡ hashed.old.source_count }
     ensures few { length hashed.new.rows.items ≤ length hashed.old.rows.items + cost_of (netlist_in netlist.now) }
-    ensures named { OnOk result (IsNamed (netlist_in netlist.now) netlist.now.frame.names (defined (netlist_in netlist.now)) hashed.new.rows.items literals.new) }
+    ensures named { OnOk result (IsNamed (in_order (netlist_in netlist.now) order.now) netlist.now.frame.names (defined (in_order (netlist_in netlist.now) order.now)) hashed.new.rows.items literals.new) }
 {
     let tables = netlist.tables.as_slice();
-    for table in tables {
+    for number in order {
+        let table = &tables[*number as usize];
         let literal = literal_of(alloc, hashed, literals, table)?;
         literals[table.output as usize] = literal;
     }

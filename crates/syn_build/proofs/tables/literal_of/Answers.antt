@@ -4,7 +4,7 @@ use Rattle.std.proofs.lemmas.List.Elements.{All-same}
 use Rattle.syn_rows.specs.Rows.{node_of}
 use Rattle.syn_shapes.specs.Graphs.{lit_at}
 use Rattle.syn_build.proofs.Known.{literals_there}
-use Rattle.syn_build.proofs.build.literal_of.Goals as goal
+use Rattle.syn_build.proofs.tables.literal_of.Goals as goal
 
 pub table_literal-requires-clause-inputs : goal.table_literal-requires-clause-inputs
 table_literal-requires-clause-inputs c =

@@ -3,7 +3,7 @@ use Rattle.syn_rows.specs.Rows.{node_of}
 use Rattle.syn_netlist.specs.Costs.{is_sign}
 use Rattle.syn_strash.specs.Growing.{Extends}
 use Rattle.syn_build.proofs.Matching.{IsFront}
-use Rattle.syn_build.proofs.build.row_literal.Given as goal
+use Rattle.syn_build.proofs.tables.row_literal.Given as goal
 
 abbrev pub invariant-loop-i : goal.invariant-loop-i
 invariant-loop-i l = record {

@@ -4,7 +4,7 @@ use Rattle.syn_netlist.specs.Costs.{row_cost}
 use Rattle.syn_strash.specs.Growing.{Extends}
 use Rattle.syn_build.specs.Covering.{AllThere}
 use Rattle.syn_build.proofs.Matching.{IsSome}
-use Rattle.syn_build.proofs.build.table_literal.Given as goal
+use Rattle.syn_build.proofs.tables.table_literal.Given as goal
 
 abbrev pub invariant-loop-row : goal.invariant-loop-row
 invariant-loop-row l = record {

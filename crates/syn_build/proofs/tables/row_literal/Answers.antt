@@ -1,7 +1,7 @@
 use Rattle.std.proofs.Common.{arith, refl, ◌∙◌}
 use Rattle.syn_strash.proofs.Rising.{extends_itself, extends_through}
 use Rattle.syn_build.proofs.Matching.{front_none, front_more, front_short, signs_more}
-use Rattle.syn_build.proofs.build.row_literal.Goals as goal
+use Rattle.syn_build.proofs.tables.row_literal.Goals as goal
 
 pub loop-i-init : goal.loop-i-init
 loop-i-init c = record {
