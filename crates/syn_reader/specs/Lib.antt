@@ -10,9 +10,5 @@ pub mod Computed
 pub mod Laws
 pub mod WorkedNetlists
 pub mod Heard
-pub mod Parts
-pub mod FirstForm
-pub mod Rows
-pub mod Form
+pub mod Causes
 pub mod NumberedCosts
-pub mod WorkedForms

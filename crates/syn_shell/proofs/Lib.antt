@@ -1,5 +1,9 @@
 mod Numbers
-mod Refusing
-mod Running
-mod Scripts
 mod Taking
+mod Putting
+mod Following
+mod Staying
+mod Hearing
+mod Giving
+mod Turning
+mod Wording

@@ -2,5 +2,8 @@ pub mod Graphs
 pub mod Outside
 pub mod Lines
 pub mod Steps
+pub mod Usage
+pub mod Scripts
+pub mod LineMode
 pub mod Runs
 pub mod Stopping

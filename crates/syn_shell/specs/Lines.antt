@@ -1,12 +1,16 @@
 -- The lines that are printed: a network's numbers, and refusals.
-use Rattle.std.specs.Prelude.{◌≡◌, ℕ, max, ◌++◌, List, [], ◌∷◌, length, map, codes, decimal}
+use Rattle.std.specs.Prelude.{◌≡◌, ℕ, max, ◌++◌, List, [], ◌∷◌, length, map, flat_map, codes, decimal}
 use Rattle.syn_rows.specs.Rows.{node_of}
 use Rattle.syn_rows.specs.Reach.{Ands}
 use Rattle.syn_rows.specs.Levels.{level_in, levels_of}
 use Rattle.syn_netlist.specs.Lists.{Frame, Netlist}
 use Rattle.syn_shapes.specs.GraphShape.{rows_of, observed_of}
+use Rattle.syn_words.specs.declared.ScriptFault.{ScriptFault}
+use Rattle.syn_words.specs.declared.ScriptFault.TheVariants as script
+use Rattle.syn_reader.specs.declared.ReadFault.{ReadFault}
+use Rattle.syn_reader.specs.declared.ReadFault.TheVariants as file
 use Rattle.syn_shell.specs.declared.refusal.Refusal.{Refusal}
-use Rattle.syn_shell.specs.declared.refusal.Refusal.TheVariants.{Words, Unbuilt, NoNetwork, GetFailed, FileTooLong, PutFailed, SinkFailed, NoMemory}
+use Rattle.syn_shell.specs.declared.refusal.Refusal.TheVariants.{Words, Script, Read, FileTooLong, LineTooLong, TooManyLines, NoNetwork, GetFailed, PutFailed, LineFailed, SinkFailed, NoMemory}
 
 -- the greatest number of a list, 0 where it is empty
 abbrev pub greatest : List ℕ → ℕ
@@ -29,35 +33,86 @@ pub record IsNumbersLine (m : Netlist) (bytes : List ℕ) : Type 0 where
   pub reached : Ands (rows_of m) (observed_of m) ands
   pub text : bytes ≡ numbers_text m.frame ands (depth_of m)
 
--- what a refusal says
-abbrev pub cause_text : Refusal → List ℕ
-cause_text Words = codes "command line"
-cause_text Unbuilt = codes "not built"
-cause_text NoNetwork = codes "no network"
-cause_text GetFailed = codes "cannot read "
-cause_text FileTooLong = codes "file longer than 16777216 bytes"
-cause_text PutFailed = codes "cannot write "
-cause_text SinkFailed = []
-cause_text NoMemory = codes "out of memory"
+-- pieces of text, one after the other
+abbrev pub joined : List (List ℕ) → List ℕ
+joined pieces = flat_map (λ piece. piece) pieces
 
--- the name of the file that the command names, where the refusal shows it
-abbrev pub shown_name : Refusal → List ℕ → List ℕ
-shown_name GetFailed name = name
-shown_name PutFailed name = name
-shown_name other name = []
+-- a place in a script and what is wrong there
+abbrev pub at_place : ℕ → List ℕ → List ℕ
+at_place at what = joined (codes "script " ∷ decimal at ∷ codes ": " ∷ what ∷ [])
 
--- the line of a refusal; a sink that failed has none
+-- a line of a file and what is wrong there
+abbrev pub at_line : ℕ → List ℕ → List ℕ
+at_line line what = joined (codes "line " ∷ decimal line ∷ codes ": " ∷ what ∷ [])
+
+-- what a fault of a script says
+abbrev pub script_text : ScriptFault → List ℕ
+script_text (script.BadByte at) = at_place at (codes "bad byte")
+script_text (script.UnknownCommand at) = at_place at (codes "unknown command")
+script_text (script.MissingWord at) = at_place at (codes "missing word")
+script_text (script.ExtraWord at) = at_place at (codes "extra word")
+script_text (script.BadNumber at) = at_place at (codes "bad number")
+script_text (script.OutOfRange at) = at_place at (codes "out of range")
+script_text script.NoMemory = codes "out of memory"
+
+-- what a fault of a file says
+abbrev pub file_text : ReadFault → List ℕ
+file_text (file.BadByte at) = joined (codes "byte " ∷ decimal at ∷ codes ": bad byte" ∷ [])
+file_text (file.AfterEnd line) = at_line line (codes "after end")
+file_text (file.UnknownKeyword line) = at_line line (codes "unknown keyword")
+file_text (file.SecondModel line) = at_line line (codes "second model")
+file_text (file.NoName line) = at_line line (codes "no name")
+file_text (file.ExtraWord line) = at_line line (codes "extra word")
+file_text (file.StrayRow line) = at_line line (codes "stray row")
+file_text (file.RowShape line) = at_line line (codes "row shape")
+file_text (file.MixedRows line) = at_line line (codes "mixed rows")
+file_text (file.LatchShape line) = at_line line (codes "latch shape")
+file_text (file.LatchType line) = at_line line (codes "latch type")
+file_text (file.LatchInit line) = at_line line (codes "latch init")
+file_text (file.DefinedTwice line name) = joined (codes "line " ∷ decimal line ∷ codes ": " ∷ name ∷ codes " defined twice" ∷ [])
+file_text (file.Undriven name) = joined (name ∷ codes " undriven" ∷ [])
+file_text (file.Cycle names) = codes "cycle" ++ flat_map (λ name. codes " " ++ name) names
+file_text (file.TooManySources count) = joined (decimal count ∷ codes " sources" ∷ [])
+file_text (file.TooLarge cost) = joined (codes "cost " ∷ decimal cost ∷ [])
+file_text file.NoMemory = codes "out of memory"
+
+-- what a refusal says; the name is that of the file that the command names
+abbrev pub refusal_text : Refusal → List ℕ → List ℕ
+refusal_text Words name = codes "command line"
+refusal_text (Script fault) name = script_text fault
+refusal_text (Read fault) name = file_text fault
+refusal_text FileTooLong name = codes "file longer than 16777216 bytes"
+refusal_text LineTooLong name = codes "line longer than 65536 bytes"
+refusal_text TooManyLines name = codes "more than 1048576 lines"
+refusal_text NoNetwork name = codes "no network"
+refusal_text GetFailed name = joined (codes "cannot read " ∷ name ∷ [])
+refusal_text PutFailed name = joined (codes "cannot write " ∷ name ∷ [])
+refusal_text LineFailed name = codes "cannot read a line"
+refusal_text SinkFailed name = []
+refusal_text NoMemory name = codes "out of memory"
+
+-- the line of a refusal
 abbrev pub refusal_line : Refusal → List ℕ → List ℕ
-refusal_line SinkFailed name = []
-refusal_line other name = codes "refused: " ++ (cause_text other ++ (shown_name other name ++ 10 ∷ []))
+refusal_line refusal name = codes "refused: " ++ (refusal_text refusal name ++ 10 ∷ [])
 
--- the status that a run ends with after a refusal
+-- the status that a run ends with where a file's fault is refused first: its two limits have one of their own
+abbrev pub file_status : ReadFault → ℕ
+file_status (file.TooManySources count) = 5
+file_status (file.TooLarge cost) = 5
+file_status file.NoMemory = 8
+file_status fault = 4
+
+-- the status that a run ends with where this is refused first
 abbrev pub refusal_status : Refusal → ℕ
 refusal_status Words = 2
-refusal_status Unbuilt = 4
+refusal_status (Script fault) = 3
+refusal_status (Read fault) = file_status fault
 refusal_status FileTooLong = 5
+refusal_status LineTooLong = 5
+refusal_status TooManyLines = 5
 refusal_status NoNetwork = 6
 refusal_status GetFailed = 7
 refusal_status PutFailed = 7
+refusal_status LineFailed = 7
 refusal_status SinkFailed = 7
 refusal_status NoMemory = 8

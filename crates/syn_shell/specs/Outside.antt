@@ -1,6 +1,8 @@
--- What files and a sink are before and after a command, and what a command does to them.
-use Rattle.std.specs.Prelude.{◌≡◌, ◌⊎◌, ℕ, ◌≤◌, List, ◌++◌, Option, Some, IfSome, IsSomeAnd}
-use Rattle.syn_io.specs.Outside.{Rose, file_at, without_file, GrewByPart}
+-- What files, a sink and lines are before and after a command, and what is done to them.
+use Rattle.std.specs.Prelude.{◌≡◌, ◌⊎◌, ℕ, ◌≤◌, ◌<◌, List, ◌++◌, length, Option, Some, None, IfSome, IsSomeAnd, Result, Ok, Err}
+use Rattle.syn_io.specs.declared.SinkFailed.{SinkFailed}
+use Rattle.syn_io.specs.Outside.{Rose, file_at, without_file, GrewByPart, next_line, after_line}
+use Rattle.syn_netlist.specs.Lists.{Netlist}
 
 -- Files: their names with their bytes where that is told, and how often a call has failed.
 pub record Disk : Type 0 where
@@ -17,6 +19,23 @@ pub record Screen : Type 0 where
 
 abbrev pub screen : Option (List ℕ) → ℕ → Screen
 screen told faults = record { told = told; faults = faults }
+
+-- Lines: the bytes that are left where that is told, and how often a call has failed.
+pub record Input : Type 0 where
+  pub told : Option (List ℕ)
+  pub faults : ℕ
+
+abbrev pub input : Option (List ℕ) → ℕ → Input
+input told faults = record { told = told; faults = faults }
+
+-- What commands work on: the session's network, the files and the sink.
+pub record State : Type 0 where
+  pub network : Option Netlist
+  pub files : Disk
+  pub sink : Screen
+
+abbrev pub state : Option Netlist → Disk → Screen → State
+state network files sink = record { network = network; files = files; sink = sink }
 
 -- No file changed.
 pub record FilesStand (before after : Disk) : Type 0 where
@@ -42,6 +61,29 @@ pub record TookPart (bytes : List ℕ) (before after : Screen) : Type 0 where
   pub told : IfSome before.told (λ was. IsSomeAnd after.told (GrewByPart was bytes))
   pub failed : Rose before.faults after.faults
 
--- The sink took the bytes, or failed after a first part of them.
-abbrev pub TookOrFailed : List ℕ → Screen → Screen → Type 0
-TookOrFailed bytes before after = Took bytes before after ⊎ TookPart bytes before after
+-- The bytes are put: the sink took all of them, or failed.
+abbrev pub Puts : Result (Unit {0}) SinkFailed → List ℕ → Screen → Screen → Type 0
+Puts (Ok done) bytes before after = Took bytes before after
+Puts (Err failed) bytes before after = TookPart bytes before after
+
+-- the most bytes of a script, and of a line
+abbrev pub script_limit : ℕ
+script_limit = 65536
+
+-- The next line was given, and is taken from what is left.
+pub record GaveLine (line : List ℕ) (before after : Input) : Type 0 where
+  pub next : IfSome before.told (λ left. Some line ≡ next_line left)
+  pub left : IfSome before.told (λ left. after.told ≡ Some (after_line left))
+  pub short : length line ≤ script_limit
+  pub later : before.faults ≤ after.faults
+
+-- No line is left.
+pub record GaveNone (before after : Input) : Type 0 where
+  pub none : IfSome before.told (λ left. None ≡ next_line left)
+  pub left : IfSome before.told (λ left. after.told ≡ Some (after_line left))
+  pub later : before.faults ≤ after.faults
+
+-- The next line is longer than a script may be.
+pub record LineIsLong (before after : Input) : Type 0 where
+  pub long : IfSome before.told (λ left. IsSomeAnd (next_line left) (λ line. script_limit < length line))
+  pub later : before.faults ≤ after.faults

@@ -1,18 +1,70 @@
--- What the shell's own code tells of a run: the refusal at which it stopped.
-use Rattle.std.specs.Prelude.{Option, Some, None, Result, Ok, Err, Vec}
+-- What the shell's own types tell of a run.
+use Rattle.std.specs.Prelude.{◌≡◌, ◌≢◌, ◌⊎◌, ℕ, ◌≤◌, ◌<◌, ◌==◌, if◌then◌else◌, List, length, map, Option, Some, None, Result, Ok, Err, Vec}
 use Rattle.std.specs.Global.{Global}
-use Rattle.syn_netlist.specs.Lists.{Netlist}
-use Rattle.syn_shell.specs.declared.commands.Command.{Command}
+use Rattle.syn_words.specs.declared.Command.{Command}
+use Rattle.syn_words.specs.Commands.{spoken}
+use Rattle.syn_words.specs.Scripts.{IsScript}
 use Rattle.syn_shell.specs.declared.refusal.Refusal.{Refusal}
-use Rattle.syn_shell.specs.Outside.{Disk, Screen}
-use Rattle.syn_shell.specs.declared.whole_run.Stopped.{Stopped}
-use Rattle.syn_shell.specs.Runs.{Refused, RunsCommands, DoesNothing}
+use Rattle.syn_shell.specs.declared.refusal.Refusal.TheVariants.{SinkFailed}
+use Rattle.syn_shell.specs.declared.scripts.Stopped.{Stopped}
+use Rattle.syn_shell.specs.declared.telling.Telling.{Telling}
+use Rattle.syn_shell.specs.declared.telling.Telling.TheVariants.{Whole, Cut}
+use Rattle.syn_shell.specs.declared.line_mode.Turn.{Turn}
+use Rattle.syn_shell.specs.declared.line_mode.Turn.TheVariants as turn
+use Rattle.syn_shell.specs.Outside.{Screen, Input, State, Took, TookPart, GaveLine, GaveNone, script_limit}
+use Rattle.syn_shell.specs.Lines.{refusal_line, refusal_status}
+use Rattle.syn_shell.specs.Scripts.{Refused, RunsScript, ScriptRefused, Told, SinkGaveUp}
+use Rattle.syn_shell.specs.LineMode.{GoesOn, LineRefused, RunsLines, listed, most_lines}
+use Rattle.syn_shell.specs.Runs.{status_of}
 
+-- the refusal at which commands stopped
 abbrev pub outcome_of : Result (Unit {0}) Stopped → Option Refused
 outcome_of (Ok done) = None
 outcome_of (Err stopped) = Some (record { cause = stopped.cause; name = stopped.name.now })
 
 -- A script that was read: its commands, or why it has none.
-abbrev pub RunsParsed : Result (Vec Command Global) Refusal → Disk → Screen → Option Refused → Disk → Screen → Type 0
-RunsParsed (Ok commands) d s outcome d' s' = (m : Option Netlist) × RunsCommands commands.items None d s outcome m d' s'
-RunsParsed (Err cause) d s outcome d' s' = DoesNothing cause d s outcome d' s'
+abbrev pub Parsed : List ℕ → Result (Vec Command Global) Refusal → Type 0
+Parsed text (Ok commands) = (length text ≤ script_limit) × IsScript text (map spoken commands.items)
+Parsed text (Err cause) = ScriptRefused text cause
+
+-- the status of a refusal whose line was told
+abbrev pub status_in : Telling → ℕ
+status_in (Whole status) = status
+status_in (Cut status) = status
+
+-- What became of the line of a refusal, and the refusal's status.
+abbrev pub TellsAs : Telling → Refused → Screen → Screen → Type 0
+TellsAs (Whole status) refused before after = (status ≡ refusal_status refused.cause) × (refused.cause ≢ SinkFailed) × Took (refusal_line refused.cause refused.name) before after
+TellsAs (Cut status) refused before after =
+    (status ≡ refusal_status refused.cause) × (((refused.cause ≡ SinkFailed) × (after ≡ before)) ⊎ TookPart (refusal_line refused.cause refused.name) before after)
+
+-- The same between states.
+abbrev pub IsTold : Telling → Refused → State → State → Type 0
+IsTold (Whole status) refused before after = (status ≡ refusal_status refused.cause) × Told refused before after
+IsTold (Cut status) refused before after = (status ≡ refusal_status refused.cause) × SinkGaveUp refused before after
+
+-- What a script left: nothing was refused, or what became of the line of its refusal.
+abbrev pub Leaves : Option Telling → List ℕ → State → State → Type 0
+Leaves None text before after = RunsScript text before None after
+Leaves (Some telling) text before after = (refused : Refused) × (done : State) × RunsScript text before (Some refused) done × IsTold telling refused done after
+
+-- What a call for the next line gave.
+abbrev pub Gave : Result (Option (Vec ℕ Global)) Refusal → Input → Input → Type 0
+Gave (Ok (Some line)) before after = GaveLine line.items before after
+Gave (Ok None) before after = GaveNone before after
+Gave (Err cause) before after = LineRefused before after cause
+
+-- the status that is kept where another follows: the first that is none of an accepted run
+abbrev pub first_status : ℕ → ℕ → ℕ
+first_status status next = if status == 0 then next else status
+
+-- One line was run and the run goes on, or it ends, however many lines below the most were run before.
+abbrev pub Turned : Turn → State → Input → State → Input → Type 0
+Turned (turn.GoesOn status) before i after j =
+    (line : List ℕ) × (outcome : Option Refused) × (done : State) × GaveLine line i j × RunsScript line before outcome done × GoesOn outcome done after × (status ≡ status_of (listed outcome))
+Turned (turn.Ends status) before i after i' =
+    (lines : List (List ℕ)) × (refusals : List Refused) × ((taken : ℕ) → taken < most_lines → RunsLines lines taken before i refusals after i') × (status ≡ status_of refusals)
+
+-- Lines were run, after so many others, with this status.
+abbrev pub RanLines : ℕ → ℕ → State → Input → State → Input → Type 0
+RanLines status taken before i after i' = (lines : List (List ℕ)) × (refusals : List Refused) × RunsLines lines taken before i refusals after i' × (status ≡ status_of refusals)

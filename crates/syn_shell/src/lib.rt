@@ -1,11 +1,15 @@
 //! The shell: what reads, shows and writes netlists.
 #![tactic(auto)]
 
-mod commands;
+mod line_mode;
 mod lines;
 mod refusal;
-mod script;
+mod scripts;
 mod session;
+mod telling;
+mod usage;
 mod whole_run;
 
+pub use refusal::Refusal;
+pub use session::Session;
 pub use whole_run::run;

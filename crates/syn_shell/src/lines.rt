@@ -7,15 +7,15 @@ ghost use Rattle.syn_rows.specs.Levels.{level_in, levels_of};
 ghost use Rattle.syn_netlist.specs.Frames.{frame_in};
 ghost use Rattle.syn_netlist.specs.Lists.{Frame};
 ghost use Rattle.syn_graph.specs.Graphs.{network_of};
-ghost use Rattle.syn_shell.specs.Lines.{greatest, IsNumbersLine, refusal_line, refusal_status, cause_text, shown_name, numbers_text};
-ghost use Rattle.syn_shell.specs.Outside.{screen, Took, TookOrFailed, TookPart};
+ghost use Rattle.syn_shell.specs.Lines.{greatest, IsNumbersLine, numbers_text};
+ghost use Rattle.syn_shell.specs.Outside.{screen, Took};
 ghost use Rattle.syn_shell.specs.Steps.{StatsRefused};
 
 use crate::refusal::Refusal;
 use itoa::Buffer;
 use std::alloc::{AllocError, Global};
 use syn_graph::Graph;
-use syn_io::{Sink, SinkFailed};
+use syn_io::Sink;
 use syn_netlist::Frame;
 use syn_rows::Lit;
 
@@ -82,92 +82,6 @@ fn numbers_line(alloc: Global, frame: &Frame, ands: u64, depth: u64) -> Result<V
     push_counted(&mut line, b" lev = ", depth)?;
     line.push(b'\n')?;
     Ok(line)
-}
-
-// What a refusal says.
-fn cause_text(refusal: Refusal) -> &'static [u8]
-    ensures { result.now ≡ cause_text refusal }
-{
-    match refusal {
-        Refusal::Words => b"command line",
-        Refusal::Unbuilt => b"not built",
-        Refusal::NoNetwork => b"no network",
-        Refusal::GetFailed => b"cannot read ",
-        Refusal::FileTooLong => b"file longer than 16777216 bytes",
-        Refusal::PutFailed => b"cannot write ",
-        Refusal::SinkFailed => b"",
-        Refusal::NoMemory => b"out of memory",
-    }
-}
-
-// The name of the file that the command names, where the refusal shows it.
-fn shown_name(refusal: Refusal, name: &[u8]) -> &[u8]
-    ensures { result.now ≡ shown_name refusal name.now }
-{
-    match refusal {
-        Refusal::GetFailed | Refusal::PutFailed => name,
-        _ => &[],
-    }
-}
-
-// The status that a run ends with after a refusal.
-pub(crate) fn status_of(refusal: Refusal) -> u8
-    ensures { result ≡ refusal_status refusal }
-{
-    match refusal {
-        Refusal::Words => 2,
-        Refusal::Unbuilt => 4,
-        Refusal::FileTooLong => 5,
-        Refusal::NoNetwork => 6,
-        Refusal::GetFailed | Refusal::PutFailed | Refusal::SinkFailed => 7,
-        Refusal::NoMemory => 8,
-    }
-}
-
-// Puts two pieces, one after the other.
-fn put_two<O: Sink>(out: &mut O, first: &[u8], second: &[u8]) -> Result<(), SinkFailed>
-    ensures took { OnOk result (Took (first.now ++ second.now) (screen (O.told out.old) (O.faults out.old)) (screen (O.told out.new) (O.faults out.new))) }
-    ensures part { OnErr result (TookPart (first.now ++ second.now) (screen (O.told out.old) (O.faults out.old)) (screen (O.told out.new) (O.faults out.new))) }
-{
-    out.put(first)?;
-    out.put(second)
-}
-
-// Puts the line of a refusal; a sink that failed has none.
-fn put_refusal<O: Sink>(out: &mut O, refusal: Refusal, name: &[u8]) -> Result<(), SinkFailed>
-    ensures took { OnOk result (Took (refusal_line refusal name.now) (screen (O.told out.old) (O.faults out.old)) (screen (O.told out.new) (O.faults out.new))) }
-    ensures part { OnErr result (TookPart (refusal_line refusal name.now) (screen (O.told out.old) (O.faults out.old)) (screen (O.told out.new) (O.faults out.new))) }
-{
-    match refusal {
-        Refusal::SinkFailed => Ok(()),
-        _ => put_four(
-            out,
-            b"refused: ",
-            cause_text(refusal),
-            shown_name(refusal, name),
-        ),
-    }
-}
-
-// Puts three pieces and a line feed, one after the other.
-fn put_four<O: Sink>(
-    out: &mut O,
-    first: &[u8],
-    second: &[u8],
-    third: &[u8],
-) -> Result<(), SinkFailed>
-    ensures took { OnOk result (Took (first.now ++ (second.now ++ (third.now ++ 10 ∷ []))) (screen (O.told out.old) (O.faults out.old)) (screen (O.told out.new) (O.faults out.new))) }
-    ensures part { OnErr result (TookPart (first.now ++ (second.now ++ (third.now ++ 10 ∷ []))) (screen (O.told out.old) (O.faults out.old)) (screen (O.told out.new) (O.faults out.new))) }
-{
-    put_two(out, first, second)?;
-    put_two(out, third, b"\n")
-}
-
-/// Puts the line of a refusal. The name is that of the file that the command names.
-pub(crate) fn tell<O: Sink>(out: &mut O, refusal: Refusal, name: &[u8])
-    ensures { TookOrFailed (refusal_line refusal name.now) (screen (O.told out.old) (O.faults out.old)) (screen (O.told out.new) (O.faults out.new)) }
-{
-    let _ = put_refusal(out, refusal, name);
 }
 
 // The network's line.

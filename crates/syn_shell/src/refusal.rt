@@ -3,22 +3,34 @@
 ghost use Rattle.std.specs.Prelude.{◌≡◌};
 
 use std::alloc::AllocError;
+use syn_reader::ReadFault;
+use syn_words::ScriptFault;
 
-/// Why a run or a command is refused. Each but `SinkFailed` prints one line.
-#[derive(Clone, Copy, Debug, PartialEq, Eq)]
+/// Why a run or a command is refused. Each but `SinkFailed` has a line that says so.
+///
+/// Want of memory is always `NoMemory`: neither `Script` nor `Read` has it inside.
+#[derive(Debug, Drop)]
 pub enum Refusal {
-    /// The words are no script call.
+    /// The words are no call of the program.
     Words,
-    /// The script, or the file that was read, isn't in the form that is built.
-    Unbuilt,
+    /// The first fault of a script.
+    Script(ScriptFault),
+    /// The first fault of the file that the command names.
+    Read(ReadFault),
+    /// The file that the command names has more than 16,777,216 bytes.
+    FileTooLong,
+    /// A script or a line has more than 65,536 bytes.
+    LineTooLong,
+    /// A line was given after 1,048,576 others.
+    TooManyLines,
     /// The command needs a network, and none was read.
     NoNetwork,
     /// The file that the command names could not be read.
     GetFailed,
-    /// The file that the command names has more than 16,777,216 bytes.
-    FileTooLong,
     /// The file that the command names could not be written.
     PutFailed,
+    /// The next line could not be read.
+    LineFailed,
     /// The sink did not take a line.
     SinkFailed,
     /// Memory was refused.

@@ -2,41 +2,44 @@
 
 ghost use Rattle.std.specs.Prelude.{◌≡◌, ◌⊎◌, ℕ, ◌+◌, ◌≤◌, ◌<◌, ◌^◌, List, length, IfOk, IfErr, IfSome, IsErrOf, OnOk, Ok, Err, Some, None, true};
 ghost use Rattle.syn_io.specs.Outside.{file_at, Rose};
-ghost use Rattle.syn_netlist.specs.Lists.{sources, observed};
-ghost use Rattle.syn_netlist.specs.Costs.{cost_of};
-ghost use Rattle.syn_netlist.specs.Views.{netlist_in};
-ghost use Rattle.syn_netlist.specs.Frames.{frame_in};
-ghost use Rattle.syn_netlist.specs.Meaning.{SameMeaning};
-ghost use Rattle.syn_netlist.specs.Order.{Ordered, observes_defined};
 ghost use Rattle.syn_netlist.specs.Faults.{IsChecked};
-ghost use Rattle.syn_reader.specs.FirstForm.{IsFirstForm};
+ghost use Rattle.syn_netlist.specs.Views.{netlist_in};
 ghost use Rattle.syn_reader.specs.Reading.{Reads};
 ghost use Rattle.syn_reader.specs.Limits.{Within};
-ghost use Rattle.syn_shapes.specs.GraphShape.{GraphShape, and_tables};
 ghost use Rattle.syn_shapes.specs.Printed.{printed};
 ghost use Rattle.syn_graph.specs.Graphs.{network_of};
-ghost use Rattle.syn_build.specs.Building.{IsGraphOf};
 ghost use Rattle.syn_shell.specs.Graphs.{network_in};
 ghost use Rattle.syn_shell.specs.Outside.{disk, FileIs, FilesStand, OthersStand, screen};
-ghost use Rattle.syn_shell.specs.Steps.{file_limit, IsReadAs, IsUnbuilt, ReadRefused, SessionStep, WriteRefused, ParseRefused};
+ghost use Rattle.syn_shell.specs.Steps.{file_limit, IsBalanced, IsReadAs, ParseRefused, ReadRefused, RemakingRefused, SessionStep, StaysBalanced, WriteRefused};
 
-use crate::commands::Command;
 use crate::lines::print_stats;
 use crate::refusal::Refusal;
 use std::alloc::{AllocError, Global};
+use std::marker::Model;
 use syn_build::graph_of;
 use syn_graph::Graph;
 use syn_io::{Files, GetFault, PutFault, Sink};
 use syn_netlist::Netlist;
 use syn_reader::ReadFault;
 use syn_text::netlist_of;
+use syn_words::Command;
 
 const FILE_LIMIT: u64 = 16_777_216;
 
-/// What a run keeps from command to command: the network, as a graph.
+/// What is kept from command to command: the network, as a graph. Contracts see the netlist that it is written as.
 #[derive(Debug, Drop)]
-pub(crate) struct Session {
+pub struct Session {
     network: Option<Graph>,
+}
+
+impl Model for Session {
+    ghost use Rattle.std.specs.Prelude.{Option};
+    ghost use Rattle.syn_netlist.specs.Lists.{Netlist};
+    ghost use Rattle.syn_shell.specs.Graphs.{network_in};
+
+    ghost Value = { Option Netlist };
+
+    ghost view = { λ session. network_in session.network };
 }
 
 // The bytes of a file.
@@ -54,10 +57,9 @@ fn get<F: Files>(alloc: Global, name: &str, files: &mut F) -> Result<Vec<u8>, Re
     }
 }
 
-// The netlist that bytes of the first form spell.
+// The netlist that bytes spell, or their first fault.
 fn parse(alloc: Global, bytes: &[u8]) -> Result<Netlist, Refusal>
     requires { length bytes.now ≤ file_limit }
-    ensures first_form { IfOk result (λ n. IsFirstForm bytes.now) }
     ensures reads { IfOk result (λ n. Reads bytes.now (netlist_in n)) }
     ensures within { IfOk result (λ n. Within (netlist_in n)) }
     ensures checked { IfOk result (λ n. IsChecked (netlist_in n)) }
@@ -65,12 +67,9 @@ fn parse(alloc: Global, bytes: &[u8]) -> Result<Netlist, Refusal>
     ensures refused { IfErr result (ParseRefused bytes.now) }
 {
     match syn_reader::read(alloc, bytes) {
-        Ok(netlist) => {
-            syn_netlist::check(&netlist, alloc).map_err(|_| Refusal::NoMemory)?;
-            Ok(netlist)
-        }
-        Err(ReadFault::Unbuilt) => Err(Refusal::Unbuilt),
+        Ok(netlist) => Ok(netlist),
         Err(ReadFault::NoMemory) => Err(Refusal::NoMemory),
+        Err(fault) => Err(Refusal::Read(fault)),
     }
 }
 
@@ -118,24 +117,48 @@ fn write<F: Files>(alloc: Global, graph: &Graph, name: &str, files: &mut F) -> R
     put(alloc, name, bytes.as_slice(), files)
 }
 
+// A graph is what hashing, compaction and balancing may make of it.
+fn stays(graph: &Graph)
+    ensures { IsBalanced (network_of graph.now) (network_of graph.now) }
+{
+    syn_shapes::network_of_graph();
+    syn_shapes::graph_has_function();
+    syn_netlist::same_from_function();
+}
+
+// The refusal of a command that needs a network, or what is left of one that has it: the network stays as it is, since
+// the rows of every graph are hashed and reached.
+fn remake(network: &Option<Graph>) -> Result<(), Refusal>
+    ensures done { OnOk result (StaysBalanced (network_in network.now)) }
+    ensures refused { IfErr result (RemakingRefused (network_in network.now)) }
+{
+    match network {
+        None => Err(Refusal::NoNetwork),
+        Some(graph) => {
+            stays(graph);
+            Ok(())
+        }
+    }
+}
+
 impl Session {
     /// No network yet.
-    pub(crate) fn new() -> Session
-        ensures { network_in result.network ≡ None }
+    pub fn new() -> Session
+        ensures { result ≡ None }
     {
         Session { network: None }
     }
 
     /// Does one command. Refused, it leaves the network.
-    pub(crate) fn step<F: Files, O: Sink>(
+    pub fn step<F: Files, O: Sink>(
         &mut self,
         alloc: Global,
         command: &Command,
         files: &mut F,
         out: &mut O,
     ) -> Result<(), Refusal>
-        ensures { SessionStep command.now (network_in self.old.network) (disk (F.told files.old) (F.faults files.old)) (screen (O.told out.old) (O.faults out.old))
-            result (network_in self.new.network) (disk (F.told files.new) (F.faults files.new)) (screen (O.told out.new) (O.faults out.new)) }
+        ensures { SessionStep command.now self.old (disk (F.told files.old) (F.faults files.old)) (screen (O.told out.old) (O.faults out.old))
+            result self.new (disk (F.told files.new) (F.faults files.new)) (screen (O.told out.new) (O.faults out.new)) }
     {
         match command {
             Command::Read(name) => {
@@ -143,7 +166,7 @@ impl Session {
                 self.network = Some(graph);
                 Ok(())
             }
-            Command::PrintStats => match &self.network {
+            Command::Stats => match &self.network {
                 None => Err(Refusal::NoNetwork),
                 Some(graph) => print_stats(alloc, graph, out),
             },
@@ -151,6 +174,7 @@ impl Session {
                 None => Err(Refusal::NoNetwork),
                 Some(graph) => write(alloc, graph, name.as_str(), files),
             },
+            Command::Strash | Command::Balance => remake(&self.network),
         }
     }
 }

@@ -1,0 +1,79 @@
+-- What is run by what the words mean.
+use Rattle.std.proofs.Common.{◌≡◌, ℕ, List, [], ◌∷◌, refl, sym, ap, ◌∙◌, subst, inl, inr, Option, None, Some}
+use Rattle.syn_netlist.specs.Lists.{Netlist}
+use Rattle.syn_shell.specs.declared.refusal.Refusal.{Refusal}
+use Rattle.syn_shell.specs.declared.refusal.Refusal.TheVariants.{Words, Script, Read, FileTooLong, LineTooLong, TooManyLines, NoNetwork, GetFailed, PutFailed, LineFailed, SinkFailed, NoMemory}
+use Rattle.syn_shell.specs.declared.telling.Telling.{Telling}
+use Rattle.syn_shell.specs.declared.telling.Telling.TheVariants.{Whole, Cut}
+use Rattle.syn_shell.specs.Outside.{Disk, Screen, Input, State, state}
+use Rattle.syn_shell.specs.Scripts.{Refused, nameless}
+use Rattle.syn_shell.specs.Usage.{Usage, OneScript, EachLine, Faulty, usage_of, Understood, WordsRefused}
+use Rattle.syn_shell.specs.Runs.{Ran, RunsNothing, RunsUsage, RunsWords, status_of}
+use Rattle.syn_shell.specs.Stopping.{status_in, Leaves, RanLines, TellsAs}
+use Rattle.syn_shell.proofs.Hearing.{nothing_run, nothing_status}
+
+words_refused : (words : List (List ℕ)) (cause : Refusal) (st after : State) (i : Input) (refusals : List Refused) → WordsRefused words cause → RunsNothing cause st refusals after → RunsWords words st i refusals after i
+words_refused words Words st after i refusals h nothing = inl (subst (λ (u : Usage). RunsUsage u st i refusals after i) (sym h) (nothing, refl))
+words_refused words (Script fault) st after i refusals h nothing = absurd h
+words_refused words (Read fault) st after i refusals h nothing = absurd h
+words_refused words FileTooLong st after i refusals h nothing = absurd h
+words_refused words LineTooLong st after i refusals h nothing = absurd h
+words_refused words TooManyLines st after i refusals h nothing = absurd h
+words_refused words NoNetwork st after i refusals h nothing = absurd h
+words_refused words GetFailed st after i refusals h nothing = absurd h
+words_refused words PutFailed st after i refusals h nothing = absurd h
+words_refused words LineFailed st after i refusals h nothing = absurd h
+words_refused words SinkFailed st after i refusals h nothing = absurd h
+words_refused words NoMemory st after i refusals h nothing = inr (nothing, refl)
+
+-- words that are refused
+pub ran_nothing : (words : List (List ℕ)) (cause : Refusal) (t : Telling) (d : Disk) (s s' : Screen) (i : Input) (status : ℕ) → WordsRefused words cause → TellsAs t (nameless cause) s s' → status ≡ status_in t
+    → Ran words d s i d s' i status
+ran_nothing words cause t d s s' i status h tells is = record {
+  network = None;
+  refusals = nameless cause ∷ [];
+  runs = words_refused words cause (state None d s) (state None d s') i (nameless cause ∷ []) h (nothing_run t cause None d s s' tells);
+  status_is = is ∙ nothing_status t cause s s' tells;
+}
+
+-- the status that a script left
+abbrev pub status_left : Option Telling → ℕ
+status_left None = 0
+status_left (Some t) = status_in t
+
+-- words with a script
+pub ran_script : (words : List (List ℕ)) (text : List ℕ) (left : Option Telling) (m : Option Netlist) (d d' : Disk) (s s' : Screen) (i : Input) (status : ℕ) → usage_of words ≡ OneScript text
+    → Leaves left text (state None d s) (state m d' s') → status ≡ status_left left → Ran words d s i d' s' i status
+ran_script words text None m d d' s s' i status usage runs is = record {
+  network = m;
+  refusals = [];
+  runs = inl (subst (λ (u : Usage). RunsUsage u (state None d s) i [] (state m d' s') i) (sym usage) ((None, state m d' s', runs, refl, inl refl), refl));
+  status_is = is;
+}
+ran_script words text (Some (Whole kept)) m d d' s s' i status usage (refused, done, runs, told) is = record {
+  network = m;
+  refusals = refused ∷ [];
+  runs = inl (subst (λ (u : Usage). RunsUsage u (state None d s) i (refused ∷ []) (state m d' s') i) (sym usage) ((Some refused, done, runs, refl, inl told.1), refl));
+  status_is = is ∙ told.0;
+}
+ran_script words text (Some (Cut kept)) m d d' s s' i status usage (refused, done, runs, told) is = record {
+  network = m;
+  refusals = refused ∷ [];
+  runs = inl (subst (λ (u : Usage). RunsUsage u (state None d s) i (refused ∷ []) (state m d' s') i) (sym usage) ((Some refused, done, runs, refl, inr told.1), refl));
+  status_is = is ∙ told.0;
+}
+
+-- words that ask for lines
+pub ran_lines : (words : List (List ℕ)) (d d' : Disk) (s s' : Screen) (i i' : Input) (status : ℕ) → usage_of words ≡ EachLine → (m : Option Netlist) × RanLines status 0 (state None d s) i (state m d' s') i' → Ran words d s i d' s' i' status
+ran_lines words d d' s s' i i' status usage (m, (lines, refusals, runs, is)) = record {
+  network = m;
+  refusals = refusals;
+  runs = inl (subst (λ (u : Usage). RunsUsage u (state None d s) i refusals (state m d' s') i') (sym usage) (lines, runs));
+  status_is = is;
+}
+
+-- words with a script that was run
+pub ran_left : (words : List (List ℕ)) (script text : List ℕ) (left : Option Telling) (n m : Option Netlist) (d d' : Disk) (s s' : Screen) (i : Input) (status : ℕ)
+    → usage_of words ≡ OneScript script → text ≡ script → n ≡ None → Leaves left text (state n d s) (state m d' s') → status ≡ status_left left → Ran words d s i d' s' i status
+ran_left words script text left n m d d' s s' i status usage text_is none leaves is =
+    ran_script words text left m d d' s s' i status (usage ∙ ap OneScript (sym text_is)) (subst (λ (o : Option Netlist). Leaves left text (state o d s) (state m d' s')) none leaves) is

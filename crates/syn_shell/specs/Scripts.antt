@@ -1,0 +1,71 @@
+-- A script: its commands one after the other up to the first that is refused, and the line of that refusal.
+use Rattle.std.specs.Prelude.{◌≡◌, ◌≢◌, ◌⊎◌, ℕ, ◌≤◌, ◌<◌, ◌^◌, List, [], ◌∷◌, length, map, Option, Some, None, Result, Ok, Err, ⊤, string_bytes}
+use Rattle.syn_words.specs.declared.Command.{Command}
+use Rattle.syn_words.specs.declared.Command.TheVariants as commands
+use Rattle.syn_words.specs.declared.ScriptFault.TheVariants as script
+use Rattle.syn_words.specs.Commands.{spoken}
+use Rattle.syn_words.specs.Scripts.{IsScript, IsFirstFault}
+use Rattle.syn_shell.specs.declared.refusal.Refusal.{Refusal}
+use Rattle.syn_shell.specs.declared.refusal.Refusal.TheVariants.{Script, LineTooLong, SinkFailed, NoMemory}
+use Rattle.syn_shell.specs.Outside.{Screen, State, Took, TookPart, script_limit}
+use Rattle.syn_shell.specs.Lines.{refusal_line}
+use Rattle.syn_shell.specs.Steps.{SessionStep}
+
+-- A refusal, with the name of the file that the refused command names.
+pub record Refused : Type 0 where
+  pub cause : Refusal
+  pub name : List ℕ
+
+-- a refusal that no file's name belongs to
+abbrev pub nameless : Refusal → Refused
+nameless cause = record { cause = cause; name = [] }
+
+-- the name of the file that a command names
+abbrev pub name_in : Command → List ℕ
+name_in (commands.Read name) = string_bytes name
+name_in (commands.Write name) = string_bytes name
+name_in other = []
+
+-- One command, accepted or refused.
+abbrev pub Steps : Command → State → Result (Unit {0}) Refusal → State → Type 0
+Steps command before result after = SessionStep command before.network before.files before.sink result after.network after.files after.sink
+
+-- The commands one after the other, up to the first that is refused.
+abbrev pub RunsCommands : List Command → State → Option Refused → State → Type 0
+RunsCommands [] before outcome after = (outcome ≡ None) × (after ≡ before)
+RunsCommands (c ∷ cs) before outcome after =
+    ((between : State) × Steps c before (Ok tt) between × RunsCommands cs between outcome after)
+    ⊎ ((cause : Refusal) × (outcome ≡ Some (record { cause = cause; name = name_in c })) × Steps c before (Err cause) after)
+
+-- Why a script is refused before any of its commands runs: it is too long, or this is its first fault, or memory was refused.
+abbrev pub ScriptRefused : List ℕ → Refusal → Type 0
+ScriptRefused text LineTooLong = script_limit < length text
+ScriptRefused text (Script fault) = (length text ≤ script_limit) × IsFirstFault text fault × (fault ≢ script.NoMemory)
+ScriptRefused text NoMemory = ⊤
+ScriptRefused text other = ⊥
+
+-- Nothing is done, for this cause.
+abbrev pub DoesNothing : Refusal → State → Option Refused → State → Type 0
+DoesNothing cause before outcome after = (outcome ≡ Some (nameless cause)) × (after ≡ before)
+
+-- A script: it is refused before any of its commands runs, or its commands are run.
+abbrev pub RunsScript : List ℕ → State → Option Refused → State → Type 0
+RunsScript text before outcome after =
+    ((cause : Refusal) × ScriptRefused text cause × DoesNothing cause before outcome after)
+    ⊎ ((commands : List Command) × (length text ≤ script_limit) × IsScript text (map spoken commands) × RunsCommands commands before outcome after)
+
+-- Of two states: only what the sink took may be another.
+pub record OnlySink (before after : State) : Type 0 where
+  pub network : after.network ≡ before.network
+  pub files : after.files ≡ before.files
+
+-- The line of a refusal was put. A sink that failed has no line.
+pub record Told (refused : Refused) (before after : State) : Type 0 where
+  pub only : OnlySink before after
+  pub line : Took (refusal_line refused.cause refused.name) before.sink after.sink
+  pub sink : refused.cause ≢ SinkFailed
+
+-- The sink failed: in the refused command, or while the line of the refusal was put.
+pub record SinkGaveUp (refused : Refused) (before after : State) : Type 0 where
+  pub only : OnlySink before after
+  pub failed : ((refused.cause ≡ SinkFailed) × (after.sink ≡ before.sink)) ⊎ TookPart (refusal_line refused.cause refused.name) before.sink after.sink

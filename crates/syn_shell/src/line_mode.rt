@@ -1,0 +1,99 @@
+//! Line mode: each line is a script, and the run goes on behind a refusal.
+
+ghost use Rattle.std.specs.Prelude.{◌≡◌, ℕ, List, None, Option};
+ghost use Rattle.syn_netlist.specs.Lists.{Netlist};
+ghost use Rattle.syn_shell.specs.LineMode.{most_lines};
+ghost use Rattle.syn_shell.specs.Outside.{disk, input, screen, state};
+ghost use Rattle.syn_shell.specs.Stopping.{first_status, Gave, RanLines, Turned};
+
+use crate::refusal::Refusal;
+use crate::scripts::{SCRIPT_LIMIT, run_script};
+use crate::session::Session;
+use crate::telling::{Telling, tell};
+use std::alloc::Global;
+use syn_io::{Files, LineFault, Lines, Sink};
+
+// The most lines that are run.
+const MOST_LINES: u32 = 1_048_576;
+
+// How a line was taken: the run goes on, or it ends. Each has the status of what was refused, 0 where nothing was.
+#[derive(Clone, Copy, Debug, PartialEq, Eq)]
+enum Turn {
+    GoesOn(u8),
+    Ends(u8),
+}
+
+// The next line.
+fn next_line<L: Lines>(alloc: Global, lines: &mut L) -> Result<Option<Vec<u8>>, Refusal>
+    ensures { Gave result (input (L.told lines.old) (L.faults lines.old)) (input (L.told lines.new) (L.faults lines.new)) }
+{
+    match lines.next(alloc, SCRIPT_LIMIT as u64) {
+        Ok(line) => Ok(line),
+        Err(LineFault::Failed) => Err(Refusal::LineFailed),
+        Err(LineFault::TooLong) => Err(Refusal::LineTooLong),
+        Err(LineFault::NoMemory) => Err(Refusal::NoMemory),
+    }
+}
+
+// The first status that is none of an accepted run.
+fn first_status(status: u8, next: u8) -> u8
+    ensures { result ≡ first_status status next }
+{
+    if status == 0 { next } else { status }
+}
+
+// Takes a line and runs it.
+fn take_turn<F: Files, L: Lines, O: Sink>(
+    alloc: Global,
+    session: &mut Session,
+    files: &mut F,
+    lines: &mut L,
+    out: &mut O,
+) -> Turn
+    ensures { Turned result (state session.old (disk (F.told files.old) (F.faults files.old)) (screen (O.told out.old) (O.faults out.old))) (input (L.told lines.old) (L.faults lines.old))
+        (state session.new (disk (F.told files.new) (F.faults files.new)) (screen (O.told out.new) (O.faults out.new))) (input (L.told lines.new) (L.faults lines.new)) }
+{
+    let line = match next_line(alloc, lines) {
+        Ok(Some(line)) => line,
+        Ok(None) => return Turn::Ends(0),
+        Err(cause) => return Turn::Ends(tell(out, &cause, &[]).status()),
+    };
+    match run_script(alloc, session, line.as_slice(), files, out) {
+        None => Turn::GoesOn(0),
+        Some(Telling::Whole(status)) => Turn::GoesOn(status),
+        Some(Telling::Cut(status)) => Turn::Ends(status),
+    }
+}
+
+// Behind as many lines as are run a further one is refused.
+fn last_turn<L: Lines, O: Sink>(alloc: Global, lines: &mut L, out: &mut O) -> u8
+    ensures each { (m : Option Netlist) (told : Option (List (List ℕ × List ℕ))) (faults : ℕ) → RanLines result most_lines (state m (disk told faults) (screen (O.told out.old) (O.faults out.old))) (input (L.told lines.old) (L.faults lines.old))
+        (state m (disk told faults) (screen (O.told out.new) (O.faults out.new))) (input (L.told lines.new) (L.faults lines.new)) }
+{
+    match next_line(alloc, lines) {
+        Ok(None) => 0,
+        Ok(Some(_)) => tell(out, &Refusal::TooManyLines, &[]).status(),
+        Err(cause) => tell(out, &cause, &[]).status(),
+    }
+}
+
+/// Runs the lines, each as a script, and gives the status of the first refusal, 0 where nothing was refused.
+pub(crate) fn run_lines<F: Files, L: Lines, O: Sink>(
+    alloc: Global,
+    files: &mut F,
+    lines: &mut L,
+    out: &mut O,
+) -> u8
+    ensures { (m : Option Netlist) × RanLines result 0 (state None (disk (F.told files.old) (F.faults files.old)) (screen (O.told out.old) (O.faults out.old))) (input (L.told lines.old) (L.faults lines.old))
+        (state m (disk (F.told files.new) (F.faults files.new)) (screen (O.told out.new) (O.faults out.new))) (input (L.told lines.new) (L.faults lines.new)) }
+{
+    let mut session = Session::new();
+    let mut status: u8 = 0;
+    for _taken in 0..MOST_LINES {
+        match take_turn(alloc, &mut session, files, lines, out) {
+            Turn::GoesOn(next) => status = first_status(status, next),
+            Turn::Ends(next) => return first_status(status, next),
+        }
+    }
+    first_status(status, last_turn(alloc, lines, out))
+}

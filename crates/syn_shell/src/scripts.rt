@@ -1,0 +1,93 @@
+//! A script: its commands one after the other, up to the first that is refused.
+
+ghost use Rattle.std.specs.Prelude.{◌≡◌, None};
+ghost use Rattle.syn_shell.specs.Outside.{disk, screen, state};
+ghost use Rattle.syn_shell.specs.Scripts.{name_in, RunsCommands};
+ghost use Rattle.syn_shell.specs.Stopping.{Leaves, outcome_of, Parsed};
+
+use crate::refusal::Refusal;
+use crate::session::Session;
+use crate::telling::{Telling, tell};
+use std::alloc::Global;
+use syn_io::{Files, Sink};
+use syn_words::{Command, ScriptFault, parse_script};
+
+/// The most bytes of a script, and of a line.
+pub(crate) const SCRIPT_LIMIT: usize = 65_536;
+
+// A refusal, with the bytes of the name of the file that its command names.
+#[derive(Drop)]
+struct Stopped<'a> {
+    cause: Refusal,
+    name: &'a [u8],
+}
+
+// The name of the file that a command names.
+fn name_in(command: &Command) -> &[u8]
+    ensures { result.now ≡ name_in command.now }
+{
+    match command {
+        Command::Read(name) | Command::Write(name) => name.as_bytes(),
+        _ => &[],
+    }
+}
+
+// The commands of a script.
+fn commands_in(alloc: Global, text: &[u8]) -> Result<Vec<Command>, Refusal>
+    ensures { Parsed text.now result }
+{
+    if text.len() > SCRIPT_LIMIT {
+        return Err(Refusal::LineTooLong);
+    }
+    match parse_script(alloc, text) {
+        Ok(commands) => Ok(commands),
+        Err(ScriptFault::NoMemory) => Err(Refusal::NoMemory),
+        Err(fault) => Err(Refusal::Script(fault)),
+    }
+}
+
+// The commands one after the other, up to the first that is refused.
+fn run_commands<'a, F: Files, O: Sink>(
+    alloc: Global,
+    session: &mut Session,
+    commands: &'a [Command],
+    files: &mut F,
+    out: &mut O,
+) -> Result<(), Stopped<'a>>
+    ensures { RunsCommands commands.now (state session.old (disk (F.told files.old) (F.faults files.old)) (screen (O.told out.old) (O.faults out.old)))
+        (outcome_of result) (state session.new (disk (F.told files.new) (F.faults files.new)) (screen (O.told out.new) (O.faults out.new))) }
+{
+    for command in commands {
+        match session.step(alloc, command, files, out) {
+            Ok(()) => {}
+            Err(cause) => {
+                return Err(Stopped {
+                    cause,
+                    name: name_in(command),
+                });
+            }
+        }
+    }
+    Ok(())
+}
+
+/// Runs a script and tells its refusal, if there is one.
+pub(crate) fn run_script<F: Files, O: Sink>(
+    alloc: Global,
+    session: &mut Session,
+    text: &[u8],
+    files: &mut F,
+    out: &mut O,
+) -> Option<Telling>
+    ensures { Leaves result text.now (state session.old (disk (F.told files.old) (F.faults files.old)) (screen (O.told out.old) (O.faults out.old)))
+        (state session.new (disk (F.told files.new) (F.faults files.new)) (screen (O.told out.new) (O.faults out.new))) }
+{
+    let commands = match commands_in(alloc, text) {
+        Ok(commands) => commands,
+        Err(cause) => return Some(tell(out, &cause, &[])),
+    };
+    match run_commands(alloc, session, commands.as_slice(), files, out) {
+        Ok(()) => None,
+        Err(stopped) => Some(tell(out, &stopped.cause, stopped.name)),
+    }
+}
