@@ -8,13 +8,9 @@ pub mod Sets
 pub mod CircleLaws
 pub mod Once
 pub mod OneFault
-pub mod Naming
-pub mod FormLaws
-pub mod NumberedTables
 pub mod LineWords
-pub mod SameForm
-pub mod PlainFrames
-pub mod FormFaults
-pub mod FormSpells
-pub mod FormBack
-mod FormCounts
+pub mod Defining
+pub mod ReadingPlaces
+pub mod TextSizes
+pub mod Answering
+pub mod DefinedMarks

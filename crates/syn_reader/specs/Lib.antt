@@ -10,9 +10,6 @@ pub mod Computed
 pub mod Laws
 pub mod WorkedNetlists
 pub mod Heard
+pub mod Causes
 pub mod Parts
-pub mod FirstForm
-pub mod Rows
-pub mod Form
-pub mod NumberedCosts
-pub mod WorkedForms
+pub mod Driving
