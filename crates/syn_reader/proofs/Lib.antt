@@ -8,3 +8,9 @@ pub mod Sets
 pub mod CircleLaws
 pub mod Once
 pub mod OneFault
+pub mod LineWords
+pub mod Defining
+pub mod ReadingPlaces
+pub mod TextSizes
+pub mod Answering
+pub mod DefinedMarks

@@ -11,4 +11,5 @@ pub mod Laws
 pub mod WorkedNetlists
 pub mod Heard
 pub mod Causes
-pub mod NumberedCosts
+pub mod Parts
+pub mod Driving
