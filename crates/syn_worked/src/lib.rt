@@ -5,4 +5,16 @@
 #![tactic(auto)]
 
 #[cfg(test)]
-mod tests;
+mod faults;
+#[cfg(test)]
+mod harness;
+#[cfg(test)]
+mod limits;
+#[cfg(test)]
+mod line_mode;
+#[cfg(test)]
+mod networks;
+#[cfg(test)]
+mod outside;
+#[cfg(test)]
+mod scripts;

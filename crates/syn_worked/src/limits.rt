@@ -1,0 +1,149 @@
+//! Inputs at their limits, and one past them.
+
+use crate::harness::{Outcome, leaves, lines_of, sink, status};
+use std::alloc::{AllocError, Global};
+use std::test::Fail;
+use syn_io::{MemFiles, MemLines, MemSink};
+
+// So many times the same byte.
+fn repeated(alloc: Global, byte: u8, count: usize) -> Result<Vec<u8>, AllocError> {
+    vec![in alloc; byte; count]
+}
+
+// The file `a` with these bytes.
+fn file_with(alloc: Global, bytes: &[u8]) -> Result<MemFiles, AllocError> {
+    let mut files = MemFiles::new(alloc);
+    files.add(alloc, "a", bytes)?;
+    Ok(files)
+}
+
+#[test]
+fn reads_a_file_up_to_its_limit(rt: HostRuntime) -> Result<(), Fail> {
+    let alloc = rt.alloc();
+    let rows = [
+        (16_777_216, 0, "top : i/o = 0/0 lat = 0 and = 0 lev = 0\n"),
+        (16_777_217, 5, "refused: file longer than 16777216 bytes\n"),
+    ];
+    for (count, status, printed) in rows {
+        let wanted = Outcome {
+            status,
+            printed,
+            written: None,
+        };
+        let bytes = repeated(alloc, b'\n', count)?;
+        let files = file_with(alloc, bytes.as_slice())?;
+        let lines = lines_of(alloc, "")?;
+        let out = sink(alloc)?;
+        let words = ["synth", "-c", "read_blif a; ps"];
+        assert!(rt;
+            leaves(alloc, &words, files, lines, out, wanted)?,
+            "{count} bytes"
+        );
+    }
+    Ok(())
+}
+
+// One table of one input with so many rows `1 1`, and then a further text.
+fn table_of(alloc: Global, rows: usize, more: &str) -> Result<Vec<u8>, AllocError> {
+    let mut text = b".model m\n.inputs a\n.outputs y\n.names a y\n".to_vec(alloc)?;
+    for _ in 0..rows {
+        text.extend_from_slice(b"1 1\n")?;
+    }
+    text.extend_from_slice(more.as_bytes())?;
+    Ok(text)
+}
+
+#[test]
+fn reads_a_cost_up_to_its_limit(rt: HostRuntime) -> Result<(), Fail> {
+    let alloc = rt.alloc();
+    let rows = [
+        (".end\n", 0, "m : i/o = 1/1 lat = 0 and = 0 lev = 0\n"),
+        ("- 1\n.end\n", 5, "refused: cost 1048577\n"),
+    ];
+    for (more, status, printed) in rows {
+        let wanted = Outcome {
+            status,
+            printed,
+            written: None,
+        };
+        let text = table_of(alloc, 524_288, more)?;
+        let files = file_with(alloc, text.as_slice())?;
+        let lines = lines_of(alloc, "")?;
+        let out = sink(alloc)?;
+        let words = ["synth", "-c", "read_blif a; ps"];
+        assert!(rt;
+            leaves(alloc, &words, files, lines, out, wanted)?,
+            "{printed}"
+        );
+    }
+    Ok(())
+}
+
+#[test]
+fn runs_a_script_up_to_its_limit(rt: HostRuntime) -> Result<(), Fail> {
+    let alloc = rt.alloc();
+    for (count, wanted) in [(65_536, 0), (65_537, 5)] {
+        let blanks = String::from_utf8(repeated(alloc, b' ', count)?)?;
+        let words = ["synth", "-c", blanks.as_str()];
+        let mut files = MemFiles::new(alloc);
+        let mut lines = lines_of(alloc, "")?;
+        let mut out = sink(alloc)?;
+        assert_eq!(rt;
+            status(alloc, &words, &mut files, &mut lines, &mut out)?,
+            wanted
+        );
+    }
+    Ok(())
+}
+
+// Whether lines leave this status and this print, with no file there.
+fn lines_leave(alloc: Global, bytes: Vec<u8>, status: u8, printed: &str) -> Result<bool, Fail> {
+    let lines = MemLines::new(bytes, Vec::new(alloc));
+    let wanted = Outcome {
+        status,
+        printed,
+        written: None,
+    };
+    leaves(
+        alloc,
+        &["synth"],
+        MemFiles::new(alloc),
+        lines,
+        sink(alloc)?,
+        wanted,
+    )
+}
+
+#[test]
+fn runs_a_line_up_to_its_limit(rt: HostRuntime) -> Result<(), Fail> {
+    let alloc = rt.alloc();
+    let rows = [
+        (65_536, 0, ""),
+        (65_537, 5, "refused: line longer than 65536 bytes\n"),
+    ];
+    for (count, status, printed) in rows {
+        let bytes = repeated(alloc, b' ', count)?;
+        assert!(rt;
+            lines_leave(alloc, bytes, status, printed)?,
+            "{count} blanks"
+        );
+    }
+    Ok(())
+}
+
+#[test]
+fn runs_lines_up_to_their_limit(rt: HostRuntime) -> Result<(), Fail> {
+    let alloc = rt.alloc();
+    let rows = [
+        (1_048_576, 0, ""),
+        (1_048_577, 5, "refused: more than 1048576 lines\n"),
+    ];
+    for (count, status, printed) in rows {
+        let bytes = repeated(alloc, b'\n', count)?;
+        assert!(rt;
+            lines_leave(alloc, bytes, status, printed)?,
+            "{count} lines"
+        );
+    }
+    Ok(())
+}

@@ -1,0 +1,40 @@
+//! Files and a sink that fail.
+
+use crate::harness::{NAND, Outcome, SCRIPT, leaves, lines_of};
+use std::test::Fail;
+use syn_io::{MemFiles, MemSink};
+
+#[test]
+fn refuses_where_the_outside_fails(rt: HostRuntime) -> Result<(), Fail> {
+    let alloc = rt.alloc();
+    let rows: [(&[u64], &[u64], &[u64], usize, &str); 5] = [
+        (&[1], &[], &[], 999, "refused: cannot read a\n"),
+        (
+            &[],
+            &[1],
+            &[],
+            999,
+            "m : i/o = 2/1 lat = 0 and = 1 lev = 1\nrefused: cannot write o\n",
+        ),
+        (&[], &[], &[1], 999, ""),
+        (&[], &[], &[], 5, "m : i"),
+        (&[1], &[], &[], 5, "refus"),
+    ];
+    for (gets, puts, pieces, room, printed) in rows {
+        let mut files = MemFiles::failing(alloc, gets.to_vec(alloc)?, puts.to_vec(alloc)?);
+        files.add(alloc, "a", NAND.as_bytes())?;
+        let lines = lines_of(alloc, "")?;
+        let out = MemSink::new(alloc, room, pieces.to_vec(alloc)?)?;
+        let wanted = Outcome {
+            status: 7,
+            printed,
+            written: None,
+        };
+        let words = ["synth", "-c", SCRIPT];
+        assert!(rt;
+            leaves(alloc, &words, files, lines, out, wanted)?,
+            "{printed}"
+        );
+    }
+    Ok(())
+}
