@@ -8,13 +8,16 @@ pub mod Sets
 pub mod CircleLaws
 pub mod Once
 pub mod OneFault
-pub mod Naming
-pub mod FormLaws
-pub mod NumberedTables
 pub mod LineWords
-pub mod SameForm
-pub mod PlainFrames
-pub mod FormFaults
-pub mod FormSpells
-pub mod FormBack
-mod FormCounts
+pub mod Naming
+pub mod MarkLaws
+pub mod NumberLaws
+pub mod GatherLaws
+pub mod LineLaws
+pub mod StepLaws
+pub mod LatchLaws
+pub mod TableLines
+pub mod FaultLaws
+pub mod LatchNumbers
+pub mod OnceLaws
+pub mod WholeLaws

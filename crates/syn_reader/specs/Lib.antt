@@ -10,9 +10,11 @@ pub mod Computed
 pub mod Laws
 pub mod WorkedNetlists
 pub mod Heard
-pub mod Parts
-pub mod FirstForm
-pub mod Rows
-pub mod Form
+pub mod Causes
 pub mod NumberedCosts
-pub mod WorkedForms
+pub mod Parts
+pub mod Marking
+pub mod Keywords
+pub mod Rows
+pub mod Gathers
+pub mod LatchWords

@@ -2,7 +2,6 @@
 
 ghost use Rattle.syn_reader.specs.Laws.{CircleOrNone, EitherOr, FaultlessSpell, NotBoth, OneFault, OneNetlist, SpellComputed};
 ghost use Rattle.syn_reader.specs.Worked.{Worked, WorkedPrefixes};
-ghost use Rattle.syn_reader.specs.WorkedForms.{WorkedForms};
 ghost use Rattle.syn_reader.specs.WorkedNetlists.{WorkedNetlists};
 
 /// The definitions of faults give the wanted answers on worked texts.
@@ -18,11 +17,6 @@ pub fn worked_prefixes()
 /// The statements of worked texts spell the wanted netlists.
 pub fn worked_netlists()
     ensures { WorkedNetlists }
-{}
-
-/// Worked texts are in the first form with the wanted netlists, and others are not.
-pub fn worked_forms()
-    ensures { WorkedForms }
 {}
 
 /// Statements spell the computed netlist, and no other.

@@ -1,13 +1,15 @@
 //! Rows of tables.
 
-ghost use Rattle.std.specs.Prelude.{◌≡◌, ℕ, ◌++◌, List, [], ◌∷◌, map, IfNone, IfOk, IfSome, OnOk, Some, None};
+ghost use Rattle.std.specs.Prelude.{◌≡◌, ℕ, ◌++◌, List, [], ◌∷◌, map, false, true, IfErr, IfNone, IfOk, IfSome, OnOk, Some, None};
 ghost use Rattle.syn_lex.specs.Words.{text_of};
 ghost use Rattle.syn_reader.specs.Computed.{is_on, row_part, row_parts};
 ghost use Rattle.syn_reader.specs.Reading.{rows_below};
-ghost use Rattle.syn_reader.specs.Rows.{below_rows, output_in, row_in};
-ghost use Rattle.syn_reader.specs.Shapes.{is_character, is_input_part};
+ghost use Rattle.syn_reader.specs.Causes.{fault_in};
+ghost use Rattle.syn_reader.specs.Parts.{statement_in};
+ghost use Rattle.syn_reader.specs.Rows.{below_rows, output_in, row_fault, row_in, rows_fault};
+ghost use Rattle.syn_reader.specs.Shapes.{is_character, is_input_part, is_row_of, last_word, output_word};
 
-use crate::statements::Statements;
+use crate::statements::{Parts, Statements};
 use crate::{Kind, ReadFault};
 use std::alloc::Global;
 use syn_lex::Words;
@@ -61,22 +63,34 @@ fn row_in<'a>(inputs: usize, words: Words<'a>) -> Option<(&'a [u8], bool)>
     Some((first, on))
 }
 
+// The row of a table with so many inputs; or else its fault.
+fn read_row<'a>(inputs: usize, line: u32, words: Words<'a>) -> Result<(&'a [u8], bool), ReadFault>
+    ensures row { IfOk result (λ row. row_part inputs row.1 (map text_of words.entry) ≡ Some row.0.now) }
+    ensures output { IfOk result (λ row. last_word (map text_of words.entry) ≡ output_word row.1) }
+    ensures shape { OnOk result (is_row_of inputs (map text_of words.entry) ≡ true) }
+    ensures fault { IfErr result (λ e. (e ≡ ReadFault.RowShape line) × (is_row_of inputs (map text_of words.entry) ≡ false)) }
+{
+    match row_in(inputs, words) {
+        Some(row) => Ok(row),
+        None => Err(ReadFault::RowShape(line)),
+    }
+}
+
 // Puts a row behind those that are there, where its output is this.
 fn push_row(
     alloc: Global,
     rows: &mut Vec<Word>,
     inputs: usize,
     on: bool,
-    words: Words<'_>,
+    parts: Parts<'_>,
 ) -> Result<(), ReadFault>
-    ensures ok { OnOk result ((part : List ℕ) × (row_part inputs on (map text_of words.entry) ≡ Some part) × (rows.new.items ≡ rows.old.items ++ part ∷ [])) }
-    ensures unbuilt { result ≡ Err ReadFault.Unbuilt → row_part inputs on (map text_of words.entry) ≡ None }
+    ensures ok { OnOk result ((part : List ℕ) × (row_part inputs on (map text_of parts.entry.words) ≡ Some part) × (rows.new.items ≡ rows.old.items ++ part ∷ [])) }
+    ensures fine { OnOk result (row_fault inputs (Some on) (statement_in parts.entry) ≡ None) }
+    ensures fault { IfErr result (λ e. IfSome (fault_in e) (λ f. row_fault inputs (Some on) (statement_in parts.entry) ≡ Some f)) }
 {
-    let Some((part, output)) = row_in(inputs, words) else {
-        return Err(ReadFault::Unbuilt);
-    };
+    let (part, output) = read_row(inputs, parts.line, parts.words)?;
     if output != on {
-        return Err(ReadFault::Unbuilt);
+        return Err(ReadFault::MixedRows(parts.line));
     }
     rows.push(Word::of(part.to_vec(alloc)?))?;
     Ok(())
@@ -98,18 +112,17 @@ pub fn read_rows(
     ensures on { IfOk result (λ rows. is_on (rows_below statements.old) ≡ rows.on) }
     ensures parts { IfOk result (λ rows. row_parts inputs rows.on (rows_below statements.old) ≡ Some rows.parts.items) }
     ensures below { OnOk result (statements.new ≡ below_rows statements.old) }
-    ensures unbuilt { result ≡ Err ReadFault.Unbuilt → row_parts inputs (is_on (rows_below statements.old)) (rows_below statements.old) ≡ None }
+    ensures fine { OnOk result (rows_fault inputs None statements.old ≡ None) }
+    ensures fault { IfErr result (λ e. IfSome (fault_in e) (λ f. rows_fault inputs None statements.old ≡ Some f)) }
 {
     let mut parts = Vec::new(alloc);
-    let Some(words) = statements.take(Kind::Row) else {
+    let Some(row) = statements.take(Kind::Row) else {
         return Ok(Rows { parts, on: true });
     };
-    let Some((part, on)) = row_in(inputs, words) else {
-        return Err(ReadFault::Unbuilt);
-    };
+    let (part, on) = read_row(inputs, row.line, row.words)?;
     parts.push(Word::of(part.to_vec(alloc)?))?;
-    while let Some(words) = statements.take(Kind::Row) {
-        push_row(alloc, &mut parts, inputs, on, words)?;
+    while let Some(row) = statements.take(Kind::Row) {
+        push_row(alloc, &mut parts, inputs, on, row)?;
     }
     Ok(Rows { parts, on })
 }
