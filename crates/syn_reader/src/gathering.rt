@@ -36,7 +36,7 @@ pub struct Gathered {
     /// The netlist.
     pub netlist: Netlist,
     /// The numbers of the names that are read, in the order of their places, by line and word.
-    pub reads: Vec<u32>,
+    pub reads: Items<u32>,
 }
 
 // What the statements above spell: the model's name where it is given, and lists by numbers of names.
@@ -91,7 +91,7 @@ impl Gathering {
         requires sound { IsSound self }
         requires once { IsOnce (whole (above_in self)) }
         ensures netlist { IfOk result (λ g. netlist_in g.netlist ≡ whole (above_in self)) }
-        ensures reads { IfOk result (λ g. g.reads.items ≡ self.reads.items) }
+        ensures reads { IfOk result (λ g. g.reads ≡ self.reads.items) }
         ensures names { IfOk result (λ g. g.netlist.frame.names ≡ self.signals.names) }
     {
         let Gathering {
@@ -116,7 +116,7 @@ impl Gathering {
         let tables = Items::of(tables);
         Ok(Gathered {
             netlist: Netlist { frame, tables },
-            reads,
+            reads: Items::of(reads),
         })
     }
 
@@ -312,8 +312,8 @@ pub fn gather(alloc: Global, statements: Statements<'_>) -> Result<Gathered, Rea
     requires few { word_count statements < 2 ^ 32 }
     ensures spelled { IfOk result (λ g. Spell statements.entry (netlist_in g.netlist)) }
     ensures faultless { OnOk result (first_fault_of_lines checks [] statements.entry ≡ None) }
-    ensures reads { IfOk result (λ g. words_at g.netlist.frame.names g.reads.items ≡ flat_map reads statements.entry) }
-    ensures below { IfOk result (λ g. all_below (length g.netlist.frame.names) g.reads.items ≡ true) }
+    ensures reads { IfOk result (λ g. words_at g.netlist.frame.names g.reads ≡ flat_map reads statements.entry) }
+    ensures below { IfOk result (λ g. all_below (length g.netlist.frame.names) g.reads ≡ true) }
     ensures names { IfOk result (λ g. length g.netlist.frame.names ≤ word_count statements.entry) }
     ensures fault { IfErr result (λ e. IfSome (fault_in e) (λ f. first_fault_of_lines checks [] statements.entry ≡ Some f)) }
 {
