@@ -20,7 +20,7 @@ use Rattle.syn_reader.proofs.Words.{same_word}
 use Rattle.syn_reader.proofs.Spelled.{spell_back, one_spelled}
 use Rattle.syn_reader.proofs.Fine.{IsFine, parts_of, rows_fit, init_some}
 
-type_some : (w : List ℕ) → has latch_types w ≡ true → (k : LatchKind) × (type_of w ≡ Some k)
+pub type_some : (w : List ℕ) → has latch_types w ≡ true → (k : LatchKind) × (type_of w ≡ Some k)
 type_some w h = elim (or_cases (bytes_eq (codes "fe") w) _ h) [
   | inl e ↦ subst (λ v. (k : LatchKind) × (type_of v ≡ Some k)) (same_word (codes "fe") w e) (types.Fe, refl)
   | inr h1 ↦ elim (or_cases (bytes_eq (codes "re") w) _ h1) [

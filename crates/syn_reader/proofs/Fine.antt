@@ -124,7 +124,7 @@ output_back w h = elim (or_cases (bytes_eq (codes "0") w) (bytes_eq (codes "1") 
   ]
 ]
 
-output_of_row : (n : ℕ) (words : List (List ℕ)) → is_row_of n words ≡ true → last_word words ≡ output_word (bytes_eq (last_word words) (output_word true))
+pub output_of_row : (n : ℕ) (words : List (List ℕ)) → is_row_of n words ≡ true → last_word words ≡ output_word (bytes_eq (last_word words) (output_word true))
 output_of_row zero [] h = absurd (both_ways false refl h)
 output_of_row zero (o ∷ []) h = output_back o h
 output_of_row zero (o ∷ p ∷ ps) h = absurd (both_ways false refl h)

@@ -14,3 +14,15 @@ pub mod ReadingPlaces
 pub mod TextSizes
 pub mod Answering
 pub mod DefinedMarks
+pub mod Naming
+pub mod MarkLaws
+pub mod NumberLaws
+pub mod GatherLaws
+pub mod LineLaws
+pub mod StepLaws
+pub mod LatchLaws
+pub mod TableLines
+pub mod FaultLaws
+pub mod LatchNumbers
+pub mod OnceLaws
+pub mod WholeLaws

@@ -13,3 +13,8 @@ pub mod Heard
 pub mod Causes
 pub mod Parts
 pub mod Driving
+pub mod Marking
+pub mod Keywords
+pub mod Rows
+pub mod Gathers
+pub mod LatchWords

@@ -7,9 +7,12 @@
 #![tactic(auto)]
 
 mod gathering;
+mod latch_lines;
 mod laws;
 mod limits;
 mod reading;
+mod rows;
+mod signals;
 mod statements;
 
 pub use laws::{

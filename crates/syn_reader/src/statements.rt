@@ -42,10 +42,10 @@ fn begins_with_dot(word: &[u8]) -> bool
 
 // A line as a statement: its number, its kind, and its words; behind a keyword these are the further words.
 #[derive(Drop)]
-struct Parts<'a> {
-    line: u32,
-    kind: Kind,
-    words: Words<'a>,
+pub struct Parts<'a> {
+    pub line: u32,
+    pub kind: Kind,
+    pub words: Words<'a>,
 }
 
 fn parts_of<'a>(line: &Line<'a>) -> Parts<'a>
@@ -109,11 +109,22 @@ impl<'a> Statements<'a> {
         Statements { next, lines }
     }
 
-    // Takes the next statement where it is of this kind, and gives its words.
-    pub fn take(&mut self, kind: Kind) -> Option<Words<'a>>
+    // Takes the next statement.
+    pub fn next(&mut self) -> Option<Parts<'a>>
+        ensures none { IfNone result ((self.old ≡ []) × (self.new ≡ [])) }
+        ensures some { IfSome result (λ parts. self.old ≡ statement_in parts ∷ self.new) }
+        ensures words { IfSome result (λ parts. all_words parts.words ≡ true) }
+    {
+        let parts = self.next.take()?;
+        self.next = next_parts(&mut self.lines);
+        Some(parts)
+    }
+
+    // Takes the next statement where it is of this kind.
+    pub fn take(&mut self, kind: Kind) -> Option<Parts<'a>>
         ensures none { IfNone result ((self.new ≡ self.old) × (Begins kind self.old → ⊥)) }
-        ensures some { IfSome result (λ words. (line : ℕ) × (self.old ≡ statement line kind (map text_of words) ∷ self.new)) }
-        ensures words { IfSome result (λ words. all_words words ≡ true) }
+        ensures some { IfSome result (λ parts. self.old ≡ statement parts.line kind (map text_of parts.words) ∷ self.new) }
+        ensures words { IfSome result (λ parts. all_words parts.words ≡ true) }
     {
         let Some(parts) = self.next.take() else {
             return None;
@@ -123,13 +134,6 @@ impl<'a> Statements<'a> {
             return None;
         }
         self.next = next_parts(&mut self.lines);
-        Some(parts.words)
-    }
-
-    // Whether there is none.
-    pub fn is_empty(&self) -> bool
-        ensures { IsTrue result ↔ (self.now ≡ []) }
-    {
-        self.next.is_none()
+        Some(parts)
     }
 }

@@ -1,0 +1,29 @@
+use Rattle.std.proofs.Common.{◌≡◌, sym, ap, ◌∙◌}
+use Rattle.std.proofs.lemmas.Result.{err_from_is_err_and}
+use Rattle.syn_netlist.proofs.Growing.{Grows-again}
+use Rattle.syn_reader.specs.declared.Kind.TheVariants as kinds
+use Rattle.syn_reader.specs.Marking.{forbidden, also}
+use Rattle.syn_reader.specs.LatchWords.{kind_of}
+use Rattle.syn_reader.proofs.LatchNumbers.{latch_words, latch_below, latch_signal}
+use Rattle.syn_reader.proofs.signals.Signals.define_latch.Goals as goal
+
+pub returns-clause-latch : goal.returns-clause-latch
+returns-clause-latch c =
+    let feed = c.in_ok-feed.ensures in
+    let kind = c.in_ok-kind.ensures in
+    let output = c.in_ok-output.ensures in
+    latch_words c.add.new.self.names c.add_kind.new.self.names c.define.new.self.names c.in_ok-feed.feed c.in_ok-output.output c.args.latch.init c.in_ok-kind.kind c.args.latch.feed.now c.args.latch.output.now (kind_of c.args.latch.kind)
+    kind.grows output.grows feed.number.0 feed.number.1 kind.kind kind.below output.number.1
+
+pub returns-clause-below : goal.returns-clause-below
+returns-clause-below c =
+    let feed = c.in_ok-feed.ensures in
+    let kind = c.in_ok-kind.ensures in
+    let output = c.in_ok-output.ensures in
+    latch_below c.add.new.self.names c.add_kind.new.self.names c.define.new.self.names c.in_ok-feed.feed c.in_ok-output.output c.in_ok-kind.kind kind.grows output.grows feed.number.0 kind.below output.number.0
+
+pub returns-clause-signal : goal.returns-clause-signal
+returns-clause-signal c =
+    let kind = c.in_ok-kind.ensures in
+    let output = c.in_ok-output.ensures in
+    latch_signal c.add_kind.new.self.names c.define.new.self.names c.in_ok-kind.kind output.grows kind.below kind.signal

@@ -1,0 +1,22 @@
+use Rattle.std.proofs.Common.{◌≡◌, ◌+◌, ◌^◌, ◌<◌, ◌≤◌, ◌∷◌, ◌++◌, length, map, true}
+use Rattle.syn_lex.specs.Words.{text_of}
+use Rattle.syn_netlist.specs.Numbers.{all_below, words_at, Grows}
+use Rattle.syn_netlist.specs.Words.{is_word}
+use Rattle.syn_reader.specs.Heard.{all_words}
+use Rattle.syn_reader.specs.Marking.{forbidden, Same}
+use Rattle.syn_reader.proofs.signals.Signals.define_table.Given as goal
+
+abbrev pub invariant-loop-word : goal.invariant-loop-word
+invariant-loop-word l = record {
+  numbers : words_at l.self.names l.inputs.items ++ l.last ∷ map text_of l.word-iterator ≡ map text_of l.fn.words;
+  below : all_below (length l.self.names) l.inputs.items ≡ true;
+  marked : length l.self.marks.items ≡ length l.self.names;
+  grows : Grows l.fn.self.names l.self.names;
+  count : length l.self.names + (1 + length l.word-iterator) ≤ length l.fn.self.names + length l.fn.words;
+  same : Same (forbidden l.fn.self.names l.fn.self.marks.items) (forbidden l.self.names l.self.marks.items);
+  last : is_word l.last ≡ true;
+  words : all_words l.word-iterator ≡ true;
+  few : length l.fn.self.names + length l.fn.words < 2 ^ 32;
+  can : (goal.iterator-loop-word).can_next l.word-iterator;
+  ends : (goal.iterator-loop-word).is_finite l.word-iterator;
+}
