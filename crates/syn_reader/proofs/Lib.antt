@@ -21,3 +21,8 @@ pub mod FaultLaws
 pub mod LatchNumbers
 pub mod OnceLaws
 pub mod WholeLaws
+pub mod Defining
+pub mod ReadingPlaces
+pub mod TextSizes
+pub mod Answering
+pub mod DefinedMarks

@@ -11,10 +11,10 @@ pub mod Laws
 pub mod WorkedNetlists
 pub mod Heard
 pub mod Causes
-pub mod NumberedCosts
 pub mod Parts
 pub mod Marking
 pub mod Keywords
 pub mod Rows
 pub mod Gathers
 pub mod LatchWords
+pub mod Driving

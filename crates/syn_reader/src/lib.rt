@@ -1,10 +1,9 @@
 //! Reading a netlist from its text.
 //!
-//! `specs/` says what the lines of a text are as statements, which faults can stand in it, which
-//! netlist it spells, and when it is in its first form: a plain layout in which each table stands
-//! below what it reads. `read` takes texts in the first form and refuses all others. The laws at
-//! the end hold of the definitions alone: a text spells at most one netlist, and either it spells
-//! one within the limits, or it has one first fault.
+//! `specs/` says what the lines of a text are as statements, which faults can stand in it, and
+//! which netlist it spells. `read` reads the netlist, or names the text's first fault. The laws
+//! hold of the definitions alone: a text spells at most one netlist, and either it spells one
+//! within the limits, or it has one first fault.
 #![tactic(auto)]
 
 mod gathering;

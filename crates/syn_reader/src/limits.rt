@@ -1,61 +1,44 @@
 //! The limits of a netlist that is read.
 
-ghost use Rattle.std.specs.Prelude.{◌≡◌, ◌+◌, ◌<◌, ◌≤◌, ◌↔◌, IsTrue, IfNone, IfSome, length, sum_by};
-ghost use Rattle.syn_netlist.specs.Costs.{is_sign, row_cost};
-ghost use Rattle.syn_reader.specs.NumberedCosts.{rows_cost, tables_cost};
+ghost use Rattle.std.specs.Prelude.{◌≡◌, ◌<◌, ◌^◌, length, IfErr, IfSome, OnOk, IfOk};
+ghost use Rattle.syn_netlist.specs.Costs.{cost_of};
+ghost use Rattle.syn_netlist.specs.Lists.{sources};
+ghost use Rattle.syn_netlist.specs.Views.{netlist_in};
+ghost use Rattle.syn_reader.specs.Causes.{fault_in};
+ghost use Rattle.syn_reader.specs.Limits.{IsNetFault, Within};
+ghost use Rattle.syn_reader.specs.Reading.{NoCircle};
 
-use syn_netlist::{Table, Word};
+use crate::ReadFault;
+use std::alloc::{AllocError, Global};
+use syn_netlist::{Netlist, cost};
 
 /// The most sources, and the greatest cost, of a netlist that is read.
 pub const LIMIT: u32 = 1_048_576;
 
-// The cost of a row: its characters `0` and `1`, and one more.
-fn row_cost(row: &[u8]) -> u64
-    ensures { result ≡ row_cost row.now }
+// How many sources a netlist has.
+fn source_count(alloc: Global, n: &Netlist) -> Result<u32, AllocError>
+    requires { length n.now.frame.names < 2 ^ 32 }
+    ensures { IfOk result (λ count. count ≡ length (sources (netlist_in n.now).frame)) }
 {
-    let mut signs: u64 = 0;
-    for c in row {
-        if *c == b'0' || *c == b'1' {
-            signs += 1;
-        }
-    }
-    signs + 1
+    let sources = n.frame.sources(alloc)?;
+    Ok(sources.len() as u32)
 }
 
-// A cost with that of these rows, where it is within the limit.
-fn with_rows(cost: u64, rows: &[Word]) -> Option<u64>
-    requires { cost ≤ LIMIT }
-    ensures some { IfSome result (λ total. (total ≡ cost + sum_by row_cost rows.now) × (total ≤ LIMIT)) }
-    ensures none { IfNone result (LIMIT < cost + sum_by row_cost rows.now) }
+/// Whether a netlist whose tables can be put in order is within the limits; else too many sources, or else too great a cost.
+pub(crate) fn check_limits(alloc: Global, n: &Netlist) -> Result<(), ReadFault>
+    requires acyclic { NoCircle (netlist_in n.now) }
+    requires names { length n.now.frame.names < 2 ^ 32 }
+    requires cost { cost_of (netlist_in n.now) < 2 ^ 64 }
+    ensures within { OnOk result (Within (netlist_in n.now)) }
+    ensures fault { IfErr result (λ e. IfSome (fault_in e) (IsNetFault (netlist_in n.now))) }
 {
-    let mut total = cost;
-    for row in rows {
-        let more = row_cost(row.as_slice());
-        if more > LIMIT as u64 - total {
-            return None;
-        }
-        total += more;
+    let count = source_count(alloc, n)?;
+    if count > LIMIT {
+        return Err(ReadFault::TooManySources(count));
     }
-    Some(total)
-}
-
-// Whether the cost of the tables is within the limit.
-fn is_cost_within(tables: &[Table]) -> bool
-    ensures { IsTrue result ↔ (tables_cost tables.now ≤ LIMIT) }
-{
-    let mut total = 0;
-    for table in tables {
-        let Some(more) = with_rows(total, table.rows.as_slice()) else {
-            return false;
-        };
-        total = more;
+    let total = cost(n);
+    if total > LIMIT as u64 {
+        return Err(ReadFault::TooLarge(total));
     }
-    true
-}
-
-// Whether a netlist of these inputs and tables, and with no other source, is within the limits.
-pub fn is_within(inputs: &[u32], tables: &[Table]) -> bool
-    ensures { IsTrue result ↔ ((length inputs.now ≤ LIMIT) × (tables_cost tables.now ≤ LIMIT)) }
-{
-    inputs.len() <= LIMIT as usize && is_cost_within(tables)
+    Ok(())
 }
