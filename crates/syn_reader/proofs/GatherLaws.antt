@@ -1,24 +1,20 @@
 -- What is gathered, as names are added and lists grow.
-use Rattle.std.proofs.Common.{◌≡◌, ℕ, ◌+◌, ◌<◌, ◌≤◌, ◌||◌, ◌&&◌, not, nat_lt, Bool, true, false, List, [], ◌∷◌, ◌++◌, length, map, bytes_eq, Vec, refl, sym, ap, ap₂, ◌∙◌, subst, Option, Some, None, option_map, arith, append_assoc, append-nil}
+use Rattle.std.proofs.Common.{◌≡◌, ℕ, ◌+◌, ◌≤◌, not, nat_lt, true, List, [], ◌∷◌, ◌++◌, length, bytes_eq, Vec, refl, sym, ap, ap₂, ◌∙◌, Option, Some, None, option_map, append_assoc, append-nil}
 use Rattle.std.specs.Global.{Global}
 use Rattle.std.specs.List.{list_all}
 use Rattle.std.proofs.lemmas.Bool.{and_parts, and_from}
 use Rattle.syn_netlist.specs.Lists as lists
 use Rattle.syn_netlist.specs.Lists.{Netlist, control_of}
-use Rattle.syn_netlist.specs.declared.Latch.{Latch}
-use Rattle.syn_netlist.specs.declared.tables.Table.{Table}
-use Rattle.syn_netlist.specs.Kept.{latch_in, latches_below, no_nil_control, nil_word}
+use Rattle.syn_netlist.specs.Kept.{nil_word}
 use Rattle.syn_netlist.specs.Numbers.{word_at, words_at, all_below, Grows}
-use Rattle.syn_netlist.specs.Tables.{table_in, tables_below}
 use Rattle.syn_netlist.proofs.Growing.{words_at-grows, all_below-more, length-grows, latches_in-grows, latches_below-more, tables_in-grows, tables_below-more, no_nil_words}
-use Rattle.syn_reader.specs.declared.Kind.{Kind}
 use Rattle.syn_reader.specs.declared.Kind.TheVariants as kinds
 use Rattle.syn_reader.specs.declared.gathering.Gathering.{Gathering}
 use Rattle.syn_reader.specs.declared.signals.Signals.{Signals}
 use Rattle.syn_reader.specs.Faults.{DefinedTwice}
 use Rattle.syn_reader.specs.Marking.{first_twice, Adds, Same}
-use Rattle.syn_reader.specs.Reading.{with_inputs, with_clocks, with_outputs, with_latch, with_table}
-use Rattle.syn_reader.specs.Gathers.{Above, above_in, above_of, in_front, forbids_in, IsSound, Gathers}
+use Rattle.syn_reader.specs.Reading.{with_inputs, with_clocks, with_outputs}
+use Rattle.syn_reader.specs.Gathers.{Above, above_in, in_front, forbids_in, IsSound, Gathers}
 
 -- names are added
 pub sound_grows : (old : Gathering) (s : Signals) → IsSound old → Grows old.signals.names s.names → length s.marks.items ≡ length s.names → IsSound (record old { signals = s })

@@ -1,5 +1,5 @@
 -- Latches by numbers, as names are added.
-use Rattle.std.proofs.Common.{◌≡◌, ℕ, ◌+◌, ◌<◌, ◌≤◌, ◌||◌, ◌&&◌, not, nat_lt, Bool, true, false, if◌then◌else◌, List, [], ◌∷◌, ◌++◌, length, map, bytes_eq, Vec, refl, sym, ap, ap₂, ◌∙◌, subst, Option, Some, None, option_map, arith, append_assoc}
+use Rattle.std.proofs.Common.{◌≡◌, ℕ, ◌+◌, ◌<◌, ◌≤◌, ◌&&◌, not, nat_lt, Bool, true, false, if◌then◌else◌, List, [], ◌∷◌, ◌++◌, length, map, bytes_eq, Vec, refl, sym, ap, ap₂, ◌∙◌, Option, Some, None, option_map, arith, append_assoc}
 use Rattle.std.specs.Global.{Global}
 use Rattle.std.specs.Option.{option_or}
 use Rattle.std.specs.List.{list_all}
@@ -9,10 +9,10 @@ use Rattle.syn_netlist.specs.Lists.{Netlist, latch_reads}
 use Rattle.syn_netlist.specs.declared.LatchKind.{LatchKind}
 use Rattle.syn_netlist.specs.declared.Latch.{Latch}
 use Rattle.syn_netlist.specs.declared.tables.Table.{Table}
-use Rattle.syn_netlist.specs.Kept.{latch_in, latches_below, latch_numbers, no_nil_control, control_number, nil_word}
+use Rattle.syn_netlist.specs.Kept.{latch_in, latch_numbers, control_number, nil_word}
 use Rattle.syn_netlist.specs.Marks.{read_numbers}
 use Rattle.syn_netlist.specs.Numbers.{word_at, words_at, kind_at, all_below, Grows}
-use Rattle.syn_netlist.specs.Tables.{table_in, tables_below}
+use Rattle.syn_netlist.specs.Tables.{table_in}
 use Rattle.syn_netlist.proofs.Growing.{word_at-grows, words_at-grows, all_below-more, length-grows, Grows-again}
 use Rattle.syn_reader.specs.declared.Kind.{Kind}
 use Rattle.syn_reader.specs.declared.Kind.TheVariants as kinds

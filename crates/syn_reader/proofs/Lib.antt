@@ -9,11 +9,6 @@ pub mod CircleLaws
 pub mod Once
 pub mod OneFault
 pub mod LineWords
-pub mod Defining
-pub mod ReadingPlaces
-pub mod TextSizes
-pub mod Answering
-pub mod DefinedMarks
 pub mod Naming
 pub mod MarkLaws
 pub mod NumberLaws
@@ -26,3 +21,8 @@ pub mod FaultLaws
 pub mod LatchNumbers
 pub mod OnceLaws
 pub mod WholeLaws
+pub mod Defining
+pub mod ReadingPlaces
+pub mod TextSizes
+pub mod Answering
+pub mod DefinedMarks

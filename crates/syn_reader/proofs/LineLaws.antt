@@ -1,13 +1,13 @@
 -- What first faults are, by keyword and by rows.
-use Rattle.std.proofs.Common.{◌≡◌, ℕ, zero, suc, nat_lt, ◌||◌, ◌&&◌, not, Bool, true, false, if◌then◌else◌, List, [], ◌∷◌, ◌++◌, length, map, flat_map, bytes_eq, refl, sym, ap, ap₂, ◌∙◌, subst, Option, Some, None, option_map, option_and_then, ◌+◌, ◌≤◌, arith}
+use Rattle.std.proofs.Common.{◌≡◌, ℕ, suc, nat_lt, ◌||◌, ◌&&◌, not, Bool, true, false, if◌then◌else◌, List, [], ◌∷◌, length, map, flat_map, bytes_eq, refl, sym, ap, ap₂, ◌∙◌, subst, Option, Some, None, option_map, option_and_then, ◌+◌, ◌≤◌, arith}
 use Rattle.std.specs.Option.{option_or}
 use Rattle.std.specs.List.{list_any}
-use Rattle.std.proofs.lemmas.Bool.{both_ways, cond-true, cond-false}
+use Rattle.std.proofs.lemmas.Bool.{both_ways, cond-true}
 use Rattle.syn_lex.specs.Lines.{is_nil}
 use Rattle.syn_reader.specs.declared.Kind.{Kind}
 use Rattle.syn_reader.specs.declared.Kind.TheVariants as kinds
-use Rattle.syn_reader.specs.Faults.{Fault, AfterEnd, UnknownKeyword, SecondModel, NoName, StrayRow, RowShape, MixedRows, LatchShape, LatchType, LatchInit, DefinedTwice}
-use Rattle.syn_reader.specs.Statements.{Statement, is_row, is_end, is_names}
+use Rattle.syn_reader.specs.Faults.{Fault, AfterEnd, UnknownKeyword, SecondModel, StrayRow, RowShape, MixedRows, LatchShape, LatchType, LatchInit, DefinedTwice}
+use Rattle.syn_reader.specs.Statements.{Statement, is_row, is_end}
 use Rattle.syn_reader.specs.Shapes.{last_word, all_but_last, is_row_of, output_word}
 use Rattle.syn_reader.specs.Definitions.{Definition, definitions, names_defined, first_forbidden, forbids, reads}
 use Rattle.syn_reader.specs.LineFaults.{checks, first_found, first_fault_of_lines, table_above, first_row, is_stray, is_misshaped, has_bad_type, has_bad_init}
@@ -16,7 +16,7 @@ use Rattle.syn_reader.specs.Computed.{netlist_of}
 use Rattle.syn_netlist.specs.Lists.{Netlist}
 use Rattle.syn_reader.proofs.Fine.{output_of_row}
 use Rattle.syn_reader.specs.Marking.{by_kind, forbidden_by, also, first_twice}
-use Rattle.syn_reader.specs.Keywords.{fault_where, latch_fault, words_fault, line_fault}
+use Rattle.syn_reader.specs.Keywords.{fault_where, latch_fault, line_fault}
 use Rattle.syn_reader.specs.Rows.{below_rows, row_fault, rows_fault, is_mixed, output_with}
 use Rattle.syn_reader.proofs.Words.{word_same}
 

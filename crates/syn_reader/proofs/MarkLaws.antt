@@ -1,17 +1,15 @@
 -- Marks of names, as names are added and defined.
-use Rattle.std.proofs.Common.{◌≡◌, ◌≢◌, ℕ, zero, suc, ◌+◌, ◌<◌, ◌≤◌, ◌||◌, ◌&&◌, not, Bool, true, false, if◌then◌else◌, List, [], ◌∷◌, ◌++◌, length, map, bytes_eq, slice_index_or, slice_set, refl, sym, ap, ap₂, ◌∙◌, subst, inl, inr, Option, Some, None, arith, length-append}
-use Rattle.std.specs.List.{list_any}
+use Rattle.std.proofs.Common.{◌≡◌, ◌≢◌, ℕ, zero, suc, ◌+◌, ◌<◌, ◌||◌, ◌&&◌, not, Bool, true, false, if◌then◌else◌, List, [], ◌∷◌, ◌++◌, length, bytes_eq, slice_index_or, slice_set, refl, sym, ap, ap₂, ◌∙◌, subst, inl, inr, arith, length-append}
 use Rattle.std.proofs.lemmas.Bool.{and_parts, both_ways, cases_Bool, cond-true, cond-false, not-true, false_from_ne_true}
-use Rattle.syn_netlist.specs.Numbers.{word_at, with_word, Grows}
+use Rattle.syn_netlist.specs.Numbers.{word_at, with_word}
 use Rattle.syn_netlist.specs.Words.{has, distinct}
 use Rattle.syn_netlist.proofs.Sets.{distinct_push, same_word, word_same}
-use Rattle.syn_netlist.proofs.Growing.{Grows-with_word}
 use Rattle.syn_reader.specs.declared.Kind.{Kind}
 use Rattle.syn_reader.specs.declared.Kind.TheVariants as kinds
 use Rattle.syn_reader.specs.declared.signals.Mark.{Mark}
 use Rattle.syn_reader.specs.declared.signals.Mark.TheVariants as marks
-use Rattle.syn_reader.specs.Definitions.{Definition, may_share, forbids}
-use Rattle.syn_reader.specs.Marking.{by_kind, mark_forbids, mark_after, forbidden, forbidden_by, also, first_twice, Adds, Same}
+use Rattle.syn_reader.specs.Definitions.{may_share}
+use Rattle.syn_reader.specs.Marking.{mark_forbids, mark_after, forbidden, also, Same}
 use Rattle.syn_reader.proofs.Naming.{known_before, has_at}
 
 pub or_false : (b : Bool) → (b || false) ≡ b

@@ -1,11 +1,11 @@
 -- Numbers of names, and what is defined twice, word by word.
-use Rattle.std.proofs.Common.{◌≡◌, ℕ, ◌+◌, ◌<◌, ◌≤◌, ◌||◌, Bool, true, false, if◌then◌else◌, List, [], ◌∷◌, ◌++◌, length, map, refl, sym, ap, ap₂, ◌∙◌, Option, Some, None, arith, append_assoc}
+use Rattle.std.proofs.Common.{◌≡◌, ℕ, ◌<◌, ◌||◌, Bool, true, false, if◌then◌else◌, List, [], ◌∷◌, ◌++◌, length, map, refl, sym, ap, ap₂, ◌∙◌, Some, append_assoc}
 use Rattle.std.proofs.lemmas.Bool.{cond-true, cond-false}
 use Rattle.syn_netlist.specs.Numbers.{word_at, words_at, all_below, Grows}
 use Rattle.syn_netlist.proofs.Growing.{words_at-grows, all_below-more, length-grows}
 use Rattle.syn_reader.specs.declared.Kind.{Kind}
 use Rattle.syn_reader.specs.Definitions.{forbids}
-use Rattle.syn_reader.specs.Marking.{by_kind, forbidden_by, also, first_twice, Adds, Same}
+use Rattle.syn_reader.specs.Marking.{by_kind, forbidden_by, also, first_twice, Same}
 use Rattle.syn_reader.proofs.Naming.{words_at-append, all_below-append}
 
 -- one more number

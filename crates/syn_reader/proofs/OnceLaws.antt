@@ -1,16 +1,15 @@
 -- Without a second definition the sources and the outputs of tables are distinct.
-use Rattle.std.proofs.Common.{◌≡◌, ◌≢◌, ◌+◌, ℕ, ◌||◌, ◌&&◌, not, Bool, true, false, if◌then◌else◌, List, [], ◌∷◌, ◌++◌, length, map, flat_map, filter, bytes_eq, refl, sym, ap, ap₂, ◌∙◌, subst, inl, inr, ◌⊎◌, Option, Some, None, option_map, append_assoc}
-use Rattle.std.specs.List.{list_any}
-use Rattle.std.proofs.lemmas.Bool.{both_ways, false_from_ne_true, and_from, and_parts, or_left, or_right, or_cases, not-true, cases_Bool}
+use Rattle.std.proofs.Common.{◌≡◌, ◌+◌, ℕ, ◌||◌, not, Bool, true, false, if◌then◌else◌, List, [], ◌∷◌, ◌++◌, map, flat_map, bytes_eq, refl, sym, ap, ap₂, ◌∙◌, subst, inl, inr, ◌⊎◌, Option, Some, None}
+use Rattle.std.proofs.lemmas.Bool.{both_ways, false_from_ne_true, and_from, and_parts, or_left, or_right, or_cases, not-true}
 use Rattle.syn_netlist.specs.Words.{has, distinct, without}
-use Rattle.syn_netlist.specs.Lists.{Table, Netlist, output_of, latch_output, sources}
+use Rattle.syn_netlist.specs.Lists.{Netlist, output_of, latch_output}
 use Rattle.syn_netlist.proofs.Sets.{has-append}
 use Rattle.syn_reader.specs.declared.Kind.{Kind}
 use Rattle.syn_reader.specs.declared.Kind.TheVariants as kinds
 use Rattle.syn_reader.specs.Statements.{Statement}
-use Rattle.syn_reader.specs.Shapes.{last_word, IsTable, IsLatch, type_and_control}
+use Rattle.syn_reader.specs.Shapes.{last_word, type_and_control}
 use Rattle.syn_reader.specs.Definitions.{Definition, definitions, names_defined, forbids, may_share, first_forbidden}
-use Rattle.syn_reader.specs.LineFaults.{checks, first_fault_of_lines, defined_twice}
+use Rattle.syn_reader.specs.LineFaults.{checks, first_fault_of_lines}
 use Rattle.syn_reader.specs.Reading.{Adds, Spell, rows_below, no_netlist}
 use Rattle.syn_reader.specs.Marking.{by_kind, forbidden_by}
 use Rattle.syn_reader.specs.Gathers.{IsOnce}

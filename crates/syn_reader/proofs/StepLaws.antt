@@ -1,5 +1,5 @@
 -- One more statement is gathered.
-use Rattle.std.proofs.Common.{◌≡◌, ℕ, ◌+◌, ◌≤◌, ◌||◌, Bool, true, false, List, [], ◌∷◌, ◌++◌, length, map, flat_map, refl, sym, ap, ap₂, ◌∙◌, subst, Option, Some, None, option_map, option_and_then, arith, append_assoc}
+use Rattle.std.proofs.Common.{◌≡◌, ℕ, ◌≤◌, ◌||◌, Bool, true, false, List, [], ◌∷◌, ◌++◌, length, flat_map, refl, sym, ap, ap₂, ◌∙◌, Option, Some, None, option_map, option_and_then, arith, append_assoc}
 use Rattle.std.specs.Option.{option_or}
 use Rattle.std.specs.List.{list_any}
 use Rattle.std.proofs.lemmas.Bool.{both_ways, false_from_ne_true}
@@ -11,12 +11,12 @@ use Rattle.syn_reader.specs.declared.gathering.Gathering.{Gathering}
 use Rattle.syn_reader.specs.Faults.{Fault, AfterEnd, UnknownKeyword, SecondModel, StrayRow}
 use Rattle.syn_reader.specs.Statements.{Statement, is_end}
 use Rattle.syn_reader.specs.Shapes.{all_but_last}
-use Rattle.syn_reader.specs.Definitions.{Definition, definitions, names_defined, names_read, reads, forbids}
+use Rattle.syn_reader.specs.Definitions.{Definition, definitions, names_read, reads, forbids}
 use Rattle.syn_reader.specs.LineFaults.{checks, first_found, first_fault_of_lines, table_above}
 use Rattle.syn_reader.specs.Computed.{added, netlist_of}
 use Rattle.syn_reader.specs.Reading.{rows_below}
 use Rattle.syn_reader.specs.Heard.{statement, Begins, word_count}
-use Rattle.syn_reader.specs.Marking.{by_kind, forbidden_by, Adds}
+use Rattle.syn_reader.specs.Marking.{by_kind, forbidden_by}
 use Rattle.syn_reader.specs.Keywords.{line_fault}
 use Rattle.syn_reader.specs.Rows.{below_rows, rows_fault}
 use Rattle.syn_reader.specs.Gathers.{Above, above_in, in_front, forbids_in, Gathers, HasGathered}

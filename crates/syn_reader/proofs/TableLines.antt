@@ -1,19 +1,18 @@
 -- The names of a table's line, and the table with its rows.
-use Rattle.std.proofs.Common.{◌≡◌, ℕ, ◌+◌, ◌<◌, ◌≤◌, ◌||◌, Bool, true, false, if◌then◌else◌, List, [], ◌∷◌, ◌++◌, length, map, refl, sym, ap, ap₂, ◌∙◌, subst, Option, Some, None, option_map, arith}
+use Rattle.std.proofs.Common.{◌≡◌, ℕ, ◌||◌, Bool, true, false, if◌then◌else◌, List, [], ◌∷◌, ◌++◌, length, map, refl, sym, ap, ap₂, ◌∙◌, subst, Some, None, option_map}
 use Rattle.std.specs.Option.{option_or}
-use Rattle.std.proofs.lemmas.Bool.{cond-true, cond-false}
 use Rattle.syn_lex.specs.Lines.{is_nil}
 use Rattle.syn_netlist.specs.Kept.{rows_fit, polarity_fits}
 use Rattle.syn_netlist.specs.Lists as lists
 use Rattle.syn_reader.specs.declared.Kind.{Kind}
 use Rattle.syn_reader.specs.declared.Kind.TheVariants as kinds
 use Rattle.syn_reader.specs.Faults.{NoName, DefinedTwice}
-use Rattle.syn_reader.specs.Shapes.{IsTable, row_words, last_word, all_but_last}
-use Rattle.syn_reader.specs.Definitions.{names_defined, names_read, forbids}
+use Rattle.syn_reader.specs.Shapes.{row_words}
+use Rattle.syn_reader.specs.Definitions.{names_defined, forbids}
 use Rattle.syn_reader.specs.Computed.{row_parts, is_on, table_of}
 use Rattle.syn_reader.specs.Keywords.{fault_where, line_fault}
 use Rattle.syn_reader.specs.Marking.{by_kind, forbidden_by, also, Adds, Same, first_twice}
-use Rattle.syn_reader.proofs.Words.{last_snoc, all_but_snoc}
+use Rattle.syn_reader.proofs.Words.{last_snoc}
 use Rattle.syn_reader.proofs.TableLaws.{table_again, rows_back}
 use Rattle.syn_reader.proofs.MarkLaws.{or_false}
 

@@ -1,22 +1,19 @@
 -- The beginning and the end of gathering.
-use Rattle.std.proofs.Common.{◌≡◌, ℕ, ◌+◌, ◌≤◌, Bool, true, false, List, [], ◌∷◌, ◌++◌, length, map, flat_map, refl, sym, ap, ap₂, ◌∙◌, subst, Option, Some, None, IfSome, option_map, option_and_then, arith, append-nil}
-use Rattle.std.specs.List.{list_any}
+use Rattle.std.proofs.Common.{◌≡◌, ℕ, ◌≤◌, false, List, [], ◌∷◌, ◌++◌, length, flat_map, refl, sym, ap, ap₂, ◌∙◌, subst, Option, Some, None, option_map, option_and_then, arith, append-nil}
 use Rattle.std.proofs.lemmas.Bool.{both_ways}
 use Rattle.syn_netlist.specs.Lists as lists
 use Rattle.syn_netlist.specs.Lists.{Netlist}
-use Rattle.syn_netlist.specs.Words.{is_word}
-use Rattle.syn_reader.specs.declared.Kind.{Kind}
 use Rattle.syn_reader.specs.declared.Kind.TheVariants as kinds
 use Rattle.syn_reader.specs.declared.gathering.Gathering.{Gathering}
 use Rattle.syn_reader.specs.Faults.{Fault}
 use Rattle.syn_reader.specs.Statements.{Statement}
 use Rattle.syn_reader.specs.Definitions.{reads}
 use Rattle.syn_reader.specs.LineFaults.{checks, first_found, first_fault_of_lines}
-use Rattle.syn_reader.specs.Computed.{netlist_of, added}
-use Rattle.syn_reader.specs.Reading.{Spell, no_netlist, with_model, rows_below}
+use Rattle.syn_reader.specs.Computed.{netlist_of}
+use Rattle.syn_reader.specs.Reading.{Spell, no_netlist, with_model}
 use Rattle.syn_reader.specs.Heard.{statement, Begins, word_count}
 use Rattle.syn_reader.specs.Marking.{Same}
-use Rattle.syn_reader.specs.Gathers.{Above, above_in, in_front, nothing, named, whole, forbids_in, IsSound, IsOnce, HasGathered}
+use Rattle.syn_reader.specs.Gathers.{Above, above_in, in_front, nothing, named, whole, forbids_in, IsOnce, HasGathered}
 use Rattle.syn_reader.proofs.Spelled.{spell_back}
 use Rattle.syn_reader.proofs.OnceLaws.{once_law}
 use Rattle.syn_reader.proofs.StepLaws.{stopped}

@@ -1,5 +1,5 @@
 -- What the reader has gathered from the statements above a point.
-use Rattle.std.specs.Prelude.{ℕ, ◌≡◌, ◌+◌, ◌≤◌, Bool, true, false, List, [], ◌∷◌, ◌++◌, length, map, flat_map, codes, option_map, Option, Some, None, IfSome}
+use Rattle.std.specs.Prelude.{ℕ, ◌≡◌, ◌+◌, ◌≤◌, Bool, true, false, List, [], ◌++◌, length, map, flat_map, codes, option_map, Option, Some, None, IfSome}
 use Rattle.std.specs.List.{list_any}
 use Rattle.syn_lex.specs.Lines.{is_nil}
 use Rattle.syn_netlist.specs.Lists as lists

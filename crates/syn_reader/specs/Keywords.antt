@@ -1,5 +1,5 @@
 -- The first fault of a line below one that has none, by its keyword.
-use Rattle.std.specs.Prelude.{ℕ, nat_lt, ◌&&◌, not, Bool, true, false, if◌then◌else◌, List, [], ◌∷◌, length, option_map, Option, Some, None}
+use Rattle.std.specs.Prelude.{ℕ, nat_lt, ◌&&◌, not, Bool, if◌then◌else◌, List, length, option_map, Option, Some, None}
 use Rattle.std.specs.Option.{option_or}
 use Rattle.syn_lex.specs.Lines.{is_nil}
 use Rattle.syn_reader.specs.declared.Kind.{Kind}

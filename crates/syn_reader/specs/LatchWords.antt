@@ -1,5 +1,5 @@
 -- Latches as the reader meets them.
-use Rattle.std.specs.Prelude.{ℕ, ◌≡◌, Bool, List, [], ◌∷◌, ◌++◌, Option, Some, None, option_map}
+use Rattle.std.specs.Prelude.{ℕ, ◌≡◌, Bool, List, [], ◌∷◌, ◌++◌, Option, Some, None}
 use Rattle.std.specs.Borrow.{Bor}
 use Rattle.std.specs.List.{list_all}
 use Rattle.syn_netlist.specs.Words.{is_word}
@@ -8,7 +8,6 @@ use Rattle.syn_netlist.specs.Lists.{Latch}
 use Rattle.syn_reader.specs.declared.latch_lines.Rest.{Rest}
 use Rattle.syn_reader.specs.declared.latch_lines.LatchLine.{LatchLine}
 use Rattle.syn_reader.specs.Computed.{type_of, init_of, signal_of, latch}
-use Rattle.syn_reader.specs.Shapes.{type_word}
 
 abbrev pub are_words : List (List ℕ) → Bool
 are_words words = list_all is_word words

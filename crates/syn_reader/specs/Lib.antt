@@ -12,9 +12,9 @@ pub mod WorkedNetlists
 pub mod Heard
 pub mod Causes
 pub mod Parts
-pub mod Driving
 pub mod Marking
 pub mod Keywords
 pub mod Rows
 pub mod Gathers
 pub mod LatchWords
+pub mod Driving

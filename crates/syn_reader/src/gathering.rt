@@ -149,15 +149,14 @@ impl Gathering {
     }
 
     // The outputs of a line.
-    fn add_outputs(&mut self, alloc: Global, line: u32, words: Words<'_>) -> Result<(), ReadFault>
+    fn add_outputs(&mut self, alloc: Global, words: Words<'_>) -> Result<(), ReadFault>
         requires sound { IsSound self.old }
         requires few { length self.old.signals.names + length words < 2 ^ 32 }
         requires words { all_words words ≡ true }
-        ensures gathers { OnOk result ((rows : List (List (List ℕ))) → Gathers Kind.Outputs line (map text_of words.entry) rows self.old self.new) }
+        ensures gathers { OnOk result ((line : ℕ) (rows : List (List (List ℕ))) → Gathers Kind.Outputs line (map text_of words.entry) rows self.old self.new) }
         ensures sound { OnOk result (IsSound self.new) }
         ensures fault { IfErr result (λ e. fault_in e ≡ None) }
     {
-        let _line = line;
         let numbers = self.signals.add_all(alloc, words)?;
         self.outputs.extend_from_slice(&numbers)?;
         self.reads.extend_from_slice(&numbers)?;
@@ -224,7 +223,7 @@ impl Gathering {
             Kind::Unknown => Err(ReadFault::UnknownKeyword(parts.line)),
             Kind::Model => Err(ReadFault::SecondModel(parts.line)),
             Kind::Inputs => self.add_inputs(alloc, parts.line, parts.words),
-            Kind::Outputs => self.add_outputs(alloc, parts.line, parts.words),
+            Kind::Outputs => self.add_outputs(alloc, parts.words),
             Kind::Clock => self.add_clocks(alloc, parts.line, parts.words),
             Kind::Names => self.add_table(alloc, parts.line, parts.words, statements),
             Kind::Latch => self.add_latch(alloc, parts.line, parts.words),

@@ -111,3 +111,6 @@ impl<T: Drop> From<AllocFailed<T>> for ReadFault {
         ReadFault::NoMemory
     }
 }
+
+#[cfg(test)]
+mod tests;

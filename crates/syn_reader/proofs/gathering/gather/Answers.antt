@@ -1,4 +1,4 @@
-use Rattle.std.proofs.Common.{◌≡◌, [], sym, ap₂, ◌∙◌, subst}
+use Rattle.std.proofs.Common.{sym, ap₂, ◌∙◌, subst}
 use Rattle.syn_netlist.specs.Numbers.{words_at}
 use Rattle.syn_reader.specs.Gathers.{HasGathered}
 use Rattle.syn_reader.specs.Reading.{Spell}

@@ -1,4 +1,4 @@
-use Rattle.std.proofs.Common.{◌≡◌, ◌^◌, ◌<◌, length}
+use Rattle.std.proofs.Common.{◌^◌, ◌<◌, length}
 use Rattle.syn_reader.specs.Gathers.{HasGathered, IsSound}
 use Rattle.syn_reader.specs.Heard.{word_count}
 use Rattle.syn_reader.proofs.gathering.gather.Given as goal

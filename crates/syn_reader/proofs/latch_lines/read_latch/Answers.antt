@@ -1,4 +1,4 @@
-use Rattle.std.proofs.Common.{◌≡◌, ◌&&◌, ◌∷◌, ◌++◌, true, map, refl, sym, ap, ◌∙◌, List, ℕ}
+use Rattle.std.proofs.Common.{◌∷◌, map, refl, sym, ap, ◌∙◌, List, ℕ}
 use Rattle.std.proofs.lemmas.Bool.{and_parts}
 use Rattle.std.proofs.lemmas.Result.{err_from_is_err_and}
 use Rattle.syn_lex.specs.Words.{text_of}
@@ -7,7 +7,6 @@ use Rattle.syn_reader.specs.declared.ReadFault.TheVariants as answers
 use Rattle.syn_reader.specs.Faults.{LatchType, LatchInit}
 use Rattle.syn_reader.specs.Keywords.{latch_fault}
 use Rattle.syn_reader.specs.Heard.{all_words}
-use Rattle.syn_reader.specs.LatchWords.{rest_words}
 use Rattle.syn_reader.proofs.LatchLaws.{bad_type, bad_init, no_fault, words_fit, names_fault}
 use Rattle.syn_reader.proofs.latch_lines.read_latch.Goals as goal
 

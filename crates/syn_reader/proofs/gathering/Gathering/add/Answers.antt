@@ -1,16 +1,11 @@
-use Rattle.std.proofs.Common.{◌≡◌, ◌∷◌, [], ◌≤◌, map, length, List, ℕ, refl, sym, ap, ◌∙◌, subst, arith, Some, None, inl, inr}
+use Rattle.std.proofs.Common.{◌≡◌, ◌∷◌, ◌≤◌, map, length, sym, subst, Some, inl, inr}
 use Rattle.syn_lex.specs.Words.{text_of}
-use Rattle.syn_reader.specs.declared.Kind.{Kind}
 use Rattle.syn_reader.specs.declared.Kind.TheVariants as kinds
-use Rattle.syn_reader.specs.Faults.{Fault}
-use Rattle.syn_reader.specs.Gathers.{forbids_in, HasGathered, Gathers}
+use Rattle.syn_reader.specs.Gathers.{forbids_in, HasGathered}
 use Rattle.syn_reader.specs.Heard.{statement}
 use Rattle.syn_reader.specs.Keywords.{line_fault}
-use Rattle.syn_reader.specs.LineFaults.{checks, first_fault_of_lines}
 use Rattle.syn_reader.specs.Reading.{rows_below}
-use Rattle.syn_reader.specs.Rows.{IsTableFault, below_rows, rows_fault}
-use Rattle.syn_reader.specs.Shapes.{all_but_last}
-use Rattle.syn_reader.specs.Statements.{Statement}
+use Rattle.syn_reader.specs.Rows.{IsTableFault}
 use Rattle.syn_reader.proofs.FaultLaws.{hands_fault, hands_ok, hands_ok_three}
 use Rattle.syn_reader.proofs.LineLaws.{rows_length}
 use Rattle.syn_reader.proofs.StepLaws.{inputs_step, clocks_step, outputs_step, latch_step, table_step, inputs_stop, clocks_stop, latch_stop, names_stop, rows_stop}
@@ -53,7 +48,7 @@ returns-in-Outputs-clause-gathered c =
     let words = map text_of c.args.parts.words in
     let ss = c.args.statements.now in
     hands_ok c.add_outputs.result _ _
-    (λ g all h. outputs_step all ss c.args.parts.line words c.args.self.now c.add_outputs.new.self (subst (λ k. HasGathered all (statement c.args.parts.line k words ∷ ss) c.args.self.now) c.in-Outputs.is h) (g (rows_below ss)))
+    (λ g all h. outputs_step all ss c.args.parts.line words c.args.self.now c.add_outputs.new.self (subst (λ k. HasGathered all (statement c.args.parts.line k words ∷ ss) c.args.self.now) c.in-Outputs.is h) (g c.args.parts.line (rows_below ss)))
     c.add_outputs.ensures.gathers
 
 pub returns-in-Latch-clause-gathered : goal.returns-in-Latch-clause-gathered

@@ -1,4 +1,4 @@
-use Rattle.std.proofs.Common.{◌≡◌, ◌++◌, length, map, sym, ap, ◌∙◌, arith}
+use Rattle.std.proofs.Common.{◌++◌, length, map, ap, ◌∙◌, arith}
 use Rattle.std.proofs.lemmas.List.{length-map}
 use Rattle.syn_lex.specs.Words.{text_of}
 use Rattle.syn_reader.proofs.GatherLaws.{inputs_gathered, sound_grows, extended_below}

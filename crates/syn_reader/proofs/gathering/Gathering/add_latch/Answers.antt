@@ -1,10 +1,10 @@
-use Rattle.std.proofs.Common.{◌≡◌, ◌&&◌, ◌+◌, ◌++◌, ◌∷◌, [], not, bytes_eq, nat_lt, length, map, List, ℕ, refl, rules, sym, ap, ap₂, ◌∙◌, arith, true, Some, None, inl, inr}
+use Rattle.std.proofs.Common.{◌≡◌, not, bytes_eq, length, map, sym, ap, ◌∙◌, arith, true, Some}
 use Rattle.std.specs.List.{list_all}
 use Rattle.std.proofs.lemmas.List.{length-map}
 use Rattle.std.proofs.lemmas.Result.{err_from_is_err_and}
 use Rattle.syn_lex.specs.Words.{text_of}
 use Rattle.syn_netlist.specs.Kept.{latch_numbers, control_number, nil_word}
-use Rattle.syn_netlist.specs.Numbers.{word_at, words_at, all_below}
+use Rattle.syn_netlist.specs.Numbers.{word_at, all_below}
 use Rattle.syn_reader.specs.declared.Kind.TheVariants as kinds
 use Rattle.syn_reader.specs.Faults.{Fault, DefinedTwice}
 use Rattle.syn_reader.specs.Gathers.{forbids_in}

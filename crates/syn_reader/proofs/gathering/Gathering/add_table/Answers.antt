@@ -1,13 +1,11 @@
-use Rattle.std.proofs.Common.{◌≡◌, ◌&&◌, ◌+◌, ◌++◌, ◌∷◌, [], nat_lt, length, map, List, ℕ, refl, rules, sym, ap, ap₂, ◌∙◌, arith, true, Some, None, inl, inr}
+use Rattle.std.proofs.Common.{◌≡◌, ◌&&◌, ◌++◌, ◌∷◌, [], nat_lt, length, map, rules, sym, ap, ap₂, ◌∙◌, arith, Some, None, inr}
 use Rattle.std.proofs.lemmas.Bool.{and_from, lt-ltb}
 use Rattle.std.proofs.lemmas.List.{length-map}
 use Rattle.std.proofs.lemmas.Result.{err_from_is_err_and}
 use Rattle.syn_lex.specs.Words.{text_of}
-use Rattle.syn_netlist.specs.Kept.{rows_fit, polarity_fits}
+use Rattle.syn_netlist.specs.Kept.{rows_fit}
 use Rattle.syn_netlist.specs.Numbers.{word_at, words_at, all_below}
-use Rattle.syn_netlist.specs.Tables.{table_in}
-use Rattle.syn_reader.specs.declared.Kind.TheVariants as kinds
-use Rattle.syn_reader.specs.Computed.{table_of, row_parts}
+use Rattle.syn_reader.specs.Computed.{row_parts}
 use Rattle.syn_reader.specs.Gathers.{forbids_in}
 use Rattle.syn_reader.specs.Reading.{rows_below}
 use Rattle.syn_reader.specs.Rows.{rows_fault, IsTableFault}

@@ -1,4 +1,4 @@
-use Rattle.std.proofs.Common.{◌≡◌, ◌∷◌, [], map, sym, subst}
+use Rattle.std.proofs.Common.{map, sym, subst}
 use Rattle.syn_reader.specs.Gathers.{HasGathered}
 use Rattle.syn_lex.specs.Words.{text_of}
 use Rattle.syn_reader.proofs.WholeLaws.{begun_plain, begun_model}

@@ -1,4 +1,4 @@
-use Rattle.std.proofs.Common.{rules, ◌≡◌, ◌+◌, ◌<◌, ◌≤◌, length, sym, ap, ◌∙◌, arith, subst, refl}
+use Rattle.std.proofs.Common.{length, sym, ap, ◌∙◌, arith}
 use Rattle.syn_reader.specs.Marking.{forbidden}
 use Rattle.syn_reader.proofs.MarkLaws.{added_free, with_known, still_distinct}
 use Rattle.syn_reader.proofs.signals.Signals.add.Goals as goal

@@ -1,4 +1,4 @@
-use Rattle.std.proofs.Common.{◌≡◌, slice_set, ap, sym, ◌∙◌, refl}
+use Rattle.std.proofs.Common.{slice_set, ap, sym, ◌∙◌}
 use Rattle.syn_reader.specs.Faults.{DefinedTwice}
 use Rattle.syn_reader.specs.Marking.{forbidden}
 use Rattle.syn_reader.proofs.MarkLaws.{defined, forbidden_before}

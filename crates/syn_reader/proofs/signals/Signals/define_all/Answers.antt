@@ -1,4 +1,4 @@
-use Rattle.std.proofs.Common.{◌≡◌, ◌&&◌, ◌||◌, ◌+◌, ◌++◌, ◌∷◌, [], length, map, sym, ap, ◌∙◌, arith, true}
+use Rattle.std.proofs.Common.{◌≡◌, ◌&&◌, ◌||◌, ◌+◌, ◌++◌, length, map, sym, ap, ◌∙◌, arith, true}
 use Rattle.std.proofs.lemmas.Bool.{and_parts}
 use Rattle.std.proofs.lemmas.Grind.{common_steps}
 use Rattle.syn_lex.specs.Words.{text_of}
@@ -7,7 +7,7 @@ use Rattle.syn_netlist.specs.Words.{is_word}
 use Rattle.syn_netlist.proofs.Growing.{Grows-again}
 use Rattle.syn_reader.specs.Heard.{all_words}
 use Rattle.syn_reader.specs.Marking.{by_kind, first_twice, forbidden, forbidden_by}
-use Rattle.syn_reader.proofs.NumberLaws.{numbers_more, below_more, twice_step, adds_step, twice_found}
+use Rattle.syn_reader.proofs.NumberLaws.{numbers_more, below_more, twice_step, adds_step}
 use Rattle.syn_reader.proofs.signals.Signals.define_all.Goals as goal
 
 pub loop-word-preserved : goal.loop-word-preserved

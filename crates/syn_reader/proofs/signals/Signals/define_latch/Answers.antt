@@ -1,8 +1,3 @@
-use Rattle.std.proofs.Common.{◌≡◌, sym, ap, ◌∙◌}
-use Rattle.std.proofs.lemmas.Result.{err_from_is_err_and}
-use Rattle.syn_netlist.proofs.Growing.{Grows-again}
-use Rattle.syn_reader.specs.declared.Kind.TheVariants as kinds
-use Rattle.syn_reader.specs.Marking.{forbidden, also}
 use Rattle.syn_reader.specs.LatchWords.{kind_of}
 use Rattle.syn_reader.proofs.LatchNumbers.{latch_words, latch_below, latch_signal}
 use Rattle.syn_reader.proofs.signals.Signals.define_latch.Goals as goal

@@ -1,9 +1,9 @@
-use Rattle.std.proofs.Common.{◌≡◌, ◌&&◌, ◌+◌, ◌++◌, ◌∷◌, [], length, map, List, ℕ, refl, sym, ap, ap₂, ◌∙◌, arith, true, Some}
+use Rattle.std.proofs.Common.{◌≡◌, ◌&&◌, ◌+◌, ◌++◌, ◌∷◌, [], length, map, List, ℕ, sym, ap, ap₂, ◌∙◌, arith, true, Some}
 use Rattle.std.proofs.lemmas.Bool.{and_parts}
 use Rattle.std.proofs.lemmas.Grind.{common_steps}
 use Rattle.std.proofs.lemmas.Result.{err_from_is_err_and}
 use Rattle.syn_lex.specs.Words.{text_of}
-use Rattle.syn_netlist.specs.Numbers.{words_at, all_below}
+use Rattle.syn_netlist.specs.Numbers.{words_at}
 use Rattle.syn_netlist.specs.Words.{is_word}
 use Rattle.syn_netlist.proofs.Growing.{Grows-again, words_at-grows, all_below-more, length-grows}
 use Rattle.syn_reader.specs.Definitions.{names_defined}
