@@ -1,4 +1,3 @@
 mod Finding
-mod Framing
 mod Tabling
 mod Whole
