@@ -71,11 +71,10 @@ pub fn build_tables(alloc: Global, netlist: &Netlist) -> Result<Built, AllocErro
     )?;
     let signals = netlist.frame.observed(alloc)?;
     let observed = literals_of(alloc, literals.as_slice(), signals.as_slice())?;
-    let Hashed {
-        source_count: _,
-        rows,
-    } = hashed;
-    Ok(Built { rows, observed })
+    Ok(Built {
+        rows: hashed.into_rows(),
+        observed,
+    })
 }
 
 // The literals of all names that are defined, over rows that have the sources alone.

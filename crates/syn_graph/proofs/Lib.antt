@@ -1,0 +1,5 @@
+mod Copying
+mod Counting
+mod Framing
+pub mod Observing
+pub mod Orders

@@ -1,11 +1,21 @@
 //! And-inverter graphs.
 #![tactic(auto)]
 
-ghost use Rattle.std.specs.Prelude.{◌≡◌, ◌+◌, ◌<◌, ◌^◌, length};
+ghost use Rattle.std.specs.Prelude.{◌≡◌, ℕ, ◌+◌, ◌<◌, ◌^◌, length, slice_index_or, IfOk};
+ghost use Rattle.syn_rows.specs.Levels.{levels_of};
+ghost use Rattle.syn_rows.specs.Reach.{Ands};
+ghost use Rattle.syn_rows.specs.References.{refs_by_literals, refs_by_rows};
+ghost use Rattle.syn_rows.specs.Values.{rows_function};
 ghost use Rattle.syn_netlist.specs.Frames.{frame_in};
 ghost use Rattle.syn_netlist.specs.Lists.{sources};
 ghost use Rattle.syn_shapes.specs.Graphs.{IsGraph};
 
+mod copies;
+mod references;
+
+use crate::references::{few_observed, references};
+pub use copies::{copy_frame, copy_names, frame_over};
+use std::alloc::{AllocError, Global};
 use syn_netlist::{Frame, Items};
 use syn_rows::{Lit, Row};
 
@@ -30,8 +40,52 @@ pub struct Graph {
 impl Graph {
     /// The number of ANDs.
     pub fn count(&self) -> u32
-        ensures { result + (self.now.source_count + 1) ≡ length self.now.rows }
+        ensures rows { result + (self.now.source_count + 1) ≡ length self.now.rows }
+        ensures ands { Ands self.now.rows self.now.observed result }
     {
+        syn_rows::has_ands();
         self.rows.as_slice().len() as u32 - self.source_count - 1
+    }
+
+    /// The values of the observed signals, from those of the sources in their order. The only error is want of memory, as
+    /// of all calls below.
+    pub fn eval(&self, alloc: Global, sources: &[bool]) -> Result<Vec<bool>, AllocError>
+        ensures { IfOk result (λ v. v.items ≡ rows_function self.now.rows self.now.observed sources.now) }
+    {
+        let rows = self.rows.as_slice();
+        syn_rows::evaluate(alloc, rows, self.observed.as_slice(), sources)
+    }
+
+    /// The level of each node.
+    pub fn levels(&self, alloc: Global) -> Result<Vec<u32>, AllocError>
+        ensures { IfOk result (λ v. v.items ≡ levels_of self.now.rows) }
+    {
+        syn_rows::levels(alloc, self.rows.as_slice())
+    }
+
+    /// How often each node is referred to, by rows and by observed literals.
+    pub fn refs(&self, alloc: Global) -> Result<Vec<u32>, AllocError>
+        ensures count { IfOk result (λ v. length v.items ≡ length self.now.rows) }
+        ensures refs { IfOk result (λ v. (m : ℕ) → slice_index_or v.items m 0 ≡ refs_by_rows m self.now.rows + refs_by_literals m self.now.observed) }
+    {
+        few_observed(&self.frame);
+        references(alloc, self.rows.as_slice(), self.observed.as_slice())
+    }
+
+    /// An equal graph.
+    pub fn copy(&self, alloc: Global) -> Result<Graph, AllocError>
+        ensures frame { IfOk result (λ g. frame_in g.frame ≡ frame_in self.now.frame) }
+        ensures names { IfOk result (λ g. g.frame.names ≡ self.now.frame.names) }
+        ensures rows { IfOk result (λ g. g.rows ≡ self.now.rows) }
+        ensures observed { IfOk result (λ g. g.observed ≡ self.now.observed) }
+    {
+        let rows = Vec::from_slice(alloc, self.rows.as_slice())?;
+        let observed = Vec::from_slice(alloc, self.observed.as_slice())?;
+        Ok(Graph {
+            frame: copy_frame(alloc, &self.frame)?,
+            source_count: self.source_count,
+            rows: Items::of(rows),
+            observed: Items::of(observed),
+        })
     }
 }

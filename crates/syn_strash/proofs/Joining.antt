@@ -9,7 +9,8 @@ use Rattle.syn_rows.specs.Rows.{node_of, row_at}
 use Rattle.syn_rows.specs.Values.{lit_value, value_in, values_of}
 use Rattle.syn_shapes.specs.Graphs.{is_gate, IsHashed}
 use Rattle.syn_strash.specs.Growing.{Extends, value_by, IsAnd, IsOr}
-use Rattle.syn_strash.proofs.Rising.{literal_kept, gate_value, gate_refs}
+use Rattle.syn_graph.proofs.Orders.{gate_refs}
+use Rattle.syn_strash.proofs.Rising.{literal_kept, gate_value}
 
 pub plain_value : (v : ℕ → Bool) (l : Lit) → l.0 % 2 ≡ 0 → lit_value v l ≡ v (node_of l)
 plain_value v l e = cond-true (nat_eq (l.0 % 2) 0) (v (node_of l)) (not (v (node_of l))) (eq-eqb (l.0 % 2) 0 e)

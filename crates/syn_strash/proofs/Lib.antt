@@ -1,4 +1,5 @@
 mod Dropped
+mod Bucketing
 mod Kept
 pub mod Joining
 pub mod Rising

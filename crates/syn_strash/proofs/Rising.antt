@@ -9,6 +9,7 @@ use Rattle.syn_rows.specs.Rows.{node_of, row_at, AllRefs, InOrder, fold_rows}
 use Rattle.syn_rows.specs.Values.{lit_value, row_value, value_in, values_of}
 use Rattle.syn_rows.proofs.Folds.{length-values, fold_kept, values_step}
 use Rattle.syn_shapes.specs.Graphs.{is_gate, IsHashed}
+use Rattle.syn_graph.proofs.Orders.{hashed_in_order}
 use Rattle.syn_strash.specs.Growing.{Extends, KeepsValues, value_by}
 
 -- rows that grow
@@ -47,27 +48,6 @@ pub literals_keep : (old new : List Row) → Extends old new → KeepsValues old
 literals_keep old new e given l lt = literal_kept given old new e l lt
 
 -- hashed rows
-
-pub gate_refs : (n : ℕ) (row : Row) → is_gate n row ≡ true → AllRefs (λ m. m < n) row
-gate_refs n Free h = tt
-gate_refs n Source h = tt
-gate_refs n (And a b) h =
-    let low = and_parts (nat_le 2 a.0) (nat_lt a.0 b.0 && (not (nat_eq (node_of a) (node_of b)) && nat_lt (node_of b) n)) h in
-    let rest = and_parts (nat_lt a.0 b.0) (not (nat_eq (node_of a) (node_of b)) && nat_lt (node_of b) n) low.1 in
-    let last = and_parts (not (nat_eq (node_of a) (node_of b))) (nat_lt (node_of b) n) rest.1 in
-    let less : a.0 < b.0 = ltb-true a.0 b.0 rest.0 in
-    let under : node_of b < n = ltb-true (node_of b) n last.1 in
-    (omega arith, under)
-gate_refs n (Alias a) h = absurd (cc)
-
-pub hashed_in_order : (count : ℕ) (rows : List Row) → IsHashed count rows → InOrder rows
-hashed_in_order count rows h n = elim (cases_lt n (count + 1)) [
-  | inl lt ↦ subst (AllRefs (λ m. m < n)) (sym (h.front n lt)) tt
-  | inr ge ↦ elim (cases_lt n (length rows)) [
-    | inl lt ↦ gate_refs n (row_at rows n) (h.gates n (omega arith) lt)
-    | inr past ↦ subst (AllRefs (λ m. m < n)) (sym (get_or_past rows n Free past)) tt
-  ]
-]
 
 pub source_value : (count : ℕ) (rows : List Row) → IsHashed count rows → (given : ℕ → Bool) (n : ℕ) → n < count + 1 → value_in (values_of given rows) n ≡ given n
 source_value count rows h given n lt =

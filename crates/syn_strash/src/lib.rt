@@ -2,6 +2,7 @@
 #![tactic(auto)]
 
 mod compaction;
+mod pairs;
 mod strash;
 mod visit;
 

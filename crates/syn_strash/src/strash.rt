@@ -6,7 +6,9 @@ ghost use Rattle.syn_rows.specs.Rows.{node_of, row_at};
 ghost use Rattle.syn_rows.specs.Values.{lit_value};
 ghost use Rattle.syn_shapes.specs.Graphs.{is_gate, IsHashed};
 ghost use Rattle.syn_strash.specs.Growing.{Extends, IsAnd, IsOr, KeepsValues};
+ghost use Rattle.syn_strash.specs.Pairs.{IsIndex, number_at};
 
+use crate::pairs::{find_pair, index_rows, push_pair};
 use std::alloc::{AllocError, Global};
 use syn_rows::{Lit, Row};
 
@@ -23,7 +25,12 @@ pub struct Hashed {
     pub source_count: usize,
     /// The row of each node.
     pub rows: Vec<Row>,
+    // The index of the pairs: the greatest node of each bucket, and of each node the next smaller one of its bucket.
+    heads: Vec<u32>,
+    next: Vec<u32>,
     pub ghost hashed: { IsHashed source_count rows.items },
+    ghost indexed: { IsIndex (length heads.items) rows.items heads.items next.items },
+    ghost few_heads: { length heads.items < 2 ^ 32 },
 }
 
 impl Hashed {
@@ -34,7 +41,28 @@ impl Hashed {
         ensures rows { IfOk result (λ h. length h.rows.items ≡ source_count + 1) }
     {
         let rows = source_rows(alloc, source_count)?;
-        Ok(Hashed { source_count, rows })
+        let mut heads = no_nodes(alloc, source_count + 1)?;
+        let mut next = no_nodes(alloc, source_count + 1)?;
+        index_rows(rows.as_slice(), &mut heads, &mut next);
+        Ok(Hashed {
+            source_count,
+            rows,
+            heads,
+            next,
+        })
+    }
+
+    /// The rows alone.
+    pub fn into_rows(self) -> Vec<Row>
+        ensures { result.items ≡ self.rows.items }
+    {
+        let Hashed {
+            source_count: _,
+            rows,
+            heads: _,
+            next: _,
+        } = self;
+        rows
     }
 
     /// The AND of two literals of rows that are there: without a new row for equal literals, complements and constants, else the row of the two, made where it isn't there.
@@ -87,11 +115,19 @@ impl Hashed {
         ensures value { IfOk result (λ l. IsAnd self.old.rows.items first second self.new.rows.items l) }
         ensures err { OnErr result (self.new.rows.items ≡ self.old.rows.items) }
     {
-        match find_and(self.rows.as_slice(), first, second) {
+        let rows = self.rows.as_slice();
+        let (heads, next) = (self.heads.as_slice(), self.next.as_slice());
+        match find_pair(rows, heads, next, first, second) {
             Some(node) => Ok(Lit::of(node, false)),
             None => {
                 let node = self.rows.len() as u32;
-                push_and(&mut self.rows, first, second)?;
+                push_pair(
+                    &mut self.rows,
+                    &mut self.heads,
+                    &mut self.next,
+                    first,
+                    second,
+                )?;
                 Ok(Lit::of(node, false))
             }
         }
@@ -104,6 +140,14 @@ fn source_rows(alloc: Global, source_count: usize) -> Result<Vec<Row>, AllocErro
     ensures { IfOk result (λ v. v.items ≡ replicate (source_count + 1) Row.Source) }
 {
     vec![in alloc; Row::Source; source_count + 1]
+}
+
+// So many times no node.
+fn no_nodes(alloc: Global, count: usize) -> Result<Vec<u32>, AllocError>
+    ensures count { IfOk result (λ v. length v.items ≡ count) }
+    ensures none { IfOk result (λ v. (k : ℕ) → number_at v.items k ≡ 0) }
+{
+    vec![in alloc; 0; count]
 }
 
 // The AND of two literals where it needs no row.
@@ -121,32 +165,6 @@ fn simple_and(a: Lit, b: Lit) -> Option<Lit>
     } else {
         None
     }
-}
-
-// The node whose row is the AND of the two literals in this order, found by a plain walk.
-fn find_and(rows: &[Row], first: Lit, second: Lit) -> Option<u32>
-    requires { length rows.now < 2 ^ 32 }
-    ensures some { IfSome result (λ n. (n < length rows.now) × (row_at rows.now n ≡ Row.And first second)) }
-    ensures none { IfNone result ((n : ℕ) → row_at rows.now n ≢ Row.And first second) }
-{
-    for (i, row) in rows.iter().enumerate() {
-        if *row == Row::And(first, second) {
-            return Some(i as u32);
-        }
-    }
-    None
-}
-
-// Puts the row of a pair behind rows that lack it.
-fn push_and(rows: &mut Vec<Row>, first: Lit, second: Lit) -> Result<(), AllocError>
-    requires gate { is_gate (length rows.old.items) (Row.And first second) ≡ true }
-    requires new { (n : ℕ) → row_at rows.old.items n ≢ Row.And first second }
-    ensures ok { OnOk result (rows.new.items ≡ rows.old.items ++ Row.And first second ∷ []) }
-    ensures err { OnErr result (rows.new.items ≡ rows.old.items) }
-    ensures hashed { (count : ℕ) → IsHashed count rows.old.items → IsHashed count rows.new.items }
-{
-    rows.push(Row::And(first, second))?;
-    Ok(())
 }
 
 #[cfg(test)]

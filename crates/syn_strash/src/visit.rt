@@ -31,11 +31,10 @@ pub fn in_visiting_order(
     make_listed(&mut hashed, rows, literals.as_mut_slice(), order.as_slice())?;
     make_others(&mut hashed, rows, literals.as_mut_slice())?;
     let observed = literals_of(alloc, literals.as_slice(), observed)?;
-    let Hashed {
-        source_count: _,
-        rows,
-    } = hashed;
-    Ok(Rows { rows, observed })
+    Ok(Rows {
+        rows: hashed.into_rows(),
+        observed,
+    })
 }
 
 // A step of the walk: a node is entered, and left once its fan-ins were.
@@ -48,9 +47,16 @@ enum Step {
 // The ANDs that the literals reach, each after its first and then its second fan-in, the literals in their order.
 fn visiting_order(alloc: Global, rows: &[Row], observed: &[Lit]) -> Result<Vec<u32>, AllocError> {
     let mut order = Vec::new(alloc);
+    let mut stack = Vec::new(alloc);
     let mut marks = no_marks(alloc, rows.len())?;
     for lit in observed {
-        visit_from(alloc, rows, lit.node(), marks.as_mut_slice(), &mut order)?;
+        visit_from(
+            rows,
+            lit.node(),
+            marks.as_mut_slice(),
+            &mut stack,
+            &mut order,
+        )?;
     }
     Ok(order)
 }
@@ -59,19 +65,18 @@ fn no_marks(alloc: Global, count: usize) -> Result<Vec<bool>, AllocError> {
     vec![in alloc; false; count]
 }
 
-// Adds what a node reaches and isn't marked yet, with a stack of its own.
+// Adds what a node reaches and isn't marked yet; the stack is empty before and after.
 fn visit_from(
-    alloc: Global,
     rows: &[Row],
     node: u32,
     marks: &mut [bool],
+    stack: &mut Vec<Step>,
     order: &mut Vec<u32>,
 ) -> Result<(), AllocError> {
-    let mut stack = Vec::new(alloc);
     stack.push(Step::Enter(node))?;
     while let Some(step) = stack.pop() {
         match step {
-            Step::Enter(node) => enter(rows, node, marks, &mut stack)?,
+            Step::Enter(node) => enter(rows, node, marks, stack)?,
             Step::Leave(node) => order.push(node)?,
         }
     }

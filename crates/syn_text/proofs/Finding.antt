@@ -17,30 +17,6 @@ pub marked_has : (names : List (List ℕ)) (numbers : List ℕ) (marks : List Bo
     → get_or marks i d ≡ has (words_at names numbers) (word_at names i)
 marked_has names numbers marks i d once below long marked lt = get_or_default marks i d false (omega (arith, lt, long)) ∙ marked.at i (omega (arith, lt, long)) ∙ sym (has_words names numbers i once below lt)
 
--- a word that is no name is in no set of names
-pub not_there : (names : List (List ℕ)) (numbers : List ℕ) (word : List ℕ) → all_below (length names) numbers ≡ true → has names word ≡ false → has (words_at names numbers) word ≡ false
-not_there names [] word below none = refl
-not_there names (i ∷ is) word below none =
-    let parts = and_parts (nat_lt i (length names)) (all_below (length names) is) below in
-    or_from (bytes_eq (word_at names i) word) (has (words_at names is) word)
-    (false_from_ne_true (bytes_eq (word_at names i) word) (λ e. both_ways (has names word) none (subst (λ k. has names k ≡ true) (same_word (word_at names i) word e) (has_at names i (ltb-true i (length names) parts.0)))))
-    (not_there names is word parts.1 none)
-
-not_before : (names : List (List ℕ)) (i : ℕ) → distinct names ≡ true → i < length names → has (take i names) (word_at names i) ≡ false
-not_before names zero once lt = refl
-not_before [] (suc i) once lt = absurd (omega (arith, lt))
-not_before (w ∷ ws) (suc i) once lt =
-    or_from (bytes_eq w (word_at ws i)) (has (take i ws) (word_at ws i))
-    (false_from_ne_true (bytes_eq w (word_at ws i)) (λ e. both_ways (has ws w) (distinct_head w ws once) (subst (λ k. has ws k ≡ true) (sym (same_word w (word_at ws i) e)) (has_at ws i (omega (arith, lt))))))
-    (not_before ws i (and_parts (not (has ws w)) (distinct ws) once).1 (omega (arith, lt)))
-
--- the next of distinct names is new among those before it
-pub copied_more : (names copy : List (List ℕ)) (i : ℕ) → distinct names ≡ true → i < length names → copy ≡ take i names → with_word copy (word_at names i) ≡ take (i + 1) names
-copied_more names copy i once lt e =
-    ap (λ (l : List (List ℕ)). with_word l (word_at names i)) e
-    ∙ cond-false (has (take i names) (word_at names i)) (take i names) (take i names ++ word_at names i ∷ []) (not_before names i once lt)
-    ∙ sym (take_more names i [] lt)
-
 -- one name more
 pub words_pushed : (names more : List (List ℕ)) (numbers : List ℕ) (word : List ℕ) (i : ℕ) → more ≡ with_word names word → word_at more i ≡ word → all_below (length names) numbers ≡ true
     → words_at more (numbers ++ i ∷ []) ≡ words_at names numbers ++ word ∷ []

@@ -7,6 +7,5 @@ pub mod WrittenFaults
 pub mod WrittenReads
 pub mod WellFormedNetlists
 mod Finding
-mod Framing
 mod Tabling
 mod Whole

@@ -22,7 +22,7 @@ use Rattle.syn_shapes.proofs.Gates.{AreGates, hashed_gates, gate_parts, first_th
 use Rattle.syn_shapes.proofs.Ends.{firsts_distinct}
 use Rattle.syn_shapes.proofs.Networks.{network_spells}
 use Rattle.syn_text.specs.Numbered.{is_named, is_within, is_named_gate, IsNumbered}
-use Rattle.syn_text.proofs.Finding.{not_there}
+use Rattle.syn_graph.proofs.Observing.{few_signals}
 
 -- what the parts have of a graph
 
@@ -45,13 +45,6 @@ all_within count (l ∷ ls) h = and_from (is_within count l) (list_all (is_withi
 
 pub length-sources : (frame : Frame) (old : List (List ℕ)) (srcs : List ℕ) → words_at old srcs ≡ sources frame → length srcs ≡ length (sources frame)
 length-sources frame old srcs e = sym (length-map srcs (word_at old)) ∙ ap (λ (ws : List (List ℕ)). length ws) e
-
--- there are no more observed signals than names
-pub few_signals : (frame : Frame) (old : List (List ℕ)) (signals : List ℕ) → words_at old signals ≡ observed frame → all_below (length old) signals ≡ true → length signals ≤ length old
-few_signals frame old signals e below =
-    let fewer = no_more (observed frame) old (firsts_distinct (frame.outputs ++ flat_map latch_reads frame.latches))
-    (λ w h. true_from_ne_false (has old w) (λ none. both_ways (has (words_at old signals) w) (not_there old signals w below none) (ap (λ (ws : List (List ℕ)). has ws w) e ∙ h))) in
-    omega (arith, fewer, ap (λ (ws : List (List ℕ)). length ws) e, length-map signals (word_at old))
 
 -- what is taken are fewer than the names and the rows together allow
 pub few_taken : (frame : Frame) (rows : List Row) (names : List (List ℕ)) (srcs signals : List ℕ) → length (sources frame) < length rows → length names + length rows < 2 ^ 32 → words_at names srcs ≡ sources frame

@@ -17,7 +17,7 @@ ghost use Rattle.syn_text.specs.Numbered.{IsNumbered, is_named, is_named_gate, i
 
 use itoa::Buffer;
 use std::alloc::{AllocError, Global};
-use syn_graph::Graph;
+use syn_graph::{Graph, copy_names, frame_over};
 use syn_netlist::{Frame, Items, Names, Netlist, Table, Word};
 use syn_rows::{Lit, Row};
 
@@ -84,17 +84,6 @@ fn mark(marks: &mut [bool], numbers: &[u32])
     for n in numbers {
         marks[*n as usize] = true;
     }
-}
-
-// The same names with the same numbers.
-fn copy_names(alloc: Global, names: &Names) -> Result<Names, AllocError>
-    ensures { IfOk result (λ copy. copy ≡ names.now) }
-{
-    let mut copy = Names::new(alloc);
-    for i in 0..names.len() {
-        copy.add(alloc, names.word(i))?;
-    }
-    Ok(copy)
 }
 
 // The word of an inner node.
@@ -347,34 +336,6 @@ fn push_ends(
         push_end(alloc, sources, nodes, *signal, observed[i], tables)?;
     }
     Ok(())
-}
-
-fn copy_items<T: Copy>(alloc: Global, items: &Items<T>) -> Result<Items<T>, AllocError>
-    ensures { IfOk result (λ copy. copy ≡ items.now) }
-{
-    Ok(Items::of(Vec::from_slice(alloc, items.as_slice())?))
-}
-
-fn copy_word(alloc: Global, word: &Word) -> Result<Word, AllocError>
-    ensures { IfOk result (λ copy. copy ≡ word.now) }
-{
-    Ok(Word::of(Vec::from_slice(alloc, word.as_slice())?))
-}
-
-// The frame over names that begin with its own.
-fn frame_over(alloc: Global, frame: &Frame, names: Names) -> Result<Frame, AllocError>
-    requires { Grows frame.now.names names }
-    ensures same { IfOk result (λ f. frame_in f ≡ frame_in frame.now) }
-    ensures names { IfOk result (λ f. f.names ≡ names) }
-{
-    Ok(Frame {
-        names,
-        model: copy_word(alloc, &frame.model)?,
-        inputs: copy_items(alloc, &frame.inputs)?,
-        clocks: copy_items(alloc, &frame.clocks)?,
-        outputs: copy_items(alloc, &frame.outputs)?,
-        latches: copy_items(alloc, &frame.latches)?,
-    })
 }
 
 // The first numbers, then the second.

@@ -1,8 +1,9 @@
 use Rattle.std.proofs.Common.{arith, vec_len, ◌≡◌, ℕ, List, length, map, Option, sym, ap, ◌∙◌, subst}
 use Rattle.std.proofs.lemmas.List.{take_at}
 use Rattle.syn_rows.specs.declared.Lit.{Lit}
+use Rattle.syn_rows.specs.declared.Row.{Row}
 use Rattle.syn_shapes.specs.Graphs.{IsHashed}
-use Rattle.syn_strash.specs.Visiting.{IsVisit, literal_of}
+use Rattle.syn_strash.specs.Visiting.{IsRebuilt, IsVisit, literal_of}
 use Rattle.syn_strash.proofs.Visits.{visit_begins, rebuilt}
 use Rattle.syn_strash.proofs.visit.in_visiting_order.Goals as goal
 
@@ -24,7 +25,8 @@ returns c =
     let size : length c.make_others.new.literals ≡ vec_len c.in_ok-literals.literals =
     omega (arith, c.in_ok-make_others.ensures.visit.all, c.in_ok-literals.ensures.all, ap length c.as_mut_slice.ensures.value, c.as_mut_slice.ensures.len) in
     let same : c.as_slice-2.result.now ≡ c.make_others.new.literals = c.as_slice-2.ensures.value ∙ take_at c.make_others.new.literals _ (vec_len c.in_ok-literals.literals) size in
-    rebuilt c.args.source_count c.args.rows.now c.args.observed.now c.make_others.new.literals new.rows.items c.in_ok-observed.observed.items
+    subst (λ (rs : List Row). IsRebuilt c.args.source_count c.args.rows.now c.args.observed.now rs c.in_ok-observed.observed.items) (sym c.into_rows.ensures)
+    (rebuilt c.args.source_count c.args.rows.now c.args.observed.now c.make_others.new.literals new.rows.items c.in_ok-observed.observed.items
     (subst (λ (k : ℕ). IsHashed k new.rows.items) sources new.hashed)
     (subst (λ (k : ℕ). IsVisit k c.args.rows.now c.make_others.new.literals new.rows.items) listed c.in_ok-make_others.ensures.visit)
-    (c.in_ok-observed.ensures ∙ ap (λ (l : List (Option Lit)). map (literal_of l) c.args.observed.now) same)
+    (c.in_ok-observed.ensures ∙ ap (λ (l : List (Option Lit)). map (literal_of l) c.args.observed.now) same))

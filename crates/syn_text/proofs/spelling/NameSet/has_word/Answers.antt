@@ -1,5 +1,5 @@
 use Rattle.std.proofs.Common.{sym, refl}
-use Rattle.syn_text.proofs.Finding.{not_there}
+use Rattle.syn_graph.proofs.Observing.{not_there}
 use Rattle.syn_text.proofs.spelling.NameSet.has_word.Goals as goal
 
 pub returns-in-None : goal.returns-in-None

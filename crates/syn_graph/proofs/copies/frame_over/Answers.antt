@@ -5,8 +5,8 @@ use Rattle.syn_netlist.specs.Lists as lists
 use Rattle.syn_netlist.specs.Numbers.{words_at, all_below}
 use Rattle.syn_netlist.specs.Words.{distinct, is_word}
 use Rattle.syn_netlist.proofs.Growing.{length-grows, all_below-more, latches_below-more, words_at-grows}
-use Rattle.syn_text.proofs.Framing.{no_nil-grows, same_frame}
-use Rattle.syn_text.proofs.spelling.frame_over.Goals as goal
+use Rattle.syn_graph.proofs.Framing.{no_nil-grows, same_frame}
+use Rattle.syn_graph.proofs.copies.frame_over.Goals as goal
 
 pub invariant_of-result : goal.invariant_of-result
 invariant_of-result c =

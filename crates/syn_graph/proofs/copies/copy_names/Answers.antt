@@ -1,7 +1,7 @@
 use Rattle.std.proofs.Common.{ap, ◌∙◌, arith}
 use Rattle.syn_netlist.specs.Numbers.{with_word}
-use Rattle.syn_text.proofs.Finding.{copied_more}
-use Rattle.syn_text.proofs.spelling.copy_names.Goals as goal
+use Rattle.syn_graph.proofs.Copying.{copied_more}
+use Rattle.syn_graph.proofs.copies.copy_names.Goals as goal
 
 pub loop-i-preserved : goal.loop-i-preserved
 loop-i-preserved c =

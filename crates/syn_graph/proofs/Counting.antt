@@ -1,0 +1,86 @@
+-- Every AND of a graph counts, and references of rows and literals.
+use Rattle.std.proofs.Common.{if◌then◌else◌, ◌≡◌, ℕ, zero, suc, ◌+◌, ◌-◌, ◌*◌, ◌<◌, ◌≤◌, ◌&&◌, Bool, true, false, List, [], ◌∷◌, length, get_or, drop, nat_eq, refl, sym, ap, ◌∙◌, subst, arith, inl, inr}
+use Rattle.std.proofs.lemmas.Bool.{cases_lt, cases_Bool, cond-true, cond-false, and_from}
+use Rattle.std.proofs.lemmas.List.{drop_more}
+use Rattle.syn_rows.specs.declared.Lit.{Lit}
+use Rattle.syn_rows.specs.declared.Row.{Row}
+use Rattle.syn_rows.specs.declared.Row.TheVariants.{Free, Source, And, Alias}
+use Rattle.syn_rows.specs.Rows.{node_of, row_at, AllRefs, InOrder}
+use Rattle.syn_rows.specs.Reach.{IsReachedSet, is_and, ands_from, ands_in, Ands, HasAnds}
+use Rattle.syn_rows.specs.References.{hits, times, refs, sum_below, refs_by_rows, refs_by_literals}
+use Rattle.syn_netlist.specs.Lists.{Frame, sources}
+use Rattle.syn_shapes.specs.Graphs.{is_gate, IsHashed, IsGraph}
+use Rattle.syn_graph.proofs.Orders.{hashed_in_order}
+
+-- rows of which those from `front` on are ANDs of the set, and those before are none
+all_counted : (set : ℕ → Bool) (front n : ℕ) (rows : List Row) → front ≤ n + length rows → ((j : ℕ) → j < length rows → n + j < front → is_and (row_at rows j) ≡ false)
+    → ((j : ℕ) → j < length rows → front ≤ n + j → (is_and (row_at rows j) && set (n + j)) ≡ true) → ands_from n set rows + (front - n) ≡ length rows
+all_counted set front n [] long low high = omega arith
+all_counted set front n (row ∷ rows) long low high =
+    let rest : ands_from (n + 1) set rows + (front - (n + 1)) ≡ length rows = all_counted set front (n + 1) rows (omega arith)
+    (λ j lt k. low (suc j) (omega arith) (omega arith))
+    (λ j lt k. ap (λ i. is_and (row_at rows j) && set i) (let s : n + 1 + j ≡ n + suc j = omega arith in s) ∙ high (suc j) (omega arith) (omega arith)) in
+    elim (cases_lt n front) [
+      | inl under ↦
+          let none : is_and row ≡ false = low 0 (omega arith) (omega arith) in
+          let zero_more : ◌≡◌ {A = ℕ} (if is_and row && set n then 1 else 0) 0 = ap (λ b. if b && set n then 1 else 0) none in
+          omega (arith, rest, zero_more, under)
+      | inr over ↦
+          let one : (is_and row && set n) ≡ true = ap (λ i. is_and row && set i) (let s : n ≡ n + 0 = omega arith in s) ∙ high 0 (omega arith) (omega arith) in
+          let one_more : ◌≡◌ {A = ℕ} (if is_and row && set n then 1 else 0) 1 = ap (λ b. if b then 1 else 0) one in
+          omega (arith, rest, one_more, over)
+    ]
+
+gate_and : (n : ℕ) (row : Row) → is_gate n row ≡ true → is_and row ≡ true
+gate_and n Free h = h
+gate_and n Source h = h
+gate_and n (And a b) h = refl
+gate_and n (Alias a) h = h
+
+pub graph_ands : (frame : Frame) (rows : List Row) (lits : List Lit) (k : ℕ) → ((rows : List Row) (observed : List Lit) → InOrder rows → HasAnds rows observed) → IsGraph frame rows lits → k + (length (sources frame) + 1) ≡ length rows → Ands rows lits k
+graph_ands frame rows lits k has g counted = (set, is_set, omega (arith, counted, total))
+  where
+    count : ℕ
+    count = length (sources frame)
+
+    found : HasAnds rows lits
+    found = has rows lits (hashed_in_order count rows g.hashed)
+
+    set : ℕ → Bool
+    set = found.1.0
+
+    is_set : IsReachedSet rows lits set
+    is_set = found.1.1
+
+    total : ands_from 0 set rows + (count + 1 - 0) ≡ length rows
+    total = all_counted set (count + 1) 0 rows (omega (arith, g.hashed.there)) (λ j lt low. ap is_and (g.hashed.front j (omega arith)))
+        (λ j lt high. and_from (is_and (row_at rows j)) (set (0 + j)) (gate_and j (row_at rows j) (g.hashed.gates j (omega arith) lt))
+        (ap set (let s : 0 + j ≡ j = omega arith in s) ∙ g.reached j (omega arith) lt set is_set.closed is_set.observes))
+
+-- references
+
+pub hits_few : (m n : ℕ) → hits m n ≤ 1
+hits_few m n = elim (cases_Bool (nat_eq m n)) [
+  | inl t ↦ (let e : hits m n ≡ 1 = ap (λ b. if b then 1 else 0) t in omega (arith, e))
+  | inr f ↦ (let e : hits m n ≡ 0 = ap (λ b. if b then 1 else 0) f in omega (arith, e))
+]
+
+pub refs_few : (m : ℕ) (row : Row) → refs m row ≤ 2
+refs_few m Free = omega arith
+refs_few m Source = omega arith
+refs_few m (And a b) = omega (arith, hits_few m (node_of a), hits_few m (node_of b))
+refs_few m (Alias a) = omega (arith, hits_few m (node_of a))
+
+pub rows_few : (m n : ℕ) (rows : List Row) → sum_below n (λ i. refs m (row_at rows i)) ≤ 2 * n
+rows_few m zero rows = omega arith
+rows_few m (suc n) rows = omega (arith, rows_few m n rows, refs_few m (row_at rows n))
+
+pub sum_next : (n : ℕ) (f : ℕ → ℕ) → sum_below (n + 1) f ≡ sum_below n f + f n
+sum_next n f = ap (λ k. sum_below k f) (let s : n + 1 ≡ suc n = omega arith in s)
+
+pub literals_few : (m : ℕ) (lits : List Lit) → refs_by_literals m lits ≤ length lits
+literals_few m [] = omega arith
+literals_few m (l ∷ ls) = omega (arith, literals_few m ls, hits_few m (node_of l))
+
+pub literals_more : (m : ℕ) (lits : List Lit) (i : ℕ) (l : Lit) → i < length lits → l ≡ get_or lits i l → refs_by_literals m (drop i lits) ≡ hits m (node_of l) + refs_by_literals m (drop (i + 1) lits)
+literals_more m lits i l lt at = ap (refs_by_literals m) (drop_more lits i l lt) ∙ ap (λ (x : Lit). hits m (node_of x) + refs_by_literals m (drop (i + 1) lits)) (sym at)
