@@ -60,6 +60,7 @@ pub record Took (bytes : List ℕ) (before after : Screen) : Type 0 where
 pub record TookPart (bytes : List ℕ) (before after : Screen) : Type 0 where
   pub told : IfSome before.told (λ was. IsSomeAnd after.told (GrewByPart was bytes))
   pub failed : Rose before.faults after.faults
+  pub later : before.faults ≤ after.faults
 
 -- The bytes are put: the sink took all of them, or failed.
 abbrev pub Puts : Result (Unit {0}) SinkFailed → List ℕ → Screen → Screen → Type 0

@@ -131,20 +131,38 @@ fn writes_netlists(rt: HostRuntime) -> Result<(), Fail> {
 fn refuses_texts_and_scripts(rt: HostRuntime) -> Result<(), Fail> {
     let alloc = rt.alloc();
     let rows = [
-        (SCRIPT, ".model m\n.inputs a b\n.outputs y\n.names a b y\n1"),
         (
             SCRIPT,
-            ".model m\n.inputs a\n.outputs y\n.names t y\n1 1\n.names a t\n1 1\n.end\n",
+            ".model m\n.inputs a b\n.outputs y\n.names a b y\n1",
+            4,
+            "refused: line 5: row shape\n",
         ),
-        ("ps", NAND),
-        ("read_blif a; print_stats;  write_blif o", NAND),
-        ("read_blif ; print_stats; write_blif o", NAND),
-        ("read_blif a; print_stats; write_blif o;", NAND),
+        (
+            SCRIPT,
+            ".model m\n.inputs a\n.outputs y\n.names a b y\n11 1\n.end\n",
+            4,
+            "refused: b undriven\n",
+        ),
+        ("ps", NAND, 6, "refused: no network\n"),
+        (
+            "rewrit",
+            NAND,
+            3,
+            "refused: script 0: unknown command\n",
+        ),
+        (
+            "read_blif ; print_stats",
+            NAND,
+            3,
+            "refused: script 10: missing word\n",
+        ),
+        ("ps now", NAND, 3, "refused: script 3: extra word\n"),
+        (";", NAND, 0, ""),
     ];
-    for (script, text) in rows {
+    for (script, text, status, printed) in rows {
         let wanted = Outcome {
-            status: 4,
-            printed: "refused: not built\n",
+            status,
+            printed,
             written: None,
         };
         let words = ["synth", "-c", script];
@@ -162,7 +180,7 @@ fn refuses_texts_and_scripts(rt: HostRuntime) -> Result<(), Fail> {
 fn refuses_words(rt: HostRuntime) -> Result<(), Fail> {
     let alloc = rt.alloc();
     let rows: [&[&str]; 4] = [
-        &[],
+        &["synth", "word"],
         &["synth", "-c"],
         &["synth", "-x", SCRIPT],
         &["synth", "-c", SCRIPT, "-w"],
@@ -238,7 +256,7 @@ fn zeros_of(alloc: Global, count: usize) -> Result<MemFiles, AllocError> {
 fn refuses_a_file_past_its_limit(rt: HostRuntime) -> Result<(), Fail> {
     let alloc = rt.alloc();
     let rows = [
-        (16_777_216, 4, "refused: not built\n"),
+        (16_777_216, 4, "refused: byte 0: bad byte\n"),
         (16_777_217, 5, "refused: file longer than 16777216 bytes\n"),
     ];
     for (count, status, printed) in rows {
@@ -269,7 +287,7 @@ fn script_of(alloc: Global, length: usize) -> Result<String, AllocError> {
 #[test]
 fn refuses_a_script_past_its_limit(rt: HostRuntime) -> Result<(), Fail> {
     let alloc = rt.alloc();
-    for (length, wanted) in [(65_499, 7), (65_500, 4)] {
+    for (length, wanted) in [(65_499, 7), (65_500, 5)] {
         let script = script_of(alloc, length)?;
         let words = ["synth", "-c", script.as_str()];
         let mut out = MemSink::new(alloc, 70_000, Vec::new(alloc))?;
