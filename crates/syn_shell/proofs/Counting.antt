@@ -1,17 +1,17 @@
 -- Refusals of the files, of the lines and of the sink, and their counts of faults.
-use Rattle.std.proofs.Common.{◌≡◌, ◌⊎◌, ℕ, ◌+◌, ◌-◌, ◌^◌, ◌<◌, ◌≤◌, if◌then◌else◌, Bool, List, [], ◌∷◌, ◌++◌, length, refl, sym, ap, ◌∙◌, subst, arith, inl, inr, Option, None, Some, Result, Ok, Err, string_bytes}
+use Rattle.std.proofs.Common.{◌≡◌, ◌⊎◌, ℕ, ◌+◌, ◌-◌, ◌^◌, ◌<◌, ◌≤◌, Bool, List, [], ◌∷◌, ◌++◌, refl, sym, ap, subst, arith, inl, inr, Option, None, Some, Ok, Err, string_bytes}
 use Rattle.syn_io.specs.Outside.{Rose}
 use Rattle.syn_netlist.specs.Lists.{Netlist}
 use Rattle.syn_words.specs.declared.Command.{Command}
 use Rattle.syn_words.specs.declared.Command.TheVariants as commands
 use Rattle.syn_shell.specs.declared.refusal.Refusal.{Refusal}
-use Rattle.syn_shell.specs.declared.refusal.Refusal.TheVariants.{Words, Script, Read, FileTooLong, LineTooLong, TooManyLines, NoNetwork, GetFailed, PutFailed, LineFailed, SinkFailed, NoMemory}
+use Rattle.syn_shell.specs.declared.refusal.Refusal.TheVariants.{Words, Script, Read, FileTooLong, LineTooLong, NoNetwork, GetFailed, PutFailed, LineFailed, SinkFailed, NoMemory}
 use Rattle.syn_shell.specs.Outside.{Disk, Screen, Input, State}
 use Rattle.syn_shell.specs.Steps.{ReadRefused, RemakingRefused, SessionStep, StatsRefused, WriteRefused}
 use Rattle.syn_shell.specs.Scripts.{Refused, RunsCommands, RunsScript, ScriptRefused, SinkGaveUp, Told, nameless}
-use Rattle.syn_shell.specs.LineMode.{EndsBySink, EndsHere, GoesOn, LineRefused, NoFurther, RunsLines, listed}
+use Rattle.syn_shell.specs.LineMode.{EndsBySink, GoesOn, LineRefused, NoFurther, RunsLines, listed}
 use Rattle.syn_shell.specs.Usage.{Usage, OneScript, EachLine, Faulty, usage_of}
-use Rattle.syn_shell.specs.Runs.{RunsNothing, RunsOne, RunsUsage, RunsWords}
+use Rattle.syn_shell.specs.Runs.{RunsUsage, RunsWords}
 use Rattle.syn_shell.specs.Counts.{Covers, FaultsCover, how_many, is_of_files, is_of_lines, is_of_sink}
 
 -- counts that stand, that rose, and one after the other

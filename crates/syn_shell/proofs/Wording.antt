@@ -7,7 +7,7 @@ use Rattle.syn_shell.specs.declared.telling.Telling.{Telling}
 use Rattle.syn_shell.specs.declared.telling.Telling.TheVariants.{Whole, Cut}
 use Rattle.syn_shell.specs.Outside.{Disk, Screen, Input, State, state}
 use Rattle.syn_shell.specs.Scripts.{Refused, nameless}
-use Rattle.syn_shell.specs.Usage.{Usage, OneScript, EachLine, Faulty, usage_of, Understood, WordsRefused}
+use Rattle.syn_shell.specs.Usage.{Usage, OneScript, EachLine, usage_of, WordsRefused}
 use Rattle.syn_shell.specs.Runs.{Ran, RunsNothing, RunsUsage, RunsWords, status_of}
 use Rattle.syn_shell.specs.Stopping.{status_in, Leaves, RanLines, TellsAs}
 use Rattle.syn_shell.proofs.Counting.{words_counted}

@@ -1,5 +1,5 @@
 -- What files, a sink and lines are before and after a command, and what is done to them.
-use Rattle.std.specs.Prelude.{◌≡◌, ◌⊎◌, ℕ, ◌≤◌, ◌<◌, List, ◌++◌, length, Option, Some, None, IfSome, IsSomeAnd, Result, Ok, Err}
+use Rattle.std.specs.Prelude.{◌≡◌, ℕ, ◌≤◌, ◌<◌, List, ◌++◌, length, Option, Some, None, IfSome, IsSomeAnd, Result, Ok, Err}
 use Rattle.syn_io.specs.declared.SinkFailed.{SinkFailed}
 use Rattle.syn_io.specs.Outside.{Rose, file_at, without_file, GrewByPart, next_line, after_line}
 use Rattle.syn_netlist.specs.Lists.{Netlist}

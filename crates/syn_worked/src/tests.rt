@@ -144,12 +144,7 @@ fn refuses_texts_and_scripts(rt: HostRuntime) -> Result<(), Fail> {
             "refused: b undriven\n",
         ),
         ("ps", NAND, 6, "refused: no network\n"),
-        (
-            "rewrit",
-            NAND,
-            3,
-            "refused: script 0: unknown command\n",
-        ),
+        ("rewrit", NAND, 3, "refused: script 0: unknown command\n"),
         (
             "read_blif ; print_stats",
             NAND,

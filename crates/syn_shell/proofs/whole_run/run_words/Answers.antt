@@ -1,4 +1,4 @@
-use Rattle.std.proofs.Common.{◌≡◌, ℕ, List, refl, ap, ◌∙◌, subst, map, string_bytes, Option, None, Some, Ok}
+use Rattle.std.proofs.Common.{refl, subst, map, string_bytes, Option, None, Some}
 use Rattle.syn_shell.specs.declared.telling.Telling.{Telling}
 use Rattle.syn_shell.specs.Outside.{State, disk, input, screen, state}
 use Rattle.syn_shell.specs.Stopping.{Leaves}
@@ -36,8 +36,10 @@ returns g c =
     }
 
 pub returns-in-Ok-None : goal.returns-in-Ok-None
-returns-in-Ok-None g c = record { ran =
-    ran_lines (map string_bytes c.args.words.now) (disk (g.F.Files.told c.args.files.now) (g.F.Files.faults c.args.files.now)) (disk (g.F.Files.told c.run_lines.new.files) (g.F.Files.faults c.run_lines.new.files))
-    (screen (g.O.Sink.told c.args.out.now) (g.O.Sink.faults c.args.out.now)) (screen (g.O.Sink.told c.run_lines.new.out) (g.O.Sink.faults c.run_lines.new.out))
-    (input (g.L.Lines.told c.args.lines.now) (g.L.Lines.faults c.args.lines.now)) (input (g.L.Lines.told c.run_lines.new.lines) (g.L.Lines.faults c.run_lines.new.lines)) c.run_lines.result
-    (rw c.in-Ok-None.field-0-is at c.in-Ok-None.ensures.script) c.run_lines.ensures }
+returns-in-Ok-None g c = record {
+  ran =
+      ran_lines (map string_bytes c.args.words.now) (disk (g.F.Files.told c.args.files.now) (g.F.Files.faults c.args.files.now)) (disk (g.F.Files.told c.run_lines.new.files) (g.F.Files.faults c.run_lines.new.files))
+      (screen (g.O.Sink.told c.args.out.now) (g.O.Sink.faults c.args.out.now)) (screen (g.O.Sink.told c.run_lines.new.out) (g.O.Sink.faults c.run_lines.new.out))
+      (input (g.L.Lines.told c.args.lines.now) (g.L.Lines.faults c.args.lines.now)) (input (g.L.Lines.told c.run_lines.new.lines) (g.L.Lines.faults c.run_lines.new.lines)) c.run_lines.result
+      (rw c.in-Ok-None.field-0-is at c.in-Ok-None.ensures.script) c.run_lines.ensures;
+}
