@@ -1,5 +1,5 @@
 -- What a call for the next line gave, by its answer.
-use Rattle.std.proofs.Common.{◌≡◌, ℕ, subst, Option, None, Some, Result, Ok, Err, Vec, Global}
+use Rattle.std.proofs.Common.{◌≡◌, ℕ, subst, Option, None, Some, Result, Ok, Vec, Global}
 use Rattle.syn_shell.specs.declared.refusal.Refusal.{Refusal}
 use Rattle.syn_shell.specs.Outside.{Input, GaveLine, GaveNone}
 use Rattle.syn_shell.specs.Stopping.{Gave}

@@ -1,16 +1,14 @@
 -- What became of the line of a refusal.
-use Rattle.std.proofs.Common.{◌≡◌, ◌⊎◌, ℕ, List, [], ◌∷◌, length, map, refl, sym, ap, ◌∙◌, subst, inl, inr, Option, None, Some, Ok, Err, Vec, Global}
+use Rattle.std.proofs.Common.{◌≡◌, ℕ, List, [], ◌∷◌, refl, subst, inl, inr, Option, Some, Ok, Vec, Global}
 use Rattle.syn_netlist.specs.Lists.{Netlist}
 use Rattle.syn_words.specs.declared.Command.{Command}
-use Rattle.syn_words.specs.Commands.{spoken}
-use Rattle.syn_words.specs.Scripts.{IsScript}
 use Rattle.syn_shell.specs.declared.refusal.Refusal.{Refusal}
 use Rattle.syn_shell.specs.declared.telling.Telling.{Telling}
 use Rattle.syn_shell.specs.declared.telling.Telling.TheVariants.{Whole, Cut}
-use Rattle.syn_shell.specs.Outside.{Disk, Screen, State, state, script_limit}
+use Rattle.syn_shell.specs.Outside.{Disk, Screen, State, state}
 use Rattle.syn_shell.specs.Lines.{refusal_status}
-use Rattle.syn_shell.specs.Scripts.{Refused, nameless, RunsCommands, RunsScript, ScriptRefused, Told, SinkGaveUp}
-use Rattle.syn_shell.specs.Runs.{RunsNothing, status_of}
+use Rattle.syn_shell.specs.Scripts.{Refused, nameless, RunsCommands, ScriptRefused}
+use Rattle.syn_shell.specs.Runs.{RunsNothing}
 use Rattle.syn_shell.specs.Stopping.{status_in, IsTold, Leaves, Parsed, TellsAs}
 
 pub is_told : (t : Telling) (refused : Refused) (m : Option Netlist) (d : Disk) (s s' : Screen) → TellsAs t refused s s' → IsTold t refused (state m d s) (state m d s')

@@ -7,3 +7,5 @@ mod Hearing
 mod Giving
 mod Turning
 mod Wording
+mod Counting
+pub mod Concluding

@@ -1,11 +1,11 @@
 -- Texts put one after the other.
-use Rattle.std.proofs.Common.{◌≡◌, ℕ, ◌+◌, ◌<◌, ◌≤◌, List, [], ◌∷◌, ◌++◌, length, get_or, drop, map, codes, sym, ap, ◌∙◌, subst, arith, Result, Ok, Err}
+use Rattle.std.proofs.Common.{◌≡◌, ℕ, ◌+◌, ◌<◌, ◌≤◌, List, [], ◌∷◌, ◌++◌, length, get_or, drop, map, codes, sym, ap, ◌∙◌, subst, Result, Ok, Err}
 use Rattle.std.specs.List.{flat_map}
 use Rattle.std.proofs.lemmas.List.{append-nil, drop_more, drop_all}
 use Rattle.syn_io.specs.declared.SinkFailed.{SinkFailed}
 use Rattle.syn_shell.specs.Lines.{joined}
 use Rattle.syn_shell.specs.Outside.{Screen, Took, TookPart, Puts}
-use Rattle.syn_shell.proofs.Taking.{took_both, took_part, took_less, took_nothing}
+use Rattle.syn_shell.proofs.Taking.{took_both, took_part, took_less}
 
 -- a text was taken, and the rest is put
 pub puts_next : (r : Result (Unit {0}) SinkFailed) (a b : List ℕ) (s t u : Screen) → Took a s t → Puts r b t u → Puts r (a ++ b) s u

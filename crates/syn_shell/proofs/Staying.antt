@@ -1,5 +1,5 @@
 -- The netlist of a graph is what balancing may make of itself.
-use Rattle.std.proofs.Common.{◌≡◌, ◌≤◌, true, List, length, refl, arith}
+use Rattle.std.proofs.Common.{◌≡◌, true, List, refl, arith}
 use Rattle.syn_rows.specs.declared.Lit.{Lit}
 use Rattle.syn_rows.specs.declared.Row.{Row}
 use Rattle.syn_rows.specs.Values.{rows_function}

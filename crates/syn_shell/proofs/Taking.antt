@@ -1,7 +1,6 @@
 -- What a sink takes of two pieces, one after the other.
-use Rattle.std.proofs.Common.{◌≡◌, ℕ, List, [], ◌++◌, sym, ap, ◌∙◌, subst, arith, Option, None, Some, IfSome, Result, Ok, Err}
+use Rattle.std.proofs.Common.{◌≡◌, ℕ, List, [], ◌++◌, sym, ap, ◌∙◌, subst, arith, Option, None, Some, IfSome}
 use Rattle.std.specs.Option.{IsSomeAnd}
-use Rattle.std.specs.Result.{OnErr}
 use Rattle.std.proofs.lemmas.List.{append_assoc, append-nil}
 use Rattle.syn_io.specs.Outside.{GrewByPart}
 use Rattle.syn_shell.specs.Outside.{Screen, Took, TookPart}
@@ -36,10 +35,10 @@ pub took_both : (a b : List ℕ) (s t u : Screen) → Took a s t → Took b t u 
 took_both a b s t u h k = record { told = taken_twice s.told t.told u.told a b h.told k.told; later = omega (arith, h.later, k.later) }
 
 pub took_part : (a b : List ℕ) (s t u : Screen) → Took a s t → TookPart b t u → TookPart (a ++ b) s u
-took_part a b s t u h k = record { told = taken_in_part s.told t.told u.told a b h.told k.told; failed = omega (arith, h.later, k.failed) }
+took_part a b s t u h k = record { told = taken_in_part s.told t.told u.told a b h.told k.told; failed = omega (arith, h.later, k.failed); later = omega (arith, h.later, k.later) }
 
 pub took_less : (a b : List ℕ) (s t : Screen) → TookPart a s t → TookPart (a ++ b) s t
-took_less a b s t h = record { told = part_of_first s.told t.told a b h.told; failed = h.failed }
+took_less a b s t h = record { told = part_of_first s.told t.told a b h.told; failed = h.failed; later = h.later }
 
 nothing_taken : (s : Option (List ℕ)) → IfSome s (λ was. s ≡ Some (was ++ []))
 nothing_taken None = tt
@@ -47,7 +46,3 @@ nothing_taken (Some was) = ap (λ (l : List ℕ). Some l) (sym (append-nil was))
 
 pub took_nothing : (s : Screen) → Took [] s s
 took_nothing s = record { told = nothing_taken s.told; later = omega arith }
-
-pub on_err : {T E : Type 0} (r : Result T E) (P : Type 0) → P → OnErr r P
-on_err (Ok x) P h = tt
-on_err (Err e) P h = h

@@ -1,5 +1,5 @@
 -- Lines one after the other, and the status that is kept.
-use Rattle.std.proofs.Common.{◌≡◌, ◌≢◌, ℕ, ◌+◌, ◌<◌, ◌≤◌, ◌==◌, nat_eq, if◌then◌else◌, Bool, true, false, List, [], ◌∷◌, ◌++◌, refl, sym, ap, ap₂, ◌∙◌, subst, arith, inl, inr, Option, None, Some}
+use Rattle.std.proofs.Common.{◌≡◌, ℕ, ◌+◌, ◌<◌, nat_eq, false, List, [], ◌∷◌, ◌++◌, refl, sym, ap, ◌∙◌, subst, inl, inr, Option, None, Some}
 use Rattle.std.proofs.lemmas.Bool.{cases_Bool, cond-true, cond-false}
 use Rattle.syn_reader.specs.declared.ReadFault.{ReadFault}
 use Rattle.syn_reader.specs.declared.ReadFault.TheVariants as file
@@ -14,7 +14,7 @@ use Rattle.syn_shell.specs.Outside.{Disk, Screen, Input, State, state, GaveLine,
 use Rattle.syn_shell.specs.Lines.{file_status, refusal_status}
 use Rattle.syn_shell.specs.Scripts.{Refused, nameless, RunsScript}
 use Rattle.syn_shell.specs.LineMode.{GoesOn, LineRefused, NoFurther, RunsLines, listed, most_lines}
-use Rattle.syn_shell.specs.Runs.{RunsNothing, status_of}
+use Rattle.syn_shell.specs.Runs.{status_of}
 use Rattle.syn_shell.specs.Stopping.{first_status, status_in, Leaves, RanLines, TellsAs, Turned}
 use Rattle.syn_shell.proofs.Hearing.{nothing_run, nothing_status}
 

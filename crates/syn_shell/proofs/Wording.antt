@@ -7,9 +7,10 @@ use Rattle.syn_shell.specs.declared.telling.Telling.{Telling}
 use Rattle.syn_shell.specs.declared.telling.Telling.TheVariants.{Whole, Cut}
 use Rattle.syn_shell.specs.Outside.{Disk, Screen, Input, State, state}
 use Rattle.syn_shell.specs.Scripts.{Refused, nameless}
-use Rattle.syn_shell.specs.Usage.{Usage, OneScript, EachLine, Faulty, usage_of, Understood, WordsRefused}
+use Rattle.syn_shell.specs.Usage.{Usage, OneScript, EachLine, usage_of, WordsRefused}
 use Rattle.syn_shell.specs.Runs.{Ran, RunsNothing, RunsUsage, RunsWords, status_of}
 use Rattle.syn_shell.specs.Stopping.{status_in, Leaves, RanLines, TellsAs}
+use Rattle.syn_shell.proofs.Counting.{words_counted}
 use Rattle.syn_shell.proofs.Hearing.{nothing_run, nothing_status}
 
 words_refused : (words : List (List ℕ)) (cause : Refusal) (st after : State) (i : Input) (refusals : List Refused) → WordsRefused words cause → RunsNothing cause st refusals after → RunsWords words st i refusals after i
@@ -26,15 +27,22 @@ words_refused words LineFailed st after i refusals h nothing = absurd h
 words_refused words SinkFailed st after i refusals h nothing = absurd h
 words_refused words NoMemory st after i refusals h nothing = inr (nothing, refl)
 
+-- a run by what it did
+ran_by : (words : List (List ℕ)) (network : Option Netlist) (refusals : List Refused) (d d' : Disk) (s s' : Screen) (i i' : Input) (status : ℕ) → RunsWords words (state None d s) i refusals (state network d' s') i' → status ≡ status_of refusals
+    → Ran words d s i d' s' i' status
+ran_by words network refusals d d' s s' i i' status runs is = record {
+  network = network;
+  refusals = refusals;
+  runs = runs;
+  status_is = is;
+  faults = words_counted words (state None d s) (state network d' s') refusals i i' runs;
+}
+
 -- words that are refused
 pub ran_nothing : (words : List (List ℕ)) (cause : Refusal) (t : Telling) (d : Disk) (s s' : Screen) (i : Input) (status : ℕ) → WordsRefused words cause → TellsAs t (nameless cause) s s' → status ≡ status_in t
     → Ran words d s i d s' i status
-ran_nothing words cause t d s s' i status h tells is = record {
-  network = None;
-  refusals = nameless cause ∷ [];
-  runs = words_refused words cause (state None d s) (state None d s') i (nameless cause ∷ []) h (nothing_run t cause None d s s' tells);
-  status_is = is ∙ nothing_status t cause s s' tells;
-}
+ran_nothing words cause t d s s' i status h tells is =
+    ran_by words None (nameless cause ∷ []) d d s s' i i status (words_refused words cause (state None d s) (state None d s') i (nameless cause ∷ []) h (nothing_run t cause None d s s' tells)) (is ∙ nothing_status t cause s s' tells)
 
 -- the status that a script left
 abbrev pub status_left : Option Telling → ℕ
@@ -44,33 +52,17 @@ status_left (Some t) = status_in t
 -- words with a script
 pub ran_script : (words : List (List ℕ)) (text : List ℕ) (left : Option Telling) (m : Option Netlist) (d d' : Disk) (s s' : Screen) (i : Input) (status : ℕ) → usage_of words ≡ OneScript text
     → Leaves left text (state None d s) (state m d' s') → status ≡ status_left left → Ran words d s i d' s' i status
-ran_script words text None m d d' s s' i status usage runs is = record {
-  network = m;
-  refusals = [];
-  runs = inl (subst (λ (u : Usage). RunsUsage u (state None d s) i [] (state m d' s') i) (sym usage) ((None, state m d' s', runs, refl, inl refl), refl));
-  status_is = is;
-}
-ran_script words text (Some (Whole kept)) m d d' s s' i status usage (refused, done, runs, told) is = record {
-  network = m;
-  refusals = refused ∷ [];
-  runs = inl (subst (λ (u : Usage). RunsUsage u (state None d s) i (refused ∷ []) (state m d' s') i) (sym usage) ((Some refused, done, runs, refl, inl told.1), refl));
-  status_is = is ∙ told.0;
-}
-ran_script words text (Some (Cut kept)) m d d' s s' i status usage (refused, done, runs, told) is = record {
-  network = m;
-  refusals = refused ∷ [];
-  runs = inl (subst (λ (u : Usage). RunsUsage u (state None d s) i (refused ∷ []) (state m d' s') i) (sym usage) ((Some refused, done, runs, refl, inr told.1), refl));
-  status_is = is ∙ told.0;
-}
+ran_script words text None m d d' s s' i status usage runs is =
+    ran_by words m [] d d' s s' i i status (inl (subst (λ (u : Usage). RunsUsage u (state None d s) i [] (state m d' s') i) (sym usage) ((None, state m d' s', runs, refl, inl refl), refl))) is
+ran_script words text (Some (Whole kept)) m d d' s s' i status usage (refused, done, runs, told) is =
+    ran_by words m (refused ∷ []) d d' s s' i i status (inl (subst (λ (u : Usage). RunsUsage u (state None d s) i (refused ∷ []) (state m d' s') i) (sym usage) ((Some refused, done, runs, refl, inl told.1), refl))) (is ∙ told.0)
+ran_script words text (Some (Cut kept)) m d d' s s' i status usage (refused, done, runs, told) is =
+    ran_by words m (refused ∷ []) d d' s s' i i status (inl (subst (λ (u : Usage). RunsUsage u (state None d s) i (refused ∷ []) (state m d' s') i) (sym usage) ((Some refused, done, runs, refl, inr told.1), refl))) (is ∙ told.0)
 
 -- words that ask for lines
 pub ran_lines : (words : List (List ℕ)) (d d' : Disk) (s s' : Screen) (i i' : Input) (status : ℕ) → usage_of words ≡ EachLine → (m : Option Netlist) × RanLines status 0 (state None d s) i (state m d' s') i' → Ran words d s i d' s' i' status
-ran_lines words d d' s s' i i' status usage (m, (lines, refusals, runs, is)) = record {
-  network = m;
-  refusals = refusals;
-  runs = inl (subst (λ (u : Usage). RunsUsage u (state None d s) i refusals (state m d' s') i') (sym usage) (lines, runs));
-  status_is = is;
-}
+ran_lines words d d' s s' i i' status usage (m, (lines, refusals, runs, is)) =
+    ran_by words m refusals d d' s s' i i' status (inl (subst (λ (u : Usage). RunsUsage u (state None d s) i refusals (state m d' s') i') (sym usage) (lines, runs))) is
 
 -- words with a script that was run
 pub ran_left : (words : List (List ℕ)) (script text : List ℕ) (left : Option Telling) (n m : Option Netlist) (d d' : Disk) (s s' : Screen) (i : Input) (status : ℕ)

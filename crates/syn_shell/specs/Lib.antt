@@ -5,5 +5,6 @@ pub mod Steps
 pub mod Usage
 pub mod Scripts
 pub mod LineMode
+pub mod Counts
 pub mod Runs
 pub mod Stopping

@@ -1,5 +1,5 @@
 -- Line mode: each line is a script of its own, and the run goes on behind a refusal.
-use Rattle.std.specs.Prelude.{◌≡◌, ◌⊎◌, ℕ, ◌+◌, ◌<◌, ◌≤◌, List, [], ◌∷◌, ◌++◌, Option, Some, None}
+use Rattle.std.specs.Prelude.{◌≡◌, ◌⊎◌, ℕ, ◌+◌, ◌<◌, ◌≤◌, List, [], ◌∷◌, ◌++◌, length, Option, Some, None}
 use Rattle.syn_io.specs.Outside.{Rose}
 use Rattle.syn_shell.specs.declared.refusal.Refusal.{Refusal}
 use Rattle.syn_shell.specs.declared.refusal.Refusal.TheVariants.{LineTooLong, TooManyLines, LineFailed, NoMemory}
@@ -17,7 +17,7 @@ listed (Some refused) = refused ∷ []
 
 -- Why no line is given.
 abbrev pub LineRefused : Input → Input → Refusal → Type 0
-LineRefused before after LineFailed = Rose before.faults after.faults
+LineRefused before after LineFailed = Rose before.faults after.faults × (before.faults ≤ after.faults)
 LineRefused before after LineTooLong = LineIsLong before after
 LineRefused before after NoMemory = before.faults ≤ after.faults
 LineRefused before after other = ⊥
@@ -55,3 +55,7 @@ RunsLines (line ∷ lines) taken before i refusals after i' =
     (j : Input) × (outcome : Option Refused) × (done : State) × (taken < most_lines) × GaveLine line i j × RunsScript line before outcome done
     × (((told : State) × (more : List Refused) × GoesOn outcome done told × (refusals ≡ listed outcome ++ more) × RunsLines lines (taken + 1) told j more after i')
     ⊎ (EndsBySink outcome done after × (refusals ≡ listed outcome) × (lines ≡ []) × (i' ≡ j)))
+
+-- No run of lines runs more than the most; with the one that is refused as one too many, it takes one more at most.
+abbrev pub FewLines : Type 0
+FewLines = (lines : List (List ℕ)) (before after : State) (refusals : List Refused) (i i' : Input) → RunsLines lines 0 before i refusals after i' → length lines ≤ most_lines

@@ -1,5 +1,5 @@
 -- What files, a sink and lines are before and after a command, and what is done to them.
-use Rattle.std.specs.Prelude.{◌≡◌, ◌⊎◌, ℕ, ◌≤◌, ◌<◌, List, ◌++◌, length, Option, Some, None, IfSome, IsSomeAnd, Result, Ok, Err}
+use Rattle.std.specs.Prelude.{◌≡◌, ℕ, ◌≤◌, ◌<◌, List, ◌++◌, length, Option, Some, None, IfSome, IsSomeAnd, Result, Ok, Err}
 use Rattle.syn_io.specs.declared.SinkFailed.{SinkFailed}
 use Rattle.syn_io.specs.Outside.{Rose, file_at, without_file, GrewByPart, next_line, after_line}
 use Rattle.syn_netlist.specs.Lists.{Netlist}
@@ -60,6 +60,7 @@ pub record Took (bytes : List ℕ) (before after : Screen) : Type 0 where
 pub record TookPart (bytes : List ℕ) (before after : Screen) : Type 0 where
   pub told : IfSome before.told (λ was. IsSomeAnd after.told (GrewByPart was bytes))
   pub failed : Rose before.faults after.faults
+  pub later : before.faults ≤ after.faults
 
 -- The bytes are put: the sink took all of them, or failed.
 abbrev pub Puts : Result (Unit {0}) SinkFailed → List ℕ → Screen → Screen → Type 0

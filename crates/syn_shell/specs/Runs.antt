@@ -5,6 +5,7 @@ use Rattle.syn_shell.specs.declared.refusal.Refusal.{Refusal}
 use Rattle.syn_shell.specs.declared.refusal.Refusal.TheVariants.{Words, NoMemory}
 use Rattle.syn_shell.specs.Outside.{Disk, Screen, Input, State, state}
 use Rattle.syn_shell.specs.Lines.{refusal_status}
+use Rattle.syn_shell.specs.Counts.{FaultsCover}
 use Rattle.syn_shell.specs.Usage.{Usage, OneScript, EachLine, Faulty, usage_of}
 use Rattle.syn_shell.specs.Scripts.{Refused, nameless, RunsScript, Told, SinkGaveUp}
 use Rattle.syn_shell.specs.LineMode.{GoesOn, EndsBySink, RunsLines, listed}
@@ -35,9 +36,14 @@ abbrev pub status_of : List Refused → ℕ
 status_of [] = 0
 status_of (refused ∷ more) = refusal_status refused.cause
 
--- A whole run on words, from the files, the sink and the lines before it to those after it, and its status. It begins with no network.
+-- Nothing was refused: the script was run to its end, or the lines until none was left.
+abbrev pub RanAccepted : List (List ℕ) → Disk → Screen → Input → Disk → Screen → Input → Type 0
+RanAccepted words d s i d' s' i' = (network : Option Netlist) × RunsUsage (usage_of words) (state None d s) i [] (state network d' s') i'
+
+-- A whole run on words, from the files, the sink and the lines before it to those after it, and its status. It begins with no network. No more refusals are of the files, the lines or the sink than their counts of faults rose by.
 pub record Ran (words : List (List ℕ)) (d : Disk) (s : Screen) (i : Input) (d' : Disk) (s' : Screen) (i' : Input) (status : ℕ) : Type 0 where
   pub network : Option Netlist
   pub refusals : List Refused
   pub runs : RunsWords words (state None d s) i refusals (state network d' s') i'
   pub status_is : status ≡ status_of refusals
+  pub faults : FaultsCover refusals d s i d' s' i'

@@ -1,5 +1,5 @@
 -- A script: its commands one after the other up to the first that is refused, and the line of that refusal.
-use Rattle.std.specs.Prelude.{◌≡◌, ◌≢◌, ◌⊎◌, ℕ, ◌≤◌, ◌<◌, ◌^◌, List, [], ◌∷◌, length, map, Option, Some, None, Result, Ok, Err, ⊤, string_bytes}
+use Rattle.std.specs.Prelude.{◌≡◌, ◌≢◌, ◌⊎◌, ℕ, ◌≤◌, ◌<◌, List, [], ◌∷◌, length, map, Option, Some, None, Result, Ok, Err, ⊤, string_bytes}
 use Rattle.syn_words.specs.declared.Command.{Command}
 use Rattle.syn_words.specs.declared.Command.TheVariants as commands
 use Rattle.syn_words.specs.declared.ScriptFault.TheVariants as script
@@ -7,7 +7,7 @@ use Rattle.syn_words.specs.Commands.{spoken}
 use Rattle.syn_words.specs.Scripts.{IsScript, IsFirstFault}
 use Rattle.syn_shell.specs.declared.refusal.Refusal.{Refusal}
 use Rattle.syn_shell.specs.declared.refusal.Refusal.TheVariants.{Script, LineTooLong, SinkFailed, NoMemory}
-use Rattle.syn_shell.specs.Outside.{Screen, State, Took, TookPart, script_limit}
+use Rattle.syn_shell.specs.Outside.{State, Took, TookPart, script_limit}
 use Rattle.syn_shell.specs.Lines.{refusal_line}
 use Rattle.syn_shell.specs.Steps.{SessionStep}
 

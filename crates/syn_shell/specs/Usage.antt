@@ -1,6 +1,5 @@
 -- What is run by what the words of a call mean.
 use Rattle.std.specs.Prelude.{◌≡◌, ℕ, List, [], ◌∷◌, Option, Some, None, ⊤}
-use Rattle.clap.specs.Words.{Kinds}
 use Rattle.syn_usage.specs.Usage.{refusals, script_in}
 use Rattle.syn_shell.specs.declared.refusal.Refusal.{Refusal}
 use Rattle.syn_shell.specs.declared.refusal.Refusal.TheVariants.{Words, NoMemory}
@@ -11,7 +10,8 @@ pub data Usage : Type 0 where
   EachLine : Usage
   Faulty : Usage
 
-abbrev pub usage_by : Kinds → Option (List ℕ) → Usage
+-- what is run, by the refusals of the words and their script
+abbrev pub usage_by : {K : Type 0} → List K → Option (List ℕ) → Usage
 usage_by [] (Some script) = OneScript script
 usage_by [] None = EachLine
 usage_by (refusal ∷ more) script = Faulty

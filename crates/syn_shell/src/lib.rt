@@ -1,6 +1,7 @@
 //! The shell: what reads, shows and writes netlists.
 #![tactic(auto)]
 
+mod laws;
 mod line_mode;
 mod lines;
 mod refusal;
@@ -10,6 +11,7 @@ mod telling;
 mod usage;
 mod whole_run;
 
+pub use laws::few_lines;
 pub use refusal::Refusal;
 pub use session::Session;
 pub use whole_run::run;

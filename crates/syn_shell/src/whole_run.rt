@@ -2,7 +2,8 @@
 
 ghost use Rattle.std.specs.Prelude.{◌≡◌, map, string_bytes};
 ghost use Rattle.syn_shell.specs.Outside.{disk, input, screen};
-ghost use Rattle.syn_shell.specs.Runs.{Ran};
+ghost use Rattle.syn_shell.specs.Counts.{SomeFault};
+ghost use Rattle.syn_shell.specs.Runs.{Ran, RanAccepted};
 
 use crate::line_mode::run_lines;
 use crate::scripts::run_script;
@@ -12,12 +13,8 @@ use crate::usage::script_in;
 use std::alloc::Global;
 use syn_io::{Files, Lines, Sink};
 
-/// Runs the script of the words, or without one each line as a script, and gives the status: 0 where nothing was
-/// refused, else that of the first refusal. The line of each refusal is put to the sink.
-///
-/// A script ends at its first refusal. The run of lines goes on behind it; it ends where no line is left, where none
-/// can be read, where one is too long or one too many, where memory for one is refused, and where the sink fails.
-pub fn run<F: Files, L: Lines, O: Sink>(
+// Runs what the words mean.
+fn run_words<F: Files, L: Lines, O: Sink>(
     alloc: Global,
     words: &[String],
     files: &mut F,
@@ -37,4 +34,27 @@ pub fn run<F: Files, L: Lines, O: Sink>(
         None => 0,
         Some(telling) => telling.status(),
     }
+}
+
+/// Runs the script of the words, or without one each line as a script, and gives the status: 0 where nothing was
+/// refused, else that of the first refusal. The line of each refusal is put to the sink.
+///
+/// A script ends at its first refusal. The run of lines goes on behind it; it ends where no line is left, where none
+/// can be read, where one is too long or one too many, where memory for one is refused, and where the sink fails.
+/// A status of 7 comes only where a call of the files, of the lines or of the sink failed.
+pub fn run<F: Files, L: Lines, O: Sink>(
+    alloc: Global,
+    words: &[String],
+    files: &mut F,
+    lines: &mut L,
+    out: &mut O,
+) -> u8
+    ensures ran { Ran (map string_bytes words.now) (disk (F.told files.old) (F.faults files.old)) (screen (O.told out.old) (O.faults out.old)) (input (L.told lines.old) (L.faults lines.old))
+        (disk (F.told files.new) (F.faults files.new)) (screen (O.told out.new) (O.faults out.new)) (input (L.told lines.new) (L.faults lines.new)) result }
+    ensures accepted { result ≡ 0 → RanAccepted (map string_bytes words.now) (disk (F.told files.old) (F.faults files.old)) (screen (O.told out.old) (O.faults out.old)) (input (L.told lines.old) (L.faults lines.old))
+        (disk (F.told files.new) (F.faults files.new)) (screen (O.told out.new) (O.faults out.new)) (input (L.told lines.new) (L.faults lines.new)) }
+    ensures failed { result ≡ 7 → SomeFault (disk (F.told files.old) (F.faults files.old)) (screen (O.told out.old) (O.faults out.old)) (input (L.told lines.old) (L.faults lines.old))
+        (disk (F.told files.new) (F.faults files.new)) (screen (O.told out.new) (O.faults out.new)) (input (L.told lines.new) (L.faults lines.new)) }
+{
+    run_words(alloc, words, files, lines, out)
 }

@@ -1,4 +1,4 @@
-use Rattle.std.proofs.Common.{◌≡◌, ℕ, refl, ap, ◌∙◌, inl, inr, Option, Some, Ok}
+use Rattle.std.proofs.Common.{refl, ap, ◌∙◌, inl, inr, Ok}
 use Rattle.syn_shell.specs.declared.refusal.Refusal.TheVariants.{TooManyLines}
 use Rattle.syn_shell.specs.Outside.{Input, input, disk, screen, state}
 use Rattle.syn_shell.specs.LineMode.{most_lines}

@@ -1,4 +1,4 @@
-use Rattle.std.proofs.Common.{◌≡◌, ℕ, arith, None}
+use Rattle.std.proofs.Common.{◌≡◌, arith, None}
 use Rattle.syn_shell.specs.Outside.{Input, State, input, disk, screen, state}
 use Rattle.syn_shell.specs.LineMode.{most_lines}
 use Rattle.syn_shell.proofs.Turning.{goes_on_from, ends_at, ends_last}

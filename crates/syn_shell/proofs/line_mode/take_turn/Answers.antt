@@ -1,4 +1,4 @@
-use Rattle.std.proofs.Common.{◌≡◌, ℕ, List, ap, ◌∙◌, subst, Option, Some, Ok}
+use Rattle.std.proofs.Common.{ℕ, List, ap, ◌∙◌, subst, Option, Some, Ok}
 use Rattle.syn_shell.specs.declared.telling.Telling.{Telling}
 use Rattle.syn_shell.specs.declared.telling.Telling.TheVariants.{Cut}
 use Rattle.syn_shell.specs.Outside.{Input, State, input, disk, screen, state}

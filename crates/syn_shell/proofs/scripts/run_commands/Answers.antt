@@ -1,7 +1,6 @@
-use Rattle.std.proofs.Common.{◌+◌, drop, Option, None, Some}
+use Rattle.std.proofs.Common.{◌+◌, drop, None, Some}
 use Rattle.std.proofs.lemmas.List.{drop_all}
 use Rattle.syn_shell.specs.Outside.{State, disk, screen, state}
-use Rattle.syn_shell.specs.Scripts.{RunsCommands}
 use Rattle.syn_shell.proofs.Following.{left_at, goes_on, stops, ends}
 use Rattle.syn_shell.proofs.scripts.run_commands.Goals as goal
 

@@ -1,8 +1,4 @@
-use Rattle.std.proofs.Common.{◌≡◌, ℕ, List, ap, subst, Ok, Err, Option, Some, Result, Vec, Global}
-use Rattle.syn_words.specs.declared.Command.{Command}
-use Rattle.syn_shell.specs.declared.refusal.Refusal.{Refusal}
-use Rattle.syn_shell.specs.Outside.{Disk, Screen, State, disk, screen, state}
-use Rattle.syn_shell.specs.Stopping.{Parsed}
+use Rattle.syn_shell.specs.Outside.{State, disk, screen, state}
 use Rattle.syn_shell.proofs.Hearing.{script_refused, script_stopped}
 use Rattle.syn_shell.proofs.scripts.run_script.Goals as goal
 

@@ -1,4 +1,3 @@
-use Rattle.std.proofs.Common.{◌≡◌}
 use Rattle.syn_netlist.specs.Frames.{frame_in}
 use Rattle.syn_shell.proofs.Staying.{stays_balanced}
 use Rattle.syn_shell.proofs.session.stays.Goals as goal

@@ -1,7 +1,7 @@
-use Rattle.std.proofs.Common.{◌≡◌, ℕ, ◌+◌, List, [], ◌++◌, drop, get_or, map, ap, ◌∙◌, subst, Result, Ok}
+use Rattle.std.proofs.Common.{ℕ, ◌+◌, List, [], drop, get_or, map, subst, Ok}
 use Rattle.std.proofs.lemmas.Result.{err_from_is_err_and}
 use Rattle.syn_shell.specs.Lines.{joined}
-use Rattle.syn_shell.specs.Outside.{Screen, screen, Took, Puts}
+use Rattle.syn_shell.specs.Outside.{Screen, screen, Took}
 use Rattle.syn_shell.proofs.Putting.{puts_next, puts_first, puts_same, left_next, left_none}
 use Rattle.syn_shell.proofs.Taking.{took_nothing}
 use Rattle.syn_shell.proofs.telling.put_all.Goals as goal

@@ -1,4 +1,4 @@
-use Rattle.std.proofs.Common.{ℕ, List, drop, map, Result}
+use Rattle.std.proofs.Common.{drop, map, Result}
 use Rattle.syn_io.specs.declared.SinkFailed.{SinkFailed}
 use Rattle.syn_shell.specs.Lines.{joined}
 use Rattle.syn_shell.specs.Outside.{Screen, screen, Puts}

@@ -1,7 +1,7 @@
-use Rattle.std.proofs.Common.{◌≡◌, ℕ, ◌+◌, List, [], ◌∷◌, ◌++◌, codes, drop, get_or, ap, ◌∙◌, subst, Result, Ok}
+use Rattle.std.proofs.Common.{ℕ, ◌+◌, List, ◌++◌, codes, drop, get_or, ◌∙◌, subst, Ok}
 use Rattle.std.specs.List.{flat_map}
 use Rattle.std.proofs.lemmas.Result.{err_from_is_err_and}
-use Rattle.syn_shell.specs.Outside.{Screen, screen, Took, TookPart, Puts}
+use Rattle.syn_shell.specs.Outside.{Screen, screen, Took, TookPart}
 use Rattle.syn_shell.proofs.Putting.{puts_next, puts_first, puts_same, more_next, more_none, spaced}
 use Rattle.syn_shell.proofs.Taking.{took_nothing}
 use Rattle.syn_shell.proofs.telling.put_names.Goals as goal

@@ -1,7 +1,7 @@
-use Rattle.std.proofs.Common.{ℕ, List, [], ◌∷◌, ◌++◌, codes}
+use Rattle.std.proofs.Common.{[], ◌∷◌, ◌++◌, codes}
 use Rattle.std.proofs.lemmas.Result.{err_from_is_err_and}
 use Rattle.syn_shell.specs.Lines.{refusal_text}
-use Rattle.syn_shell.specs.Outside.{Screen, screen}
+use Rattle.syn_shell.specs.Outside.{screen}
 use Rattle.syn_shell.proofs.Putting.{puts_first}
 use Rattle.syn_shell.proofs.telling.put_refusal.Goals as goal
 
