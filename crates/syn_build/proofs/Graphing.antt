@@ -14,43 +14,29 @@ use Rattle.syn_shapes.specs.GraphShape.{GraphHasFunction, rows_of, observed_of, 
 use Rattle.syn_shapes.specs.Graphs.{IsGraph, source_lit}
 use Rattle.syn_shapes.specs.Spelling.{NetworkOfGraph, NetworkSpells, network}
 use Rattle.syn_strash.specs.Compacting.{IsCompaction}
-use Rattle.syn_build.specs.Naming.{HasOwnSources}
+use Rattle.syn_graph.specs.Graphs.{HasOwnSources}
 use Rattle.syn_build.specs.Building.{IsGraphOf}
 use Rattle.syn_shapes.proofs.Spelled.{place_lt}
-
--- the literals of observed sources are those of nodes that stay
-pub compaction_graph : (frame : Frame) (rows new_rows : List Row) (lits new_lits : List Lit) → length lits ≡ length (observed frame) → HasOwnSources frame lits
-    → IsCompaction (length (sources frame)) rows lits new_rows new_lits → IsGraph frame new_rows new_lits
-compaction_graph frame rows new_rows lits new_lits count own c = record {
-  hashed = c.hashed;
-  count = c.same_count ∙ count;
-  within = c.within;
-  own = λ i lt known.
-      let inside : i < length lits = omega (arith, c.same_count) in
-      let low = place_lt (sources frame) (word_at (observed frame) i) known in
-      c.sources_stay i (source_lit (place (word_at (observed frame) i) (sources frame))) inside (omega (arith, low)) (own i inside known);
-  reached = c.reached;
-}
 
 has_same_function : (m : Netlist) (F G : List Bool → List Bool) → ((bits : List Bool) → G bits ≡ F bits) → HasFunction m G → HasFunction m F
 has_same_function m F G same h = record { total = h.total; value = λ v c. h.value v c ∙ same (map v (sources m.frame)) }
 
--- the network of the kept rows is the graph of the netlist that they were built of
+-- the network of a graph with the function of the rows that were built, and no more rows, is the graph of the netlist
 pub graph_of_netlist : NetworkOfGraph → GraphHasFunction → SameFromFunction → (n : Netlist) (rows new_rows : List Row) (lits new_lits : List Lit) → distinct n.frame.clocks ≡ true → distinct (sources n.frame) ≡ true
-    → length lits ≡ length (observed n.frame) → HasOwnSources n.frame lits → HasFunction n (rows_function rows lits) → length rows ≤ length (sources n.frame) + 1 + cost_of n
-    → IsCompaction (length (sources n.frame)) rows lits new_rows new_lits → IsGraphOf n (network n.frame new_rows new_lits)
-graph_of_netlist spells has_function same_meaning n rows new_rows lits new_lits clocks once count own function few c = record {
+    → HasFunction n (rows_function rows lits) → length rows ≤ length (sources n.frame) + 1 + cost_of n → IsGraph n.frame new_rows new_lits → ((bits : List Bool) → rows_function new_rows new_lits bits ≡ rows_function rows lits bits)
+    → length new_rows ≤ length rows → IsGraphOf n (network n.frame new_rows new_lits)
+graph_of_netlist spells has_function same_meaning n rows new_rows lits new_lits clocks once function few graph same fewer = record {
   same = same_meaning n m (rows_function rows lits) refl function (has_same_function m (rows_function rows lits) (rows_function (rows_of m) (observed_of m)) equal (has_function m s.shape s.ordered).1);
   ordered = s.ordered;
   shape = s.shape;
-  fewer = omega (arith, s.ands, length-drop (length (sources n.frame) + 1) new_rows, c.fewer);
+  fewer = omega (arith, s.ands, length-drop (length (sources n.frame) + 1) new_rows, fewer);
 }
   where
     m : Netlist
     m = network n.frame new_rows new_lits
 
     s : NetworkSpells n.frame new_rows new_lits
-    s = spells n.frame new_rows new_lits clocks once (compaction_graph n.frame rows new_rows lits new_lits count own c)
+    s = spells n.frame new_rows new_lits clocks once graph
 
     equal : (bits : List Bool) → rows_function (rows_of m) (observed_of m) bits ≡ rows_function rows lits bits
-    equal bits = ap₂ (λ (rs : List Row) (ls : List Lit). rows_function rs ls bits) s.same_rows s.same_lits ∙ c.same_function bits
+    equal bits = ap₂ (λ (rs : List Row) (ls : List Lit). rows_function rs ls bits) s.same_rows s.same_lits ∙ same bits

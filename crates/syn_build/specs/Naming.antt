@@ -4,7 +4,7 @@ use Rattle.syn_rows.specs.declared.Lit.{Lit}
 use Rattle.syn_rows.specs.declared.Row.{Row}
 use Rattle.syn_rows.specs.Values.{given_by}
 use Rattle.syn_netlist.specs.Words.{has}
-use Rattle.syn_netlist.specs.Lists.{Frame, Netlist, sources, observed}
+use Rattle.syn_netlist.specs.Lists.{Netlist, sources}
 use Rattle.syn_netlist.specs.Numbers.{word_at}
 use Rattle.syn_netlist.specs.Values.{Consistent}
 use Rattle.syn_netlist.specs.Order.{with_tables}
@@ -24,7 +24,3 @@ pub record IsNamed (n : Netlist) (names known : List (List ℕ)) (rows : List Ro
   pub there : AllThere rows lits
   pub own : (i : ℕ) → i < length names → has (sources n.frame) (word_at names i) ≡ true → lit_at lits i ≡ source_lit (place (word_at names i) (sources n.frame))
   pub values : (v : List ℕ → Bool) → Consistent n v → (i : ℕ) → i < length names → has known (word_at names i) ≡ true → value_by (given_by (map v (sources n.frame))) rows (lit_at lits i) ≡ v (word_at names i)
-
--- an observed signal that is a source has that source's plain literal
-abbrev pub HasOwnSources : Frame → List Lit → Type 0
-HasOwnSources frame lits = (i : ℕ) → i < length lits → has (sources frame) (word_at (observed frame) i) ≡ true → lit_at lits i ≡ source_lit (place (word_at (observed frame) i) (sources frame))

@@ -9,20 +9,10 @@ ghost use Rattle.syn_netlist.specs.Costs.{cost_of};
 ghost use Rattle.syn_graph.specs.Graphs.{network_of};
 ghost use Rattle.syn_build.specs.Building.{IsGraphOf};
 
-use crate::tables::build_tables;
+use crate::tables::{Built, build_tables};
 use std::alloc::{AllocError, Global};
 use syn_graph::Graph;
-use syn_netlist::{Frame, Items, Netlist};
-use syn_strash::compact;
-
-// The number of sources of a frame.
-fn source_count_of(alloc: Global, frame: &Frame) -> Result<u32, AllocError>
-    requires { length (sources (frame_in frame.now)) < 2 ^ 32 }
-    ensures { IfOk result (λ count. count ≡ length (sources (frame_in frame.now))) }
-{
-    let sources = frame.sources(alloc)?;
-    Ok(sources.as_slice().len() as u32)
-}
+use syn_netlist::Netlist;
 
 /// The graph of a checked netlist: its tables are built, each after the tables of its inputs, and the rows that no
 /// observed signal reaches are dropped. The only error is want of memory.
@@ -33,21 +23,11 @@ pub fn graph_of(alloc: Global, netlist: Netlist) -> Result<Graph, AllocError>
     ensures { IfOk result (λ graph. IsGraphOf (netlist_in netlist) (network_of graph)) }
 {
     let built = build_tables(alloc, &netlist)?;
-    let source_count = source_count_of(alloc, &netlist.frame)?;
-    let kept = compact(
-        alloc,
-        source_count,
-        built.rows.as_slice(),
-        built.observed.as_slice(),
-    )?;
     syn_shapes::network_of_graph();
     syn_shapes::graph_has_function();
     syn_netlist::same_from_function();
     let Netlist { frame, tables: _ } = netlist;
-    Ok(Graph {
-        frame,
-        source_count,
-        rows: Items::of(kept.rows),
-        observed: Items::of(kept.observed),
-    })
+    let Built { hashed, observed } = built;
+    let graph = hashed.finish(alloc, frame, observed.as_slice())?;
+    Ok(graph)
 }

@@ -16,7 +16,8 @@ ghost use Rattle.syn_netlist.specs.Words.{distinct};
 ghost use Rattle.syn_shapes.specs.Graphs.{IsHashed, lit_at, source_lit};
 ghost use Rattle.syn_strash.specs.Growing.{Extends};
 ghost use Rattle.syn_build.specs.Covering.{AllThere, IsCover, IsFit, IsMatch, IsOrMatch};
-ghost use Rattle.syn_build.specs.Naming.{HasOwnSources, in_order, IsNamed};
+ghost use Rattle.syn_graph.specs.Graphs.{HasOwnSources};
+ghost use Rattle.syn_build.specs.Naming.{in_order, IsNamed};
 
 use std::alloc::{AllocError, Global};
 use syn_netlist::{NetFault, Netlist, Table, Word};
@@ -26,8 +27,8 @@ use syn_strash::{FALSE, Hashed, TRUE};
 /// Rows with a literal for each observed signal.
 #[derive(Debug, Drop)]
 pub struct Built {
-    /// The row of each node: node 0, the sources, then ANDs, each made once.
-    pub rows: Vec<Row>,
+    /// The rows: node 0, the sources, then ANDs, each made once.
+    pub hashed: Hashed,
     /// The literals of the observed signals, in their order.
     pub observed: Vec<Lit>,
 }
@@ -50,12 +51,12 @@ fn making_order(alloc: Global, netlist: &Netlist) -> Result<Vec<u32>, AllocError
 pub fn build_tables(alloc: Global, netlist: &Netlist) -> Result<Built, AllocError>
     requires checked { IsChecked (netlist_in netlist.now) }
     requires room { length (sources (frame_in netlist.now.frame)) + cost_of (netlist_in netlist.now) + 1 < 2 ^ 29 }
-    ensures hashed { IfOk result (λ b. IsHashed (length (sources (frame_in netlist.now.frame))) b.rows.items) }
-    ensures few { IfOk result (λ b. length b.rows.items ≤ length (sources (frame_in netlist.now.frame)) + 1 + cost_of (netlist_in netlist.now)) }
+    ensures sources { IfOk result (λ b. b.hashed.source_count ≡ length (sources (frame_in netlist.now.frame))) }
+    ensures few { IfOk result (λ b. length b.hashed.rows.items ≤ length (sources (frame_in netlist.now.frame)) + 1 + cost_of (netlist_in netlist.now)) }
     ensures count { IfOk result (λ b. length b.observed.items ≡ length (observed (frame_in netlist.now.frame))) }
-    ensures within { IfOk result (λ b. AllThere b.rows.items b.observed.items) }
+    ensures within { IfOk result (λ b. AllThere b.hashed.rows.items b.observed.items) }
     ensures own { IfOk result (λ b. HasOwnSources (frame_in netlist.now.frame) b.observed.items) }
-    ensures function { IfOk result (λ b. HasFunction (netlist_in netlist.now) (rows_function b.rows.items b.observed.items)) }
+    ensures function { IfOk result (λ b. HasFunction (netlist_in netlist.now) (rows_function b.hashed.rows.items b.observed.items)) }
 {
     syn_netlist::ordered_has_one();
     syn_netlist::order_keeps_function();
@@ -71,10 +72,7 @@ pub fn build_tables(alloc: Global, netlist: &Netlist) -> Result<Built, AllocErro
     )?;
     let signals = netlist.frame.observed(alloc)?;
     let observed = literals_of(alloc, literals.as_slice(), signals.as_slice())?;
-    Ok(Built {
-        rows: hashed.into_rows(),
-        observed,
-    })
+    Ok(Built { hashed, observed })
 }
 
 // The literals of all names that are defined, over rows that have the sources alone.

@@ -1,5 +1,6 @@
-mod Dropped
 mod Bucketing
+mod Dropped
+mod Graphing
 mod Kept
 pub mod Joining
 pub mod Rising

@@ -2,6 +2,7 @@
 #![tactic(auto)]
 
 mod compaction;
+mod finishing;
 mod pairs;
 mod strash;
 mod visit;

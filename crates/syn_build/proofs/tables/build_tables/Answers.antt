@@ -16,9 +16,8 @@ pub returns-clause-within : goal.returns-clause-within
 returns-clause-within c =
     let is : c.in_ok-observed.observed.items ≡ map (lit_at c.in_ok-literals.literals.items) c.in_ok-signals.signals.items =
     c.in_ok-observed.ensures ∙ ap (λ (ls : List Lit). map (lit_at ls) c.as_slice-4.result.now) c.as_slice-3.ensures.value ∙ ap (map (lit_at c.in_ok-literals.literals.items)) c.as_slice-4.ensures.value in
-    subst (λ (rs : List Row). AllThere rs c.in_ok-observed.observed.items) (sym c.into_rows.ensures)
-    (observed_there (in_order (netlist_in c.args.netlist.now) c.as_slice.result.now) c.args.netlist.now.frame.names (defined (in_order (netlist_in c.args.netlist.now) c.as_slice.result.now)) c.in_ok-signals.signals.items c.named_literals.new.hashed.rows.items c.in_ok-literals.literals.items c.in_ok-observed.observed.items
-    c.in_ok-literals.ensures.named c.in_ok-signals.ensures.below is)
+    observed_there (in_order (netlist_in c.args.netlist.now) c.as_slice.result.now) c.args.netlist.now.frame.names (defined (in_order (netlist_in c.args.netlist.now) c.as_slice.result.now)) c.in_ok-signals.signals.items c.named_literals.new.hashed.rows.items c.in_ok-literals.literals.items c.in_ok-observed.observed.items
+    c.in_ok-literals.ensures.named c.in_ok-signals.ensures.below is
 
 pub returns-clause-own : goal.returns-clause-own
 returns-clause-own c =
@@ -31,6 +30,5 @@ pub returns-clause-function : goal.returns-clause-function
 returns-clause-function c =
     let is : c.in_ok-observed.observed.items ≡ map (lit_at c.in_ok-literals.literals.items) c.in_ok-signals.signals.items =
     c.in_ok-observed.ensures ∙ ap (λ (ls : List Lit). map (lit_at ls) c.as_slice-4.result.now) c.as_slice-3.ensures.value ∙ ap (map (lit_at c.in_ok-literals.literals.items)) c.as_slice-4.ensures.value in
-    subst (λ (rs : List Row). HasFunction (netlist_in c.args.netlist.now) (rows_function rs c.in_ok-observed.observed.items)) (sym c.into_rows.ensures)
-    (observed_function (netlist_in c.args.netlist.now) c.as_slice.result.now c.args.netlist.now.frame.names c.in_ok-signals.signals.items c.named_literals.new.hashed.rows.items c.in_ok-literals.literals.items c.in_ok-observed.observed.items
-    c.ordered_has_one.ensures c.order_keeps_function.ensures (subst (PutsInOrder (netlist_in c.args.netlist.now)) (sym c.as_slice.ensures.value) c.in_ok-order.ensures) c.in_ok-literals.ensures.named c.in_ok-signals.ensures.words c.in_ok-signals.ensures.below is)
+    observed_function (netlist_in c.args.netlist.now) c.as_slice.result.now c.args.netlist.now.frame.names c.in_ok-signals.signals.items c.named_literals.new.hashed.rows.items c.in_ok-literals.literals.items c.in_ok-observed.observed.items
+    c.ordered_has_one.ensures c.order_keeps_function.ensures (subst (PutsInOrder (netlist_in c.args.netlist.now)) (sym c.as_slice.ensures.value) c.in_ok-order.ensures) c.in_ok-literals.ensures.named c.in_ok-signals.ensures.words c.in_ok-signals.ensures.below is
