@@ -3,3 +3,4 @@ mod Kept
 pub mod Joining
 pub mod Rising
 mod Visits
+pub mod LevelLaws

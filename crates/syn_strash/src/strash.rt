@@ -1,11 +1,11 @@
 //! Rows under construction, in which no pair of literals stands twice.
 
-ghost use Rattle.std.specs.Prelude.{◌≡◌, ◌≢◌, ℕ, ◌+◌, ◌*◌, ◌^◌, ◌<◌, ◌≤◌, ◌++◌, ◌∷◌, [], ◌&&◌, Bool, false, true, max, length, replicate, IfNone, IfOk, IfSome, OnErr, OnOk};
+ghost use Rattle.std.specs.Prelude.{◌≡◌, ◌≢◌, ℕ, ◌+◌, ◌*◌, ◌^◌, ◌<◌, ◌≤◌, ◌++◌, ◌∷◌, [], ◌&&◌, ◌⊎◌, Bool, false, true, max, length, replicate, IfNone, IfOk, IfSome, OnErr, OnOk};
 ghost use Rattle.syn_rows.specs.declared.Row.{Row};
 ghost use Rattle.syn_rows.specs.Rows.{node_of, row_at};
 ghost use Rattle.syn_rows.specs.Values.{lit_value};
 ghost use Rattle.syn_shapes.specs.Graphs.{is_gate, IsHashed};
-ghost use Rattle.syn_strash.specs.Growing.{Extends, IsAnd, IsOr, KeepsValues};
+ghost use Rattle.syn_strash.specs.Growing.{Extends, IsAnd, IsJoin, IsOr, KeepsValues};
 
 use std::alloc::{AllocError, Global};
 use syn_rows::{Lit, Row};
@@ -49,6 +49,7 @@ impl Hashed {
         ensures constant { b.0 < 2 → length self.new.rows.items ≡ length self.old.rows.items }
         ensures there { IfOk result (λ l. node_of l < length self.new.rows.items) }
         ensures value { IfOk result (λ l. IsAnd self.old.rows.items a b self.new.rows.items l) }
+        ensures joined { IfOk result (λ l. IsJoin self.new.rows.items a b l) }
         ensures err { OnErr result (self.new.rows.items ≡ self.old.rows.items) }
     {
         match simple_and(a, b) {
@@ -85,6 +86,7 @@ impl Hashed {
         ensures few { length self.new.rows.items ≤ length self.old.rows.items + 1 }
         ensures there { IfOk result (λ l. node_of l < length self.new.rows.items) }
         ensures value { IfOk result (λ l. IsAnd self.old.rows.items first second self.new.rows.items l) }
+        ensures row { IfOk result (λ l. row_at self.new.rows.items (node_of l) ≡ Row.And first second) }
         ensures err { OnErr result (self.new.rows.items ≡ self.old.rows.items) }
     {
         match find_and(self.rows.as_slice(), first, second) {
@@ -110,6 +112,7 @@ fn source_rows(alloc: Global, source_count: usize) -> Result<Vec<Row>, AllocErro
 fn simple_and(a: Lit, b: Lit) -> Option<Lit>
     ensures value { IfSome result (λ l. (v : ℕ → Bool) → v 0 ≡ false → lit_value v l ≡ (lit_value v a && lit_value v b)) }
     ensures node { IfSome result (λ l. node_of l ≤ max (node_of a) (node_of b)) }
+    ensures which { IfSome result (λ l. (l ≡ a) ⊎ ((l ≡ b) ⊎ (l.0 ≡ 0))) }
     ensures none { IfNone result ((2 ≤ a.0) × (2 ≤ b.0) × (node_of a ≢ node_of b)) }
 {
     if a == b || b == TRUE {
