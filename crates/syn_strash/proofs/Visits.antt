@@ -10,7 +10,7 @@ use Rattle.syn_rows.specs.Rows.{node_of, row_at}
 use Rattle.syn_rows.specs.Values.{lit_value, value_in, values_of}
 use Rattle.syn_shapes.specs.Graphs.{IsHashed}
 use Rattle.syn_rows.specs.Levels.{level_in, levels_of}
-use Rattle.std.proofs.Common.{max}
+use Rattle.std.proofs.Common.{max, ◌^◌}
 use Rattle.syn_strash.specs.Growing.{value_by, level_by, Extends, KeepsValues, IsAnd, IsJoin}
 use Rattle.syn_strash.proofs.LevelLaws.{level_kept, source_level, gate_level, join_level}
 use Rattle.syn_strash.specs.Visiting.{visited, with_sign, literal_of, both, fan_ins_of, unvisited, IsVisit, FirstsOf, StaysVisited, AllVisited, IsRebuilt}
@@ -156,6 +156,12 @@ visit_more count rows literals new more n a b x y l hashed visit lt none is fa f
       where
         clash : Some z ≡ None → ⊥
         clash h = cc
+
+-- a node that was not visited leaves room for its row
+pub room_left : (count : ℕ) (rows : List Row) (literals : List (Option Lit)) (new : List Row) (n : ℕ) → IsVisit count rows literals new → n < length rows → visited literals n ≡ None → length rows < 2 ^ 29 → length new + 1 < 2 ^ 29
+room_left count rows literals new n visit lt none few =
+    let inside : n < length literals = omega (arith, visit.all) in
+    omega (arith, sum_by-set unvisited literals n (Some (record { 0 = 0 })) None inside, ap unvisited none, visit.few)
 
 pub stays_more : (literals : List (Option Lit)) (n : ℕ) (l : Lit) → visited literals n ≡ None → StaysVisited literals (set literals n (Some l))
 stays_more literals n l none m k e = elim (cases_eq m n) [

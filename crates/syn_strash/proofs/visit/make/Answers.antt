@@ -2,9 +2,14 @@ use Rattle.std.proofs.Common.{ℕ, sym, subst, arith}
 use Rattle.syn_shapes.specs.Graphs.{IsHashed}
 use Rattle.syn_rows.specs.Rows.{row_at}
 use Rattle.syn_strash.specs.Visiting.{visited}
-use Rattle.syn_strash.proofs.Visits.{visit_more, row_parts, none_where}
+use Rattle.syn_strash.proofs.Visits.{visit_more, room_left, row_parts, none_where}
 use Rattle.syn_strash.proofs.Rising.{extends_longer}
 use Rattle.syn_strash.proofs.visit.make.Goals as goal
+
+pub and-requires-clause-room : goal.and-requires-clause-room
+and-requires-clause-room c =
+    room_left c.args.hashed.now.source_count c.args.rows.now c.args.literals.now c.args.hashed.now.rows.items c.args.node c.requires.visit (omega arith)
+    (none_where (visited c.args.literals.now c.args.node) c.is_some.result c.is_some.ensures c.if-is_some.false) c.requires.room
 
 pub returns-in_ok-literal-clause-visit : goal.returns-in_ok-literal-clause-visit
 returns-in_ok-literal-clause-visit c =
