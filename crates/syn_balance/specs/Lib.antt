@@ -1,0 +1,5 @@
+pub mod Balanced
+pub mod Roots
+pub mod Leaves
+pub mod Balancing
+pub mod Joining
