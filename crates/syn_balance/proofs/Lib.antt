@@ -1,3 +1,5 @@
 pub mod Powers
 pub mod Standing
 pub mod Steps
+pub mod LevelLists
+pub mod Joins

@@ -3,3 +3,4 @@ pub mod Roots
 pub mod Leaves
 pub mod Balancing
 pub mod Joining
+pub mod Heaps

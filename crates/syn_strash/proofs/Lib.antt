@@ -1,4 +1,4 @@
-mod Dropped
+pub mod Dropped
 mod Kept
 pub mod Joining
 pub mod Rising
