@@ -3,3 +3,5 @@ pub mod Standing
 pub mod Steps
 pub mod LevelLists
 pub mod Joins
+pub mod Marking
+pub mod Gathering

@@ -1,5 +1,5 @@
 -- Leaves: literals of the new rows whose AND stands for a literal of the old ones.
-use Rattle.std.specs.Prelude.{◌≡◌, ℕ, ◌*◌, ◌^◌, ◌<◌, ◌≤◌, ◌-◌, Bool, false, All, List, [], ◌∷◌, length, set, slice_index_or, Option, Some, None}
+use Rattle.std.specs.Prelude.{◌≡◌, ℕ, ◌*◌, ◌^◌, ◌<◌, ◌≤◌, ◌-◌, ◌⊎◌, Bool, false, All, List, [], ◌∷◌, ◌++◌, length, set, slice_index_or, Option, Some, None}
 use Rattle.std.specs.List.{list_all, sum_by}
 use Rattle.syn_rows.specs.declared.Lit.{Lit}
 use Rattle.syn_rows.specs.declared.Row.{Row}
@@ -45,3 +45,8 @@ left_by literals waiting lit = left_where (literal_of literals lit) waiting (nod
 -- how many ANDs join so many leaves
 abbrev pub joins_of : List Lit → ℕ
 joins_of leaves = length leaves - 1
+
+-- the leaves of both fan-ins, taken one after the other
+pub record TakesBoth (literals : List (Option Lit)) (waiting : List (List Lit)) (a b : Lit) (leaves : List Lit) (left : List (List Lit)) : Type 0 where
+  pub joined : (leaves ≡ leaves_of literals waiting a ++ leaves_of literals (left_by literals waiting a) b) ⊎ (leaves ≡ leaves_of literals (left_by literals waiting a) b ++ leaves_of literals waiting a)
+  pub others : left ≡ left_by literals (left_by literals waiting a) b
