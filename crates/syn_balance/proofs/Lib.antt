@@ -5,3 +5,4 @@ pub mod LevelLists
 pub mod Joins
 pub mod Marking
 pub mod Gathering
+pub mod Ends

@@ -1,10 +1,11 @@
 //! Nodes are balanced one after the other.
 
-ghost use Rattle.std.specs.Prelude.{◌≡◌, ℕ, ◌+◌, ◌++◌, ◌<◌, ◌≤◌, ◌^◌, ◌⊎◌, ◌∷◌, [], All, IfOk, List, OnOk, Option, Some, length, replicate, set, true};
+ghost use Rattle.std.specs.Prelude.{◌≡◌, ℕ, ◌+◌, ◌++◌, ◌<◌, ◌≤◌, ◌^◌, ◌⊎◌, ◌∷◌, [], All, IfOk, List, IsSome, OnOk, Option, Some, length, map, replicate, set, true};
+ghost use Rattle.syn_rows.specs.declared.Lit.{Lit};
 ghost use Rattle.syn_rows.specs.Levels.{levels_of};
 ghost use Rattle.syn_rows.specs.Rows.{node_of, row_at};
 ghost use Rattle.syn_shapes.specs.Graphs.{IsHashed};
-ghost use Rattle.syn_strash.specs.Visiting.{literal_of};
+ghost use Rattle.syn_strash.specs.Visiting.{first_literal, FirstsOf, literal_of};
 ghost use Rattle.syn_balance.specs.Balancing.{IsBalancing};
 ghost use Rattle.syn_balance.specs.Leaves.{leaves_of, left_by, TakesBoth, waiting_at};
 ghost use Rattle.syn_balance.specs.Roots.{HasRoots};
@@ -89,4 +90,119 @@ fn take_both(
     let first = take_leaves(alloc, literals, waiting, a)?;
     let second = take_leaves(alloc, literals, waiting, b)?;
     concatenated(first, second)
+}
+
+// Balances a node: its leaves are joined where it keeps a node of its own, and wait otherwise.
+fn balance_node(
+    alloc: Global,
+    hashed: &mut Hashed,
+    levels: &mut Vec<u32>,
+    literals: &mut [Option<Lit>],
+    waiting: &mut [Items<Lit>],
+    rows: &[Row],
+    roots: &[bool],
+    node: usize,
+) -> Result<(), AllocError>
+    requires hashed { IsHashed hashed.old.source_count rows.now }
+    requires few { length rows.now < 2 ^ 29 }
+    requires roots { (lits : List Lit) × HasRoots rows.now lits roots.now }
+    requires above { hashed.old.source_count < node }
+    requires inside { node < length rows.now }
+    requires levels { levels.old.items ≡ levels_of hashed.old.rows.items }
+    requires balancing { IsBalancing hashed.old.source_count rows.now roots.now node literals.old waiting.old hashed.old.rows.items }
+    ensures sources { hashed.new.source_count ≡ hashed.old.source_count }
+    ensures levels { OnOk result (levels.new.items ≡ levels_of hashed.new.rows.items) }
+    ensures balancing { OnOk result (IsBalancing hashed.old.source_count rows.now roots.now (node + 1) literals.new waiting.new hashed.new.rows.items) }
+{
+    let Row::And(a, b) = rows[node] else {
+        unreachable()
+    };
+    let leaves = take_both(alloc, literals, waiting, a, b)?;
+    if roots[node] {
+        let literal = join(alloc, hashed, levels, leaves.as_slice())?;
+        literals[node] = Some(literal);
+    } else {
+        waiting[node] = Items::of(leaves);
+    }
+    Ok(())
+}
+
+// Balances all nodes that are no sources, in their order.
+fn balance_nodes(
+    alloc: Global,
+    hashed: &mut Hashed,
+    levels: &mut Vec<u32>,
+    literals: &mut [Option<Lit>],
+    waiting: &mut [Items<Lit>],
+    rows: &[Row],
+    roots: &[bool],
+) -> Result<(), AllocError>
+    requires hashed { IsHashed hashed.old.source_count rows.now }
+    requires few { length rows.now < 2 ^ 29 }
+    requires roots { (lits : List Lit) × HasRoots rows.now lits roots.now }
+    requires levels { levels.old.items ≡ levels_of hashed.old.rows.items }
+    requires begun { IsBalancing hashed.old.source_count rows.now roots.now (hashed.old.source_count + 1) literals.old waiting.old hashed.old.rows.items }
+    ensures sources { hashed.new.source_count ≡ hashed.old.source_count }
+    ensures balanced { OnOk result (IsBalancing hashed.old.source_count rows.now roots.now (length rows.now) literals.new waiting.new hashed.new.rows.items) }
+{
+    for node in hashed.source_count + 1..rows.len() {
+        balance_node(alloc, hashed, levels, literals, waiting, rows, roots, node)?;
+    }
+    Ok(())
+}
+
+// The literal of a node before any AND is balanced.
+fn own_literal(source_count: usize, node: u32) -> Option<Lit>
+    requires { node < 2 ^ 31 }
+    ensures { result ≡ first_literal source_count node }
+{
+    if node as usize <= source_count {
+        Some(Lit::of(node, false))
+    } else {
+        None
+    }
+}
+
+// The literals of all nodes before any AND is balanced.
+fn own_literals(
+    alloc: Global,
+    source_count: usize,
+    count: usize,
+) -> Result<Vec<Option<Lit>>, AllocError>
+    requires few { count < 2 ^ 31 }
+    requires sources { source_count < count }
+    ensures { IfOk result (λ literals. FirstsOf source_count count literals.items) }
+{
+    let mut literals = Vec::new(alloc);
+    for node in 0..count {
+        literals.push(own_literal(source_count, node as u32))?;
+    }
+    Ok(literals)
+}
+
+// No leaves at each of so many nodes.
+fn nothing_waiting(alloc: Global, count: usize) -> Result<Vec<Items<Lit>>, AllocError>
+    ensures { IfOk result (λ waiting. waiting.items ≡ replicate count []) }
+{
+    let mut waiting = Vec::new(alloc);
+    for _ in 0..count {
+        waiting.push(Items::of(Vec::new(alloc)))?;
+    }
+    Ok(waiting)
+}
+
+// The literals that stand for the observed ones.
+fn literals_of(
+    alloc: Global,
+    literals: &[Option<Lit>],
+    observed: &[Lit],
+) -> Result<Vec<Lit>, AllocError>
+    requires { All (λ l. IsSome (literal_of literals.now l)) observed.now }
+    ensures { IfOk result (λ found. map (λ l. Some l) found.items ≡ map (literal_of literals.now) observed.now) }
+{
+    let mut found = Vec::new(alloc);
+    for lit in observed {
+        found.push(literal_of(literals, *lit).unwrap())?;
+    }
+    Ok(found)
 }
