@@ -12,6 +12,10 @@ use Rattle.std.specs.List.{list_all}
 use Rattle.syn_rows.specs.Values.{lit_value, RowFits, Fits, is_open, HasGiven, given_by, value_in, values_of, rows_function, OneValuation}
 use Rattle.syn_rows.specs.Reach.{HasObserved, IsClosed, Reached, IsReachedSet}
 use Rattle.syn_shapes.specs.Graphs.{is_gate, IsHashed, lit_at}
+use Rattle.std.proofs.Common.{max}
+use Rattle.syn_rows.specs.Levels.{level_in, levels_of}
+use Rattle.syn_strash.specs.Growing.{level_by}
+use Rattle.syn_strash.proofs.LevelLaws.{source_level, gate_level}
 use Rattle.syn_strash.specs.Compacting.{is_kept, kept_below, moved_lit, moved_row, kept_rows, kept_lits, IsCompaction}
 use Rattle.syn_strash.proofs.Kept.{below_kept_rises, below_rises, below_le, kept_apart, kept_onto, front_kept, front_stays, length-kept, kept_at, kept_there}
 
@@ -207,6 +211,32 @@ values_stay count rows keep hashed keeping given v w fv gv fw gw (suc k) n lt in
       new ∙ ap₂ (λ x y. x && y) first second ∙ sym old
 ]
 
+-- levels
+
+moved_level : (keep : ℕ → Bool) (rows : List Row) (l : Lit) → level_in (levels_of (kept_rows keep rows)) (kept_below keep (node_of l)) ≡ level_in (levels_of rows) (node_of l)
+    → level_by (kept_rows keep rows) (moved_lit (kept_below keep) l) ≡ level_by rows l
+moved_level keep rows l e =
+    let node : node_of (moved_lit (kept_below keep) l) ≡ kept_below keep (node_of l) = omega arith in
+    ap (level_in (levels_of (kept_rows keep rows))) node ∙ e
+
+levels_stay : (count : ℕ) (rows : List Row) (keep : ℕ → Bool) → IsHashed count rows → IsKeeping count rows keep → (k n : ℕ) → n < k → n < length rows → keep n ≡ true
+    → level_in (levels_of (kept_rows keep rows)) (kept_below keep n) ≡ level_in (levels_of rows) n
+levels_stay count rows keep hashed keeping zero n lt inside kept = absurd (omega arith)
+levels_stay count rows keep hashed keeping (suc k) n lt inside kept = elim (cases_lt n (count + 1)) [
+  | inl front ↦
+      let at = keeping.stays n (omega arith) in
+      ap (level_in (levels_of (kept_rows keep rows))) at ∙ source_level count (kept_rows keep rows) (kept_hashed count rows keep hashed keeping) n front ∙ sym (source_level count rows hashed n front)
+  | inr above ↦
+      let (a, b, is, gate) = gate_is_and n (row_at rows n) (hashed.gates n (omega arith) inside) in
+      let refs = kept_refs keep (row_at rows n) a b is (keeping.closed n kept) in
+      let row : row_at (kept_rows keep rows) (kept_below keep n) ≡ And (moved_lit (kept_below keep) a) (moved_lit (kept_below keep) b) = kept_at keep rows n inside kept ∙ ap (moved_row (kept_below keep)) is in
+      let small : node_of a < n = omega (arith, gate.rising, gate.below) in
+      let first = moved_level keep rows a (levels_stay count rows keep hashed keeping k (node_of a) (omega arith) (omega arith) refs.0) in
+      let second = moved_level keep rows b (levels_stay count rows keep hashed keeping k (node_of b) (omega (arith, gate.below)) (omega (arith, gate.below)) refs.1) in
+      gate_level count (kept_rows keep rows) (kept_hashed count rows keep hashed keeping) (kept_below keep n) (moved_lit (kept_below keep) a) (moved_lit (kept_below keep) b) row
+      ∙ ap₂ (λ (x : ℕ) (y : ℕ). max x y + 1) first second ∙ sym (gate_level count rows hashed n a b is)
+]
+
 -- reach
 
 reach_stays : (count : ℕ) (rows : List Row) (lits : List Lit) (set : ℕ → Bool) → IsHashed count rows → IsReachedSet rows lits set → (keeping : IsKeeping count rows (is_kept count set))
@@ -284,6 +314,12 @@ compaction one_valuation count rows lits set hashed inside reached = record {
   reached = reach_stays count rows lits set hashed reached keeping;
   fewer = omega (arith, length-kept keep rows, below_le keep (length rows));
   same_function = function;
+  levels = λ i lt.
+      let moved : lit_at (kept_lits keep lits) i ≡ moved_lit (kept_below keep) (lit_at lits i) = get_or-map (moved_lit (kept_below keep)) lits i (record { 0 = 0 }) (record { 0 = 0 }) lt in
+      let there = inside i (record { 0 = 0 }) lt in
+      let same : level_by new_rows (lit_at (kept_lits keep lits) i) ≡ level_by rows (lit_at lits i) =
+      ap (level_by new_rows) moved ∙ moved_level keep rows (lit_at lits i) (levels_stay count rows keep hashed keeping (suc (node_of (lit_at lits i))) (node_of (lit_at lits i)) (omega arith) there (kept i (record { 0 = 0 }) lt)) in
+      omega (arith, same);
   sources_stay = λ i l lt front e.
       let moved : get_or (kept_lits keep lits) i (record { 0 = 0 }) ≡ moved_lit (kept_below keep) (lit_at lits i) = get_or-map (moved_lit (kept_below keep)) lits i (record { 0 = 0 }) (record { 0 = 0 }) lt in
       moved ∙ ap (moved_lit (kept_below keep)) e ∙ lit_stays (kept_below keep) l (keeping.stays (node_of l) (omega arith));

@@ -9,7 +9,10 @@ use Rattle.syn_rows.specs.declared.Row.TheVariants.{Free, Source, And, Alias}
 use Rattle.syn_rows.specs.Rows.{node_of, row_at}
 use Rattle.syn_rows.specs.Values.{lit_value, value_in, values_of}
 use Rattle.syn_shapes.specs.Graphs.{IsHashed}
-use Rattle.syn_strash.specs.Growing.{value_by, KeepsValues, IsAnd}
+use Rattle.syn_rows.specs.Levels.{level_in, levels_of}
+use Rattle.std.proofs.Common.{max, ◌^◌}
+use Rattle.syn_strash.specs.Growing.{value_by, level_by, Extends, KeepsValues, IsAnd, IsJoin}
+use Rattle.syn_strash.proofs.LevelLaws.{level_kept, source_level, gate_level, join_level}
 use Rattle.syn_strash.specs.Visiting.{visited, with_sign, literal_of, both, fan_ins_of, unvisited, IsVisit, FirstsOf, StaysVisited, AllVisited, IsRebuilt}
 use Rattle.syn_strash.specs.Compacting.{IsCompaction}
 use Rattle.syn_rows.specs.Values.{given_by}
@@ -70,6 +73,7 @@ sign_parts lit (Some l) x e = (l, refl, e)
 -- it has the literal's value, and its node is there
 pub record StandsFor (rows new : List Row) (lit x : Lit) : Type 0 where
   pub there : node_of x < length new
+  pub level : level_by new x ≤ level_by rows lit
   pub value : (given : ℕ → Bool) → given 0 ≡ false → value_by given new x ≡ value_by given rows lit
 
 pub stands_for : (count : ℕ) (rows : List Row) (literals : List (Option Lit)) (new : List Row) → IsVisit count rows literals new → (lit x : Lit) → literal_of literals lit ≡ Some x → StandsFor rows new lit x
@@ -79,6 +83,7 @@ stands_for count rows literals new visit lit x e =
     let inside = visit.there (node_of lit) l at in
     record {
       there = omega (arith, node, inside);
+      level = (let same : level_by new x ≡ level_by new l = ap (level_in (levels_of new)) node in let low = visit.levels (node_of lit) l at in omega (arith, same, low));
       value = λ given at_0. signed_value (value_in (values_of given new)) lit l x (value_in (values_of given rows) (node_of lit)) signed refl (visit.values (node_of lit) l at given at_0);
     }
 
@@ -94,8 +99,8 @@ both_parts (Some a) (Some b) x y e = let pair : (a, b) ≡ (x, y) = first_of_som
 
 pub visit_more : (count : ℕ) (rows : List Row) (literals : List (Option Lit)) (new more : List Row) (n : ℕ) (a b x y l : Lit) → IsHashed count rows → IsVisit count rows literals new → n < length rows
     → visited literals n ≡ None → row_at rows n ≡ And a b → literal_of literals a ≡ Some x → literal_of literals b ≡ Some y
-    → KeepsValues new more → length new ≤ length more → length more ≤ length new + 1 → node_of l < length more → IsAnd new x y more l → IsVisit count rows (set literals n (Some l)) more
-visit_more count rows literals new more n a b x y l hashed visit lt none is fa fb keeps longer few there joined = record {
+    → IsHashed count more → Extends new more → KeepsValues new more → length new ≤ length more → length more ≤ length new + 1 → node_of l < length more → IsAnd new x y more l → IsJoin more x y l → IsVisit count rows (set literals n (Some l)) more
+visit_more count rows literals new more n a b x y l hashed visit lt none is fa fb made grown keeps longer few there joined join = record {
   all = length-set literals n (Some l) ∙ visit.all;
   there = λ m k e. elim (cases_eq m n) [
     | inl same ↦ let at : l ≡ k = some_same l k (sym (here m same) ∙ e) in subst (λ (z : Lit). node_of z < length more) at there
@@ -109,6 +114,20 @@ visit_more count rows literals new more n a b x y l hashed visit lt none is fa f
     | inr other ↦
         let old = sym (get_or-set_other literals n m (Some l) None other) ∙ e in
         keeps given k (visit.there m k old) ∙ visit.values m k old given at_0
+  ];
+  levels = λ m k e. elim (cases_eq m n) [
+    | inl same ↦
+        let at : l ≡ k = some_same l k (sym (here m same) ∙ e) in
+        let mine : level_by more k ≡ level_by more l = ap (level_by more) (sym at) in
+        let high = join_level count more made x y l join in
+        let left : level_by more x ≡ level_by new x = level_kept new more grown (node_of x) first.there in
+        let right : level_by more y ≡ level_by new y = level_kept new more grown (node_of y) second.there in
+        let below : level_in (levels_of rows) m ≡ max (level_by rows a) (level_by rows b) + 1 = ap (level_in (levels_of rows)) same ∙ gate_level count rows hashed n a b is in
+        omega (arith, mine, high, left, right, below, first.level, second.level)
+    | inr other ↦
+        let old = sym (get_or-set_other literals n m (Some l) None other) ∙ e in
+        let kept : level_by more k ≡ level_by new k = level_kept new more grown (node_of k) (visit.there m k old) in
+        omega (arith, kept, visit.levels m k old)
   ];
   front = λ m low. elim (cases_eq m n) [
     | inl same ↦ absurd (none_front m same (visit.front m low))
@@ -138,6 +157,12 @@ visit_more count rows literals new more n a b x y l hashed visit lt none is fa f
         clash : Some z ≡ None → ⊥
         clash h = cc
 
+-- a node that was not visited leaves room for its row
+pub room_left : (count : ℕ) (rows : List Row) (literals : List (Option Lit)) (new : List Row) (n : ℕ) → IsVisit count rows literals new → n < length rows → visited literals n ≡ None → length rows < 2 ^ 29 → length new + 1 < 2 ^ 29
+room_left count rows literals new n visit lt none few =
+    let inside : n < length literals = omega (arith, visit.all) in
+    omega (arith, sum_by-set unvisited literals n (Some (record { 0 = 0 })) None inside, ap unvisited none, visit.few)
+
 pub stays_more : (literals : List (Option Lit)) (n : ℕ) (l : Lit) → visited literals n ≡ None → StaysVisited literals (set literals n (Some l))
 stays_more literals n l none m k e = elim (cases_eq m n) [
   | inl same ↦ absurd (clash k (sym e ∙ (ap (visited literals) same ∙ none)))
@@ -164,6 +189,12 @@ visit_begins count rows literals new hashed made size firsts = record {
       let number : l.0 ≡ 2 * n = at.1 in
       let node : node_of l ≡ n = omega arith in
       plain_value (value_in (values_of given new)) l (omega arith) ∙ ap (value_in (values_of given new)) node ∙ source_value count new made given n at.0 ∙ sym (source_value count rows hashed given n at.0);
+  levels = λ n l e.
+      let at = known n l e in
+      let number : l.0 ≡ 2 * n = at.1 in
+      let node : node_of l ≡ n = omega arith in
+      let zero_there : level_by new l ≡ 0 = ap (level_in (levels_of new)) node ∙ source_level count new made n at.0 in
+      omega (arith, zero_there);
   front = λ n lt. firsts.each n (omega (arith, hashed.there)) ∙ cond-true (nat_le n count) (Some (record { 0 = 2 * n })) None (le-leb n count (omega arith));
   few = omega (arith, firsts.few, size);
 }
@@ -284,6 +315,7 @@ rebuilt count rows lits literals new found hashed visit e = record {
   within = found_there count rows literals new visit found lits e;
   fewer = omega (arith, visit.few);
   same_function = λ bits. found_values count rows literals new visit (given_by bits) refl found lits e;
+  levels = λ i lt. (stands_for count rows literals new visit (lit_at lits i) (lit_at found i) (sym (found_at literals found lits e i lt))).level;
   sources_stay = λ i l lt low at.
       let own : visited literals (node_of l) ≡ Some (record { 0 = 2 * node_of l }) = visit.front (node_of l) low in
       some_same (lit_at found i) l (found_at literals found lits e i lt ∙ ap (literal_of literals) at ∙ ap (with_sign l) own ∙ own_literal l);
@@ -301,6 +333,7 @@ rebuilt_compaction count rows mid new lits mid_lits new_lits r c = record {
   reached = c.reached;
   fewer = omega (arith, c.fewer, r.fewer);
   same_function = λ bits. c.same_function bits ∙ r.same_function bits;
+  levels = λ i lt. (let low = r.levels i lt in let lower = c.levels i (omega (arith, r.same_count)) in omega (arith, low, lower));
   sources_stay = λ i l lt low at. c.sources_stay i l (omega (arith, r.same_count)) low (r.sources_stay i l lt low at);
 }
 

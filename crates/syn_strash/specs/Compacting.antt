@@ -7,6 +7,7 @@ use Rattle.syn_rows.specs.Rows.{node_of}
 use Rattle.syn_rows.specs.Values.{rows_function}
 use Rattle.syn_rows.specs.Reach.{Reached}
 use Rattle.syn_shapes.specs.Graphs.{IsHashed, lit_at}
+use Rattle.syn_strash.specs.Growing.{level_by}
 
 -- node 0 and the sources are kept, and so is each node of the set
 abbrev pub is_kept : ℕ → (ℕ → Bool) → ℕ → Bool
@@ -38,7 +39,7 @@ kept_rows keep rows = kept_from keep 0 rows
 abbrev pub kept_lits : (ℕ → Bool) → List Lit → List Lit
 kept_lits keep lits = map (moved_lit (kept_below keep)) lits
 
--- What compaction gives: hashed rows of which every AND is reached, no more of them than before, and literals that have the same values for all values of the sources. A literal of a source stays.
+-- What compaction gives: hashed rows of which every AND is reached, no more of them than before, and literals that have the same values for all values of the sources and lie no higher. A literal of a source stays.
 pub record IsCompaction (count : ℕ) (rows : List Row) (lits : List Lit) (new_rows : List Row) (new_lits : List Lit) : Type 0 where
   pub hashed : IsHashed count new_rows
   pub same_count : length new_lits ≡ length lits
@@ -46,6 +47,7 @@ pub record IsCompaction (count : ℕ) (rows : List Row) (lits : List Lit) (new_r
   pub reached : (n : ℕ) → count < n → n < length new_rows → Reached new_rows new_lits n
   pub fewer : length new_rows ≤ length rows
   pub same_function : (bits : List Bool) → rows_function new_rows new_lits bits ≡ rows_function rows lits bits
+  pub levels : (i : ℕ) → i < length lits → level_by new_rows (lit_at new_lits i) ≤ level_by rows (lit_at lits i)
   pub sources_stay : (i : ℕ) (l : Lit) → i < length lits → node_of l < count + 1 → lit_at lits i ≡ l → lit_at new_lits i ≡ l
 
 -- the list has the places of its first nodes

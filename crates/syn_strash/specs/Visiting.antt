@@ -7,7 +7,8 @@ use Rattle.syn_rows.specs.declared.Row.TheVariants.{Free, Source, And, Alias}
 use Rattle.syn_rows.specs.Rows.{node_of}
 use Rattle.syn_rows.specs.Values.{value_in, values_of, rows_function}
 use Rattle.syn_shapes.specs.Graphs.{IsHashed, lit_at}
-use Rattle.syn_strash.specs.Growing.{value_by}
+use Rattle.syn_rows.specs.Levels.{level_in, levels_of}
+use Rattle.syn_strash.specs.Growing.{value_by, level_by}
 
 -- the literal that stands for a node, if it was visited
 abbrev pub visited : List (Option Lit) → ℕ → Option Lit
@@ -42,11 +43,12 @@ abbrev pub unvisited : Option Lit → ℕ
 unvisited None = 1
 unvisited (Some l) = 0
 
--- Nodes are visited: each has a literal of the new rows that has the node's value by the old ones for all given values; node 0 and the sources have their own; each new row but these is some visited node's.
+-- Nodes are visited: each has a literal of the new rows that has the node's value by the old ones for all given values and lies no higher; node 0 and the sources have their own; each new row but these is some visited node's.
 pub record IsVisit (count : ℕ) (rows : List Row) (literals : List (Option Lit)) (new : List Row) : Type 0 where
   pub all : length literals ≡ length rows
   pub there : (n : ℕ) (l : Lit) → visited literals n ≡ Some l → node_of l < length new
   pub values : (n : ℕ) (l : Lit) → visited literals n ≡ Some l → (given : ℕ → Bool) → given 0 ≡ false → value_by given new l ≡ value_in (values_of given rows) n
+  pub levels : (n : ℕ) (l : Lit) → visited literals n ≡ Some l → level_by new l ≤ level_in (levels_of rows) n
   pub front : (n : ℕ) → n < count + 1 → visited literals n ≡ Some (record { 0 = 2 * n })
   pub few : length new + sum_by unvisited literals ≤ length rows
 
@@ -64,11 +66,12 @@ pub record FirstsOf (sources count : ℕ) (literals : List (Option Lit)) : Type 
 abbrev pub AllVisited : ℕ → List (Option Lit) → Type 0
 AllVisited count literals = (n : ℕ) → n < count → IsSome (visited literals n)
 
--- Rows and literals made again: hashed rows, no more of them than before, and literals of the same values for all values of the sources. A literal of a source stays.
+-- Rows and literals made again: hashed rows, no more of them than before, and literals of the same values for all values of the sources, none of them higher. A literal of a source stays.
 pub record IsRebuilt (count : ℕ) (rows : List Row) (lits : List Lit) (new_rows : List Row) (new_lits : List Lit) : Type 0 where
   pub hashed : IsHashed count new_rows
   pub same_count : length new_lits ≡ length lits
   pub within : All (λ l. node_of l < length new_rows) new_lits
   pub fewer : length new_rows ≤ length rows
   pub same_function : (bits : List Bool) → rows_function new_rows new_lits bits ≡ rows_function rows lits bits
+  pub levels : (i : ℕ) → i < length lits → level_by new_rows (lit_at new_lits i) ≤ level_by rows (lit_at lits i)
   pub sources_stay : (i : ℕ) (l : Lit) → i < length lits → node_of l < count + 1 → lit_at lits i ≡ l → lit_at new_lits i ≡ l

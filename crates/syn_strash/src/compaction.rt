@@ -143,7 +143,7 @@ pub fn compact(
 ) -> Result<Rows, AllocError>
     requires hashed { IsHashed source_count rows.now }
     requires within { All (λ l. node_of l < length rows.now) observed.now }
-    requires few { length rows.now + 1 < 2 ^ 29 }
+    requires few { length rows.now < 2 ^ 29 }
     ensures { IfOk result (λ r. IsCompaction source_count rows.now observed.now r.rows.items r.observed.items) }
 {
     let ordered = in_visiting_order(alloc, source_count, rows, observed)?;

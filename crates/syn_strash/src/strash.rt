@@ -1,11 +1,11 @@
 //! Rows under construction, in which no pair of literals stands twice.
 
-ghost use Rattle.std.specs.Prelude.{◌≡◌, ◌≢◌, ℕ, ◌+◌, ◌*◌, ◌^◌, ◌<◌, ◌≤◌, ◌++◌, ◌∷◌, [], ◌&&◌, Bool, false, true, max, length, replicate, IfNone, IfOk, IfSome, OnErr, OnOk};
+ghost use Rattle.std.specs.Prelude.{◌≡◌, ◌≢◌, ℕ, ◌+◌, ◌*◌, ◌^◌, ◌<◌, ◌≤◌, ◌++◌, ◌∷◌, [], ◌&&◌, ◌⊎◌, Bool, false, true, max, length, replicate, IfNone, IfOk, IfSome, OnErr, OnOk};
 ghost use Rattle.syn_rows.specs.declared.Row.{Row};
 ghost use Rattle.syn_rows.specs.Rows.{node_of, row_at};
 ghost use Rattle.syn_rows.specs.Values.{lit_value};
 ghost use Rattle.syn_shapes.specs.Graphs.{is_gate, IsHashed};
-ghost use Rattle.syn_strash.specs.Growing.{Extends, IsAnd, IsOr, KeepsValues};
+ghost use Rattle.syn_strash.specs.Growing.{Extends, IsAnd, IsJoin, IsOr, KeepsValues};
 ghost use Rattle.syn_strash.specs.Pairs.{IsIndex, number_at};
 
 use crate::pairs::{find_pair, index_rows, push_pair};
@@ -77,6 +77,7 @@ impl Hashed {
         ensures constant { b.0 < 2 → length self.new.rows.items ≡ length self.old.rows.items }
         ensures there { IfOk result (λ l. node_of l < length self.new.rows.items) }
         ensures value { IfOk result (λ l. IsAnd self.old.rows.items a b self.new.rows.items l) }
+        ensures joined { IfOk result (λ l. IsJoin self.new.rows.items a b l) }
         ensures err { OnErr result (self.new.rows.items ≡ self.old.rows.items) }
     {
         match simple_and(a, b) {
@@ -113,6 +114,7 @@ impl Hashed {
         ensures few { length self.new.rows.items ≤ length self.old.rows.items + 1 }
         ensures there { IfOk result (λ l. node_of l < length self.new.rows.items) }
         ensures value { IfOk result (λ l. IsAnd self.old.rows.items first second self.new.rows.items l) }
+        ensures row { IfOk result (λ l. row_at self.new.rows.items (node_of l) ≡ Row.And first second) }
         ensures err { OnErr result (self.new.rows.items ≡ self.old.rows.items) }
     {
         let rows = self.rows.as_slice();
@@ -154,6 +156,7 @@ fn no_nodes(alloc: Global, count: usize) -> Result<Vec<u32>, AllocError>
 fn simple_and(a: Lit, b: Lit) -> Option<Lit>
     ensures value { IfSome result (λ l. (v : ℕ → Bool) → v 0 ≡ false → lit_value v l ≡ (lit_value v a && lit_value v b)) }
     ensures node { IfSome result (λ l. node_of l ≤ max (node_of a) (node_of b)) }
+    ensures which { IfSome result (λ l. (l ≡ a) ⊎ ((l ≡ b) ⊎ (l.0 ≡ 0))) }
     ensures none { IfNone result ((2 ≤ a.0) × (2 ≤ b.0) × (node_of a ≢ node_of b)) }
 {
     if a == b || b == TRUE {

@@ -22,7 +22,7 @@ pub fn in_visiting_order(
 ) -> Result<Rows, AllocError>
     requires hashed { IsHashed source_count rows.now }
     requires within { All (λ l. node_of l < length rows.now) observed.now }
-    requires few { length rows.now + 1 < 2 ^ 29 }
+    requires few { length rows.now < 2 ^ 29 }
     ensures { IfOk result (λ r. IsRebuilt source_count rows.now observed.now r.rows.items r.observed.items) }
 {
     let order = visiting_order(alloc, rows, observed)?;
@@ -148,7 +148,7 @@ fn make(
 ) -> Result<(), AllocError>
     requires rows { IsHashed hashed.old.source_count rows.now }
     requires visit { IsVisit hashed.old.source_count rows.now literals.old hashed.old.rows.items }
-    requires room { length rows.now + 1 < 2 ^ 29 }
+    requires room { length rows.now < 2 ^ 29 }
     ensures sources { hashed.new.source_count ≡ hashed.old.source_count }
     ensures visit { OnOk result (IsVisit hashed.old.source_count rows.now literals.new hashed.new.rows.items) }
     ensures stays { OnOk result (StaysVisited literals.old literals.new) }
@@ -202,7 +202,7 @@ fn make_listed(
 ) -> Result<(), AllocError>
     requires rows { IsHashed hashed.old.source_count rows.now }
     requires visit { IsVisit hashed.old.source_count rows.now literals.old hashed.old.rows.items }
-    requires room { length rows.now + 1 < 2 ^ 29 }
+    requires room { length rows.now < 2 ^ 29 }
     ensures sources { hashed.new.source_count ≡ hashed.old.source_count }
     ensures visit { OnOk result (IsVisit hashed.old.source_count rows.now literals.new hashed.new.rows.items) }
 {
@@ -220,7 +220,7 @@ fn make_others(
 ) -> Result<(), AllocError>
     requires rows { IsHashed hashed.old.source_count rows.now }
     requires visit { IsVisit hashed.old.source_count rows.now literals.old hashed.old.rows.items }
-    requires room { length rows.now + 1 < 2 ^ 29 }
+    requires room { length rows.now < 2 ^ 29 }
     ensures sources { hashed.new.source_count ≡ hashed.old.source_count }
     ensures visit { OnOk result (IsVisit hashed.old.source_count rows.now literals.new hashed.new.rows.items) }
     ensures all { OnOk result (AllVisited (length rows.now) literals.new) }

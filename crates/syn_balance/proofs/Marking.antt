@@ -1,0 +1,122 @@
+-- Marks of nodes that keep a node of their own.
+use Rattle.std.proofs.Common.{◌≡◌, ◌≢◌, ℕ, zero, suc, ◌+◌, ◌%◌, ◌<◌, ◌≤◌, nat_eq, Bool, true, false, All, List, [], ◌∷◌, length, set, get_or, replicate, refl, sym, ap, ◌∙◌, subst, arith, inl, inr}
+use Rattle.std.proofs.lemmas.Bool.{cases_eq, cases_lt, cases_Bool, cond-false, cond-true, eq-eqb, ne_eqb, both_ways, false_from_ne_true}
+use Rattle.std.proofs.lemmas.List.{get_or-set_same, get_or-set_other, length-set, length-replicate, get_or_default}
+use Rattle.syn_rows.specs.declared.Lit.{Lit}
+use Rattle.syn_rows.specs.declared.Row.{Row}
+use Rattle.syn_rows.specs.declared.Row.TheVariants.{Free, Source, And, Alias}
+use Rattle.syn_rows.specs.Rows.{node_of, row_at}
+use Rattle.syn_rows.specs.References.{hits, refs, sum_below}
+use Rattle.syn_balance.specs.Roots.{mark_at, refs_before, ComplementsMarked, HasRoots, IsCounted, IsRead, ComplementsOf, AreRead}
+
+hits_other : (m n : ℕ) → m ≢ n → hits m n ≡ 0
+hits_other m n ne = cond-false (nat_eq m n) 1 0 (ne_eqb m n ne)
+
+hits_same : (n : ℕ) → hits n n ≡ 1
+hits_same n = cond-true (nat_eq n n) 1 0 (eq-eqb n n refl)
+
+unmarked_before : (marks new : List Bool) (m : ℕ) → (mark_at marks m ≡ true → mark_at new m ≡ true) → mark_at new m ≡ false → mark_at marks m ≡ false
+unmarked_before marks new m kept off = false_from_ne_true (mark_at marks m) (λ t. both_ways (mark_at new m) off (kept t))
+
+-- one fan-in more
+pub count_more : (count : ℕ) (f : ℕ → ℕ) (lit : Lit) (seen marks new_seen new_marks : List Bool) → IsCounted count f seen marks → IsRead lit seen marks new_seen new_marks → node_of lit < count
+    → IsCounted count (λ m. f m + hits m (node_of lit)) new_seen new_marks
+count_more count f lit seen marks new_seen new_marks c r lt = record {
+  all_seen = ap length r.now_seen ∙ (length-set seen (node_of lit) true ∙ c.all_seen);
+  all_marked = r.size ∙ c.all_marked;
+  unseen = λ m off. elim (cases_eq m (node_of lit)) [
+    | inl same ↦ absurd (both_ways (mark_at new_seen m) off (ap (λ (l : List Bool). mark_at l m) r.now_seen ∙ (ap (mark_at (set seen (node_of lit) true)) same ∙ get_or-set_same seen (node_of lit) true false inside)))
+    | inr ne ↦
+        let h = hits_other m (node_of lit) ne in
+        let z = c.unseen m (sym (ap (λ (l : List Bool). mark_at l m) r.now_seen ∙ get_or-set_other seen (node_of lit) m true false ne) ∙ off) in
+        omega (arith, h, z)
+  ];
+  once = λ m off. elim (cases_eq m (node_of lit)) [
+    | inl same ↦
+        let off_there : mark_at new_marks (node_of lit) ≡ false = subst (λ k. mark_at new_marks k ≡ false) same off in
+        let unseen_there = false_from_ne_true (mark_at seen (node_of lit)) (λ t. both_ways (mark_at new_marks (node_of lit)) off_there (r.again t)) in
+        let z = c.unseen (node_of lit) unseen_there in
+        let h = hits_same (node_of lit) in
+        subst (λ k. f k + hits k (node_of lit) ≤ 1) (sym same) (omega (arith, z, h))
+    | inr ne ↦
+        let h = hits_other m (node_of lit) ne in
+        let z = c.once m (unmarked_before marks new_marks m (r.kept m) off) in
+        omega (arith, h, z)
+  ];
+}
+  where
+    inside : node_of lit < length seen
+    inside = let e = c.all_seen in omega (arith, e)
+
+pub count_same : (count : ℕ) (f g : ℕ → ℕ) (seen marks : List Bool) → ((m : ℕ) → f m ≡ g m) → IsCounted count f seen marks → IsCounted count g seen marks
+count_same count f g seen marks same c = record {
+  all_seen = c.all_seen;
+  all_marked = c.all_marked;
+  unseen = λ m off. sym (same m) ∙ c.unseen m off;
+  once = λ m off. (let e = same m in let z = c.once m off in omega (arith, e, z));
+}
+
+pub count_both : (count : ℕ) (f : ℕ → ℕ) (a b : Lit) (seen marks mid_seen mid_marks new_seen new_marks : List Bool) → node_of a < count → node_of b < count → IsRead a seen marks mid_seen mid_marks → IsRead b mid_seen mid_marks new_seen new_marks
+    → IsCounted count f seen marks → IsCounted count (λ m. f m + refs m (And a b)) new_seen new_marks
+count_both count f a b seen marks mid_seen mid_marks new_seen new_marks la lb ra rb c =
+    count_same count (λ m. (f m + hits m (node_of a)) + hits m (node_of b)) (λ m. f m + refs m (And a b)) new_seen new_marks
+    (λ m. (let e : (f m + hits m (node_of a)) + hits m (node_of b) ≡ f m + (hits m (node_of a) + (hits m (node_of b) + 0)) = omega arith in e))
+    (count_more count (λ m. f m + hits m (node_of a)) b mid_seen mid_marks new_seen new_marks (count_more count f a seen marks mid_seen mid_marks c ra la) rb lb)
+
+pub count_one : (count : ℕ) (f : ℕ → ℕ) (a : Lit) (seen marks new_seen new_marks : List Bool) → node_of a < count → IsRead a seen marks new_seen new_marks → IsCounted count f seen marks → IsCounted count (λ m. f m + refs m (Alias a)) new_seen new_marks
+count_one count f a seen marks new_seen new_marks la ra c =
+    count_same count (λ m. f m + hits m (node_of a)) (λ m. f m + refs m (Alias a)) new_seen new_marks (λ m. (let e : f m + hits m (node_of a) ≡ f m + (hits m (node_of a) + 0) = omega arith in e)) (count_more count f a seen marks new_seen new_marks c ra la)
+
+pub count_none : (count : ℕ) (f : ℕ → ℕ) (seen marks : List Bool) → IsCounted count f seen marks → IsCounted count (λ m. f m + 0) seen marks
+count_none count f seen marks c = count_same count f (λ m. f m + 0) seen marks (λ m. (let e : f m ≡ f m + 0 = omega arith in e)) c
+
+-- one row more
+parts_of : (marks : List Bool) (row : Row) (a b : Lit) → row ≡ And a b → ComplementsOf row marks → (a.0 % 2 ≡ 1 → mark_at marks (node_of a) ≡ true) × (b.0 % 2 ≡ 1 → mark_at marks (node_of b) ≡ true)
+parts_of marks row a b e h = subst (λ r. ComplementsOf r marks) e h
+
+pub row_read : (rows : List Row) (n : ℕ) (row : Row) (seen marks new_seen new_marks : List Bool) → AreRead rows n seen marks → row ≡ row_at rows n → ((m : ℕ) → mark_at marks m ≡ true → mark_at new_marks m ≡ true) → ComplementsOf row new_marks
+    → ((f : ℕ → ℕ) → IsCounted (length rows) f seen marks → IsCounted (length rows) (λ m. f m + refs m row) new_seen new_marks) → AreRead rows (suc n) new_seen new_marks
+row_read rows n row seen marks new_seen new_marks s is kept complements counted = record {
+  counted = subst (λ (r : Row). IsCounted (length rows) (λ m. refs_before n rows m + refs m r) new_seen new_marks) is (counted (refs_before n rows) s.counted);
+  complemented = λ k a b lt e. elim (cases_eq k n) [
+    | inl same ↦ parts_of new_marks row a b (is ∙ (ap (row_at rows) (sym same) ∙ e)) complements
+    | inr ne ↦
+        let old = s.complemented k a b (omega arith) e in
+        (λ o. kept (node_of a) (old.0 o), λ o. kept (node_of b) (old.1 o))
+  ];
+}
+
+pub reading_begins : (rows : List Row) (seen marks : List Bool) → seen ≡ replicate (length rows) false → marks ≡ replicate (length rows) false → AreRead rows 0 seen marks
+reading_begins rows seen marks e f = record {
+  counted = record { all_seen = ap length e ∙ length-replicate (length rows) false; all_marked = ap length f ∙ length-replicate (length rows) false; unseen = λ m off. refl; once = λ m off. omega arith };
+  complemented = λ k a b lt is. absurd (omega arith);
+}
+
+pub roots_done : (rows : List Row) (observed : List Lit) (seen marks new_marks : List Bool) → AreRead rows (length rows) seen marks → length new_marks ≡ length marks → ((m : ℕ) → mark_at marks m ≡ true → mark_at new_marks m ≡ true)
+    → All (λ l. mark_at new_marks (node_of l) ≡ true) observed → HasRoots rows observed new_marks
+roots_done rows observed seen marks new_marks s size kept all = record {
+  all = size ∙ s.counted.all_marked;
+  observed = all;
+  shared = λ m off. s.counted.once m (unmarked_before marks new_marks m (kept m) off);
+  complemented = λ k a b lt is. (let old = s.complemented k a b lt is in (λ o. kept (node_of a) (old.0 o), λ o. kept (node_of b) (old.1 o)));
+}
+
+-- marks of observed literals
+pub set_kept : (marks : List Bool) (n m : ℕ) → n < length marks → mark_at marks m ≡ true → mark_at (set marks n true) m ≡ true
+set_kept marks n m lt h = elim (cases_eq m n) [
+  | inl same ↦ ap (mark_at (set marks n true)) same ∙ get_or-set_same marks n true false lt
+  | inr ne ↦ get_or-set_other marks n m true false ne ∙ h
+]
+
+pub set_marks : (marks : List Bool) (n : ℕ) → n < length marks → mark_at (set marks n true) n ≡ true
+set_marks marks n lt = get_or-set_same marks n true false lt
+
+-- the marks of the first literals, one more
+pub marked_more : (observed : List Lit) (marks : List Bool) (i n : ℕ) (e : Lit) → n < length marks → n ≡ node_of (get_or observed i e) → i < length observed
+    → ((k : ℕ) (d : Lit) → k < i → k < length observed → mark_at marks (node_of (get_or observed k d)) ≡ true) → (k : ℕ) (d : Lit) → k < i + 1 → k < length observed → mark_at (set marks n true) (node_of (get_or observed k d)) ≡ true
+marked_more observed marks i n e lt is inside h k d less there = elim (cases_eq k i) [
+  | inl same ↦
+      let at : node_of (get_or observed k d) ≡ n = ap (λ (j : ℕ). node_of (get_or observed j d)) same ∙ (ap node_of (get_or_default observed i d e inside) ∙ sym is) in
+      ap (mark_at (set marks n true)) at ∙ set_marks marks n lt
+  | inr ne ↦ set_kept marks n (node_of (get_or observed k d)) lt (h k d (omega arith) there)
+]

@@ -1,0 +1,30 @@
+use Rattle.std.proofs.Common.{◌≡◌, ◌∙◌, ◌<◌, ℕ, List, map, length, sym, ap, subst, arith, rules}
+use Rattle.std.specs.List.Sorted.{IsPermutation}
+use Rattle.std.proofs.lemmas.List.{length-map}
+use Rattle.std.specs.BinaryHeap.{heap_items}
+use Rattle.std.specs.declared.cmp.Reverse.{Reverse}
+use Rattle.syn_rows.specs.declared.Lit.{Lit}
+use Rattle.syn_rows.specs.Levels.{levels_of}
+use Rattle.syn_strash.proofs.LevelLaws.{length-levels}
+use Rattle.syn_balance.specs.Heaps.{leaf}
+use Rattle.syn_balance.proofs.Joins.{heap_begins, last_leaf}
+use Rattle.syn_balance.proofs.joining.join.Goals as goal
+
+pub with_levels-requires : goal.with_levels-requires
+with_levels-requires c i d lt =
+    let there = c.requires.there i d lt in
+    omega (arith, there, ap length c.as_slice.ensures.value, ap length c.requires.levels, length-levels c.args.hashed.now.rows.items)
+
+pub loop-hashed-init : goal.loop-hashed-init
+loop-hashed-init c =
+    let same : c.as_slice.result.now ≡ levels_of c.args.hashed.now.rows.items = c.as_slice.ensures.value ∙ c.requires.levels in
+    let begun = heap_begins c.args.hashed.now.rows.items c.as_slice.result.now c.args.leaves.now (heap_items c.from-heap.result) same c.requires.there
+    (subst (λ (k : List (Reverse (ℕ × Lit))). IsPermutation k (heap_items c.from-heap.result)) c.in_ok-entries.ensures c.from-heap.ensures.1) in
+    record {
+      sources = search rules;
+      levels = c.requires.levels;
+      entries = begun.0;
+      order = c.from-heap.ensures.2;
+      some = omega (arith, c.from-heap.ensures.0, ap length c.in_ok-entries.ensures, length-map c.args.leaves.now (leaf c.as_slice.result.now), c.requires.some);
+      joining = begun.1;
+    }

@@ -1,0 +1,6 @@
+pub mod Balanced
+pub mod Roots
+pub mod Leaves
+pub mod Balancing
+pub mod Joining
+pub mod Heaps

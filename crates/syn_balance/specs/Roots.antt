@@ -1,0 +1,53 @@
+-- The nodes that keep a node of their own: all others are joined into the one AND that refers to them.
+use Rattle.std.specs.Prelude.{◌≡◌, ℕ, ◌≤◌, ◌%◌, suc, Bool, true, false, All, List, set, slice_index_or, length}
+use Rattle.syn_rows.specs.declared.Lit.{Lit}
+use Rattle.syn_rows.specs.declared.Row.{Row}
+use Rattle.syn_rows.specs.declared.Row.TheVariants.{Free, Source, And, Alias}
+use Rattle.syn_rows.specs.Rows.{node_of, row_at}
+use Rattle.syn_rows.specs.References.{refs, sum_below}
+
+-- the mark of a node; none past the end
+abbrev pub mark_at : List Bool → ℕ → Bool
+mark_at marks n = slice_index_or marks n false
+
+-- how often the rows below n refer to the node m
+abbrev pub refs_before : ℕ → List Row → ℕ → ℕ
+refs_before n rows m = sum_below n (λ k. refs m (row_at rows k))
+
+-- complemented literals of the rows below n name only marked nodes
+abbrev pub ComplementsMarked : ℕ → List Row → List Bool → Type 0
+ComplementsMarked n rows marks = (k : ℕ) (a b : Lit) → suc k ≤ n → row_at rows k ≡ And a b → (a.0 % 2 ≡ 1 → mark_at marks (node_of a) ≡ true) × (b.0 % 2 ≡ 1 → mark_at marks (node_of b) ≡ true)
+
+-- Marked are the nodes that are observed, are referred to twice or more, or are named by a complemented literal of a row.
+pub record HasRoots (rows : List Row) (lits : List Lit) (marks : List Bool) : Type 0 where
+  pub all : length marks ≡ length rows
+  pub observed : All (λ l. mark_at marks (node_of l) ≡ true) lits
+  pub shared : (m : ℕ) → mark_at marks m ≡ false → refs_before (length rows) rows m ≤ 1
+  pub complemented : ComplementsMarked (length rows) rows marks
+
+-- marks while rows are read, with a count of the references to each node: a node that wasn't seen has none, one that isn't marked has one at most
+pub record IsCounted (count : ℕ) (times_read : ℕ → ℕ) (seen marks : List Bool) : Type 0 where
+  pub all_seen : length seen ≡ count
+  pub all_marked : length marks ≡ count
+  pub unseen : (m : ℕ) → mark_at seen m ≡ false → times_read m ≡ 0
+  pub once : (m : ℕ) → mark_at marks m ≡ false → times_read m ≤ 1
+
+-- A fan-in is read: its node is seen; it is marked where it was seen before or is named by a complement.
+pub record IsRead (lit : Lit) (seen marks new_seen new_marks : List Bool) : Type 0 where
+  pub now_seen : new_seen ≡ set seen (node_of lit) true
+  pub size : length new_marks ≡ length marks
+  pub kept : (m : ℕ) → mark_at marks m ≡ true → mark_at new_marks m ≡ true
+  pub again : mark_at seen (node_of lit) ≡ true → mark_at new_marks (node_of lit) ≡ true
+  pub complemented : lit.0 % 2 ≡ 1 → mark_at new_marks (node_of lit) ≡ true
+
+-- the complemented literals of a row name marked nodes
+abbrev pub ComplementsOf : Row → List Bool → Type 0
+ComplementsOf Free marks = Unit {0}
+ComplementsOf Source marks = Unit {0}
+ComplementsOf (And a b) marks = (a.0 % 2 ≡ 1 → mark_at marks (node_of a) ≡ true) × (b.0 % 2 ≡ 1 → mark_at marks (node_of b) ≡ true)
+ComplementsOf (Alias a) marks = Unit {0}
+
+-- The rows below n are read.
+pub record AreRead (rows : List Row) (n : ℕ) (seen marks : List Bool) : Type 0 where
+  pub counted : IsCounted (length rows) (refs_before n rows) seen marks
+  pub complemented : ComplementsMarked n rows marks

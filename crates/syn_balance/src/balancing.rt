@@ -1,0 +1,208 @@
+//! Nodes are balanced one after the other.
+
+ghost use Rattle.std.specs.Prelude.{◌≡◌, ℕ, ◌+◌, ◌++◌, ◌<◌, ◌≤◌, ◌^◌, ◌⊎◌, ◌∷◌, [], All, IfOk, List, IsSome, OnOk, Option, Some, length, map, replicate, set, true};
+ghost use Rattle.syn_rows.specs.declared.Lit.{Lit};
+ghost use Rattle.syn_rows.specs.Levels.{levels_of};
+ghost use Rattle.syn_rows.specs.Rows.{node_of, row_at};
+ghost use Rattle.syn_shapes.specs.Graphs.{IsHashed};
+ghost use Rattle.syn_strash.specs.Visiting.{first_literal, FirstsOf, literal_of};
+ghost use Rattle.syn_balance.specs.Balancing.{IsBalancing};
+ghost use Rattle.syn_balance.specs.Leaves.{leaves_of, left_by, TakesBoth, waiting_at};
+ghost use Rattle.syn_balance.specs.Roots.{HasRoots};
+
+use crate::joining::join;
+use std::alloc::{AllocError, Global};
+use std::mem;
+use syn_netlist::Items;
+use syn_rows::{Lit, Row};
+use syn_strash::Hashed;
+
+// The literal that stands for an old one, where its node has one.
+fn literal_of(literals: &[Option<Lit>], lit: Lit) -> Option<Lit>
+    ensures { result ≡ literal_of literals.now lit }
+{
+    let node = lit.node() as usize;
+    if node >= literals.len() {
+        return None;
+    }
+    match literals[node] {
+        Some(literal) if lit.complemented() => Some(literal.not()),
+        Some(literal) => Some(literal),
+        None => None,
+    }
+}
+
+// Takes the leaves that wait at a node.
+fn take_waiting(alloc: Global, waiting: &mut [Items<Lit>], node: usize) -> Vec<Lit>
+    requires { node < length waiting.old }
+    ensures leaves { result.items ≡ waiting_at waiting.old node }
+    ensures left { waiting.new ≡ set waiting.old node [] }
+{
+    mem::replace(&mut waiting[node], Items::of(Vec::new(alloc))).into_vec()
+}
+
+// The leaves of a literal: the one that stands for it, or those that wait at its node, which are taken.
+fn take_leaves(
+    alloc: Global,
+    literals: &[Option<Lit>],
+    waiting: &mut [Items<Lit>],
+    lit: Lit,
+) -> Result<Vec<Lit>, AllocError>
+    requires { node_of lit < length waiting.old }
+    ensures leaves { IfOk result (λ v. v.items ≡ leaves_of literals.now waiting.old lit) }
+    ensures left { OnOk result (waiting.new ≡ left_by literals.now waiting.old lit) }
+{
+    match literal_of(literals, lit) {
+        Some(literal) => {
+            let mut leaves = Vec::new(alloc);
+            leaves.push(literal)?;
+            Ok(leaves)
+        }
+        None => Ok(take_waiting(alloc, waiting, lit.node() as usize)),
+    }
+}
+
+// Both lists in one; the shorter is put behind the longer.
+fn concatenated(mut first: Vec<Lit>, mut second: Vec<Lit>) -> Result<Vec<Lit>, AllocError>
+    ensures { IfOk result (λ v. (v.items ≡ first.items ++ second.items) ⊎ (v.items ≡ second.items ++ first.items)) }
+{
+    if first.len() < second.len() {
+        second.extend_from_slice(first.as_slice())?;
+        Ok(second)
+    } else {
+        first.extend_from_slice(second.as_slice())?;
+        Ok(first)
+    }
+}
+
+// The leaves of both fan-ins, which are taken.
+fn take_both(
+    alloc: Global,
+    literals: &[Option<Lit>],
+    waiting: &mut [Items<Lit>],
+    a: Lit,
+    b: Lit,
+) -> Result<Vec<Lit>, AllocError>
+    requires first { node_of a < length waiting.old }
+    requires second { node_of b < length waiting.old }
+    ensures { IfOk result (λ v. TakesBoth literals.now waiting.old a b v.items waiting.new) }
+{
+    let first = take_leaves(alloc, literals, waiting, a)?;
+    let second = take_leaves(alloc, literals, waiting, b)?;
+    concatenated(first, second)
+}
+
+// Balances a node: its leaves are joined where it keeps a node of its own, and wait otherwise.
+fn balance_node(
+    alloc: Global,
+    hashed: &mut Hashed,
+    levels: &mut Vec<u32>,
+    literals: &mut [Option<Lit>],
+    waiting: &mut [Items<Lit>],
+    rows: &[Row],
+    roots: &[bool],
+    node: usize,
+) -> Result<(), AllocError>
+    requires hashed { IsHashed hashed.old.source_count rows.now }
+    requires few { length rows.now < 2 ^ 29 }
+    requires roots { (lits : List Lit) × HasRoots rows.now lits roots.now }
+    requires above { hashed.old.source_count < node }
+    requires inside { node < length rows.now }
+    requires levels { levels.old.items ≡ levels_of hashed.old.rows.items }
+    requires balancing { IsBalancing hashed.old.source_count rows.now roots.now node literals.old waiting.old hashed.old.rows.items }
+    ensures sources { hashed.new.source_count ≡ hashed.old.source_count }
+    ensures levels { OnOk result (levels.new.items ≡ levels_of hashed.new.rows.items) }
+    ensures balancing { OnOk result (IsBalancing hashed.old.source_count rows.now roots.now (node + 1) literals.new waiting.new hashed.new.rows.items) }
+{
+    let Row::And(a, b) = rows[node] else {
+        unreachable()
+    };
+    let leaves = take_both(alloc, literals, waiting, a, b)?;
+    if roots[node] {
+        let literal = join(alloc, hashed, levels, leaves.as_slice())?;
+        literals[node] = Some(literal);
+    } else {
+        waiting[node] = Items::of(leaves);
+    }
+    Ok(())
+}
+
+// Balances all nodes that are no sources, in their order.
+fn balance_nodes(
+    alloc: Global,
+    hashed: &mut Hashed,
+    levels: &mut Vec<u32>,
+    literals: &mut [Option<Lit>],
+    waiting: &mut [Items<Lit>],
+    rows: &[Row],
+    roots: &[bool],
+) -> Result<(), AllocError>
+    requires hashed { IsHashed hashed.old.source_count rows.now }
+    requires few { length rows.now < 2 ^ 29 }
+    requires roots { (lits : List Lit) × HasRoots rows.now lits roots.now }
+    requires levels { levels.old.items ≡ levels_of hashed.old.rows.items }
+    requires begun { IsBalancing hashed.old.source_count rows.now roots.now (hashed.old.source_count + 1) literals.old waiting.old hashed.old.rows.items }
+    ensures sources { hashed.new.source_count ≡ hashed.old.source_count }
+    ensures balanced { OnOk result (IsBalancing hashed.old.source_count rows.now roots.now (length rows.now) literals.new waiting.new hashed.new.rows.items) }
+{
+    for node in hashed.source_count + 1..rows.len() {
+        balance_node(alloc, hashed, levels, literals, waiting, rows, roots, node)?;
+    }
+    Ok(())
+}
+
+// The literal of a node before any AND is balanced.
+fn own_literal(source_count: usize, node: u32) -> Option<Lit>
+    requires { node < 2 ^ 31 }
+    ensures { result ≡ first_literal source_count node }
+{
+    if node as usize <= source_count {
+        Some(Lit::of(node, false))
+    } else {
+        None
+    }
+}
+
+// The literals of all nodes before any AND is balanced.
+fn own_literals(
+    alloc: Global,
+    source_count: usize,
+    count: usize,
+) -> Result<Vec<Option<Lit>>, AllocError>
+    requires few { count < 2 ^ 31 }
+    requires sources { source_count < count }
+    ensures { IfOk result (λ literals. FirstsOf source_count count literals.items) }
+{
+    let mut literals = Vec::new(alloc);
+    for node in 0..count {
+        literals.push(own_literal(source_count, node as u32))?;
+    }
+    Ok(literals)
+}
+
+// No leaves at each of so many nodes.
+fn nothing_waiting(alloc: Global, count: usize) -> Result<Vec<Items<Lit>>, AllocError>
+    ensures { IfOk result (λ waiting. waiting.items ≡ replicate count []) }
+{
+    let mut waiting = Vec::new(alloc);
+    for _ in 0..count {
+        waiting.push(Items::of(Vec::new(alloc)))?;
+    }
+    Ok(waiting)
+}
+
+// The literals that stand for the observed ones.
+fn literals_of(
+    alloc: Global,
+    literals: &[Option<Lit>],
+    observed: &[Lit],
+) -> Result<Vec<Lit>, AllocError>
+    requires { All (λ l. IsSome (literal_of literals.now l)) observed.now }
+    ensures { IfOk result (λ found. map (λ l. Some l) found.items ≡ map (literal_of literals.now) observed.now) }
+{
+    let mut found = Vec::new(alloc);
+    for lit in observed {
+        found.push(literal_of(literals, *lit).unwrap())?;
+    }
+    Ok(found)
+}
