@@ -8,7 +8,7 @@ use Rattle.syn_rows.specs.Levels.{row_level, level_in, levels_of}
 use Rattle.syn_rows.proofs.Folds.{length-fold, fold_kept, one_levels_is}
 use Rattle.syn_shapes.specs.Graphs.{IsHashed}
 use Rattle.syn_strash.specs.Growing.{Extends, IsJoin, level_by}
-use Rattle.syn_strash.proofs.Rising.{hashed_in_order}
+use Rattle.syn_graph.proofs.Orders.{hashed_in_order}
 
 pub length-levels : (rows : List Row) → length (levels_of rows) ≡ length rows
 length-levels rows = omega (arith, length-fold row_level 0 [] rows)
