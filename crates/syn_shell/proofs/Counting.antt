@@ -80,12 +80,14 @@ refused_counted (commands.Read file) name cause m m' d d' s s' (same, why, stand
 refused_counted commands.Stats name cause m m' d d' s s' (same, e, why) = stats_counted m name cause d d' s s' why e
 refused_counted (commands.Write file) name cause m m' d d' s s' (same, why, e) = write_counted m (string_bytes file) name cause d d' s s' why e
 refused_counted commands.Strash name cause m m' d d' s s' (same, why, e, f) = remaking_counted m name cause d d' s s' why e f
+refused_counted commands.Balance name cause m m' d d' s s' (same, why, e, f) = remaking_counted m name cause d d' s s' why e f
 
 accepted_counted : (c : Command) (m m' : Option Netlist) (d d' : Disk) (s s' : Screen) → SessionStep c m d s (Ok tt) m' d' s' → Counted [] d s d' s'
 accepted_counted (commands.Read file) m m' d d' s s' (net, is, read, stand, e) = record { files = covers_none d.faults d'.faults stand.later; sink = sink_same s s' e; lines = refl }
 accepted_counted commands.Stats m m' d d' s s' (net, line, some, same, e, text, took) = record { files = disk_same d d' e; sink = covers_none s.faults s'.faults took.later; lines = refl }
 accepted_counted (commands.Write file) m m' d d' s s' (net, some, same, bytes, others, e) = record { files = covers_none d.faults d'.faults others.later; sink = sink_same s s' e; lines = refl }
 accepted_counted commands.Strash m m' d d' s s' (old, net, some, is, remade, e, f) = record { files = disk_same d d' e; sink = sink_same s s' f; lines = refl }
+accepted_counted commands.Balance m m' d d' s s' (old, net, some, is, remade, e, f) = record { files = disk_same d d' e; sink = sink_same s s' f; lines = refl }
 
 -- parts one after the other
 

@@ -106,3 +106,5 @@ SessionStep (commands.Write name) m d s (Ok done) m' d' s' = (net : Netlist) × 
 SessionStep (commands.Write name) m d s (Err refusal) m' d' s' = (m' ≡ m) × WriteRefused m (string_bytes name) d d' refusal × (s' ≡ s)
 SessionStep commands.Strash m d s (Ok done) m' d' s' = (old : Netlist) × (net : Netlist) × (m ≡ Some old) × (m' ≡ Some net) × IsRemade old net × (d' ≡ d) × (s' ≡ s)
 SessionStep commands.Strash m d s (Err refusal) m' d' s' = (m' ≡ m) × RemakingRefused m refusal × (d' ≡ d) × (s' ≡ s)
+SessionStep commands.Balance m d s (Ok done) m' d' s' = (old : Netlist) × (net : Netlist) × (m ≡ Some old) × (m' ≡ Some net) × IsBalanced old net × (d' ≡ d) × (s' ≡ s)
+SessionStep commands.Balance m d s (Err refusal) m' d' s' = (m' ≡ m) × RemakingRefused m refusal × (d' ≡ d) × (s' ≡ s)

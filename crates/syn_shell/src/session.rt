@@ -174,7 +174,7 @@ impl Session {
                 None => Err(Refusal::NoNetwork),
                 Some(graph) => write(alloc, graph, name.as_str(), files),
             },
-            Command::Strash => remake(&self.network),
+            Command::Strash | Command::Balance => remake(&self.network),
         }
     }
 }

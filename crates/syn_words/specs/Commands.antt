@@ -13,6 +13,7 @@ pub data SpokenCommand : Type 0 where
   Write : List ℕ → SpokenCommand
   Stats : SpokenCommand
   Strash : SpokenCommand
+  Balance : SpokenCommand
 
 -- What a command of the program says.
 abbrev pub spoken : Command → SpokenCommand
@@ -20,6 +21,7 @@ spoken (commands.Read name) = Read (string_bytes name)
 spoken (commands.Write name) = Write (string_bytes name)
 spoken commands.Stats = Stats
 spoken commands.Strash = Strash
+spoken commands.Balance = Balance
 
 -- What a name takes behind it, and the commands that it then stands for: no word, or one word, a file's name.
 pub data Takes : Type 0 where
@@ -35,6 +37,8 @@ names =
     ∷ (codes "ps", NoWord (Stats ∷ []))
     ∷ (codes "strash", NoWord (Strash ∷ []))
     ∷ (codes "st", NoWord (Strash ∷ []))
+    ∷ (codes "balance", NoWord (Balance ∷ []))
+    ∷ (codes "b", NoWord (Balance ∷ []))
     ∷ []
 
 -- What a word takes, where it is one of the names.

@@ -1,6 +1,6 @@
 -- Worked scripts with their commands, and texts with their first faults.
 use Rattle.std.specs.Prelude.{[], ◌∷◌, ◌++◌, codes}
-use Rattle.syn_words.specs.Commands.{Read, Write, Stats, Strash}
+use Rattle.syn_words.specs.Commands.{Read, Write, Stats, Strash, Balance}
 use Rattle.syn_words.specs.Scripts.{IsScript, IsFirstFault}
 use Rattle.syn_words.specs.declared.ScriptFault.TheVariants.{BadByte, UnknownCommand, MissingWord, ExtraWord}
 
@@ -9,8 +9,8 @@ pub record Worked : Type 0 where
   pub semicolon : IsScript (codes ";") []
   pub blanks : IsScript (codes " ; ;" ++ 9 ∷ 13 ∷ []) []
   pub three : IsScript (codes "read_blif a; ps; write_blif o") (Read (codes "a") ∷ Stats ∷ Write (codes "o") ∷ [])
-  pub tight : IsScript (codes "read_blif a;ps;st") (Read (codes "a") ∷ Stats ∷ Strash ∷ [])
-  pub long_names : IsScript (codes "print_stats; strash;") (Stats ∷ Strash ∷ [])
+  pub tight : IsScript (codes "read_blif a;ps;b;st") (Read (codes "a") ∷ Stats ∷ Balance ∷ Strash ∷ [])
+  pub long_names : IsScript (codes "print_stats; strash; balance;") (Stats ∷ Strash ∷ Balance ∷ [])
   pub tab_and_cr : IsScript (codes "read_blif" ++ 9 ∷ codes "a.blif" ++ 13 ∷ []) (Read (codes "a.blif") ∷ [])
   pub comment_is_none : IsScript (codes "write_blif #a\\b") (Write (codes "#a\\b") ∷ [])
   pub unknown : IsFirstFault (codes "rewrit") (UnknownCommand 0)

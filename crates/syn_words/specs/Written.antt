@@ -1,7 +1,7 @@
 -- What the code's own types say.
 use Rattle.syn_words.specs.Words.{Word}
 use Rattle.syn_words.specs.Phrases.{Phrase}
-use Rattle.syn_words.specs.Commands.{Takes, NoWord, OneName, Read, Write, Stats, Strash}
+use Rattle.syn_words.specs.Commands.{Takes, NoWord, OneName, Read, Write, Stats, Strash, Balance}
 use Rattle.std.specs.Prelude.{[], ◌∷◌}
 use Rattle.syn_words.specs.declared.words.Word as written_word
 use Rattle.syn_words.specs.declared.words.Phrase as written_phrase
@@ -20,3 +20,4 @@ takes_of keywords.ReadBlif = OneName (λ name. Read name ∷ [])
 takes_of keywords.WriteBlif = OneName (λ name. Write name ∷ [])
 takes_of keywords.PrintStats = NoWord (Stats ∷ [])
 takes_of keywords.Strash = NoWord (Strash ∷ [])
+takes_of keywords.Balance = NoWord (Balance ∷ [])

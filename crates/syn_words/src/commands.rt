@@ -17,6 +17,7 @@ pub enum Keyword {
     WriteBlif,
     PrintStats,
     Strash,
+    Balance,
 }
 
 // The keyword that a word names.
@@ -31,6 +32,8 @@ fn keyword_of(word: &[u8]) -> Option<Keyword>
         Some(Keyword::PrintStats)
     } else if b"strash".as_slice() == word || b"st".as_slice() == word {
         Some(Keyword::Strash)
+    } else if b"balance".as_slice() == word || b"b".as_slice() == word {
+        Some(Keyword::Balance)
     } else {
         None
     }
@@ -95,5 +98,6 @@ pub fn command_of(alloc: Global, phrase: Phrase<'_>) -> Result<Command, ScriptFa
         Keyword::WriteBlif => Ok(Command::Write(one_name(alloc, further, end)?)),
         Keyword::PrintStats => alone(further, Command::Stats),
         Keyword::Strash => alone(further, Command::Strash),
+        Keyword::Balance => alone(further, Command::Balance),
     }
 }

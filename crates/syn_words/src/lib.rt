@@ -34,6 +34,8 @@ pub enum Command {
     Stats,
     /// `strash`, `st`: makes the network a graph, hashed and compacted.
     Strash,
+    /// `balance`, `b`: balances the graph.
+    Balance,
 }
 
 /// Why a text is no script. A place is an offset in bytes, from 0.

@@ -3,10 +3,14 @@ use std::test::Fail;
 
 #[test]
 fn commands_are_read_in_order(rt: HostRuntime) -> Result<(), Fail> {
-    let commands = parse_script(rt.alloc(), b"read_blif a.blif;;\tps ; st\r; write_blif o")?;
+    let commands = parse_script(
+        rt.alloc(),
+        b"read_blif a.blif; b;;\tps ; st\r; write_blif o",
+    )?;
     match commands.as_slice() {
         [
             Command::Read(source),
+            Command::Balance,
             Command::Stats,
             Command::Strash,
             Command::Write(target),
