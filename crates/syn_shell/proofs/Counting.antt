@@ -87,7 +87,7 @@ accepted_counted (commands.Read file) m m' d d' s s' (net, is, read, stand, e) =
 accepted_counted commands.Stats m m' d d' s s' (net, line, some, same, e, text, took) = record { files = disk_same d d' e; sink = covers_none s.faults s'.faults took.later; lines = refl }
 accepted_counted (commands.Write file) m m' d d' s s' (net, some, same, bytes, others, e) = record { files = covers_none d.faults d'.faults others.later; sink = sink_same s s' e; lines = refl }
 accepted_counted commands.Strash m m' d d' s s' (old, net, some, is, remade, e, f) = record { files = disk_same d d' e; sink = sink_same s s' f; lines = refl }
-accepted_counted commands.Balance m m' d d' s s' (old, net, some, is, remade, e, f) = record { files = disk_same d d' e; sink = sink_same s s' f; lines = refl }
+accepted_counted commands.Balance m m' d d' s s' (balances, e, f) = record { files = disk_same d d' e; sink = sink_same s s' f; lines = refl }
 
 -- parts one after the other
 

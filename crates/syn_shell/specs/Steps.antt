@@ -86,6 +86,10 @@ pub record IsBalanced (old m : Netlist) : Type 0 where
   pub remade : IsRemade old m
   pub levels : (i : ℕ) → i < length (observed_of m) → level_at m i ≤ level_at old i
 
+-- There is a network, and balancing makes another of it.
+abbrev pub BalancesTo : Option Netlist → Option Netlist → Type 0
+BalancesTo m m' = (old : Netlist) × (net : Netlist) × (m ≡ Some old) × (m' ≡ Some net) × IsBalanced old net
+
 -- There is a network, and it is what balancing may make of itself.
 abbrev pub StaysBalanced : Option Netlist → Type 0
 StaysBalanced m = (net : Netlist) × (m ≡ Some net) × IsBalanced net net
@@ -106,5 +110,5 @@ SessionStep (commands.Write name) m d s (Ok done) m' d' s' = (net : Netlist) × 
 SessionStep (commands.Write name) m d s (Err refusal) m' d' s' = (m' ≡ m) × WriteRefused m (string_bytes name) d d' refusal × (s' ≡ s)
 SessionStep commands.Strash m d s (Ok done) m' d' s' = (old : Netlist) × (net : Netlist) × (m ≡ Some old) × (m' ≡ Some net) × IsRemade old net × (d' ≡ d) × (s' ≡ s)
 SessionStep commands.Strash m d s (Err refusal) m' d' s' = (m' ≡ m) × RemakingRefused m refusal × (d' ≡ d) × (s' ≡ s)
-SessionStep commands.Balance m d s (Ok done) m' d' s' = (old : Netlist) × (net : Netlist) × (m ≡ Some old) × (m' ≡ Some net) × IsBalanced old net × (d' ≡ d) × (s' ≡ s)
+SessionStep commands.Balance m d s (Ok done) m' d' s' = BalancesTo m m' × (d' ≡ d) × (s' ≡ s)
 SessionStep commands.Balance m d s (Err refusal) m' d' s' = (m' ≡ m) × RemakingRefused m refusal × (d' ≡ d) × (s' ≡ s)

@@ -10,7 +10,7 @@ ghost use Rattle.syn_shapes.specs.Printed.{printed};
 ghost use Rattle.syn_graph.specs.Graphs.{network_of};
 ghost use Rattle.syn_shell.specs.Graphs.{network_in};
 ghost use Rattle.syn_shell.specs.Outside.{disk, FileIs, FilesStand, OthersStand, screen};
-ghost use Rattle.syn_shell.specs.Steps.{file_limit, IsBalanced, IsReadAs, ParseRefused, ReadRefused, RemakingRefused, SessionStep, StaysBalanced, WriteRefused};
+ghost use Rattle.syn_shell.specs.Steps.{BalancesTo, file_limit, IsBalanced, IsReadAs, ParseRefused, ReadRefused, RemakingRefused, SessionStep, StaysBalanced, WriteRefused};
 
 use crate::lines::print_stats;
 use crate::refusal::Refusal;
@@ -117,6 +117,20 @@ fn write<F: Files>(alloc: Global, graph: &Graph, name: &str, files: &mut F) -> R
     put(alloc, name, bytes.as_slice(), files)
 }
 
+// A graph, balanced; refused, the graph as it was.
+fn balanced(alloc: Global, graph: Graph) -> Result<Graph, Graph>
+    ensures balanced { IfOk result (λ new. IsBalanced (network_of graph) (network_of new)) }
+    ensures refused { IfErr result (λ same. network_of same ≡ network_of graph) }
+{
+    syn_shapes::network_of_graph();
+    syn_shapes::graph_has_function();
+    syn_netlist::same_from_function();
+    match syn_balance::balance(alloc, graph) {
+        Ok(new) => Ok(new),
+        Err((graph, _)) => Err(graph),
+    }
+}
+
 // A graph is what hashing, compaction and balancing may make of it.
 fn stays(graph: &Graph)
     ensures { IsBalanced (network_of graph.now) (network_of graph.now) }
@@ -142,6 +156,26 @@ fn remake(network: &Option<Graph>) -> Result<(), Refusal>
 }
 
 impl Session {
+    // Balances the network.
+    fn balance(&mut self, alloc: Global) -> Result<(), Refusal>
+        ensures balanced { OnOk result (BalancesTo self.old self.new) }
+        ensures refused { IfErr result (λ cause. RemakingRefused self.old cause × (self.new ≡ self.old)) }
+    {
+        let Some(graph) = self.network.take() else {
+            return Err(Refusal::NoNetwork);
+        };
+        match balanced(alloc, graph) {
+            Ok(new) => {
+                self.network = Some(new);
+                Ok(())
+            }
+            Err(same) => {
+                self.network = Some(same);
+                Err(Refusal::NoMemory)
+            }
+        }
+    }
+
     /// No network yet.
     pub fn new() -> Session
         ensures { result ≡ None }
@@ -174,7 +208,8 @@ impl Session {
                 None => Err(Refusal::NoNetwork),
                 Some(graph) => write(alloc, graph, name.as_str(), files),
             },
-            Command::Strash | Command::Balance => remake(&self.network),
+            Command::Strash => remake(&self.network),
+            Command::Balance => self.balance(alloc),
         }
     }
 }
