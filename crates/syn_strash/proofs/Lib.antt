@@ -2,5 +2,5 @@ pub mod Dropped
 mod Kept
 pub mod Joining
 pub mod Rising
-mod Visits
+pub mod Visits
 pub mod LevelLaws
