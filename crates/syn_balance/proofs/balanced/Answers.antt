@@ -1,8 +1,7 @@
-use Rattle.std.proofs.Common.{◌≡◌, ◌<◌, ℕ, List, All, length, true, sym, ap, ◌∙◌, subst, subst₂, arith}
+use Rattle.std.proofs.Common.{◌≡◌, List, true, sym, subst, subst₂}
 use Rattle.syn_rows.specs.declared.Lit.{Lit}
 use Rattle.syn_rows.specs.declared.Row.{Row}
-use Rattle.syn_rows.specs.Rows.{node_of, in_order_from}
-use Rattle.syn_shapes.specs.Graphs.{IsHashed}
+use Rattle.syn_rows.specs.Rows.{in_order_from}
 use Rattle.syn_strash.specs.Compacting.{IsCompaction}
 use Rattle.syn_strash.specs.Visiting.{IsRebuilt}
 use Rattle.syn_strash.proofs.Dropped.{hashed_order}

@@ -1,4 +1,4 @@
-use Rattle.std.proofs.Common.{◌≤◌, ℕ, List, ap, ap₂, ◌∙◌, sym, subst₂, refl, length, arith}
+use Rattle.std.proofs.Common.{◌≤◌, List, ap, ap₂, ◌∙◌, sym, subst₂, refl, length, arith}
 use Rattle.syn_netlist.specs.Frames.{frame_in}
 use Rattle.syn_rows.specs.declared.Lit.{Lit}
 use Rattle.syn_rows.specs.declared.Row.{Row}
