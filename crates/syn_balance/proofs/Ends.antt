@@ -1,22 +1,20 @@
 -- The first node to be balanced, and what stands once all are.
-use Rattle.std.proofs.Common.{◌≡◌, ◌≢◌, ℕ, zero, suc, ◌+◌, ◌-◌, ◌*◌, ◌%◌, ◌<◌, ◌≤◌, nat_le, nat_eq, if◌then◌else◌, Bool, true, false, All, List, [], ◌∷◌, length, map, get_or, replicate, refl, sym, ap, ap₂, ◌∙◌, subst, arith, inl, inr, Option, Some, None, IsSome}
+use Rattle.std.proofs.Common.{◌≡◌, ◌≢◌, ℕ, zero, suc, ◌+◌, ◌-◌, ◌*◌, ◌%◌, ◌<◌, nat_le, nat_eq, if◌then◌else◌, Bool, false, All, List, [], ◌∷◌, length, map, get_or, replicate, refl, sym, ap, ap₂, ◌∙◌, subst, arith, inl, inr, Option, Some, None, IsSome}
 use Rattle.std.specs.List.{sum_by}
-use Rattle.std.proofs.lemmas.Bool.{cases_lt, cases_Bool, cond-true, cond-false, le-leb, lt-leb, eqb-true, eqb-false, eq-eqb, both_ways}
+use Rattle.std.proofs.lemmas.Bool.{cases_lt, cases_Bool, cond-true, cond-false, le-leb, lt-leb, eqb-true, eqb-false, eq-eqb}
 use Rattle.std.proofs.lemmas.List.{get_or_past, length-map, length-replicate}
-use Rattle.std.proofs.lemmas.List.Elements.{All-nil, All-cons, All-head, All-tail}
+use Rattle.std.proofs.lemmas.List.Elements.{All-nil, All-cons}
 use Rattle.std.proofs.lemmas.List.Folds.{sum_by-replicate}
 use Rattle.syn_rows.specs.declared.Lit.{Lit}
 use Rattle.syn_rows.specs.declared.Row.{Row}
-use Rattle.syn_rows.specs.Rows.{node_of, row_at}
-use Rattle.syn_rows.specs.Values.{given_by, value_in, values_of, rows_function}
-use Rattle.syn_rows.specs.Levels.{level_in, levels_of}
+use Rattle.syn_rows.specs.Rows.{node_of}
+use Rattle.syn_rows.specs.Values.{given_by}
 use Rattle.syn_shapes.specs.Graphs.{IsHashed, lit_at}
-use Rattle.syn_strash.specs.Growing.{value_by, level_by}
-use Rattle.syn_strash.specs.Visiting.{visited, with_sign, literal_of, first_literal, FirstsOf, IsRebuilt}
+use Rattle.syn_strash.specs.Growing.{value_by}
+use Rattle.syn_strash.specs.Visiting.{visited, with_sign, literal_of, FirstsOf, IsRebuilt}
 use Rattle.syn_strash.proofs.Rising.{source_value}
-use Rattle.syn_strash.proofs.Joining.{plain_value}
 use Rattle.syn_strash.proofs.LevelLaws.{source_level}
-use Rattle.syn_balance.specs.Roots.{mark_at, HasRoots}
+use Rattle.syn_balance.specs.Roots.{HasRoots}
 use Rattle.syn_balance.specs.Leaves.{StandFor, plain, joins_of}
 use Rattle.syn_balance.specs.Balancing.{IsBalancing}
 use Rattle.syn_balance.proofs.Standing.{StandsFor, one_leaf, one_parts, signed, signed_stands, plain_is, plain_level}

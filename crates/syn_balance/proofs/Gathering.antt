@@ -1,18 +1,17 @@
 -- The leaves of both fan-ins stand for an AND.
-use Rattle.std.proofs.Common.{◌≡◌, ◌≢◌, ℕ, zero, suc, ◌+◌, ◌-◌, ◌^◌, ◌<◌, ◌≤◌, ◌⊎◌, Bool, true, false, All, List, [], ◌∷◌, ◌++◌, length, set, refl, sym, ap, ◌∙◌, subst, arith, inl, inr, Option, Some, None, length-append}
-use Rattle.std.specs.List.{list_all, sum_by}
+use Rattle.std.proofs.Common.{◌≡◌, ◌≢◌, ℕ, suc, ◌+◌, ◌^◌, ◌<◌, ◌≤◌, Bool, false, List, [], ◌∷◌, length, set, sym, ap, ◌∙◌, subst, arith, inl, inr, Option, Some, length-append}
 use Rattle.syn_rows.specs.declared.Lit.{Lit}
 use Rattle.syn_rows.specs.declared.Row.{Row}
 use Rattle.syn_rows.specs.declared.Row.TheVariants.{And}
 use Rattle.syn_rows.specs.Rows.{node_of, row_at}
 use Rattle.syn_shapes.specs.Graphs.{IsHashed}
-use Rattle.syn_strash.specs.Growing.{Extends, value_by, level_by}
+use Rattle.syn_strash.specs.Growing.{level_by}
 use Rattle.syn_strash.proofs.Dropped.{gate_is_and}
 use Rattle.syn_balance.specs.Roots.{mark_at, HasRoots}
-use Rattle.syn_balance.specs.Leaves.{weight, StandFor, plain, leaves_of, left_by, joins_of, TakesBoth}
+use Rattle.syn_balance.specs.Leaves.{StandFor, plain, leaves_of, left_by, joins_of, TakesBoth}
 use Rattle.syn_balance.specs.Joining.{IsJoining}
 use Rattle.syn_balance.specs.Balancing.{IsBalancing}
-use Rattle.syn_balance.proofs.Standing.{stand_kept, gate_stands, gate_stands_turned}
+use Rattle.syn_balance.proofs.Standing.{gate_stands, gate_stands_turned}
 use Rattle.syn_balance.proofs.Steps.{both_ready, leaves_stand, taken, both_taken, leaves_still, AreTaken, IsLeft, wait_next, root_next}
 
 -- what stands at the node of an AND, and what is left elsewhere

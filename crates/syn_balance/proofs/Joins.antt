@@ -1,13 +1,12 @@
 -- The two leaves of least level are joined.
-use Rattle.std.proofs.Common.{◌≡◌, ℕ, zero, suc, ◌+◌, ◌*◌, ◌^◌, ◌<◌, ◌≤◌, ◌&&◌, ◌||◌, not, max, Bool, true, false, All, List, [], ◌∷◌, ◌++◌, length, map, get_or, refl, sym, ap, ap₂, ◌∙◌, subst, arith, inl, inr}
-use Rattle.std.specs.List.{list_all, list_any, sum_by, AllByRecursion}
+use Rattle.std.proofs.Common.{◌≡◌, ℕ, ◌+◌, ◌<◌, ◌≤◌, ◌&&◌, ◌||◌, not, Bool, true, false, All, List, [], ◌∷◌, length, map, get_or, refl, sym, ap, ap₂, ◌∙◌, subst, arith}
+use Rattle.std.specs.List.{list_all, list_any}
 use Rattle.std.specs.List.Sorted.{IsPermutation}
 use Rattle.std.specs.BinaryHeap.{IsUpperBound}
 use Rattle.std.specs.Ordering.{is_lt, nat_cmp, ordering_then}
 use Rattle.std.specs.declared.cmp.Ordering.{Ordering}
 use Rattle.std.specs.declared.cmp.Ordering.TheVariants.{Less, Equal, Greater}
 use Rattle.std.specs.declared.cmp.Reverse.{Reverse}
-use Rattle.std.proofs.lemmas.List.{length-map}
 use Rattle.std.proofs.lemmas.List.Elements.{All-head, All-tail, All-nil, All-cons}
 use Rattle.std.proofs.lemmas.List.Sums.{sum_by-cons}
 use Rattle.std.proofs.lemmas.List.Sorted.{All-permutation, IsPermutation-map, IsPermutation-sym, length_permutation, list_any-IsPermutation, sum_by-IsPermutation, le_from_greatest}
@@ -22,7 +21,7 @@ use Rattle.syn_strash.proofs.LevelLaws.{level_kept, join_level}
 use Rattle.syn_balance.specs.Leaves.{weight}
 use Rattle.syn_balance.specs.Joining.{IsJoining}
 use Rattle.syn_balance.specs.Heaps.{AreLeaves, leaf, leaf_order, literal_in, level_of}
-use Rattle.syn_balance.proofs.Powers.{multiple, two_least, power_rises}
+use Rattle.syn_balance.proofs.Powers.{multiple, two_least}
 use Rattle.syn_balance.proofs.Standing.{values_kept, weights_kept, there_kept}
 
 -- a test of all elements doesn't look at their order
@@ -66,10 +65,10 @@ two_joined count old new ls ls1 ls2 ls3 a b l hashed first second last inside ab
       let top = two_least (level_by old a) (level_by old b) (level_by new l) m.0 height ab low (omega (arith, s0, c0, s1, c1, m.1, h)) in
       omega (arith, s3, c3, kept, m.1, top);
   few = (
-    let l0 = length_permutation ls (a ∷ ls1) first in
-    let l1 = length_permutation ls1 (b ∷ ls2) second in
-    let l3 = length_permutation (l ∷ ls2) ls3 last in
-    omega (arith, l0, l1, l3, few));
+      let l0 = length_permutation ls (a ∷ ls1) first in
+      let l1 = length_permutation ls1 (b ∷ ls2) second in
+      let l3 = length_permutation (l ∷ ls2) ls3 last in
+      omega (arith, l0, l1, l3, few));
 }
   where
     inside1 : All (λ (k : Lit). node_of k < length old) (a ∷ ls1)
@@ -221,7 +220,7 @@ pub heap_begins : (rows : List Row) (levels : List ℕ) (ls : List Lit) (hs : Li
 heap_begins rows levels ls hs e h p = (
   All-permutation (λ (x : Reverse (ℕ × Lit)). (node_of (literal_in x) < length rows) × (level_of x ≡ level_by rows (literal_in x))) (map (leaf levels) ls) hs p (leaves_are rows levels ls e h),
   subst (λ (k : List Lit). IsJoining rows k rows (map literal_in hs)) (literals_back levels ls)
-  (joining_permuted rows (map literal_in (map (leaf levels) ls)) (map literal_in hs) (IsPermutation-map literal_in (map (leaf levels) ls) hs p) (leaves_there rows (map (leaf levels) ls) (leaves_are rows levels ls e h))),
+      (joining_permuted rows (map literal_in (map (leaf levels) ls)) (map literal_in hs) (IsPermutation-map literal_in (map (leaf levels) ls) hs p) (leaves_there rows (map (leaf levels) ls) (leaves_are rows levels ls e h))),
 )
 
 -- one leaf is left

@@ -6,3 +6,4 @@ pub mod Joins
 pub mod Marking
 pub mod Gathering
 pub mod Ends
+pub mod NewGraphs

@@ -1,13 +1,13 @@
 -- Marks of nodes that keep a node of their own.
-use Rattle.std.proofs.Common.{◌≡◌, ◌≢◌, ℕ, zero, suc, ◌+◌, ◌%◌, ◌<◌, ◌≤◌, nat_eq, Bool, true, false, All, List, [], ◌∷◌, length, set, get_or, replicate, refl, sym, ap, ◌∙◌, subst, arith, inl, inr}
-use Rattle.std.proofs.lemmas.Bool.{cases_eq, cases_lt, cases_Bool, cond-false, cond-true, eq-eqb, ne_eqb, both_ways, false_from_ne_true}
+use Rattle.std.proofs.Common.{◌≡◌, ◌≢◌, ℕ, suc, ◌+◌, ◌%◌, ◌<◌, ◌≤◌, nat_eq, Bool, true, false, All, List, length, set, get_or, replicate, refl, sym, ap, ◌∙◌, subst, arith, inl, inr}
+use Rattle.std.proofs.lemmas.Bool.{cases_eq, cond-false, cond-true, eq-eqb, ne_eqb, both_ways, false_from_ne_true}
 use Rattle.std.proofs.lemmas.List.{get_or-set_same, get_or-set_other, length-set, length-replicate, get_or_default}
 use Rattle.syn_rows.specs.declared.Lit.{Lit}
 use Rattle.syn_rows.specs.declared.Row.{Row}
-use Rattle.syn_rows.specs.declared.Row.TheVariants.{Free, Source, And, Alias}
+use Rattle.syn_rows.specs.declared.Row.TheVariants.{And, Alias}
 use Rattle.syn_rows.specs.Rows.{node_of, row_at}
-use Rattle.syn_rows.specs.References.{hits, refs, sum_below}
-use Rattle.syn_balance.specs.Roots.{mark_at, refs_before, ComplementsMarked, HasRoots, IsCounted, IsRead, ComplementsOf, AreRead}
+use Rattle.syn_rows.specs.References.{hits, refs}
+use Rattle.syn_balance.specs.Roots.{mark_at, refs_before, HasRoots, IsCounted, IsRead, ComplementsOf, AreRead}
 
 hits_other : (m n : ℕ) → m ≢ n → hits m n ≡ 0
 hits_other m n ne = cond-false (nat_eq m n) 1 0 (ne_eqb m n ne)

@@ -1,11 +1,11 @@
 -- Sums of powers of two: where numbers of a list fit under a height, they still do once the two least were joined.
-use Rattle.std.proofs.Common.{◌≡◌, ℕ, zero, suc, ◌+◌, ◌-◌, ◌*◌, ◌^◌, ◌<◌, ◌≤◌, Bool, true, List, [], ◌∷◌, length, refl, sym, ap, ◌∙◌, subst, arith, inl, inr, ◌⊎◌, All}
+use Rattle.std.proofs.Common.{◌≡◌, ℕ, ◌+◌, ◌-◌, ◌*◌, ◌^◌, ◌<◌, ◌≤◌, List, [], ◌∷◌, ap, ◌∙◌, arith, inl, inr, All}
 use Rattle.std.specs.List.{sum_by}
 use Rattle.std.proofs.lemmas.Bool.{cases_lt}
 use Rattle.std.proofs.lemmas.List.Elements.{All-head, All-tail}
 use Rattle.std.proofs.lemmas.List.Sums.{sum_by-cons}
 use Rattle.std.proofs.lemmas.Nat.{pow-add}
-use Rattle.std.proofs.Math.Nat.{pow-le-pow_right, mul-add, mul-le-mul_left, mul-one, one-le-pow}
+use Rattle.std.proofs.Math.Nat.{pow-le-pow_right, mul-add, mul-le-mul_left, one-le-pow}
 use Rattle.std.proofs.Math.Pow.{pow-lt}
 
 pub power_positive : (n : ℕ) → 1 ≤ 2 ^ n

@@ -1,7 +1,7 @@
 -- Leaves that stand for literals.
-use Rattle.std.proofs.Common.{◌≡◌, ◌≢◌, ℕ, zero, suc, ◌+◌, ◌-◌, ◌*◌, ◌%◌, ◌^◌, ◌<◌, ◌≤◌, ◌&&◌, nat_eq, not, max, if◌then◌else◌, Bool, true, false, All, List, [], ◌∷◌, ◌++◌, length, get_or, refl, sym, ap, ap₂, ◌∙◌, subst, arith, inl, inr, length-append}
+use Rattle.std.proofs.Common.{◌≡◌, ◌≢◌, ℕ, ◌+◌, ◌-◌, ◌%◌, ◌^◌, ◌<◌, ◌≤◌, ◌&&◌, nat_eq, not, max, if◌then◌else◌, Bool, true, false, All, List, [], ◌∷◌, ◌++◌, length, get_or, refl, sym, ap, ap₂, ◌∙◌, arith, inl, inr, length-append}
 use Rattle.std.specs.List.{list_all, sum_by}
-use Rattle.std.proofs.lemmas.Bool.{cases_Bool, cond-true, cond-false, eqb-true, eqb-false, cases_lt}
+use Rattle.std.proofs.lemmas.Bool.{cases_Bool, cond-true, cond-false, eqb-true, eqb-false}
 use Rattle.std.proofs.lemmas.List.Elements.{All-head, All-tail, All-nil, All-cons, All-append}
 use Rattle.std.proofs.lemmas.List.Folds.{list_all-append}
 use Rattle.std.proofs.lemmas.List.Sums.{sum_by-cons, sum_by-append}
@@ -9,7 +9,7 @@ use Rattle.syn_rows.specs.declared.Lit.{Lit}
 use Rattle.syn_rows.specs.declared.Row.{Row}
 use Rattle.syn_rows.specs.declared.Row.TheVariants.{And}
 use Rattle.syn_rows.specs.Rows.{node_of, row_at}
-use Rattle.syn_rows.specs.Values.{lit_value, value_in, values_of}
+use Rattle.syn_rows.specs.Values.{value_in, values_of}
 use Rattle.syn_rows.specs.Levels.{level_in, levels_of}
 use Rattle.syn_shapes.specs.Graphs.{IsHashed}
 use Rattle.syn_strash.specs.Growing.{Extends, value_by, level_by}
@@ -79,15 +79,15 @@ stand_both old new lit a b xs ys value la lb s t = record {
   there = All-append (λ (l : Lit). node_of l < length new) xs ys s.there t.there;
   value = λ given at_0. list_all-append (value_by given new) xs ys ∙ (ap₂ (λ x y. x && y) (s.value given at_0) (t.value given at_0) ∙ sym (value given at_0));
   fits = (
-    let e = sum_by-append (weight new) xs ys in
-    let k : ℕ = level_by old lit - 1 in
-    let p = power_rises (level_by old a) k (omega arith) in
-    let q = power_rises (level_by old b) k (omega arith) in
-    let top : 2 ^ level_by old lit ≡ 2 ^ (k + 1) = ap (λ n. 2 ^ n) (let z : level_by old lit ≡ k + 1 = omega arith in z) in
-    let twice = power_double k in
-    let f = s.fits in
-    let g = t.fits in
-    omega (arith, e, p, q, top, twice, f, g));
+      let e = sum_by-append (weight new) xs ys in
+      let k : ℕ = level_by old lit - 1 in
+      let p = power_rises (level_by old a) k (omega arith) in
+      let q = power_rises (level_by old b) k (omega arith) in
+      let top : 2 ^ level_by old lit ≡ 2 ^ (k + 1) = ap (λ n. 2 ^ n) (let z : level_by old lit ≡ k + 1 = omega arith in z) in
+      let twice = power_double k in
+      let f = s.fits in
+      let g = t.fits in
+      omega (arith, e, p, q, top, twice, f, g));
 }
 
 -- the value and the level of a gate's plain literal

@@ -1,21 +1,20 @@
 -- One node after the other is balanced.
-use Rattle.std.proofs.Common.{◌≡◌, ◌≢◌, ℕ, zero, suc, ◌+◌, ◌-◌, ◌*◌, ◌%◌, ◌^◌, ◌<◌, ◌≤◌, ◌⊎◌, nat_eq, if◌then◌else◌, Bool, true, false, All, List, [], ◌∷◌, ◌++◌, length, set, get_or, replicate, refl, sym, ap, ap₂, ◌∙◌, subst, arith, inl, inr, Option, Some, None, IsSome}
+use Rattle.std.proofs.Common.{◌≡◌, ◌≢◌, ℕ, zero, suc, ◌+◌, ◌*◌, ◌%◌, ◌<◌, ◌≤◌, ◌⊎◌, nat_eq, Bool, true, false, List, [], ◌∷◌, length, set, refl, sym, ap, ◌∙◌, subst, arith, inl, inr, Option, Some, None, IsSome}
 use Rattle.std.specs.List.{sum_by}
-use Rattle.std.proofs.lemmas.Bool.{cases_lt, cases_eq, cases_Bool, cond-true, eq-eqb, both_ways, false_from_ne_true}
+use Rattle.std.proofs.lemmas.Bool.{cases_lt, cases_eq, cond-true, eq-eqb, both_ways, false_from_ne_true}
 use Rattle.std.proofs.lemmas.List.{get_or-set_same, get_or-set_other, length-set}
 use Rattle.std.proofs.lemmas.List.Sums.{sum_by-set}
 use Rattle.syn_rows.specs.declared.Lit.{Lit}
 use Rattle.syn_rows.specs.declared.Row.{Row}
 use Rattle.syn_rows.specs.declared.Row.TheVariants.{And}
 use Rattle.syn_rows.specs.Rows.{node_of, row_at}
-use Rattle.syn_rows.specs.References.{hits, times, refs, sum_below}
-use Rattle.syn_shapes.specs.Graphs.{IsHashed}
+use Rattle.syn_rows.specs.References.{hits, refs}
 use Rattle.syn_strash.specs.Growing.{Extends}
 use Rattle.syn_strash.specs.Visiting.{visited, with_sign, literal_of}
 use Rattle.syn_balance.specs.Roots.{mark_at, refs_before, HasRoots}
 use Rattle.syn_balance.specs.Leaves.{StandFor, plain, waiting_at, leaves_where, leaves_of, left_where, left_by, joins_of}
 use Rattle.syn_balance.specs.Balancing.{IsBalancing}
-use Rattle.syn_balance.proofs.Standing.{StandsFor, one_leaf, one_parts, stand_kept, signed, flipped, signed_stands}
+use Rattle.syn_balance.proofs.Standing.{one_leaf, one_parts, stand_kept, signed, signed_stands}
 
 -- references
 refs_rise : (rows : List Row) (m n k : ℕ) → n ≤ k → refs_before n rows m ≤ refs_before k rows m
@@ -51,10 +50,10 @@ ready : (rows : List Row) (lits : List Lit) (roots : List Bool) (n : ℕ) (lit :
 ready rows lits roots n lit r lt off marked some = record {
   plain = elim (cases_eq (lit.0 % 2) 1) [ inl e ↦ absurd (both_ways (mark_at roots (node_of lit)) off (marked e)) | inr ne ↦ omega arith ];
   left = (
-    let most = r.shared (node_of lit) off in
-    let less = refs_rise rows (node_of lit) (suc n) (length rows) (omega arith) in
-    let more : refs_before (suc n) rows (node_of lit) ≡ refs_before n rows (node_of lit) + refs (node_of lit) (row_at rows n) = refl in
-    omega (arith, most, less, more, some));
+      let most = r.shared (node_of lit) off in
+      let less = refs_rise rows (node_of lit) (suc n) (length rows) (omega arith) in
+      let more : refs_before (suc n) rows (node_of lit) ≡ refs_before n rows (node_of lit) + refs (node_of lit) (row_at rows n) = refl in
+      omega (arith, most, less, more, some));
 }
 
 pub both_ready : (count : ℕ) (rows : List Row) (lits : List Lit) (roots : List Bool) (n : ℕ) (literals : List (Option Lit)) (waiting : List (List Lit)) (new : List Row) (a b : Lit)
@@ -159,10 +158,10 @@ wait_next count rows roots n literals waiting left new a b joins leaves s t lt i
     | inr ne ↦ s.rooted m (omega arith) marked
   ];
   few = (
-    let e = sum_by-set joins_of left n leaves [] inside in
-    let j = t.joins_left in
-    let f = s.few in
-    omega (arith, e, j, f, few));
+      let e = sum_by-set joins_of left n leaves [] inside in
+      let j = t.joins_left in
+      let f = s.few in
+      omega (arith, e, j, f, few));
 }
   where
     inside : n < length left

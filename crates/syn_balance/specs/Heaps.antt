@@ -1,5 +1,5 @@
 -- Leaves in a heap, each with its level, the least in front.
-use Rattle.std.specs.Prelude.{◌≡◌, ℕ, ◌<◌, All, List, map, length}
+use Rattle.std.specs.Prelude.{◌≡◌, ℕ, ◌<◌, All, List, length}
 use Rattle.std.specs.declared.cmp.Reverse.{Reverse}
 use Rattle.std.specs.declared.cmp.Ordering.{Ordering}
 use Rattle.std.specs.Ordering.{nat_cmp, ordering_then}

@@ -1,10 +1,10 @@
 -- Leaves are joined: the two of least level become one, until one is left.
-use Rattle.std.specs.Prelude.{◌≡◌, ℕ, ◌+◌, ◌^◌, ◌<◌, ◌≤◌, ◌&&◌, Bool, false, All, List, [], ◌∷◌, length, map}
+use Rattle.std.specs.Prelude.{◌≡◌, ℕ, ◌+◌, ◌^◌, ◌<◌, ◌≤◌, Bool, false, All, List, length}
 use Rattle.std.specs.List.{list_all, sum_by}
 use Rattle.syn_rows.specs.declared.Lit.{Lit}
 use Rattle.syn_rows.specs.declared.Row.{Row}
 use Rattle.syn_rows.specs.Rows.{node_of}
-use Rattle.syn_strash.specs.Growing.{Extends, value_by, level_by}
+use Rattle.syn_strash.specs.Growing.{Extends, value_by}
 use Rattle.syn_balance.specs.Leaves.{weight}
 
 -- Leaves of some rows became leaves of grown ones: their AND has the same value, they fit wherever the old ones did, and each one less has cost at most one row.

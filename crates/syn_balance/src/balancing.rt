@@ -3,19 +3,20 @@
 ghost use Rattle.std.specs.Prelude.{◌≡◌, ℕ, ◌+◌, ◌++◌, ◌<◌, ◌≤◌, ◌^◌, ◌⊎◌, ◌∷◌, [], All, IfOk, List, IsSome, OnOk, Option, Some, length, map, replicate, set, true};
 ghost use Rattle.syn_rows.specs.declared.Lit.{Lit};
 ghost use Rattle.syn_rows.specs.Levels.{levels_of};
-ghost use Rattle.syn_rows.specs.Rows.{node_of, row_at};
+ghost use Rattle.syn_rows.specs.Rows.{in_order_from, node_of};
 ghost use Rattle.syn_shapes.specs.Graphs.{IsHashed};
-ghost use Rattle.syn_strash.specs.Visiting.{first_literal, FirstsOf, literal_of};
+ghost use Rattle.syn_strash.specs.Visiting.{first_literal, FirstsOf, IsRebuilt, literal_of};
 ghost use Rattle.syn_balance.specs.Balancing.{IsBalancing};
 ghost use Rattle.syn_balance.specs.Leaves.{leaves_of, left_by, TakesBoth, waiting_at};
 ghost use Rattle.syn_balance.specs.Roots.{HasRoots};
 
 use crate::joining::join;
+use crate::roots::roots;
 use std::alloc::{AllocError, Global};
 use std::mem;
 use syn_netlist::Items;
 use syn_rows::{Lit, Row};
-use syn_strash::Hashed;
+use syn_strash::{Hashed, Rows};
 
 // The literal that stands for an old one, where its node has one.
 fn literal_of(literals: &[Option<Lit>], lit: Lit) -> Option<Lit>
@@ -205,4 +206,39 @@ fn literals_of(
         found.push(literal_of(literals, *lit).unwrap())?;
     }
     Ok(found)
+}
+
+/// The rows made again, balanced, and the literals that stand for the observed ones; nothing is dropped yet.
+pub fn made_again(
+    alloc: Global,
+    source_count: u32,
+    rows: &[Row],
+    observed: &[Lit],
+) -> Result<Rows, AllocError>
+    requires hashed { IsHashed source_count rows.now }
+    requires order { in_order_from 0 rows.now ≡ true }
+    requires within { All (λ l. node_of l < length rows.now) observed.now }
+    requires few { length rows.now < 2 ^ 29 }
+    ensures { IfOk result (λ r. IsRebuilt source_count rows.now observed.now r.rows.items r.observed.items) }
+{
+    let roots = roots(alloc, rows, observed)?;
+    let mut hashed = Hashed::new(alloc, source_count as usize)?;
+    let mut levels = syn_rows::levels(alloc, hashed.rows.as_slice())?;
+    let mut literals = own_literals(alloc, source_count as usize, rows.len())?;
+    let mut waiting = nothing_waiting(alloc, rows.len())?;
+    balance_nodes(
+        alloc,
+        &mut hashed,
+        &mut levels,
+        literals.as_mut_slice(),
+        waiting.as_mut_slice(),
+        rows,
+        roots.as_slice(),
+    )?;
+    let observed = literals_of(alloc, literals.as_slice(), observed)?;
+    let Hashed {
+        source_count: _,
+        rows,
+    } = hashed;
+    Ok(Rows { rows, observed })
 }

@@ -80,8 +80,12 @@ fn join_least(
     ensures fewer { OnOk result (heap_len heap.new + 1 ≡ heap_len heap.old) }
     ensures joining { OnOk result (IsJoining hashed.old.rows.items (map literal_in (heap_items heap.old)) hashed.new.rows.items (map literal_in (heap_items heap.new))) }
 {
-    let Some(Reverse((_, first))) = heap.pop() else { unreachable() };
-    let Some(Reverse((_, second))) = heap.pop() else { unreachable() };
+    let Some(Reverse((_, first))) = heap.pop() else {
+        unreachable()
+    };
+    let Some(Reverse((_, second))) = heap.pop() else {
+        unreachable()
+    };
     let literal = and(hashed, levels, first, second)?;
     let level = levels[literal.node() as usize];
     heap.push(Reverse((level, literal)))?;

@@ -1,6 +1,64 @@
-//! Balancing: the ANDs of a graph that belong together are joined again, the literals of least level first.
+//! Balancing: ANDs that belong together are joined again, those of least level first.
 #![tactic(auto)]
+
+ghost use Rattle.std.specs.Prelude.{◌≡◌, IfErr, IfOk};
+ghost use Rattle.syn_strash.specs.Compacting.{IsCompaction};
+ghost use Rattle.syn_balance.specs.Balanced.{IsBalanced};
 
 mod balancing;
 mod joining;
 mod roots;
+
+use balancing::made_again;
+use std::alloc::{AllocError, Global};
+use syn_graph::Graph;
+use syn_netlist::Items;
+use syn_strash::{Rows, compact};
+
+/// The graph balanced (DAG-aware rewriting's balancing, DAC 2006): each AND that is observed, has two or more references or is
+/// named by a complemented literal is the AND of its leaves, which are joined again, each time the two of least level. The frame
+/// and the function stay; the number of ANDs and the levels of the observed literals don't rise. Refused, the graph comes back.
+pub fn balance(alloc: Global, graph: Graph) -> Result<Graph, (Graph, AllocError)>
+    ensures balanced { IfOk result (λ new. IsBalanced graph new) }
+    ensures refused { IfErr result (λ e. e.0 ≡ graph) }
+{
+    match balanced(alloc, &graph) {
+        Ok(rows) => Ok(with_rows(graph, rows)),
+        Err(error) => Err((graph, error)),
+    }
+}
+
+// The balanced rows, compacted.
+fn balanced(alloc: Global, graph: &Graph) -> Result<Rows, AllocError>
+    ensures { IfOk result (λ r. IsCompaction graph.now.source_count graph.now.rows graph.now.observed r.rows.items r.observed.items) }
+{
+    let count = graph.source_count;
+    let made = made_again(
+        alloc,
+        count,
+        graph.rows.as_slice(),
+        graph.observed.as_slice(),
+    )?;
+    let kept = compact(alloc, count, made.rows.as_slice(), made.observed.as_slice())?;
+    Ok(kept)
+}
+
+// The graph with other rows.
+fn with_rows(graph: Graph, rows: Rows) -> Graph
+    requires { IsCompaction graph.source_count graph.rows graph.observed rows.rows.items rows.observed.items }
+    ensures { IsBalanced graph result }
+{
+    let Graph {
+        frame,
+        source_count,
+        rows: _,
+        observed: _,
+    } = graph;
+    let Rows { rows, observed } = rows;
+    Graph {
+        frame,
+        source_count,
+        rows: Items::of(rows),
+        observed: Items::of(observed),
+    }
+}

@@ -1,4 +1,4 @@
-use Rattle.std.proofs.Common.{ℕ, List, length, ◌∙◌, sym, ap, arith, rules}
+use Rattle.std.proofs.Common.{ℕ, List, length, ◌∙◌, ap, arith, rules}
 use Rattle.syn_rows.specs.Levels.{level_in, row_level}
 use Rattle.syn_balance.proofs.LevelLists.{low_in, same_levels, more_levels}
 use Rattle.syn_balance.proofs.joining.and.Goals as goal

@@ -1,4 +1,4 @@
-use Rattle.std.proofs.Common.{◌≡◌, ◌∙◌, ◌<◌, ℕ, List, map, length, sym, ap, subst, arith, rules}
+use Rattle.std.proofs.Common.{◌≡◌, ◌∙◌, ℕ, List, length, ap, subst, arith, rules}
 use Rattle.std.specs.List.Sorted.{IsPermutation}
 use Rattle.std.proofs.lemmas.List.{length-map}
 use Rattle.std.specs.BinaryHeap.{heap_items}
@@ -7,7 +7,7 @@ use Rattle.syn_rows.specs.declared.Lit.{Lit}
 use Rattle.syn_rows.specs.Levels.{levels_of}
 use Rattle.syn_strash.proofs.LevelLaws.{length-levels}
 use Rattle.syn_balance.specs.Heaps.{leaf}
-use Rattle.syn_balance.proofs.Joins.{heap_begins, last_leaf}
+use Rattle.syn_balance.proofs.Joins.{heap_begins}
 use Rattle.syn_balance.proofs.joining.join.Goals as goal
 
 pub with_levels-requires : goal.with_levels-requires

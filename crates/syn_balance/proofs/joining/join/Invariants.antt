@@ -1,4 +1,4 @@
-use Rattle.std.proofs.Common.{◌≡◌, ◌<◌, length, map}
+use Rattle.std.proofs.Common.{◌≡◌, ◌<◌, map}
 use Rattle.std.specs.BinaryHeap.{IsHeap, heap_items, heap_len}
 use Rattle.syn_rows.specs.Levels.{levels_of}
 use Rattle.syn_balance.specs.Heaps.{AreLeaves, leaf_order, literal_in}

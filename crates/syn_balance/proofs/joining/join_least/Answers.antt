@@ -1,14 +1,10 @@
-use Rattle.std.proofs.Common.{◌≡◌, ◌+◌, ◌<◌, ℕ, List, length, arith, rules, ap, ◌∙◌, sym, subst}
+use Rattle.std.proofs.Common.{ℕ, length, arith, rules, ap, subst}
 use Rattle.std.specs.BinaryHeap.{heap_items}
 use Rattle.std.specs.declared.cmp.Reverse.{Reverse}
 use Rattle.syn_rows.specs.declared.Lit.{Lit}
 use Rattle.syn_shapes.specs.Graphs.{IsHashed}
 use Rattle.syn_balance.proofs.LevelLists.{level_found}
-use Rattle.syn_rows.specs.Levels.{level_in}
-use Rattle.syn_rows.specs.Rows.{node_of}
 use Rattle.syn_strash.proofs.LevelLaws.{length-levels}
-use Rattle.syn_strash.specs.Growing.{level_by}
-use Rattle.syn_balance.specs.Heaps.{literal_in, level_of}
 use Rattle.syn_balance.proofs.Joins.{AreLeast, least_two, more_leaves, least_joined}
 use Rattle.syn_balance.proofs.joining.join_least.Goals as goal
 

@@ -1,4 +1,4 @@
-use Rattle.std.proofs.Common.{◌≡◌, ◌+◌, ◌<◌, ℕ, List, Bool, suc, length, refl, subst, arith}
+use Rattle.std.proofs.Common.{◌≡◌, ◌+◌, ℕ, suc, length, refl, subst, arith}
 use Rattle.syn_rows.specs.Rows.{row_at}
 use Rattle.syn_rows.specs.References.{refs}
 use Rattle.syn_strash.proofs.Dropped.{refs_there}

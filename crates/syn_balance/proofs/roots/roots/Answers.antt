@@ -1,7 +1,6 @@
-use Rattle.std.proofs.Common.{List, Bool, false, length, sym, ap, subst, arith, ◌≡◌}
+use Rattle.std.proofs.Common.{List, Bool, false, length, sym, ap, subst, arith}
 use Rattle.std.proofs.lemmas.List.{take_at, length-replicate}
 use Rattle.syn_balance.specs.Roots.{HasRoots}
-use Rattle.syn_balance.proofs.Marking.{reading_begins}
 use Rattle.syn_balance.proofs.roots.roots.Goals as goal
 
 pub returns : goal.returns
