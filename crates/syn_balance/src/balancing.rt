@@ -236,9 +236,6 @@ pub fn made_again(
         roots.as_slice(),
     )?;
     let observed = literals_of(alloc, literals.as_slice(), observed)?;
-    let Hashed {
-        source_count: _,
-        rows,
-    } = hashed;
+    let rows = hashed.into_rows();
     Ok(Rows { rows, observed })
 }

@@ -60,7 +60,7 @@ pub rebalanced : NetworkOfGraph → GraphHasFunction → SameFromFunction → (f
     → ((i : ℕ) → i < length lits → level_by new_rows (lit_at new_lits i) ≤ level_by rows (lit_at lits i)) → IsBalanced (network frame rows lits) (network new_frame new_rows new_lits)
 rebalanced spells has_function same_meaning frame new_frame rows new_rows lits new_lits same_frame clocks once graph new_graph same fewer levels =
     subst (λ (f : Frame). IsGraph f new_rows new_lits → IsBalanced (network frame rows lits) (network f new_rows new_lits)) (sym same_frame)
-        (λ g. rebalanced_in spells has_function same_meaning frame rows new_rows lits new_lits clocks once graph g same fewer levels) new_graph
+    (λ g. rebalanced_in spells has_function same_meaning frame rows new_rows lits new_lits clocks once graph g same fewer levels) new_graph
 
 -- a graph's netlist is what these commands may make of itself
 pub stays_balanced : NetworkOfGraph → GraphHasFunction → SameFromFunction → (frame : Frame) (rows : List Row) (lits : List Lit) → distinct frame.clocks ≡ true → distinct (sources frame) ≡ true → IsGraph frame rows lits

@@ -4,5 +4,5 @@ mod Graphing
 mod Kept
 pub mod Joining
 pub mod Rising
-pub mod Visits
+mod Visits
 pub mod LevelLaws

@@ -5,6 +5,8 @@
 #![tactic(auto)]
 
 #[cfg(test)]
+mod balancing;
+#[cfg(test)]
 mod faults;
 #[cfg(test)]
 mod harness;

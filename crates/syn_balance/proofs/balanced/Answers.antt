@@ -5,7 +5,7 @@ use Rattle.syn_rows.specs.Rows.{in_order_from}
 use Rattle.syn_strash.specs.Compacting.{IsCompaction}
 use Rattle.syn_strash.specs.Visiting.{IsRebuilt}
 use Rattle.syn_strash.proofs.Dropped.{hashed_order}
-use Rattle.syn_strash.proofs.Visits.{rebuilt_compaction}
+use Rattle.syn_balance.proofs.NewGraphs.{remade_compaction}
 use Rattle.syn_balance.proofs.balanced.Goals as goal
 
 pub made_again-requires-clause-order : goal.made_again-requires-clause-order
@@ -22,4 +22,4 @@ returns c =
     subst₂ (λ (rs : List Row) (ls : List Lit). IsRebuilt g.source_count rs ls made.rows.items made.observed.items) c.as_slice.ensures c.as_slice-2.ensures c.in_ok-made.ensures in
     let compacted : IsCompaction g.source_count made.rows.items made.observed.items kept.rows.items kept.observed.items =
     subst₂ (λ (rs : List Row) (ls : List Lit). IsCompaction g.source_count rs ls kept.rows.items kept.observed.items) c.as_slice-3.ensures.value c.as_slice-4.ensures.value c.in_ok-kept.ensures in
-    rebuilt_compaction g.source_count g.rows made.rows.items kept.rows.items g.observed made.observed.items kept.observed.items again compacted
+    remade_compaction g.source_count g.rows made.rows.items kept.rows.items g.observed made.observed.items kept.observed.items again compacted

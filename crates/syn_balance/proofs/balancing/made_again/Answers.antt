@@ -4,7 +4,7 @@ use Rattle.syn_rows.specs.declared.Lit.{Lit}
 use Rattle.syn_rows.specs.declared.Row.{Row}
 use Rattle.syn_rows.specs.Levels.{levels_of}
 use Rattle.syn_shapes.specs.Graphs.{IsHashed}
-use Rattle.syn_strash.specs.Visiting.{FirstsOf, literal_of}
+use Rattle.syn_strash.specs.Visiting.{FirstsOf, IsRebuilt, literal_of}
 use Rattle.syn_balance.specs.Roots.{HasRoots}
 use Rattle.syn_balance.specs.Balancing.{IsBalancing}
 use Rattle.syn_balance.proofs.Ends.{begins, all_stand, made_again}
@@ -51,7 +51,8 @@ returns c =
     let count : c.balance_nodes.new.hashed.source_count ≡ c.args.source_count = c.in_ok-balance_nodes.ensures.sources ∙ c.in_ok-hashed.ensures.sources in
     let size : length c.balance_nodes.new.literals ≡ vec_len c.in_ok-literals.literals = omega (arith, s.all, c.in_ok-literals.ensures.all, ap length c.as_mut_slice.ensures.value, c.as_mut_slice.ensures.len) in
     let same : c.as_slice-3.result.now ≡ c.balance_nodes.new.literals = c.as_slice-3.ensures.value ∙ take_at c.balance_nodes.new.literals _ (vec_len c.in_ok-literals.literals) size in
-    made_again c.args.source_count rows c.args.observed.now c.as_slice-2.result.now c.balance_nodes.new.literals c.balance_nodes.new.waiting new c.in_ok-observed.observed.items
+    subst (λ (r : List Row). IsRebuilt c.args.source_count rows c.args.observed.now r c.in_ok-observed.observed.items) (sym c.into_rows-rows.ensures)
+    (made_again c.args.source_count rows c.args.observed.now c.as_slice-2.result.now c.balance_nodes.new.literals c.balance_nodes.new.waiting new c.in_ok-observed.observed.items
     (subst (λ (k : ℕ). IsHashed k new) count c.balance_nodes.new.hashed.hashed)
     (subst (λ (k : ℕ). IsBalancing k rows c.as_slice-2.result.now (length rows) c.balance_nodes.new.literals c.balance_nodes.new.waiting new) c.in_ok-hashed.ensures.sources s)
-    (c.in_ok-observed.ensures ∙ ap (λ (l : List (Option Lit)). map (literal_of l) c.args.observed.now) same)
+    (c.in_ok-observed.ensures ∙ ap (λ (l : List (Option Lit)). map (literal_of l) c.args.observed.now) same))
