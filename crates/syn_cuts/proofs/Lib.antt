@@ -1,0 +1,7 @@
+pub mod Putting
+pub mod Spans
+pub mod Walking
+pub mod Tabling
+pub mod Cutting
+pub mod Filling
+pub mod Ordering

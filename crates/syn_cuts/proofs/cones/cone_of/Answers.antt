@@ -1,0 +1,37 @@
+use Rattle.std.proofs.Common.{◌≡◌, ◌++◌, ◌∷◌, [], ap, subst, true, arith}
+use Rattle.syn_cuts.specs.Walk.{IsWalk, rises, top}
+use Rattle.syn_cuts.proofs.Walking.{has_here, has_right, led_below, walk_on, rises_on, top_falls}
+use Rattle.syn_cuts.proofs.cones.cone_of.Goals as goal
+
+pub visit-requires : goal.visit-requires
+visit-requires c =
+    let n = c.in-Some.node in
+    let front = c.pop.new.self.items in
+    let done = c.loop-node.cone.items in
+    let rows = c.args.rows.now in
+    let walk = subst (IsWalk rows c.args.leaves.now c.args.root done) c.in-Some.ensures.items c.loop-node.invariant.walk in
+    let here = walk.led n (has_right done (front ++ n ∷ []) n (has_right front (n ∷ []) n (has_here n []))) in
+    let low = led_below rows c.args.leaves.now c.args.root here.0 n c.requires.order here.1 in
+    omega (arith, low, c.requires.root)
+
+pub loop-node-smaller : goal.loop-node-smaller
+loop-node-smaller c =
+    let n = c.in-Some.node in
+    let front = c.pop.new.self.items in
+    let less = top_falls c.args.rows.now c.args.leaves.now front n c.requires.order (subst (λ l. rises l ≡ true) c.in-Some.ensures.items c.loop-node.invariant.rising) in
+    let now = ap top c.in_ok-visit.ensures in
+    let old = ap top c.in-Some.ensures.items in
+    omega (arith, less, now, old)
+
+pub loop-node-preserved : goal.loop-node-preserved
+loop-node-preserved c =
+    let n = c.in-Some.node in
+    let front = c.pop.new.self.items in
+    let done = c.loop-node.cone.items in
+    let rows = c.args.rows.now in
+    let leaves = c.args.leaves.now in
+    record {
+      walk = rw (c.in_ok-push-2.ensures.items, c.in_ok-visit.ensures)
+          (walk_on rows leaves c.args.root done front n c.requires.order (subst (IsWalk rows leaves c.args.root done) c.in-Some.ensures.items c.loop-node.invariant.walk));
+      rising = rw c.in_ok-visit.ensures (rises_on rows leaves front n (subst (λ l. rises l ≡ true) c.in-Some.ensures.items c.loop-node.invariant.rising));
+    }

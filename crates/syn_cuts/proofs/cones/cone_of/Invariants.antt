@@ -1,0 +1,12 @@
+use Rattle.std.proofs.Common.{◌≡◌, true}
+use Rattle.syn_cuts.specs.Walk.{IsWalk, rises, top}
+use Rattle.syn_cuts.proofs.cones.cone_of.Given as goal
+
+abbrev pub invariant-loop-node : goal.invariant-loop-node
+invariant-loop-node l = record {
+  walk : IsWalk l.rows l.leaves l.root l.cone.items l.waiting.items;
+  rising : rises l.waiting.items ≡ true;
+}
+
+abbrev pub decreases-loop-node : goal.decreases-loop-node
+decreases-loop-node l = top l.waiting.items

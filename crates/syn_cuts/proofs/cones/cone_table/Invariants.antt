@@ -1,0 +1,13 @@
+use Rattle.std.proofs.Common.{◌≡◌, true, length}
+use Rattle.syn_cuts.specs.Walk.{AreFunctions, IsWalk, have_vars}
+use Rattle.syn_cuts.proofs.cones.cone_table.Given as goal
+
+abbrev pub invariant-loop-node : goal.invariant-loop-node
+invariant-loop-node l = record {
+  walk : IsWalk l.rows l.leaves l.root l.cone.items l.nodes.items;
+  functions : AreFunctions l.rows l.leaves l.root l.nodes.items l.tables.items;
+  vars : have_vars (length l.leaves) l.tables.items ≡ true;
+}
+
+abbrev pub decreases-loop-node : goal.decreases-loop-node
+decreases-loop-node l = length l.cone.items

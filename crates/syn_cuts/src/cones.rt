@@ -1,0 +1,188 @@
+//! The function of a node over a cut.
+
+ghost use Rattle.std.specs.Prelude.{◌≡◌, ℕ, ◌<◌, ◌≤◌, Bool, List, [], true, false, IfNone, IfOk, IfSome, OnOk, length, map, slice_index_or};
+ghost use Rattle.std.specs.List.{insert};
+ghost use Rattle.syn_rows.specs.Rows.{InOrder, node_of, refs_of, row_at};
+ghost use Rattle.syn_rows.specs.Values.{RowFits, is_open, lit_value};
+ghost use Rattle.syn_truth.specs.Truth.{value_of};
+ghost use Rattle.syn_cuts.specs.Cones.{IsCut, IsTruthOver, has_node};
+ghost use Rattle.syn_cuts.specs.Walk.{FitsInside, IsWalk, TablesAgree, has_all, have_vars, inner_refs, put_node, put_nodes};
+
+use std::alloc::{AllocError, Global};
+use syn_rows::{Lit, Row};
+use syn_truth::Truth;
+
+// The place of a node.
+fn place_of(nodes: &[u32], node: u32) -> Option<usize>
+    ensures some { IfSome result (λ i. (i < length nodes.now) × (slice_index_or nodes.now i 0 ≡ node)) }
+    ensures none { IfNone result (has_node nodes.now node ≡ false) }
+{
+    for (i, other) in nodes.iter().enumerate() {
+        if *other == node {
+            return Some(i);
+        }
+    }
+    None
+}
+
+// Where a node belongs among rising nodes: the place, or none where it is there.
+fn gap_for(nodes: &[u32], node: u32) -> Option<usize>
+    ensures some { IfSome result (λ i. (i ≤ length nodes.now) × (put_node node nodes.now ≡ insert nodes.now i node)) }
+    ensures none { IfNone result (put_node node nodes.now ≡ nodes.now) }
+{
+    for (i, other) in nodes.iter().enumerate() {
+        if node < *other {
+            return Some(i);
+        }
+        if node == *other {
+            return None;
+        }
+    }
+    Some(nodes.len())
+}
+
+// Puts a node in its place among rising nodes, where it isn't there.
+fn put_node(nodes: &mut Vec<u32>, node: u32) -> Result<(), AllocError>
+    ensures { OnOk result (nodes.new.items ≡ put_node node nodes.old.items) }
+{
+    match gap_for(nodes, node) {
+        Some(i) => {
+            nodes.insert(i, node)?;
+            Ok(())
+        }
+        None => Ok(()),
+    }
+}
+
+// Puts the nodes that a row refers to among those that wait.
+fn put_refs(waiting: &mut Vec<u32>, row: Row) -> Result<(), AllocError>
+    ensures { OnOk result (waiting.new.items ≡ put_nodes (refs_of row) waiting.old.items) }
+{
+    match row {
+        Row::And(a, b) => {
+            put_node(waiting, a.node())?;
+            put_node(waiting, b.node())
+        }
+        Row::Alias(a) => put_node(waiting, a.node()),
+        _ => Ok(()),
+    }
+}
+
+// Puts the nodes that a node refers to among those that wait, where it isn't a leaf.
+fn visit(rows: &[Row], leaves: &[u32], node: u32, waiting: &mut Vec<u32>) -> Result<(), AllocError>
+    requires { node < length rows.now }
+    ensures { OnOk result (waiting.new.items ≡ put_nodes (inner_refs rows.now leaves.now node) waiting.old.items) }
+{
+    match place_of(leaves, node) {
+        Some(_) => Ok(()),
+        None => put_refs(waiting, rows[node as usize]),
+    }
+}
+
+// The nodes that are led to from the root, each before those that it refers to.
+fn cone_of(alloc: Global, rows: &[Row], leaves: &[u32], root: u32) -> Result<Vec<u32>, AllocError>
+    requires order { InOrder rows.now }
+    requires root { root < length rows.now }
+    ensures { IfOk result (λ cone. IsWalk rows.now leaves.now root cone.items []) }
+{
+    let mut cone = Vec::new(alloc);
+    let mut waiting = Vec::new(alloc);
+    waiting.push(root)?;
+    while let Some(node) = waiting.pop() {
+        visit(rows, leaves, node, &mut waiting)?;
+        cone.push(node)?;
+    }
+    Ok(cone)
+}
+
+// The table of a literal, from those of nodes among which its node is.
+fn lit_table(nodes: &[u32], tables: &[Truth], lit: Lit) -> Truth
+    requires count { length tables.now ≡ length nodes.now }
+    requires there { has_node nodes.now (node_of lit) ≡ true }
+    ensures vars { (vars : ℕ) → have_vars vars tables.now ≡ true → result.vars ≡ vars }
+    ensures values { (v : ℕ → Bool) (xs : List Bool) → have_vars (length xs) tables.now ≡ true → TablesAgree v xs nodes.now tables.now → lit_value v lit ≡ value_of result xs }
+{
+    match place_of(nodes, lit.node()) {
+        Some(i) if lit.complemented() => tables[i].not(),
+        Some(i) => tables[i],
+        None => Truth::default(),
+    }
+}
+
+// The table that a row gives its node, from those of nodes among which are all that it refers to.
+fn row_table(nodes: &[u32], tables: &[Truth], row: Row, vars: u8) -> Truth
+    requires few { vars ≤ 7 }
+    requires count { length tables.now ≡ length nodes.now }
+    requires vars { have_vars vars tables.now ≡ true }
+    requires there { has_all nodes.now (refs_of row) ≡ true }
+    ensures vars { result.vars ≡ vars }
+    ensures values { (n : ℕ) (v : ℕ → Bool) (xs : List Bool) → length xs ≡ vars → TablesAgree v xs nodes.now tables.now → is_open row ≡ false → RowFits v n row → v n ≡ value_of result xs }
+{
+    match row {
+        Row::And(a, b) => lit_table(nodes, tables, a).and(lit_table(nodes, tables, b)),
+        Row::Alias(a) => lit_table(nodes, tables, a),
+        _ => Truth::constant(vars, false),
+    }
+}
+
+// The table of a node over leaves, from those of nodes among which are all that it refers to.
+fn node_table(rows: &[Row], leaves: &[u32], nodes: &[u32], tables: &[Truth], node: u32) -> Truth
+    requires few { length leaves.now ≤ 6 }
+    requires node { node < length rows.now }
+    requires count { length tables.now ≡ length nodes.now }
+    requires vars { have_vars (length leaves.now) tables.now ≡ true }
+    requires there { has_all nodes.now (inner_refs rows.now leaves.now node) ≡ true }
+    ensures vars { result.vars ≡ length leaves.now }
+    ensures values { (v : ℕ → Bool) (xs : List Bool) → map v leaves.now ≡ xs → TablesAgree v xs nodes.now tables.now → FitsInside rows.now leaves.now v node → v node ≡ value_of result xs }
+{
+    match place_of(leaves, node) {
+        Some(i) => Truth::var(leaves.len() as u8, i as u8),
+        None => row_table(nodes, tables, rows[node as usize], leaves.len() as u8),
+    }
+}
+
+// The function of the root over the leaves, by the nodes between, each before those that it refers to.
+fn cone_table(
+    alloc: Global,
+    rows: &[Row],
+    leaves: &[u32],
+    root: u32,
+    cone: Vec<u32>,
+) -> Result<Truth, AllocError>
+    requires few { length leaves.now ≤ 6 }
+    requires order { InOrder rows.now }
+    requires root { root < length rows.now }
+    requires cut { IsCut rows.now leaves.now root }
+    requires walk { IsWalk rows.now leaves.now root cone.items [] }
+    ensures { IfOk result (IsTruthOver rows.now leaves.now root) }
+{
+    let mut cone = cone;
+    let mut nodes = Vec::new(alloc);
+    let mut tables = Vec::new(alloc);
+    while let Some(node) = cone.pop() {
+        let table = node_table(rows, leaves, &nodes, &tables, node);
+        nodes.push(node)?;
+        tables.push(table)?;
+    }
+    match place_of(&nodes, root) {
+        Some(i) => Ok(tables[i]),
+        None => Ok(Truth::default()),
+    }
+}
+
+/// The function of a node over a cut of it.
+pub(crate) fn function_of(
+    alloc: Global,
+    rows: &[Row],
+    root: u32,
+    leaves: &[u32],
+) -> Result<Truth, AllocError>
+    requires few { length leaves.now ≤ 6 }
+    requires order { InOrder rows.now }
+    requires root { root < length rows.now }
+    requires cut { IsCut rows.now leaves.now root }
+    ensures { IfOk result (IsTruthOver rows.now leaves.now root) }
+{
+    let cone = cone_of(alloc, rows, leaves, root)?;
+    cone_table(alloc, rows, leaves, root, cone)
+}

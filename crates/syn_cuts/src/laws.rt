@@ -1,0 +1,14 @@
+//! Laws of listed cuts, and worked cuts.
+
+ghost use Rattle.syn_cuts.specs.Laws.{ListedAreCuts};
+ghost use Rattle.syn_cuts.specs.Worked.{Worked};
+
+/// The definition lists the wanted cuts of a worked graph.
+pub fn worked_cuts()
+    ensures { Worked }
+{}
+
+/// Each listed cut of a node is a cut of it.
+pub fn listed_are_cuts()
+    ensures { ListedAreCuts }
+{}

@@ -1,0 +1,147 @@
+//! The listed cuts of rows, level by level.
+
+ghost use Rattle.std.specs.Prelude.{◌≡◌, ◌+◌, ◌^◌, ◌<◌, ◌≤◌, All, IfOk, OnOk, length};
+ghost use Rattle.syn_rows.specs.Rows.{InOrder};
+ghost use Rattle.syn_cuts.specs.Cuts.{listed_cuts};
+ghost use Rattle.syn_cuts.specs.Leaves.{leaves_of};
+ghost use Rattle.syn_cuts.specs.Lists.{AreListed, IsListed};
+
+use crate::listing::{Found, find_all, set_all, sweep};
+use crate::lists::CutLists;
+use std::alloc::{AllocError, Global};
+use std::thread;
+use std::thread::Threads;
+use syn_rows::{Row, levels};
+
+// How many nodes are worth a thread.
+const LEAST: usize = 256;
+
+// How many nodes are listed at most before their lists are set.
+const MOST: usize = 16_384;
+
+// The factor of the level in a key that holds a level and a node.
+const SPAN: u64 = 1 << 32;
+
+// How many nodes a chunk has, of so many nodes for so many workers; few nodes are one chunk.
+fn chunk_size(nodes: usize, workers: u8) -> usize
+    ensures { 0 < result }
+{
+    let share = if workers == 0 {
+        nodes
+    } else {
+        nodes / workers as usize
+    };
+    if share < LEAST { LEAST } else { share }
+}
+
+// The listed cuts of these nodes, found in chunks, one after the other or at the same time.
+fn find_parts<R: Threads + Sync>(
+    rt: &R,
+    alloc: Global,
+    rows: &[Row],
+    lists: &CutLists,
+    nodes: &[u32],
+    k: usize,
+    workers: u8,
+) -> Result<Vec<Result<Vec<Found>, AllocError>>, AllocError>
+    requires small { k ≤ 6 }
+    requires order { InOrder rows.now }
+    requires lists { AreListed k rows.now lists.now }
+    ensures { IfOk result (λ parts. All (λ part. IfOk part (λ v. All (λ f. IsListed k rows.now f.node (leaves_of f.kept.items)) v.items)) parts.items) }
+{
+    let work = move |_start: usize, chunk: &[u32]| -> Result<Vec<Found>, AllocError>
+        requires { (k ≤ 6) × InOrder rows.now × AreListed k rows.now lists.now }
+        ensures { IfOk result (λ v. All (λ f. IsListed k rows.entry.now f.node (leaves_of f.kept.items)) v.items) }
+    { find_all(alloc, rows, lists, chunk, k) };
+    thread::map_chunks(rt, alloc, nodes, chunk_size(nodes.len(), workers), &work)
+}
+
+// Sets the lists of those of these nodes for which all that they refer to have their lists.
+fn set_some<R: Threads + Sync>(
+    rt: &R,
+    alloc: Global,
+    rows: &[Row],
+    lists: &mut CutLists,
+    nodes: &[u32],
+    k: usize,
+    workers: u8,
+) -> Result<(), AllocError>
+    requires small { k ≤ 6 }
+    requires order { InOrder rows.now }
+    requires lists { AreListed k rows.now lists.old }
+    ensures { OnOk result (AreListed k rows.now lists.new) }
+{
+    let parts = find_parts(rt, alloc, rows, lists, nodes, k, workers)?;
+    for part in parts {
+        let found = part?;
+        set_all(rows, lists, found, k)?;
+    }
+    Ok(())
+}
+
+// The nodes with their levels, by level and then by number.
+fn by_level(alloc: Global, levels: &[u32]) -> Result<Vec<u64>, AllocError>
+    requires { length levels.now < 2 ^ 32 }
+{
+    let mut keys = Vec::new(alloc);
+    for (n, level) in levels.iter().enumerate() {
+        keys.push(*level as u64 * SPAN + n as u64)?;
+    }
+    keys.sort_unstable();
+    Ok(keys)
+}
+
+// Sets the lists of all nodes, those of a level together.
+fn set_levels<R: Threads + Sync>(
+    rt: &R,
+    alloc: Global,
+    rows: &[Row],
+    lists: &mut CutLists,
+    k: usize,
+    workers: u8,
+) -> Result<(), AllocError>
+    requires small { k ≤ 6 }
+    requires few { length rows.now + 1 < 2 ^ 32 }
+    requires order { InOrder rows.now }
+    requires lists { AreListed k rows.now lists.old }
+    ensures { OnOk result (AreListed k rows.now lists.new) }
+{
+    let heights = levels(alloc, rows)?;
+    let keys = by_level(alloc, &heights)?;
+    let mut batch = Vec::new(alloc);
+    let mut level = 0;
+    for key in &keys {
+        if *key / SPAN != level || batch.len() >= MOST {
+            set_some(rt, alloc, rows, lists, &batch, k, workers)?;
+            batch.clear();
+            level = *key / SPAN;
+        }
+        batch.push((*key % SPAN) as u32)?;
+    }
+    set_some(rt, alloc, rows, lists, &batch, k, workers)
+}
+
+/// The listed cuts, with at most `k` leaves, of each node of rows in order.
+///
+/// With several workers the nodes of a level are shared among them, and then the lists of nodes
+/// that have none yet are found in order; with one worker that is all. Few nodes of a level are
+/// listed in the caller's own thread.
+pub(crate) fn listed_rows<R: Threads + Sync>(
+    rt: &R,
+    alloc: Global,
+    rows: &[Row],
+    k: usize,
+    workers: u8,
+) -> Result<CutLists, AllocError>
+    requires small { k ≤ 6 }
+    requires few { length rows.now + 1 < 2 ^ 32 }
+    requires order { InOrder rows.now }
+    ensures { IfOk result (λ lists. lists ≡ listed_cuts k rows.now) }
+{
+    let mut lists = CutLists::empty(alloc, rows.len())?;
+    if workers > 1 {
+        set_levels(rt, alloc, rows, &mut lists, k, workers)?;
+    }
+    sweep(rows, &mut lists, k)?;
+    Ok(lists)
+}

@@ -1,0 +1,19 @@
+//! Listed cuts of the nodes of an and-inverter graph, and functions over cuts.
+#![tactic(auto)]
+
+mod cones;
+mod graphs;
+mod laws;
+mod levels;
+mod listing;
+mod lists;
+mod unions;
+
+use arrayvec::ArrayVec;
+
+/// A cut: its leaves, rising.
+pub type Cut = ArrayVec<u32, 6>;
+
+pub use graphs::{function, listed};
+pub use laws::{listed_are_cuts, worked_cuts};
+pub use lists::CutLists;

@@ -1,0 +1,141 @@
+//! Which cuts are listed, node by node.
+
+ghost use Rattle.std.specs.Prelude.{◌≡◌, ◌≢◌, ℕ, ◌^◌, ◌++◌, ◌∷◌, ◌<◌, ◌≤◌, [], All, IfOk, IfSome, IsTrue, OnOk, length, slice_set};
+ghost use Rattle.syn_rows.specs.Rows.{AllRefs, InOrder, row_at};
+ghost use Rattle.syn_cuts.specs.Cuts.{listed_cuts, row_cuts};
+ghost use Rattle.syn_cuts.specs.Leaves.{leaves_of};
+ghost use Rattle.syn_cuts.specs.Lists.{AreListed, IsListed, list_at};
+
+use crate::Cut;
+use crate::lists::CutLists;
+use crate::unions::{KEPT, first_unions};
+use arrayvec::ArrayVec;
+use std::alloc::{AllocError, Global};
+use syn_rows::Row;
+
+// A node with its listed cuts but the last.
+#[derive(Drop)]
+pub struct Found {
+    pub node: u32,
+    pub kept: ArrayVec<Cut, KEPT>,
+}
+
+// The first unions of the listed cuts of the nodes that a row refers to.
+fn row_unions(lists: &CutLists, row: Row, k: usize) -> ArrayVec<Cut, KEPT>
+    requires small { k ≤ 6 }
+    requires refs { AllRefs (λ m. m < length lists.now) row }
+    ensures { (n : ℕ) → leaves_of result.items ++ (n ∷ []) ∷ [] ≡ row_cuts k (list_at lists.now) n row }
+{
+    match row {
+        Row::And(a, b) => first_unions(lists.of(a.node()), lists.of(b.node()), k),
+        _ => ArrayVec::new(),
+    }
+}
+
+// Whether a node has its list.
+fn has_list(lists: &CutLists, node: u32) -> bool
+    requires { node < length lists.now }
+    ensures { IsTrue result → list_at lists.now node ≢ [] }
+{
+    !lists.of(node).is_empty()
+}
+
+// Whether the nodes that a row refers to have their lists.
+fn is_ready(lists: &CutLists, row: Row) -> bool
+    requires { AllRefs (λ m. m < length lists.now) row }
+    ensures { IsTrue result → AllRefs (λ m. list_at lists.now m ≢ []) row }
+{
+    match row {
+        Row::And(a, b) => has_list(lists, a.node()) && has_list(lists, b.node()),
+        Row::Alias(a) => has_list(lists, a.node()),
+        _ => true,
+    }
+}
+
+// The listed cuts of a node, where those that it refers to have their lists.
+fn find(rows: &[Row], lists: &CutLists, node: u32, k: usize) -> Option<Found>
+    requires small { k ≤ 6 }
+    requires order { InOrder rows.now }
+    requires lists { AreListed k rows.now lists.now }
+    ensures { IfSome result (λ f. IsListed k rows.now f.node (leaves_of f.kept.items)) }
+{
+    if node as usize >= rows.len() {
+        return None;
+    }
+    let row = rows[node as usize];
+    if !is_ready(lists, row) {
+        return None;
+    }
+    let kept = row_unions(lists, row, k);
+    Some(Found { node, kept })
+}
+
+// The listed cuts of those of these nodes for which all that they refer to have their lists.
+pub(crate) fn find_all(
+    alloc: Global,
+    rows: &[Row],
+    lists: &CutLists,
+    nodes: &[u32],
+    k: usize,
+) -> Result<Vec<Found>, AllocError>
+    requires small { k ≤ 6 }
+    requires order { InOrder rows.now }
+    requires lists { AreListed k rows.now lists.now }
+    ensures { IfOk result (λ v. All (λ f. IsListed k rows.now f.node (leaves_of f.kept.items)) v.items) }
+{
+    let mut found = Vec::new(alloc);
+    for node in nodes {
+        if let Some(f) = find(rows, lists, *node, k) {
+            found.push(f)?;
+        }
+    }
+    Ok(found)
+}
+
+// Sets the lists of nodes that were found.
+pub(crate) fn set_all(
+    rows: &[Row],
+    lists: &mut CutLists,
+    found: Vec<Found>,
+    k: usize,
+) -> Result<(), AllocError>
+    requires lists { AreListed k rows.now lists.old }
+    requires found { All (λ f. IsListed k rows.now f.node (leaves_of f.kept.items)) found.items }
+    ensures { OnOk result (AreListed k rows.now lists.new) }
+{
+    for f in found {
+        lists.set(f.node, f.kept)?;
+    }
+    Ok(())
+}
+
+// Sets the list of a node that has none, where all nodes below have theirs.
+fn fill(rows: &[Row], lists: &mut CutLists, node: u32, k: usize) -> Result<(), AllocError>
+    requires small { k ≤ 6 }
+    requires order { InOrder rows.now }
+    requires node { node < length rows.now }
+    requires lists { AreListed k rows.now lists.old }
+    requires below { (m : ℕ) → m < node → list_at lists.old m ≡ list_at (listed_cuts k rows.now) m }
+    ensures { OnOk result (lists.new ≡ slice_set lists.old node (list_at (listed_cuts k rows.now) node)) }
+{
+    if has_list(lists, node) {
+        return Ok(());
+    }
+    let kept = row_unions(lists, rows[node as usize], k);
+    lists.set(node, kept)?;
+    Ok(())
+}
+
+// Sets the lists of the nodes that have none, in order.
+pub(crate) fn sweep(rows: &[Row], lists: &mut CutLists, k: usize) -> Result<(), AllocError>
+    requires small { k ≤ 6 }
+    requires few { length rows.now < 2 ^ 32 }
+    requires order { InOrder rows.now }
+    requires lists { AreListed k rows.now lists.old }
+    ensures { OnOk result (lists.new ≡ listed_cuts k rows.now) }
+{
+    for n in 0..rows.len() {
+        fill(rows, lists, n as u32, k)?;
+    }
+    Ok(())
+}

@@ -1,0 +1,163 @@
+//! The first unions of two lists of cuts.
+
+ghost use Rattle.std.specs.Prelude.{◌≡◌, ◌+◌, ◌<◌, ◌≤◌, ◌∷◌, [], IfSome, IfNone, length, map, min, take};
+ghost use Rattle.std.specs.List.{insert};
+ghost use Rattle.arrayvec.specs.ArrayVec.{array_vec_len};
+ghost use Rattle.syn_cuts.specs.Cuts.{comes_before, leaves_before, put, union, arranged, unions, unions_with, first_unions};
+ghost use Rattle.syn_cuts.specs.Leaves.{leaves_of};
+
+use crate::Cut;
+use arrayvec::ArrayVec;
+
+/// How many unions are kept for a node.
+pub const KEPT: usize = 31;
+
+// The first node of a union of two rising lists, and what is left of them.
+#[inline]
+fn first_node<'a>(left: &'a [u32], right: &'a [u32]) -> Option<(u32, &'a [u32], &'a [u32])>
+    ensures none { IfNone result (union left.now right.now ≡ []) }
+    ensures some { IfSome result (λ r. union left.now right.now ≡ r.0 ∷ union r.1.now r.2.now) }
+{
+    match (left.split_first(), right.split_first()) {
+        (None, None) => None,
+        (None, Some((node, rest))) => Some((*node, left, rest)),
+        (Some((node, rest)), None) => Some((*node, rest, right)),
+        (Some((x, left_rest)), Some((y, right_rest))) => {
+            if x < y {
+                Some((*x, left_rest, right))
+            } else if x == y {
+                Some((*x, left_rest, right_rest))
+            } else {
+                Some((*y, left, right_rest))
+            }
+        }
+    }
+}
+
+// The union of two cuts, where it has at most k leaves.
+fn union(left: &[u32], right: &[u32], k: usize) -> Option<Cut>
+    requires { k ≤ 6 }
+    ensures some { IfSome result (λ c. (c.items ≡ union left.now right.now) × (length (union left.now right.now) ≤ k)) }
+    ensures none { IfNone result (k < length (union left.now right.now)) }
+{
+    let mut found = Cut::new();
+    let mut left = left;
+    let mut right = right;
+    while let Some((node, left_rest, right_rest)) = first_node(left, right) {
+        if found.len() >= k {
+            return None;
+        }
+        found.push(node);
+        left = left_rest;
+        right = right_rest;
+    }
+    Some(found)
+}
+
+// Whether the leaves of a cut come before those of another.
+#[inline]
+fn leaves_before(left: &[u32], right: &[u32]) -> bool
+    ensures { result ≡ leaves_before left.now right.now }
+{
+    for (i, x) in left.iter().enumerate() {
+        if i >= right.len() {
+            return false;
+        }
+        if *x != right[i] {
+            return *x < right[i];
+        }
+    }
+    false
+}
+
+// Whether a cut comes before another.
+#[inline]
+fn comes_before(left: &[u32], right: &[u32]) -> bool
+    ensures { result ≡ comes_before left.now right.now }
+{
+    if left.len() == right.len() {
+        leaves_before(left, right)
+    } else {
+        left.len() < right.len()
+    }
+}
+
+// Where a cut belongs among cuts: the place, or none where it is there.
+fn place(cuts: &[Cut], cut: &[u32]) -> Option<usize>
+    ensures some { IfSome result (λ i. (i ≤ length cuts.now) × (put cut.now (leaves_of cuts.now) ≡ insert (leaves_of cuts.now) i cut.now)) }
+    ensures none { IfNone result (put cut.now (leaves_of cuts.now) ≡ leaves_of cuts.now) }
+{
+    for (i, other) in cuts.iter().enumerate() {
+        if comes_before(cut, other.as_slice()) {
+            return Some(i);
+        }
+        if cut == other.as_slice() {
+            return None;
+        }
+    }
+    Some(cuts.len())
+}
+
+// Lets the last cut go where there is no room for one more.
+fn make_room(kept: &mut ArrayVec<Cut, KEPT>)
+    requires { array_vec_len kept.old ≤ 31 }
+    ensures items { kept.new.items ≡ take 30 kept.old.items }
+    ensures len { array_vec_len kept.new ≡ min 30 (array_vec_len kept.old) }
+{
+    if kept.is_full() {
+        kept.pop();
+    }
+}
+
+// Puts a cut in its place among the first cuts, where it isn't there; the last one goes where there is no room.
+fn keep(kept: &mut ArrayVec<Cut, KEPT>, cut: Cut)
+    requires { array_vec_len kept.old ≤ 31 }
+    ensures few { array_vec_len kept.new ≤ 31 }
+    ensures kept { leaves_of kept.new.items ≡ take 31 (put cut.items (leaves_of kept.old.items)) }
+{
+    let Some(i) = place(kept.as_slice(), cut.as_slice()) else {
+        return;
+    };
+    if i >= KEPT {
+        return;
+    }
+    make_room(kept);
+    kept.insert(i, cut);
+}
+
+// Keeps the union of two cuts, where it has at most k leaves.
+fn keep_union(kept: &mut ArrayVec<Cut, KEPT>, left: &[u32], right: &[u32], k: usize)
+    requires small { k ≤ 6 }
+    requires few { array_vec_len kept.old ≤ 31 }
+    ensures few { array_vec_len kept.new ≤ 31 }
+    ensures kept { leaves_of kept.new.items ≡ take 31 (arranged (leaves_of kept.old.items) (unions_with k left.now (right.now ∷ []))) }
+{
+    match union(left, right, k) {
+        Some(cut) => keep(kept, cut),
+        None => {}
+    }
+}
+
+// Keeps the unions of a cut with each of others.
+fn keep_unions(kept: &mut ArrayVec<Cut, KEPT>, left: &[u32], others: &[Cut], k: usize)
+    requires small { k ≤ 6 }
+    requires few { array_vec_len kept.old ≤ 31 }
+    ensures few { array_vec_len kept.new ≤ 31 }
+    ensures kept { leaves_of kept.new.items ≡ take 31 (arranged (leaves_of kept.old.items) (unions_with k left.now (leaves_of others.now))) }
+{
+    for other in others {
+        keep_union(kept, left, other.as_slice(), k);
+    }
+}
+
+/// The first 31 unions of a cut of one list with a cut of another that have at most k leaves.
+pub(crate) fn first_unions(left: &[Cut], right: &[Cut], k: usize) -> ArrayVec<Cut, KEPT>
+    requires { k ≤ 6 }
+    ensures { leaves_of result.items ≡ first_unions k (leaves_of left.now) (leaves_of right.now) }
+{
+    let mut kept = ArrayVec::new();
+    for cut in left {
+        keep_unions(&mut kept, cut.as_slice(), right, k);
+    }
+    kept
+}
