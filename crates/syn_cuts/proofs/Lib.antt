@@ -5,3 +5,4 @@ pub mod Tabling
 pub mod Cutting
 pub mod Filling
 pub mod Ordering
+pub mod Sorting

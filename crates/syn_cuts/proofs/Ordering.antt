@@ -1,6 +1,6 @@
 -- The rows of a graph are in order.
-use Rattle.std.proofs.Common.{◌≡◌, ℕ, ◌+◌, ◌<◌, true, not, ◌&&◌, nat_eq, nat_lt, nat_le, List, length, sym, subst, arith, inl, inr}
-use Rattle.std.proofs.lemmas.List.{get_or_past}
+use Rattle.std.proofs.Common.{◌≡◌, ℕ, ◌+◌, ◌<◌, true, not, ◌&&◌, nat_eq, nat_lt, nat_le, List, [], ◌∷◌, ◌++◌, length, sym, subst, arith, inl, inr}
+use Rattle.std.proofs.lemmas.List.{get_or_append_left, get_or_past, get_or_push, length_push}
 use Rattle.std.proofs.lemmas.Bool.{cases_lt, and_parts, ltb-true}
 use Rattle.syn_rows.specs.declared.Row.{Row}
 use Rattle.syn_rows.specs.declared.Row.TheVariants.{Free, Source, And, Alias}
@@ -25,5 +25,19 @@ hashed_in_order count rows h n = elim (cases_lt n (count + 1)) [
   | inr ge ↦ elim (cases_lt n (length rows)) [
     | inl lt ↦ gate_refs n (row_at rows n) (h.gates n (omega arith) lt)
     | inr past ↦ subst (AllRefs (λ m. m < n)) (sym (get_or_past rows n Free past)) tt
+  ]
+]
+
+-- one more row
+pub in_order_push : (rows : List Row) (row : Row) → InOrder rows → AllRefs (λ m. m < length rows) row → InOrder (rows ++ row ∷ [])
+in_order_push rows row order refs n = elim (cases_lt n (length rows)) [
+  | inl lt ↦ subst (AllRefs (λ m. m < n)) (sym (get_or_append_left rows (row ∷ []) Free n lt)) (order n)
+  | inr ge ↦ elim (cases_lt (length rows) n) [
+    | inl past ↦
+        let long = length_push rows row in
+        subst (AllRefs (λ m. m < n)) (sym (get_or_past (rows ++ row ∷ []) n Free (omega (arith, past, long)))) tt
+    | inr le ↦
+        let at : length rows ≡ n = omega (arith, ge, le) in
+        subst (AllRefs (λ m. m < n)) (sym (get_or_push rows row Free n at)) (subst (λ k. AllRefs (λ m. m < k) row) at refs)
   ]
 ]

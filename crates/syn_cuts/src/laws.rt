@@ -1,6 +1,6 @@
 //! Laws of listed cuts, and worked cuts.
 
-ghost use Rattle.syn_cuts.specs.Laws.{ListedAreCuts};
+ghost use Rattle.syn_cuts.specs.Laws.{ArrangedInOrder, ListedAreCuts};
 ghost use Rattle.syn_cuts.specs.Worked.{Worked};
 
 /// The definition lists the wanted cuts of a worked graph.
@@ -11,4 +11,9 @@ pub fn worked_cuts()
 /// Each listed cut of a node is a cut of it.
 pub fn listed_are_cuts()
     ensures { ListedAreCuts }
+{}
+
+/// Arranged cuts are in order, each once, and are the cuts that were arranged.
+pub fn arranged_in_order()
+    ensures { ArrangedInOrder }
 {}

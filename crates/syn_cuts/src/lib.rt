@@ -7,6 +7,8 @@ mod laws;
 mod levels;
 mod listing;
 mod lists;
+#[cfg(test)]
+mod tests;
 mod unions;
 
 use arrayvec::ArrayVec;
@@ -15,5 +17,5 @@ use arrayvec::ArrayVec;
 pub type Cut = ArrayVec<u32, 6>;
 
 pub use graphs::{function, listed};
-pub use laws::{listed_are_cuts, worked_cuts};
+pub use laws::{arranged_in_order, listed_are_cuts, worked_cuts};
 pub use lists::CutLists;

@@ -90,6 +90,13 @@ impl CutLists {
         })
     }
 
+    /// How many nodes there are.
+    pub fn len(&self) -> usize
+        ensures { result ≡ length self.now }
+    {
+        self.spans.len()
+    }
+
     /// The listed cuts of a node.
     pub fn of(&self, node: u32) -> &[Cut]
         requires { node < length self.now }
