@@ -16,7 +16,7 @@ use Rattle.syn_rows.specs.Rows.{node_of}
 use Rattle.syn_rows.specs.Levels.{level_in, levels_of}
 use Rattle.syn_shapes.specs.Graphs.{IsHashed}
 use Rattle.syn_strash.specs.Growing.{Extends, IsAnd, IsJoin, value_by, level_by}
-use Rattle.syn_strash.proofs.Rising.{extends_longer, extends_itself, extends_through}
+use Rattle.syn_strash.proofs.Rising.{extends_longer, extends_itself}
 use Rattle.syn_strash.proofs.LevelLaws.{level_kept, join_level}
 use Rattle.syn_balance.specs.Leaves.{weight}
 use Rattle.syn_balance.specs.Joining.{IsJoining}
@@ -180,19 +180,6 @@ pub least_joined : (count : ℕ) (old new : List Row) (hs hs2 hs3 : List (Revers
 least_joined count old new hs hs2 hs3 a b z s hashed last e few there is join =
     two_joined count old new (map literal_in hs) s.ls1 (map literal_in hs2) (map literal_in hs3) a b (literal_in z) hashed s.first s.second (IsPermutation-map literal_in (z ∷ hs2) hs3 last) s.inside s.ordered s.above e few there is join
 
--- joining goes on
-pub joining_itself : (rows : List Row) (ls : List Lit) → All (λ l. node_of l < length rows) ls → IsJoining rows ls rows ls
-joining_itself rows ls h = record { grows = extends_itself rows; there = h; value = λ given at_0. refl; fits = λ height f. f; few = omega arith }
-
-pub joining_through : (a b c : List Row) (xs ys zs : List Lit) → IsJoining a xs b ys → IsJoining b ys c zs → IsJoining a xs c zs
-joining_through a b c xs ys zs s t = record {
-  grows = extends_through a b c s.grows t.grows;
-  there = t.there;
-  value = λ given at_0. t.value given at_0 ∙ s.value given at_0;
-  fits = λ height f. t.fits height (s.fits height f);
-  few = (let p = s.few in let q = t.few in omega (arith, p, q));
-}
-
 -- leaves with their levels
 pub leaves_are : (rows : List Row) (levels : List ℕ) (ls : List Lit) → levels ≡ levels_of rows → All (λ l. node_of l < length rows) ls → AreLeaves rows (map (leaf levels) ls)
 leaves_are rows levels [] e h = All-nil (λ (x : Reverse (ℕ × Lit)). (node_of (literal_in x) < length rows) × (level_of x ≡ level_by rows (literal_in x)))
@@ -222,8 +209,3 @@ heap_begins rows levels ls hs e h p = (
   subst (λ (k : List Lit). IsJoining rows k rows (map literal_in hs)) (literals_back levels ls)
       (joining_permuted rows (map literal_in (map (leaf levels) ls)) (map literal_in hs) (IsPermutation-map literal_in (map (leaf levels) ls) hs p) (leaves_there rows (map (leaf levels) ls) (leaves_are rows levels ls e h))),
 )
-
--- one leaf is left
-pub last_leaf : (old new : List Row) (ls : List Lit) (hs rest : List (Reverse (ℕ × Lit))) (x : Reverse (ℕ × Lit)) → IsJoining old ls new (map literal_in hs) → IsPermutation hs (x ∷ rest) → length hs ≡ 1 → IsJoining old ls new (literal_in x ∷ [])
-last_leaf old new ls hs [] x s p one = joining_through old new new ls (map literal_in hs) (literal_in x ∷ []) s (joining_permuted new (map literal_in hs) (literal_in x ∷ []) (IsPermutation-map literal_in hs (x ∷ []) p) s.there)
-last_leaf old new ls hs (y ∷ ys) x s p one = absurd (let e = length_permutation hs (x ∷ y ∷ ys) p in omega (arith, e, one))

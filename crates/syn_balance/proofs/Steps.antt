@@ -71,9 +71,6 @@ both_ready count rows lits roots n literals waiting new a b r s lt is la lb = (
 number_is : (lit : Lit) → lit.0 % 2 ≡ 0 → plain (node_of lit) ≡ lit
 number_is lit e = ap (λ (k : ℕ). let l : Lit = record { 0 = k } in l) (let n : 2 * node_of lit ≡ lit.0 = omega arith in n)
 
-signed_where : (lit l : Lit) (ls : List Lit) → leaves_where (with_sign lit (Some l)) ls ≡ signed lit l ∷ []
-signed_where lit l ls = refl
-
 pub leaves_stand : (count : ℕ) (rows : List Row) (roots : List Bool) (n : ℕ) (literals : List (Option Lit)) (waiting : List (List Lit)) (new : List Row) (lit : Lit)
     → IsBalancing count rows roots n literals waiting new → node_of lit < n → (visited literals (node_of lit) ≡ None → IsReady rows n lit) → StandFor rows new lit (leaves_of literals waiting lit)
 leaves_stand count rows roots n literals waiting new lit s lt r = go (visited literals (node_of lit)) refl
