@@ -1,0 +1,4 @@
+pub mod Wording
+pub mod Ruling
+pub mod Turning
+pub mod Beginning

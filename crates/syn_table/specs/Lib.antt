@@ -1,0 +1,6 @@
+pub mod Openings
+pub mod Numbers
+pub mod Laying
+pub mod Rule
+pub mod Seating
+pub mod Steps
