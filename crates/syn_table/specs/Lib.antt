@@ -4,3 +4,5 @@ pub mod Laying
 pub mod Rule
 pub mod Seating
 pub mod Steps
+pub mod Splitting
+pub mod Closing

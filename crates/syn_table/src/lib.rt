@@ -5,11 +5,14 @@ ghost use Rattle.std.specs.Prelude.{◌≡◌, ◌+◌, ◌*◌, ◌^◌, ◌<�
 ghost use Rattle.syn_table.specs.Openings.{opened_literals};
 ghost use Rattle.syn_table.specs.Rule.{IsActive, IsCore, first_known};
 
+mod closing;
+mod seats;
 mod starting;
 mod steps;
 
 use arrayvec::ArrayVec;
 use atomic_table::{Table, TableRule};
+pub use closing::Rows;
 use std::alloc::Global;
 use std::collections::LinkedList;
 use std::snapshot::Snapshot;
