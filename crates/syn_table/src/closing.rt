@@ -50,14 +50,14 @@ fn read_rows(closed: &Closed<u8, Global>, nodes: u32, rows: &mut Vec<Row>)
 impl Shared {
     /// Closes the table, when each other seat was joined. Want of memory hands both back as they came.
     pub fn close(self, alloc: Global, seat: Seat) -> Result<Rows, (Shared, Seat, AllocError)>
-        requires of { IsOf seat self }
+        requires table { IsOf seat self }
         requires numbers { length (known_of seat).numbers ≡ 64 }
         requires held { (view_of seat).held ≡ [] }
         requires pins { (view_of seat).pins ≡ [] }
         ensures last { IfOk result (λ r. IsLast self seat r.rows.items r.observed.items) }
         ensures closing { IfOk result (λ r. IsClosing (with_spare (graph_of self).rows (spare_of self)) (graph_of self).observed (view_of seat).difference r.rows.items r.observed.items) }
-        ensures table { IfErr result (λ e. e.0 ≡ self) }
-        ensures seat { IfErr result (λ e. e.1 ≡ seat) }
+        ensures table_back { IfErr result (λ e. e.0 ≡ self) }
+        ensures seat_back { IfErr result (λ e. e.1 ≡ seat) }
     {
         let Ok(mut rows) = Vec::with_capacity(alloc, self.nodes as usize) else {
             return Err((self, seat, AllocError));

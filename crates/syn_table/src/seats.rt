@@ -71,11 +71,11 @@ impl Shared {
     /// A new seat, which gets the last of this seat's numbers and knows nothing yet. The answer leaves room for want of
     /// memory, but a split takes none.
     pub fn split(&self, seat: &mut Seat) -> Result<Seat, AllocError>
-        requires of { IsOf seat.old self.now }
+        requires table { IsOf seat.old self.now }
         requires numbers { 2 ≤ length (known_of seat.old).numbers }
-        ensures of { IsOf seat.new self.now }
+        ensures table { IsOf seat.new self.now }
         ensures left { IfOk result (λ _. known_of seat.new ≡ without_last (known_of seat.old)) }
-        ensures new_of { IfOk result (λ new. IsOf new self.now) }
+        ensures new_table { IfOk result (λ new. IsOf new self.now) }
         ensures new { IfOk result (λ new. known_of new ≡ split_from (known_of seat.old)) }
         ensures refused { IfErr result (λ _. known_of seat.new ≡ known_of seat.old) }
     {
@@ -87,11 +87,11 @@ impl Shared {
 
     /// Takes in another seat, which is spent: its numbers, its misses and its difference are this seat's from now on.
     pub fn join(&self, seat: &mut Seat, other: Seat)
-        requires of { IsOf seat.old self.now }
-        requires other_of { IsOf other self.now }
+        requires table { IsOf seat.old self.now }
+        requires other_table { IsOf other self.now }
         requires held { (view_of other).held ≡ [] }
         requires pins { (view_of other).pins ≡ [] }
-        ensures of { IsOf seat.new self.now }
+        ensures table { IsOf seat.new self.now }
         ensures joined { known_of seat.new ≡ with_joined (known_of seat.old) (known_of other) }
     {
         let Seat { token, numbers } = other;

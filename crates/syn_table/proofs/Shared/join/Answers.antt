@@ -6,7 +6,7 @@ use Rattle.syn_table.proofs.JoinLaws.{joins_allowed, joined_active}
 use Rattle.syn_table.proofs.Shared.join.Goals as goal
 
 pub join_seat-requires : goal.join_seat-requires
-join_seat-requires c = (c.requires.of, c.requires.other_of, c.args.other.no_slots, omega arith, joins_allowed _ _ _ _ _ c.args.seat.now.active.number c.requires.held c.requires.pins)
+join_seat-requires c = (c.requires.table, c.requires.other_table, c.args.other.no_slots, omega arith, joins_allowed _ _ _ _ _ c.args.seat.now.active.number c.requires.held c.requires.pins)
 
 pub append-requires : goal.append-requires
 append-requires c =

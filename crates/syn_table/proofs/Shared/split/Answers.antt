@@ -11,7 +11,7 @@ split_seat-token-requires c =
     let same = sym c.see_numbers.ensures.same in
     let active = subst (λ (m : Me ℕ Known). IsActive m.0) same c.args.seat.now.active in
     let two = subst (λ (m : Me ℕ Known). 2 ≤ length m.0.numbers) same c.requires.numbers in
-    (c.see_numbers.ensures.table ∙ c.requires.of, omega arith, splits_allowed _ _ _ active two)
+    (c.see_numbers.ensures.table ∙ c.requires.table, omega arith, splits_allowed _ _ _ active two)
 
 pub hand_on-numbers-requires : goal.hand_on-numbers-requires
 hand_on-numbers-requires c = let known = ap (λ (ns : List ℕ). length ns) c.args.seat.now.numbers_known in omega (arith, known, c.requires.numbers)
