@@ -5,6 +5,7 @@ ghost use Rattle.std.specs.Prelude.{◌≡◌, ◌+◌, ◌*◌, ◌^◌, ◌<�
 ghost use Rattle.syn_table.specs.Openings.{opened_literals};
 ghost use Rattle.syn_table.specs.Rule.{IsActive, IsCore, first_known};
 
+mod plays;
 mod starting;
 mod steps;
 
