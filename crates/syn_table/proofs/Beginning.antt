@@ -13,6 +13,8 @@ use Rattle.syn_rows.specs.Rows.{row_at, node_of, AllRefs, InOrder}
 use Rattle.syn_rows.specs.References.{refs, refs_by_rows, refs_by_literals, sum_below, times}
 use Rattle.syn_netlist.specs.Lists.{Frame, sources}
 use Rattle.syn_shapes.specs.Graphs.{is_gate, IsHashed, IsGraph}
+use Rattle.syn_netlist.specs.Frames.{frame_in}
+use Rattle.syn_graph.specs.declared.Graph.{Graph}
 use Rattle.syn_graph.proofs.Orders.{hashed_in_order}
 use Rattle.syn_core.specs.declared.View.{View}
 use Rattle.syn_core.specs.Cores.{Core, all_pins}
@@ -52,6 +54,14 @@ words_more words n rows counts keys w = record {
           ap (λ i. get_or (words ++ four) i 0) place ∙ (get_or-append-add words four kind 0 ∙ (new ∙ ap f (sym same)))
       | inr ne ↦ get_or_append_left words four 0 (suc kind + 4 * m) (omega (arith, w.size)) ∙ was (omega arith)
     ]
+
+-- the words of one node more were appended
+pub words_grow : (words more : List ℕ) (n : ℕ) (rows : List Row) (counts keys : List ℕ) (row : Row) (count key : ℕ) → AreWords words n rows counts keys
+    → row ≡ row_at rows n → count ≡ get_or counts n 0 → key ≡ get_or keys n 0 → more ≡ words ++ 0 ∷ word_of row ∷ count ∷ key ∷ [] → AreWords more (n + 1) rows counts keys
+words_grow words more n rows counts keys row count key w is_row is_count is_key e =
+    subst (λ l. AreWords l (n + 1) rows counts keys)
+      (sym (e ∙ (ap (λ r. words ++ 0 ∷ word_of r ∷ count ∷ key ∷ []) is_row ∙ (ap (λ k. words ++ 0 ∷ word_of (row_at rows n) ∷ k ∷ key ∷ []) is_count ∙ ap (λ k. words ++ 0 ∷ word_of (row_at rows n) ∷ get_or counts n 0 ∷ k ∷ []) is_key))))
+      (words_more words n rows counts keys w)
 
 -- ---- numbers
 times_above : (n m : ℕ) → m ≤ n → times n (numbers_below m) ≡ 0
@@ -171,7 +181,15 @@ only_first : (k u : Known) (id : ℕ) → get_elem? (k ∷ []) id ≡ some u →
 only_first k u zero at = some-injective k u at
 only_first k u (suc id) at = absurd (some-ne-none u (sym at))
 
-module _ (o : Opening) (frame : Frame) (counts keys words : List ℕ) where
+-- what a graph, its keys and the laid words have to be
+pub record CanOpen (g : Graph) (spare : ℕ) (counts keys words : List ℕ) : Type 0 where
+  pub rising : AreKeys g.rows keys
+  pub few : length g.rows + spare < 2 ^ 29
+  pub few_literals : length g.observed < 2 ^ 30
+  pub counted : (m : ℕ) → get_or counts m 0 ≡ refs_by_rows m g.rows + refs_by_literals m g.observed
+  pub laid : AreWords words (length g.rows + spare) g.rows counts keys
+
+module _ (o : Opening) (counts keys words : List ℕ) where
   abbrev graph_rows : List Row
   graph_rows = o.graph.value.rows
 
@@ -181,32 +199,31 @@ module _ (o : Opening) (frame : Frame) (counts keys words : List ℕ) where
   abbrev core : Core
   core = opening_of graph_rows literals keys o.spare 1
 
-  first_laid : IsSound core → ((m : ℕ) → get_or counts m 0 ≡ refs_by_rows m graph_rows + refs_by_literals m literals) → AreWords words (length graph_rows + o.spare) graph_rows counts keys → IsLaid words core
-  first_laid sound counted w =
+  first_laid : IsSound core → CanOpen o.graph.value o.spare counts keys words → IsLaid words core
+  first_laid sound can =
       let long : length (with_spare graph_rows o.spare) ≡ length graph_rows + o.spare = spare_length graph_rows o.spare in
       record {
-        size = w.size ∙ ap (λ k. 1 + 4 * k) (sym long);
-        claims = λ n lt. w.claims n (omega arith) ∙ sym (spare_is (length (with_spare graph_rows o.spare)) n 0);
-        rows = λ n lt. w.rows n (omega arith) ∙ ap word_of (sym (get_spare graph_rows o.spare n Free));
+        size = can.laid.size ∙ ap (λ k. 1 + 4 * k) (sym long);
+        claims = λ n lt. can.laid.claims n (omega arith) ∙ sym (spare_is (length (with_spare graph_rows o.spare)) n 0);
+        rows = λ n lt. can.laid.rows n (omega arith) ∙ ap word_of (sym (get_spare graph_rows o.spare n Free));
         counts = λ n lt. let c : get_or core.counts n 0 ≡ refs_by_rows n (with_spare graph_rows o.spare) + refs_by_literals n literals + all_pins n core.seats = sound.counted n in
-            omega (arith, c, w.counts n (omega arith), counted n, refs_spare n graph_rows o.spare);
-        keys = λ n lt. w.keys n (omega arith) ∙ sym (get_spare keys o.spare n 0);
+            omega (arith, c, can.laid.counts n (omega arith), can.counted n, refs_spare n graph_rows o.spare);
+        keys = λ n lt. can.laid.keys n (omega arith) ∙ sym (get_spare keys o.spare n 0);
       }
 
-  pub first_table : IsGraph frame graph_rows literals → AreKeys graph_rows keys → length graph_rows + o.spare < 2 ^ 29 → length literals < 2 ^ 30
-      → ((m : ℕ) → get_or counts m 0 ≡ refs_by_rows m graph_rows + refs_by_literals m literals) → AreWords words (length graph_rows + o.spare) graph_rows counts keys
-      → IsCore o (Table.opening words [] (first_known o))
-  first_table graph are_keys few few_literals counted w =
-      let sound : IsSound core = openings_are_sound graph_rows literals keys o.spare 1 (graph_starts frame graph_rows literals keys graph are_keys) (omega arith) in
+  pub first_table : CanOpen o.graph.value o.spare counts keys words → IsCore o (Table.opening words [] (first_known o))
+  first_table can =
+      let starts : IsStart graph_rows literals keys = graph_starts (frame_in o.graph.value.frame) graph_rows literals keys o.graph.value.graph can.rising in
+      let sound : IsSound core = openings_are_sound graph_rows literals keys o.spare 1 starts (omega arith) in
       (core, record {
-        laid = first_laid sound counted w;
+        laid = first_laid sound can;
         views = refl;
         opened = refl;
         observed = refl;
         nodes = refl;
         small = record {
-          nodes = omega (arith, spare_length graph_rows o.spare);
-          literals = few_literals;
+          nodes = omega (arith, spare_length graph_rows o.spare, can.few);
+          literals = can.few_literals;
           spent = λ id v at big. let mine : empty_view 0 ≡ v = first_view v id at in let zero_is : 0 ≡ v.number = ap (λ (z : View). z.number) mine in absurd (omega arith);
         };
         sound = sound;

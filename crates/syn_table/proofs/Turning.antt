@@ -1,7 +1,7 @@
 -- Each step on a word is one event, which the rule allows.
-use Rattle.std.proofs.Common.{◌≡◌, ◌≢◌, ◌⊎◌, ℕ, suc, ◌+◌, ◌-◌, ◌*◌, ◌%◌, ◌^◌, ◌<◌, ◌≤◌, true, false, if◌then◌else◌, nat_eq, List, length, set, get_or, refl, sym, ap, ◌∙◌, subst, arith, inl, inr}
+use Rattle.std.proofs.Common.{◌≡◌, ◌≢◌, ◌⊎◌, ℕ, suc, ◌+◌, ◌-◌, ◌*◌, ◌%◌, ◌^◌, ◌<◌, ◌≤◌, true, false, if◌then◌else◌, nat_eq, IsTrue, ◌↔◌, List, length, set, get_or, refl, sym, ap, ◌∙◌, subst, arith, inl, inr}
 use Rattle.std.proofs.lemmas.List.{set-get_or}
-use Rattle.std.proofs.lemmas.Bool.{eq-eqb, ne_eqb}
+use Rattle.std.proofs.lemmas.Bool.{eq-eqb, eqb-true, ne_eqb}
 use mathlib.Core.Option.{some, none}
 use lib.ListN.{get_elem?}
 use prog.Atomic.{either}
@@ -15,6 +15,9 @@ use Rattle.syn_core.specs.Lists.{has}
 use Rattle.syn_core.specs.Views.{is_mine, own_refs, own_pins, claimed, missed, released, row_loaded, pinned, unpinned, count_loaded, key_loaded}
 use Rattle.syn_core.specs.Cores.{Core}
 use Rattle.syn_core.specs.Events.{MayPin, after}
+use Rattle.syn_rows.specs.References.{hits, times}
+use Rattle.syn_core.specs.Lists.{without_one}
+use Rattle.syn_core.proofs.Counting.{hits_same, times_has, times_less}
 use Rattle.syn_core.proofs.Listing.{or_cases}
 use Rattle.syn_core.proofs.Pinning.{pins_count}
 use Rattle.syn_core.proofs.Within.{counts_fit, nodes_are_there, rows_pack}
@@ -22,7 +25,7 @@ use Rattle.syn_table.specs.declared.Known.{Known}
 use Rattle.syn_table.specs.declared.Opening.{Opening}
 use Rattle.syn_table.specs.Laying.{IsLaid, node_at}
 use Rattle.syn_table.specs.Rule.{IsTable, IsCore, IsActive}
-use Rattle.syn_table.specs.Steps.{with_view, Becomes, IsSoleCount, TellsClaim, TellsRelease, TellsRow, TellsPin, TellsUnpin, TellsCount, TellsKey}
+use Rattle.syn_table.specs.Steps.{with_view, Becomes, IsSoleCount, IsAlone, TellsClaim, TellsRelease, TellsRow, TellsPin, TellsUnpin, TellsCount, TellsKey}
 use Rattle.syn_table.proofs.Wording.{laid_claim, laid_count, laid_same, claim_node, row_node, count_node, key_node}
 use Rattle.syn_table.proofs.Ruling.{seat_there, stepped_on, view_at, nodes_known, is_active}
 
@@ -77,17 +80,17 @@ claim_lost o slots id me n x s active inside free core at ne =
       (becomes o (set s.words (1 + 4 * n) found) s.views next id me (missed v n) _ at active.number table
         (ap (λ b. if b then claimed v n else missed v n) (sym (ne_eqb found 0 ne)) ∙ ap (λ m. if nat_eq found 0 then claimed v m else missed v m) (sym (claim_node n))))
 
-pub claims_allowed : (o : Opening) (slots id : ℕ) (me : Me ℕ Known) (n x : ℕ) → IsActive me.0 → x ≡ suc me.0.core.number → n < length me.0.opening → has n me.0.core.held ≡ false
+claims_turn : (o : Opening) (slots id : ℕ) (me : Me ℕ Known) (n x : ℕ) → IsActive me.0 → x ≡ suc me.0.core.number → n < length me.0.opening → has n me.0.core.held ≡ false
     → Allows (IsCore o) slots id me (1 + 4 * n) (λ k. either (nat_eq k 0) x k) (TellsClaim (step slots (1 + 4 * n) 0 x none) me)
-claims_allowed o slots id me n x active is inside free s core homes at fits =
+claims_turn o slots id me n x active is inside free s core homes at fits =
     let found : ℕ = get_or s.words (1 + 4 * n) 0 in
     exchanged found 0 x (λ y. Goes o s id me (1 + 4 * n) y (TellsClaim (step slots (1 + 4 * n) 0 x none) me found))
       (λ e. claim_won o slots id me n x s active is inside free core at e) (λ ne. claim_lost o slots id me n x s active inside free core at ne)
 
 -- ---- release
-pub releases_allowed : (o : Opening) (slots id : ℕ) (me : Me ℕ Known) (n : ℕ) → IsActive me.0 → has n me.0.core.held ≡ true → has n me.0.core.idle ≡ false
+releases_turn : (o : Opening) (slots id : ℕ) (me : Me ℕ Known) (n : ℕ) → IsActive me.0 → has n me.0.core.held ≡ true → has n me.0.core.idle ≡ false
     → Allows (IsCore o) slots id me (1 + 4 * n) (λ _. 0) (λ _. TellsRelease (step slots (1 + 4 * n) 0 0 none) me 0)
-releases_allowed o slots id me n active held idle s core homes at fits =
+releases_turn o slots id me n active held idle s core homes at fits =
     let c : Core = core.0 in
     let v : View = me.0.core in
     let t : IsTable o s.words s.views c = core.1 in
@@ -100,9 +103,9 @@ releases_allowed o slots id me n active held idle s core homes at fits =
       (becomes o (set s.words (1 + 4 * n) 0) s.views next id me (released v n) _ at active.number table (ap (released v) (sym (claim_node n))))
 
 -- ---- loads
-pub rows_allowed : (o : Opening) (slots id : ℕ) (me : Me ℕ Known) (n : ℕ) → IsActive me.0 → has n me.0.core.held ≡ true
+rows_turn : (o : Opening) (slots id : ℕ) (me : Me ℕ Known) (n : ℕ) → IsActive me.0 → has n me.0.core.held ≡ true
     → Allows (IsCore o) slots id me (2 + 4 * n) (λ k. k) (TellsRow (step slots (2 + 4 * n) 0 0 none) me)
-rows_allowed o slots id me n active held s core homes at fits =
+rows_turn o slots id me n active held s core homes at fits =
     let c : Core = core.0 in
     let v : View = me.0.core in
     let t : IsTable o s.words s.views c = core.1 in
@@ -117,9 +120,9 @@ rows_allowed o slots id me n active held s core homes at fits =
       (row, rows_pack c n t.sound t.small.nodes, sym (t.laid.rows n there),
       becomes o (set s.words (2 + 4 * n) found) s.views next id me (row_loaded v n row) _ at active.number table (ap (λ m. row_loaded v m row) (sym (row_node n))))
 
-pub counts_allowed : (o : Opening) (slots id : ℕ) (me : Me ℕ Known) (n : ℕ) → IsActive me.0 → has n me.0.core.held ≡ true
+counts_turn : (o : Opening) (slots id : ℕ) (me : Me ℕ Known) (n : ℕ) → IsActive me.0 → has n me.0.core.held ≡ true
     → Allows (IsCore o) slots id me (3 + 4 * n) (λ k. k) (TellsCount (step slots (3 + 4 * n) 0 0 none) me)
-counts_allowed o slots id me n active held s core homes at fits =
+counts_turn o slots id me n active held s core homes at fits =
     let c : Core = core.0 in
     let v : View = me.0.core in
     let t : IsTable o s.words s.views c = core.1 in
@@ -142,9 +145,9 @@ counts_allowed o slots id me n active held s core homes at fits =
 pub reached : (v : View) (n : ℕ) → is_mine v n ≡ true → (has n v.held ≡ true) ⊎ MayPin v n
 reached v n mine = elim (or_cases (has n v.held) (has n v.pins) mine) [ inl held ↦ inl held | inr pinned ↦ inr (inr pinned) ]
 
-pub keys_allowed : (o : Opening) (slots id : ℕ) (me : Me ℕ Known) (n : ℕ) → IsActive me.0 → is_mine me.0.core n ≡ true
+keys_turn : (o : Opening) (slots id : ℕ) (me : Me ℕ Known) (n : ℕ) → IsActive me.0 → is_mine me.0.core n ≡ true
     → Allows (IsCore o) slots id me (4 + 4 * n) (λ k. k) (TellsKey (step slots (4 + 4 * n) 0 0 none) me)
-keys_allowed o slots id me n active mine s core homes at fits =
+keys_turn o slots id me n active mine s core homes at fits =
     let c : Core = core.0 in
     let v : View = me.0.core in
     let t : IsTable o s.words s.views c = core.1 in
@@ -161,9 +164,9 @@ keys_allowed o slots id me n active mine s core homes at fits =
         (ap (λ m. key_loaded v m key) (sym (key_node n)) ∙ ap (key_loaded v (node_at (4 + 4 * n))) (sym word)))
 
 -- ---- pin and unpin
-pub pins_allowed : (o : Opening) (slots id : ℕ) (me : Me ℕ Known) (n : ℕ) → IsActive me.0 → MayPin me.0.core n → length me.0.core.pins < 512
+pins_turn : (o : Opening) (slots id : ℕ) (me : Me ℕ Known) (n : ℕ) → IsActive me.0 → MayPin me.0.core n → length me.0.core.pins < 512
     → Allows (IsCore o) slots id me (3 + 4 * n) (λ k. (k + 1) % 2 ^ 64) (TellsPin (step slots (3 + 4 * n) 1 0 none) me)
-pins_allowed o slots id me n active may room s core homes at fits =
+pins_turn o slots id me n active may room s core homes at fits =
     let c : Core = core.0 in
     let v : View = me.0.core in
     let t : IsTable o s.words s.views c = core.1 in
@@ -180,9 +183,9 @@ pins_allowed o slots id me n active may room s core homes at fits =
     goes o s id me (3 + 4 * n) ((found + 1) % 2 ^ 64) (TellsPin (step slots (3 + 4 * n) 1 0 none) me found) (pinned v n) next table
       (becomes o (set s.words (3 + 4 * n) ((found + 1) % 2 ^ 64)) s.views next id me (pinned v n) _ at active.number table (ap (pinned v) (sym (count_node n))))
 
-pub unpins_allowed : (o : Opening) (slots id : ℕ) (me : Me ℕ Known) (n : ℕ) → IsActive me.0 → has n me.0.core.pins ≡ true
+unpins_turn : (o : Opening) (slots id : ℕ) (me : Me ℕ Known) (n : ℕ) → IsActive me.0 → has n me.0.core.pins ≡ true
     → Allows (IsCore o) slots id me (3 + 4 * n) (λ k. (k + (2 ^ 64 - 1)) % 2 ^ 64) (TellsUnpin (step slots (3 + 4 * n) 1 0 none) me)
-unpins_allowed o slots id me n active mine s core homes at fits =
+unpins_turn o slots id me n active mine s core homes at fits =
     let c : Core = core.0 in
     let v : View = me.0.core in
     let t : IsTable o s.words s.views c = core.1 in
@@ -203,3 +206,57 @@ unpins_allowed o slots id me n active mine s core homes at fits =
       (subst (λ m. IsSoleCount me.0 m found) (sym (count_node n)) (λ sole. word ∙ (((t.sound.seats id v seated).soles n sole).2 ∙ ap (λ z. own_refs z v n + own_pins v n) (sym nodes))),
       becomes o (set s.words (3 + 4 * n) ((found + (2 ^ 64 - 1)) % 2 ^ 64)) s.views next id me (unpinned v n count) _ at active.number table
         (ap (λ m. unpinned v m count) (sym (count_node n)) ∙ ap (unpinned v (node_at (3 + 4 * n))) (sym word)))
+
+-- ---- the same, wherever the index of the word comes from
+pub claims_allowed : (o : Opening) (slots id : ℕ) (me : Me ℕ Known) (n x : ℕ) (i : ℕ) → i ≡ 1 + 4 * n → IsActive me.0 → x ≡ suc me.0.core.number → n < length me.0.opening → has n me.0.core.held ≡ false
+    → Allows (IsCore o) slots id me i (λ k. either (nat_eq k 0) x k) (TellsClaim (step slots i 0 x none) me)
+claims_allowed o slots id me n x i e active is inside free =
+    subst (λ w. Allows (IsCore o) slots id me w (λ k. either (nat_eq k 0) x k) (TellsClaim (step slots w 0 x none) me)) (sym e) (claims_turn o slots id me n x active is inside free)
+
+pub releases_allowed : (o : Opening) (slots id : ℕ) (me : Me ℕ Known) (n : ℕ) (i : ℕ) → i ≡ 1 + 4 * n → IsActive me.0 → has n me.0.core.held ≡ true → has n me.0.core.idle ≡ false
+    → Allows (IsCore o) slots id me i (λ _. 0) (λ _. TellsRelease (step slots i 0 0 none) me 0)
+releases_allowed o slots id me n i e active held busy =
+    subst (λ w. Allows (IsCore o) slots id me w (λ _. 0) (λ _. TellsRelease (step slots w 0 0 none) me 0)) (sym e) (releases_turn o slots id me n active held busy)
+
+pub rows_allowed : (o : Opening) (slots id : ℕ) (me : Me ℕ Known) (n : ℕ) (i : ℕ) → i ≡ 2 + 4 * n → IsActive me.0 → has n me.0.core.held ≡ true
+    → Allows (IsCore o) slots id me i (λ k. k) (TellsRow (step slots i 0 0 none) me)
+rows_allowed o slots id me n i e active held =
+    subst (λ w. Allows (IsCore o) slots id me w (λ k. k) (TellsRow (step slots w 0 0 none) me)) (sym e) (rows_turn o slots id me n active held)
+
+pub counts_allowed : (o : Opening) (slots id : ℕ) (me : Me ℕ Known) (n : ℕ) (i : ℕ) → i ≡ 3 + 4 * n → IsActive me.0 → has n me.0.core.held ≡ true
+    → Allows (IsCore o) slots id me i (λ k. k) (TellsCount (step slots i 0 0 none) me)
+counts_allowed o slots id me n i e active held =
+    subst (λ w. Allows (IsCore o) slots id me w (λ k. k) (TellsCount (step slots w 0 0 none) me)) (sym e) (counts_turn o slots id me n active held)
+
+pub keys_allowed : (o : Opening) (slots id : ℕ) (me : Me ℕ Known) (n : ℕ) (i : ℕ) → i ≡ 4 + 4 * n → IsActive me.0 → is_mine me.0.core n ≡ true
+    → Allows (IsCore o) slots id me i (λ k. k) (TellsKey (step slots i 0 0 none) me)
+keys_allowed o slots id me n i e active mine =
+    subst (λ w. Allows (IsCore o) slots id me w (λ k. k) (TellsKey (step slots w 0 0 none) me)) (sym e) (keys_turn o slots id me n active mine)
+
+pub pins_allowed : (o : Opening) (slots id : ℕ) (me : Me ℕ Known) (n : ℕ) (i : ℕ) → i ≡ 3 + 4 * n → IsActive me.0 → MayPin me.0.core n → length me.0.core.pins < 512
+    → Allows (IsCore o) slots id me i (λ k. (k + 1) % 2 ^ 64) (TellsPin (step slots i 1 0 none) me)
+pins_allowed o slots id me n i e active may room =
+    subst (λ w. Allows (IsCore o) slots id me w (λ k. (k + 1) % 2 ^ 64) (TellsPin (step slots w 1 0 none) me)) (sym e) (pins_turn o slots id me n active may room)
+
+pub unpins_allowed : (o : Opening) (slots id : ℕ) (me : Me ℕ Known) (n : ℕ) (i : ℕ) → i ≡ 3 + 4 * n → IsActive me.0 → has n me.0.core.pins ≡ true
+    → Allows (IsCore o) slots id me i (λ k. (k + (2 ^ 64 - 1)) % 2 ^ 64) (TellsUnpin (step slots i 1 0 none) me)
+unpins_allowed o slots id me n i e active mine =
+    subst (λ w. Allows (IsCore o) slots id me w (λ k. (k + (2 ^ 64 - 1)) % 2 ^ 64) (TellsUnpin (step slots w 1 0 none) me)) (sym e) (unpins_turn o slots id me n active mine)
+
+-- ---- the answer of an unpin
+-- a sole node's count was 1 exactly where no reference of the seat and no pin of it is left
+pub last_pin : (k new : Known) (n found : ℕ) → has n k.core.pins ≡ true → IsSoleCount k n found → new ≡ with_view k (unpinned k.core n found) → has n k.core.sole ≡ true
+    → IsTrue (nat_eq found 1) ↔ IsAlone new n
+last_pin k new n found mine counted is sole = subst (λ z. IsTrue (nat_eq found 1) ↔ IsAlone z n) (sym is) (gone, last)
+  where
+    pin_left : times n (without_one n k.core.pins) + 1 ≡ times n k.core.pins
+    pin_left = let less : times n (without_one n k.core.pins) + hits n n ≡ times n k.core.pins = times_less n n k.core.pins (times_has n k.core.pins mine) in omega (arith, hits_same n)
+
+    count : found ≡ own_refs (length k.opening) k.core n + times n k.core.pins
+    count = counted sole
+
+    gone : IsTrue (nat_eq found 1) → IsAlone (with_view k (unpinned k.core n found)) n
+    gone h = let one : found ≡ 1 = eqb-true found 1 h in (omega (arith, pin_left, count), omega (arith, pin_left, count))
+
+    last : IsAlone (with_view k (unpinned k.core n found)) n → IsTrue (nat_eq found 1)
+    last h = eq-eqb found 1 (omega (arith, pin_left, count, h.0, h.1))

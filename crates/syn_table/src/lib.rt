@@ -7,6 +7,7 @@ ghost use Rattle.syn_table.specs.Rule.{IsActive, IsCore, first_known};
 
 mod closing;
 mod seats;
+mod plays;
 mod starting;
 mod steps;
 

@@ -7,53 +7,11 @@ ghost use Rattle.syn_core.specs.Events.{MayPin};
 ghost use Rattle.syn_core.specs.Lists.{has};
 ghost use Rattle.syn_core.specs.Views.{is_mine, claimed, missed, released, row_loaded, pinned, count_loaded, key_loaded};
 ghost use Rattle.syn_table.specs.Seating.{IsOf, known_of, nodes_of, view_of};
-ghost use Rattle.syn_table.specs.Steps.{with_view, IsAlone, Unpins, TellsClaim, TellsRelease, TellsRow, TellsPin, TellsUnpin, TellsCount, TellsKey};
+ghost use Rattle.syn_table.specs.Steps.{with_view, IsAlone, Unpins};
 
-use crate::{Known, Seat, Shared};
-use atomic_table::Play;
+use crate::plays::{Claims, LoadsCount, LoadsKey, LoadsRow, Pins, Releases, TakesPinBack};
+use crate::{Seat, Shared};
 use syn_rows::Row;
-
-struct Claims;
-
-impl Play<u8, Known> for Claims {
-    ghost then = { TellsClaim };
-}
-
-struct Releases;
-
-impl Play<u8, Known> for Releases {
-    ghost then = { TellsRelease };
-}
-
-struct LoadsRow;
-
-impl Play<u8, Known> for LoadsRow {
-    ghost then = { TellsRow };
-}
-
-struct Pins;
-
-impl Play<u8, Known> for Pins {
-    ghost then = { TellsPin };
-}
-
-struct TakesPinBack;
-
-impl Play<u8, Known> for TakesPinBack {
-    ghost then = { TellsUnpin };
-}
-
-struct LoadsCount;
-
-impl Play<u8, Known> for LoadsCount {
-    ghost then = { TellsCount };
-}
-
-struct LoadsKey;
-
-impl Play<u8, Known> for LoadsKey {
-    ghost then = { TellsKey };
-}
 
 // Where the words of a node lie.
 fn claim_word(node: u32) -> usize
