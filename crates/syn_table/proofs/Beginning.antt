@@ -9,7 +9,7 @@ use Rattle.syn_rows.specs.declared.Row.{Row}
 use Rattle.syn_rows.specs.declared.Row.TheVariants.{Free, Source, And, Alias}
 use Rattle.syn_rows.specs.declared.Lit.{Lit}
 use Rattle.syn_rows.specs.Packing.{word_of, Packs}
-use Rattle.syn_rows.specs.Rows.{row_at, node_of, AllRefs, InOrder}
+use Rattle.syn_rows.specs.Rows.{row_at, node_of, AllRefs}
 use Rattle.syn_rows.specs.References.{refs, refs_by_rows, refs_by_literals, sum_below, times}
 use Rattle.syn_netlist.specs.Lists.{Frame, sources}
 use Rattle.syn_shapes.specs.Graphs.{is_gate, IsHashed, IsGraph}
@@ -18,7 +18,6 @@ use Rattle.syn_graph.specs.declared.Graph.{Graph}
 use Rattle.syn_graph.proofs.Orders.{hashed_in_order}
 use Rattle.syn_core.specs.declared.View.{View}
 use Rattle.syn_core.specs.Cores.{Core, all_pins}
-use Rattle.syn_core.specs.Bounds.{IsSmall}
 use Rattle.syn_core.specs.Openings.{AllThere, IsStart, empty_view, opening_of}
 use Rattle.syn_core.specs.Sound.{RowRests, IsSound}
 use Rattle.syn_core.proofs.Counting.{hits_same, hits_other, times_append}
@@ -28,7 +27,7 @@ use Rattle.syn_table.specs.declared.Opening.{Opening}
 use Rattle.syn_table.specs.Laying.{IsLaid, AreWords}
 use Rattle.syn_table.specs.Numbers.{numbers_below}
 use Rattle.syn_table.specs.Openings.{AreKeys, with_spare}
-use Rattle.syn_table.specs.Rule.{views_of, IsTied, IsTable, IsCore, first_known}
+use Rattle.syn_table.specs.Rule.{IsTied, IsCore, first_known}
 
 -- ---- words that are appended
 pub words_begin : (rows : List Row) (counts keys : List ℕ) → AreWords (0 ∷ []) 0 rows counts keys
@@ -60,8 +59,8 @@ pub words_grow : (words more : List ℕ) (n : ℕ) (rows : List Row) (counts key
     → row ≡ row_at rows n → count ≡ get_or counts n 0 → key ≡ get_or keys n 0 → more ≡ words ++ 0 ∷ word_of row ∷ count ∷ key ∷ [] → AreWords more (n + 1) rows counts keys
 words_grow words more n rows counts keys row count key w is_row is_count is_key e =
     subst (λ l. AreWords l (n + 1) rows counts keys)
-      (sym (e ∙ (ap (λ r. words ++ 0 ∷ word_of r ∷ count ∷ key ∷ []) is_row ∙ (ap (λ k. words ++ 0 ∷ word_of (row_at rows n) ∷ k ∷ key ∷ []) is_count ∙ ap (λ k. words ++ 0 ∷ word_of (row_at rows n) ∷ get_or counts n 0 ∷ k ∷ []) is_key))))
-      (words_more words n rows counts keys w)
+    (sym (e ∙ (ap (λ r. words ++ 0 ∷ word_of r ∷ count ∷ key ∷ []) is_row ∙ (ap (λ k. words ++ 0 ∷ word_of (row_at rows n) ∷ k ∷ key ∷ []) is_count ∙ ap (λ k. words ++ 0 ∷ word_of (row_at rows n) ∷ get_or counts n 0 ∷ k ∷ []) is_key))))
+    (words_more words n rows counts keys w)
 
 -- ---- numbers
 times_above : (n m : ℕ) → m ≤ n → times n (numbers_below m) ≡ 0
@@ -214,28 +213,30 @@ module _ (o : Opening) (counts keys words : List ℕ) where
   pub first_table : CanOpen o.graph.value o.spare counts keys words → IsCore o (Table.opening words [] (first_known o))
   first_table can =
       let starts : IsStart graph_rows literals keys = graph_starts (frame_in o.graph.value.frame) graph_rows literals keys o.graph.value.graph can.rising in
-      let sound : IsSound core = openings_are_sound graph_rows literals keys o.spare 1 starts (omega arith) in
-      (core, record {
-        laid = first_laid sound can;
-        views = refl;
-        opened = refl;
-        observed = refl;
-        nodes = refl;
-        small = record {
-          nodes = omega (arith, spare_length graph_rows o.spare, can.few);
-          literals = can.few_literals;
-          spent = λ id v at big. let mine : empty_view 0 ≡ v = first_view v id at in let zero_is : 0 ≡ v.number = ap (λ (z : View). z.number) mine in absurd (omega arith);
-        };
-        sound = sound;
-        tied = λ id k at. subst (IsTied core) (only_first (first_known o) k id at) record {
-          own = λ small. first_is_0 63;
-          opening = λ small. refl;
-          observed = λ small. refl;
-          spent = λ big. absurd (omega arith);
-        };
-        once = λ n lt. times_append n (numbers_below 64) [] ∙ omega (arith, times_below n 64 lt);
-        below = λ n le. times_append n (numbers_below 64) [] ∙ omega (arith, times_above n 64 le);
-      })
+      let sound : IsSound core = openings_are_sound graph_rows literals keys o.spare 1 starts (omega arith) in (
+        core,
+        record {
+          laid = first_laid sound can;
+          views = refl;
+          opened = refl;
+          observed = refl;
+          nodes = refl;
+          small = record {
+            nodes = omega (arith, spare_length graph_rows o.spare, can.few);
+            literals = can.few_literals;
+            spent = λ id v at big. let mine : empty_view 0 ≡ v = first_view v id at in let zero_is : 0 ≡ v.number = ap (λ (z : View). z.number) mine in absurd (omega arith);
+          };
+          sound = sound;
+          tied = λ id k at. subst (IsTied core) (only_first (first_known o) k id at) record {
+            own = λ small. first_is_0 63;
+            opening = λ small. refl;
+            observed = λ small. refl;
+            spent = λ big. absurd (omega arith);
+          };
+          once = λ n lt. times_append n (numbers_below 64) [] ∙ omega (arith, times_below n 64 lt);
+          below = λ n le. times_append n (numbers_below 64) [] ∙ omega (arith, times_above n 64 le);
+        },
+      )
     where
       first_view : (v : View) (id : ℕ) → get_elem? (empty_view 0 ∷ []) id ≡ some v → empty_view 0 ≡ v
       first_view v zero at = some-injective (empty_view 0) v at

@@ -1,5 +1,5 @@
 -- An event of a seat keeps the table's rule.
-use Rattle.std.proofs.Common.{◌≡◌, ◌⊎◌, ℕ, zero, suc, ◌+◌, ◌<◌, ◌≤◌, true, List, [], ◌∷◌, ◌++◌, drop, length, map, set, refl, sym, ap, ◌∙◌, subst, arith, inl, inr}
+use Rattle.std.proofs.Common.{◌≡◌, ℕ, zero, suc, ◌<◌, List, [], ◌∷◌, ◌++◌, drop, length, set, refl, sym, ap, ◌∙◌, subst, arith, inl, inr}
 use mathlib.Core.Option.{some, some-injective, some-ne-none}
 use lib.ListN.{get_elem?}
 use Rattle.atomic_table.proofs.Lists.{at_map, at_set, set_here}
@@ -90,6 +90,10 @@ moved o words after_words seats c d id k v t at small number sound laid views op
   below = λ n le. ap (times n) (numbers_stay seats id k v at) ∙ t.below n le;
 }
 
+-- the seat's view in the core
+pub view_at : (o : Opening) (words : List ℕ) (seats : List Known) (c : Core) (id : ℕ) (k : Known) → IsTable o words seats c → get_elem? seats id ≡ some k → get_elem? c.seats id ≡ some k.core
+view_at o words seats c id k t at = ap (λ l. get_elem? l id) t.views ∙ view_there seats id k at
+
 -- an event that is allowed, and whose word is stored, keeps the rule
 pub stepped_on : (o : Opening) (words after_words : List ℕ) (seats : List Known) (c : Core) (id : ℕ) (k : Known) (e : EventKind) (v : View)
     → IsTable o words seats c → get_elem? seats id ≡ some k → k.core.number < 64 → event_node e < length c.rows → May c k.core e
@@ -97,15 +101,11 @@ pub stepped_on : (o : Opening) (words after_words : List ℕ) (seats : List Know
     → (after c id k.core e).opening ≡ c.opening → (after c id k.core e).observed ≡ c.observed → length (after c id k.core e).rows ≡ length c.rows
     → IsTable o after_words (set seats id (with_view k v)) (after c id k.core e)
 stepped_on o words after_words seats c id k e v t at small there may number laid views opening observed rows =
-    let at_view : get_elem? c.seats id ≡ some k.core = ap (λ l. get_elem? l id) t.views ∙ view_there seats id k at in
+    let at_view : get_elem? c.seats id ≡ some k.core = view_at o words seats c id k t at in
     let sound : IsSound (after c id k.core e) = events_keep_sound c (record { seat = id; kind = e }) (after c id k.core e) t.sound (k.core, at_view, small, there, may, refl) in
     moved o words after_words seats c (after c id k.core e) id k v t at small number sound laid views opening observed rows
 
 -- ---- what the rule tells of a seat that has a number
--- the seat's view in the core
-pub view_at : (o : Opening) (words : List ℕ) (seats : List Known) (c : Core) (id : ℕ) (k : Known) → IsTable o words seats c → get_elem? seats id ≡ some k → get_elem? c.seats id ≡ some k.core
-view_at o words seats c id k t at = ap (λ l. get_elem? l id) t.views ∙ view_there seats id k at
-
 -- it knows how many nodes there are
 pub nodes_known : (o : Opening) (words : List ℕ) (seats : List Known) (c : Core) (id : ℕ) (k : Known) → IsTable o words seats c → get_elem? seats id ≡ some k → k.core.number < 64 → length k.opening ≡ length c.rows
 nodes_known o words seats c id k t at small = ap length ((t.tied id k at).opening small) ∙ sym t.nodes

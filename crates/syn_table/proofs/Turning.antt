@@ -59,8 +59,8 @@ claim_won o slots id me n x s active is inside free core at e =
     stepped_on o s.words (set s.words (1 + 4 * n) x) s.views c id me.0 (Kind.Claim n) (claimed v n) t at active.number there (sym word ∙ e, free) refl
     (subst (λ y. IsLaid (set s.words (1 + 4 * n) y) next) (sym is) (laid_claim s.words c n (suc v.number) (set c.seats id (claimed v n)) t.laid there t.sound.claims_count)) refl refl refl refl in
     goes o s id me (1 + 4 * n) x (TellsClaim (step slots (1 + 4 * n) 0 x none) me found) (claimed v n) next table
-      (becomes o (set s.words (1 + 4 * n) x) s.views next id me (claimed v n) _ at active.number table
-        (ap (λ b. if b then claimed v n else missed v n) (sym (eq-eqb found 0 e)) ∙ ap (λ m. if nat_eq found 0 then claimed v m else missed v m) (sym (claim_node n))))
+    (becomes o (set s.words (1 + 4 * n) x) s.views next id me (claimed v n) _ at active.number table
+    (ap (λ b. if b then claimed v n else missed v n) (sym (eq-eqb found 0 e)) ∙ ap (λ m. if nat_eq found 0 then claimed v m else missed v m) (sym (claim_node n))))
 
 claim_lost : (o : Opening) (slots id : ℕ) (me : Me ℕ Known) (n x : ℕ) (s : State ℕ Known) → IsActive me.0 → n < length me.0.opening → has n me.0.core.held ≡ false
     → IsCore o s → get_elem? s.views id ≡ some me.0 → get_or s.words (1 + 4 * n) 0 ≢ 0
@@ -77,15 +77,15 @@ claim_lost o slots id me n x s active inside free core at ne =
     stepped_on o s.words (set s.words (1 + 4 * n) found) s.views c id me.0 (Kind.ClaimFailed n) (missed v n) t at active.number there ((λ e. ne (word ∙ e)), free) refl
     (subst (λ l. IsLaid l next) (sym (set-get_or s.words (1 + 4 * n) 0)) (laid_same s.words c (set c.seats id (missed v n)) t.laid)) refl refl refl refl in
     goes o s id me (1 + 4 * n) found (TellsClaim (step slots (1 + 4 * n) 0 x none) me found) (missed v n) next table
-      (becomes o (set s.words (1 + 4 * n) found) s.views next id me (missed v n) _ at active.number table
-        (ap (λ b. if b then claimed v n else missed v n) (sym (ne_eqb found 0 ne)) ∙ ap (λ m. if nat_eq found 0 then claimed v m else missed v m) (sym (claim_node n))))
+    (becomes o (set s.words (1 + 4 * n) found) s.views next id me (missed v n) _ at active.number table
+    (ap (λ b. if b then claimed v n else missed v n) (sym (ne_eqb found 0 ne)) ∙ ap (λ m. if nat_eq found 0 then claimed v m else missed v m) (sym (claim_node n))))
 
 claims_turn : (o : Opening) (slots id : ℕ) (me : Me ℕ Known) (n x : ℕ) → IsActive me.0 → x ≡ suc me.0.core.number → n < length me.0.opening → has n me.0.core.held ≡ false
     → Allows (IsCore o) slots id me (1 + 4 * n) (λ k. either (nat_eq k 0) x k) (TellsClaim (step slots (1 + 4 * n) 0 x none) me)
 claims_turn o slots id me n x active is inside free s core homes at fits =
     let found : ℕ = get_or s.words (1 + 4 * n) 0 in
     exchanged found 0 x (λ y. Goes o s id me (1 + 4 * n) y (TellsClaim (step slots (1 + 4 * n) 0 x none) me found))
-      (λ e. claim_won o slots id me n x s active is inside free core at e) (λ ne. claim_lost o slots id me n x s active inside free core at ne)
+    (λ e. claim_won o slots id me n x s active is inside free core at e) (λ ne. claim_lost o slots id me n x s active inside free core at ne)
 
 -- ---- release
 releases_turn : (o : Opening) (slots id : ℕ) (me : Me ℕ Known) (n : ℕ) → IsActive me.0 → has n me.0.core.held ≡ true → has n me.0.core.idle ≡ false
@@ -100,7 +100,7 @@ releases_turn o slots id me n active held idle s core homes at fits =
     stepped_on o s.words (set s.words (1 + 4 * n) 0) s.views c id me.0 (Kind.Release n) (released v n) t at active.number there (held, idle) refl
     (laid_claim s.words c n 0 (set c.seats id (released v n)) t.laid there t.sound.claims_count) refl refl refl refl in
     goes o s id me (1 + 4 * n) 0 (TellsRelease (step slots (1 + 4 * n) 0 0 none) me 0) (released v n) next table
-      (becomes o (set s.words (1 + 4 * n) 0) s.views next id me (released v n) _ at active.number table (ap (released v) (sym (claim_node n))))
+    (becomes o (set s.words (1 + 4 * n) 0) s.views next id me (released v n) _ at active.number table (ap (released v) (sym (claim_node n))))
 
 -- ---- loads
 rows_turn : (o : Opening) (slots id : ℕ) (me : Me ℕ Known) (n : ℕ) → IsActive me.0 → has n me.0.core.held ≡ true
@@ -116,9 +116,12 @@ rows_turn o slots id me n active held s core homes at fits =
     let table : IsTable o (set s.words (2 + 4 * n) found) (set s.views id (with_view me.0 (row_loaded v n row))) next =
     stepped_on o s.words (set s.words (2 + 4 * n) found) s.views c id me.0 (Kind.LoadRow n) (row_loaded v n row) t at active.number there held refl
     (subst (λ l. IsLaid l next) (sym (set-get_or s.words (2 + 4 * n) 0)) (laid_same s.words c (set c.seats id (row_loaded v n row)) t.laid)) refl refl refl refl in
-    goes o s id me (2 + 4 * n) found (TellsRow (step slots (2 + 4 * n) 0 0 none) me found) (row_loaded v n row) next table
-      (row, rows_pack c n t.sound t.small.nodes, sym (t.laid.rows n there),
-      becomes o (set s.words (2 + 4 * n) found) s.views next id me (row_loaded v n row) _ at active.number table (ap (λ m. row_loaded v m row) (sym (row_node n))))
+    goes o s id me (2 + 4 * n) found (TellsRow (step slots (2 + 4 * n) 0 0 none) me found) (row_loaded v n row) next table (
+      row,
+      rows_pack c n t.sound t.small.nodes,
+      sym (t.laid.rows n there),
+      becomes o (set s.words (2 + 4 * n) found) s.views next id me (row_loaded v n row) _ at active.number table (ap (λ m. row_loaded v m row) (sym (row_node n))),
+    )
 
 counts_turn : (o : Opening) (slots id : ℕ) (me : Me ℕ Known) (n : ℕ) → IsActive me.0 → has n me.0.core.held ≡ true
     → Allows (IsCore o) slots id me (3 + 4 * n) (λ k. k) (TellsCount (step slots (3 + 4 * n) 0 0 none) me)
@@ -136,10 +139,11 @@ counts_turn o slots id me n active held s core homes at fits =
     let table : IsTable o (set s.words (3 + 4 * n) found) (set s.views id (with_view me.0 loaded)) next =
     stepped_on o s.words (set s.words (3 + 4 * n) found) s.views c id me.0 (Kind.LoadCount n) loaded t at active.number there held refl
     (subst (λ l. IsLaid l next) (sym (set-get_or s.words (3 + 4 * n) 0)) (laid_same s.words c (set c.seats id loaded) t.laid)) refl refl refl refl in
-    goes o s id me (3 + 4 * n) found (TellsCount (step slots (3 + 4 * n) 0 0 none) me found) loaded next table
-      (omega (arith, counts_fit c n t.sound t.small),
+    goes o s id me (3 + 4 * n) found (TellsCount (step slots (3 + 4 * n) 0 0 none) me found) loaded next table (
+      omega (arith, counts_fit c n t.sound t.small),
       becomes o (set s.words (3 + 4 * n) found) s.views next id me loaded _ at active.number table
-        (ap (λ z. count_loaded z v n count) (sym nodes) ∙ (ap (λ m. count_loaded (length me.0.opening) v m count) (sym (count_node n)) ∙ ap (count_loaded (length me.0.opening) v (node_at (3 + 4 * n))) (sym word))))
+          (ap (λ z. count_loaded z v n count) (sym nodes) ∙ (ap (λ m. count_loaded (length me.0.opening) v m count) (sym (count_node n)) ∙ ap (count_loaded (length me.0.opening) v (node_at (3 + 4 * n))) (sym word))),
+    )
 
 -- what a seat holds or has pinned is in its reach
 pub reached : (v : View) (n : ℕ) → is_mine v n ≡ true → (has n v.held ≡ true) ⊎ MayPin v n
@@ -160,8 +164,8 @@ keys_turn o slots id me n active mine s core homes at fits =
     stepped_on o s.words (set s.words (4 + 4 * n) found) s.views c id me.0 (Kind.LoadKey n) (key_loaded v n key) t at active.number there mine refl
     (subst (λ l. IsLaid l next) (sym (set-get_or s.words (4 + 4 * n) 0)) (laid_same s.words c (set c.seats id (key_loaded v n key)) t.laid)) refl refl refl refl in
     goes o s id me (4 + 4 * n) found (TellsKey (step slots (4 + 4 * n) 0 0 none) me found) (key_loaded v n key) next table
-      (becomes o (set s.words (4 + 4 * n) found) s.views next id me (key_loaded v n key) _ at active.number table
-        (ap (λ m. key_loaded v m key) (sym (key_node n)) ∙ ap (key_loaded v (node_at (4 + 4 * n))) (sym word)))
+    (becomes o (set s.words (4 + 4 * n) found) s.views next id me (key_loaded v n key) _ at active.number table
+    (ap (λ m. key_loaded v m key) (sym (key_node n)) ∙ ap (key_loaded v (node_at (4 + 4 * n))) (sym word)))
 
 -- ---- pin and unpin
 pins_turn : (o : Opening) (slots id : ℕ) (me : Me ℕ Known) (n : ℕ) → IsActive me.0 → MayPin me.0.core n → length me.0.core.pins < 512
@@ -181,7 +185,7 @@ pins_turn o slots id me n active may room s core homes at fits =
     stepped_on o s.words (set s.words (3 + 4 * n) ((found + 1) % 2 ^ 64)) s.views c id me.0 (Kind.Pin n) (pinned v n) t at active.number there (may, room) refl
     (subst (λ y. IsLaid (set s.words (3 + 4 * n) y) next) (sym same) (laid_count s.words c n (suc count) (set c.seats id (pinned v n)) t.laid there t.sound.counts_count)) refl refl refl refl in
     goes o s id me (3 + 4 * n) ((found + 1) % 2 ^ 64) (TellsPin (step slots (3 + 4 * n) 1 0 none) me found) (pinned v n) next table
-      (becomes o (set s.words (3 + 4 * n) ((found + 1) % 2 ^ 64)) s.views next id me (pinned v n) _ at active.number table (ap (pinned v) (sym (count_node n))))
+    (becomes o (set s.words (3 + 4 * n) ((found + 1) % 2 ^ 64)) s.views next id me (pinned v n) _ at active.number table (ap (pinned v) (sym (count_node n))))
 
 unpins_turn : (o : Opening) (slots id : ℕ) (me : Me ℕ Known) (n : ℕ) → IsActive me.0 → has n me.0.core.pins ≡ true
     → Allows (IsCore o) slots id me (3 + 4 * n) (λ k. (k + (2 ^ 64 - 1)) % 2 ^ 64) (TellsUnpin (step slots (3 + 4 * n) 1 0 none) me)
@@ -202,10 +206,11 @@ unpins_turn o slots id me n active mine s core homes at fits =
     let table : IsTable o (set s.words (3 + 4 * n) ((found + (2 ^ 64 - 1)) % 2 ^ 64)) (set s.views id (with_view me.0 (unpinned v n count))) next =
     stepped_on o s.words (set s.words (3 + 4 * n) ((found + (2 ^ 64 - 1)) % 2 ^ 64)) s.views c id me.0 (Kind.Unpin n) (unpinned v n count) t at active.number there mine refl
     (subst (λ y. IsLaid (set s.words (3 + 4 * n) y) next) (sym same) (laid_count s.words c n (count - 1) (set c.seats id (unpinned v n count)) t.laid there t.sound.counts_count)) refl refl refl refl in
-    goes o s id me (3 + 4 * n) ((found + (2 ^ 64 - 1)) % 2 ^ 64) (TellsUnpin (step slots (3 + 4 * n) 1 0 none) me found) (unpinned v n count) next table
-      (subst (λ m. IsSoleCount me.0 m found) (sym (count_node n)) (λ sole. word ∙ (((t.sound.seats id v seated).soles n sole).2 ∙ ap (λ z. own_refs z v n + own_pins v n) (sym nodes))),
+    goes o s id me (3 + 4 * n) ((found + (2 ^ 64 - 1)) % 2 ^ 64) (TellsUnpin (step slots (3 + 4 * n) 1 0 none) me found) (unpinned v n count) next table (
+      subst (λ m. IsSoleCount me.0 m found) (sym (count_node n)) (λ sole. word ∙ (((t.sound.seats id v seated).soles n sole).2 ∙ ap (λ z. own_refs z v n + own_pins v n) (sym nodes))),
       becomes o (set s.words (3 + 4 * n) ((found + (2 ^ 64 - 1)) % 2 ^ 64)) s.views next id me (unpinned v n count) _ at active.number table
-        (ap (λ m. unpinned v m count) (sym (count_node n)) ∙ ap (unpinned v (node_at (3 + 4 * n))) (sym word)))
+          (ap (λ m. unpinned v m count) (sym (count_node n)) ∙ ap (unpinned v (node_at (3 + 4 * n))) (sym word)),
+    )
 
 -- ---- the same, wherever the index of the word comes from
 pub claims_allowed : (o : Opening) (slots id : ℕ) (me : Me ℕ Known) (n x : ℕ) (i : ℕ) → i ≡ 1 + 4 * n → IsActive me.0 → x ≡ suc me.0.core.number → n < length me.0.opening → has n me.0.core.held ≡ false

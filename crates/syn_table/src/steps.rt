@@ -1,6 +1,6 @@
 //! The steps of a seat, each one event on one word. No lock is taken and nobody waits.
 
-ghost use Rattle.std.specs.Prelude.{◌≡◌, ◌≢◌, ℕ, suc, ◌+◌, ◌*◌, ◌==◌, ◌^◌, ◌<◌, true, false, if◌then◌else◌, IsTrue, ◌↔◌, length};
+ghost use Rattle.std.specs.Prelude.{◌≡◌, ◌≢◌, ◌⊎◌, ℕ, suc, ◌+◌, ◌*◌, ◌==◌, ◌^◌, ◌<◌, true, false, if◌then◌else◌, IsTrue, ◌↔◌, length};
 ghost use Rattle.syn_rows.specs.declared.Row.{Row};
 ghost use Rattle.syn_rows.specs.Packing.{word_of, Packs};
 ghost use Rattle.syn_core.specs.Events.{MayPin};
@@ -66,6 +66,17 @@ impl Shared {
         self.nodes
     }
 
+    /// What a seat holds or may pin is a node of its table, and the seat has a number. A law: it makes no step.
+    pub fn seats_reach_nodes(&self, seat: &Seat)
+        requires { IsOf seat.now self.now }
+        ensures reach { (n : ℕ) → (has n (view_of seat.now).held ≡ true) ⊎ MayPin (view_of seat.now) n → n < nodes_of self.now }
+        ensures opening { length (known_of seat.now).opening ≡ nodes_of self.now }
+        ensures number { (view_of seat.now).number < 64 }
+    {
+        let _nodes = self.nodes;
+        let _numbers = seat.numbers.as_slice();
+    }
+
     /// A look at the node's row and count, without a claim: each may be of another moment, and neither tells anything.
     pub fn peek(&self, node: u32) -> (Row, u32)
         requires { node < nodes_of self.now }
@@ -88,10 +99,10 @@ impl Shared {
         ensures known { known_of seat.new ≡ with_view (known_of seat.old) (if result then claimed (view_of seat.old) node else missed (view_of seat.old) node) }
     {
         let mark = seat.mark();
-        let found =
-            self.table
-                .shared
-                .compare_exchange::<Claims>(&mut seat.token, claim_word(node), 0, mark);
+        let found = self
+            .table
+            .shared
+            .compare_exchange::<Claims>(&mut seat.token, claim_word(node), 0, mark);
         found == 0
     }
 
@@ -145,10 +156,10 @@ impl Shared {
         ensures known { Unpins (known_of seat.old) node result (known_of seat.new) }
         ensures sole { has node (view_of seat.old).sole ≡ true → IsTrue result ↔ IsAlone (known_of seat.new) node }
     {
-        let found =
-            self.table
-                .shared
-                .fetch_sub::<TakesPinBack>(&mut seat.token, count_word(node), 1);
+        let found = self
+            .table
+            .shared
+            .fetch_sub::<TakesPinBack>(&mut seat.token, count_word(node), 1);
         found == 1
     }
 

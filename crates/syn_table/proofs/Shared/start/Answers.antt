@@ -17,4 +17,4 @@ of_words-requires c =
     } in
     let opening : Opening = record { graph = c.of.result; spare = c.args.spare } in
     subst (λ l. IsCore opening (State.opening l [] (first_known opening))) (sym c.as_slice-5.ensures.value)
-      (first_table opening _ _ _ (subst (λ g. CanOpen g c.args.spare c.in_ok-counts.counts.items c.args.keys.now c.in_ok-words.words.items) (sym c.of.ensures) can))
+    (first_table opening _ _ _ (subst (λ g. CanOpen g c.args.spare c.in_ok-counts.counts.items c.args.keys.now c.in_ok-words.words.items) (sym c.of.ensures) can))

@@ -1,4 +1,3 @@
-use Rattle.std.proofs.Common.{rules}
 use Rattle.syn_table.proofs.Beginning.{words_grow}
 use Rattle.syn_table.proofs.starting.words_of.Goals as goal
 
