@@ -166,3 +166,8 @@ pub front_is : (xs : List ℕ) (x : ℕ) → all_but_last (xs ++ x ∷ []) ≡ x
 front_is [] x = refl
 front_is (y ∷ []) x = refl
 front_is (y ∷ z ∷ zs) x = ap (λ (l : List ℕ). y ∷ l) (front_is (z ∷ zs) x)
+
+pub front_length : (xs : List ℕ) → 1 ≤ length xs → length (all_but_last xs) + 1 ≡ length xs
+front_length [] one = absurd (omega arith)
+front_length (x ∷ []) one = refl
+front_length (x ∷ y ∷ ys) one = let rest = front_length (y ∷ ys) (omega arith) in omega (arith, rest)

@@ -74,6 +74,7 @@ impl Shared {
         requires table { IsOf seat.old self.now }
         requires numbers { 2 ≤ length (known_of seat.old).numbers }
         ensures table { IsOf seat.new self.now }
+        ensures fewer { IfOk result (λ _. length (known_of seat.new).numbers + 1 ≡ length (known_of seat.old).numbers) }
         ensures left { IfOk result (λ _. known_of seat.new ≡ without_last (known_of seat.old)) }
         ensures new_table { IfOk result (λ new. IsOf new self.now) }
         ensures new { IfOk result (λ new. known_of new ≡ split_from (known_of seat.old)) }
@@ -92,6 +93,7 @@ impl Shared {
         requires held { (view_of other).held ≡ [] }
         requires pins { (view_of other).pins ≡ [] }
         ensures table { IsOf seat.new self.now }
+        ensures more { length (known_of seat.new).numbers ≡ length (known_of seat.old).numbers + length (known_of other).numbers }
         ensures joined { known_of seat.new ≡ with_joined (known_of seat.old) (known_of other) }
     {
         let Seat { token, numbers } = other;

@@ -23,3 +23,8 @@ invariant_of-seat-clause-numbers_known c =
 
 pub invariant_of-seat-clause-active : goal.invariant_of-seat-clause-active
 invariant_of-seat-clause-active c = subst (λ (m : Me ℕ Known). IsActive m.0) (sym (c.see_numbers.ensures.same ∙ c.join_seat.ensures.2)) (joined_active c.args.seat.now.token.me.0 c.args.other.token.me.0 c.args.seat.now.active)
+
+pub returns-clause-more : goal.returns-clause-more
+returns-clause-more c =
+    let both = ap (λ (m : Me ℕ Known). length m.0.numbers) (c.see_numbers.ensures.same ∙ c.join_seat.ensures.2) in
+    omega (arith, both, length-append c.args.seat.now.token.me.0.numbers c.args.other.token.me.0.numbers)

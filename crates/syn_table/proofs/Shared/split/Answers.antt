@@ -3,7 +3,7 @@ use Rattle.atomic_table.specs.Table.{Me}
 use Rattle.syn_table.specs.declared.Known.{Known}
 use Rattle.syn_table.specs.Rule.{IsActive}
 use Rattle.syn_table.specs.Splitting.{last_of, all_but_last}
-use Rattle.syn_table.proofs.SplitLaws.{splits_allowed, left_active, new_active}
+use Rattle.syn_table.proofs.SplitLaws.{splits_allowed, left_active, new_active, front_length}
 use Rattle.syn_table.proofs.Shared.split.Goals as goal
 
 pub split_seat-token-requires : goal.split_seat-token-requires
@@ -38,3 +38,10 @@ pub invariant_of-result-clause-active : goal.invariant_of-result-clause-active
 invariant_of-result-clause-active c =
     let active = subst (λ (m : Me ℕ Known). IsActive m.0) (sym c.see_numbers.ensures.same) c.args.seat.now.active in
     subst (λ (m : Me ℕ Known). IsActive m.0) (sym c.split_seat-token.ensures.4) (new_active _ active c.see_numbers.ensures.numbers)
+
+pub returns-clause-fewer : goal.returns-clause-fewer
+returns-clause-fewer c =
+    let left = ap (λ (m : Me ℕ Known). length m.0.numbers) c.split_seat-token.ensures.2 in
+    let same = ap (λ (m : Me ℕ Known). length (all_but_last m.0.numbers)) c.see_numbers.ensures.same in
+    let front = front_length c.args.seat.now.token.me.0.numbers (omega (arith, c.requires.numbers)) in
+    omega (arith, left, same, front)
