@@ -60,6 +60,7 @@ IsCore opening s = (c : Core) × IsTable opening s.words s.views c
 abbrev pub first_seat : List Row → List Lit → Known
 first_seat rows observed = record { core = empty_view 0; numbers = numbers_below 64; opening = rows; observed = observed }
 
+-- the same of what a table is opened with
 abbrev pub first_known : Opening → Known
 first_known opening = first_seat (opened_rows opening) (opened_literals opening)
 

@@ -14,7 +14,7 @@ use Rattle.syn_table.specs.Rule.{IsActive}
 abbrev pub with_view : Known → View → Known
 with_view k v = record k { core = v }
 
--- the seat has this view, and its numbers, opening and observed literals as before
+-- the seat has this view, and its numbers, opening and observed literals as before; it still shows that it isn't spent
 abbrev pub Becomes : Me ℕ Known → View → Me ℕ Known → Type 0
 Becomes me v new = (new ≡ (with_view me.0 v, me.1)) × IsActive (with_view me.0 v)
 
@@ -22,6 +22,7 @@ Becomes me v new = (new ≡ (with_view me.0 v, me.1)) × IsActive (with_view me.
 abbrev pub TellsClaim : Step ℕ → Me ℕ Known → ℕ → Me ℕ Known → Type 0
 TellsClaim s me found = Becomes me (if found == 0 then claimed me.0.core (node_at s.word) else missed me.0.core (node_at s.word))
 
+-- the claim is 0 again
 abbrev pub TellsRelease : Step ℕ → Me ℕ Known → ℕ → Me ℕ Known → Type 0
 TellsRelease s me stored = Becomes me (released me.0.core (node_at s.word))
 
@@ -29,6 +30,7 @@ TellsRelease s me stored = Becomes me (released me.0.core (node_at s.word))
 abbrev pub TellsRow : Step ℕ → Me ℕ Known → ℕ → Me ℕ Known → Type 0
 TellsRow s me found new = (r : Row) × Packs r × (word_of r ≡ found) × Becomes me (row_loaded me.0.core (node_at s.word) r) new
 
+-- the count rose by 1
 abbrev pub TellsPin : Step ℕ → Me ℕ Known → ℕ → Me ℕ Known → Type 0
 TellsPin s me found = Becomes me (pinned me.0.core (node_at s.word))
 
@@ -36,7 +38,7 @@ TellsPin s me found = Becomes me (pinned me.0.core (node_at s.word))
 abbrev pub IsSoleCount : Known → ℕ → ℕ → Type 0
 IsSoleCount k n count = has n k.core.sole ≡ true → count ≡ own_refs (length k.opening) k.core n + own_pins k.core n
 
--- the number found is a count
+-- the number found is the count before it fell by 1
 abbrev pub TellsUnpin : Step ℕ → Me ℕ Known → ℕ → Me ℕ Known → Type 0
 TellsUnpin s me found new = IsSoleCount me.0 (node_at s.word) found × Becomes me (unpinned me.0.core (node_at s.word) found) new
 
@@ -48,8 +50,10 @@ Unpins k n last new = (count : ℕ) × (last ≡ (count == 1)) × (new ≡ with_
 abbrev pub IsAlone : Known → ℕ → Type 0
 IsAlone k n = (own_refs (length k.opening) k.core n ≡ 0) × (own_pins k.core n ≡ 0)
 
+-- the number found is the count, which fits 32 bits
 abbrev pub TellsCount : Step ℕ → Me ℕ Known → ℕ → Me ℕ Known → Type 0
 TellsCount s me found new = (found < 2 ^ 32) × Becomes me (count_loaded (length me.0.opening) me.0.core (node_at s.word) found) new
 
+-- the number found is the key
 abbrev pub TellsKey : Step ℕ → Me ℕ Known → ℕ → Me ℕ Known → Type 0
 TellsKey s me found = Becomes me (key_loaded me.0.core (node_at s.word) found)

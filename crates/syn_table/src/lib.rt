@@ -6,8 +6,8 @@ ghost use Rattle.syn_table.specs.Openings.{opened_literals};
 ghost use Rattle.syn_table.specs.Rule.{IsActive, IsCore, first_known};
 
 mod closing;
-mod seats;
 mod plays;
+mod seats;
 mod starting;
 mod steps;
 
