@@ -1,14 +1,14 @@
 //! Shared tables over the graph of the cone.
 
-ghost use Rattle.std.specs.Prelude.{◌≡◌, ◌<◌, [], length, IfSome};
+ghost use Rattle.std.specs.Prelude.{◌≡◌, ◌<◌, [], true, length, IfSome};
 ghost use Rattle.syn_core.specs.Openings.{empty_view};
 ghost use Rattle.syn_calls.specs.Tables.{IsResting};
 ghost use Rattle.syn_table.specs.Seating.{IsOf, known_of, nodes_of, view_of};
 
 use crate::tests::cone;
-use std::alloc::Global;
+use std::alloc::{AllocError, Global};
 use std::test::Fail;
-use std::thread::join;
+use std::thread::{Threads, join};
 use syn_keys::spread;
 use syn_rows::{Lit, Row};
 use syn_table::{Seat, Shared};
@@ -46,38 +46,37 @@ fn closes_as_opened(alloc: Global, shared: Shared, seat: Seat) -> bool
     closed.rows.as_slice() == rows.as_slice() && closed.observed.as_slice() == [Lit(13)].as_slice()
 }
 
-#[test]
-fn steps_with_one_seat(rt: HostRuntime) -> Result<(), Fail> {
-    let alloc = rt.alloc();
-    let Some((shared, mut seat)) = opened(alloc) else {
-        panic!(rt; "no table");
+// The steps of one seat, worked by hand: whether each answers as it has to.
+fn steps_as_worked(shared: &Shared, seat: &mut Seat) -> bool
+    requires table { IsOf seat.old shared.now }
+    requires nodes { 6 < nodes_of shared.now }
+    requires resting { IsResting (known_of seat.old).numbers (known_of seat.old) }
+    ensures table { IsOf seat.new shared.now }
+    ensures resting { result ≡ true → IsResting (known_of seat.old).numbers (known_of seat.new) }
+{
+    if !shared.claim(seat, 6)
+        || shared.refs_of(seat, 6) != 1
+        || shared.key_of(seat, 6) != 8589934592
+    {
+        return false;
+    }
+    let Row::And(first, second) = shared.row_of(seat, 6) else {
+        return false;
     };
-    assert_eq!(rt; shared.nodes(), 15);
-    if !shared.claim(&mut seat, 6) {
-        panic!(rt; "claimed by nobody, but not free");
+    if first.0 != 9 || second.0 != 11 {
+        return false;
     }
-    assert_eq!(rt; shared.refs_of(&mut seat, 6), 1);
-    assert_eq!(rt; shared.key_of(&mut seat, 6), 8589934592);
-    let row = shared.row_of(&mut seat, 6);
-    assert_eq!(rt; row, Row::And(Lit(9), Lit(11)));
-    let Row::And(first, _) = row else {
-        panic!(rt; "no AND");
-    };
-    let fan_in = first.node();
-    if fan_in != 4 {
-        panic!(rt; "another fan-in");
+    shared.pin(seat, 4);
+    if !shared.claim(seat, 4) || shared.refs_of(seat, 4) != 2 {
+        return false;
     }
-    shared.pin(&mut seat, fan_in);
-    if !shared.claim(&mut seat, 4) {
-        panic!(rt; "claimed by nobody, but not free");
+    let last = shared.unpin(seat, 4);
+    if last || shared.refs_of(seat, 4) != 1 {
+        return false;
     }
-    assert_eq!(rt; shared.refs_of(&mut seat, 4), 2);
-    shared.unpin(&mut seat, 4);
-    assert_eq!(rt; shared.refs_of(&mut seat, 4), 1);
-    shared.release(&mut seat, 6);
-    shared.release(&mut seat, 4);
-    assert!(rt; closes_as_opened(alloc, shared, seat));
-    Ok(())
+    shared.release(seat, 6);
+    shared.release(seat, 4);
+    true
 }
 
 // Claims a node and releases it, or lets it be where another seat holds it.
@@ -107,19 +106,47 @@ fn take_turns(shared: &Shared, mut seat: Seat, rounds: u32) -> Seat
     seat
 }
 
-#[test]
-fn two_threads_take_turns(rt: HostRuntime) -> Result<(), Fail> {
-    let alloc = rt.alloc();
-    let Some((shared, mut seat)) = opened(alloc) else {
-        panic!(rt; "no table");
-    };
+// Two threads take turns, each with a seat: whether the table closes as it was opened.
+fn two_take_turns<R: Threads>(
+    rt: &R,
+    alloc: Global,
+    shared: Shared,
+    mut seat: Seat,
+) -> Result<bool, AllocError>
+    requires table { IsOf seat shared }
+    requires nodes { 6 < nodes_of shared }
+    requires numbers { length (known_of seat).numbers ≡ 64 }
+    requires resting { IsResting (known_of seat).numbers (known_of seat) }
+{
     let other = shared.split(&mut seat)?;
     let (mut seat, other) = join(
-        &rt,
+        rt,
         || take_turns(&shared, seat, 1000),
         || take_turns(&shared, other, 1000),
     );
     shared.join(&mut seat, other);
+    Ok(closes_as_opened(alloc, shared, seat))
+}
+
+#[test]
+fn one_seat_steps(rt: HostRuntime) {
+    let alloc = rt.alloc();
+    let Some((shared, mut seat)) = opened(alloc) else {
+        panic!(rt; "no table");
+    };
+    assert_eq!(rt; shared.nodes(), 15);
+    if !steps_as_worked(&shared, &mut seat) {
+        panic!(rt; "another answer");
+    }
     assert!(rt; closes_as_opened(alloc, shared, seat));
+}
+
+#[test]
+fn two_threads_take_turns(rt: HostRuntime) -> Result<(), Fail> {
+    let alloc = rt.alloc();
+    let Some((shared, seat)) = opened(alloc) else {
+        panic!(rt; "no table");
+    };
+    assert!(rt; two_take_turns(&rt, alloc, shared, seat)?);
     Ok(())
 }
