@@ -1,20 +1,18 @@
 -- A seat that has all numbers and holds and pins nothing closes the table with the rows of a sound core.
-use Rattle.std.proofs.Common.{◌≡◌, ◌≢◌, ◌↔◌, Bool, ◌^◌, ℕ, zero, suc, ◌+◌, ◌*◌, ◌<◌, ◌≤◌, All, List, [], ◌∷◌, length, get_or, refl, sym, ap, ap₂, ◌∙◌, subst, arith, inl, inr, ⊎_elim, pos, ◌+ℤ◌, ℤ}
-use Rattle.std.proofs.lemmas.Bool.{cases_lt, cases_eq}
+use Rattle.std.proofs.Common.{◌≡◌, ◌≢◌, ◌↔◌, Bool, ◌^◌, ℕ, zero, suc, ◌+◌, ◌*◌, ◌<◌, ◌≤◌, All, List, [], ◌∷◌, length, get_or, refl, sym, ap, ap₂, ◌∙◌, subst, arith, inl, inr, pos, ◌+ℤ◌, ℤ}
+use Rattle.std.proofs.lemmas.Bool.{cases_lt}
 use Rattle.std.proofs.lemmas.Int.{ints}
-use Rattle.std.proofs.lemmas.List.{get_or_past}
 use mathlib.Core.Option.{some, some-injective, some-ne-none}
 use lib.ListN.{get_elem?}
 use Rattle.atomic_table.specs.Table.{State, Final, Seen}
 use Rattle.syn_rows.specs.declared.Row.{Row}
 use Rattle.syn_rows.specs.declared.Row.TheVariants.{Free, Source, And, Alias}
 use Rattle.syn_rows.specs.declared.Lit.{Lit}
-use Rattle.syn_rows.specs.Packing.{word_of, Packs}
 use Rattle.syn_rows.specs.Rows.{row_at, node_of, AllRefs}
 use Rattle.syn_rows.specs.Values.{Fits, SameSources}
-use Rattle.syn_rows.specs.References.{hits, refs_by_rows, refs_by_literals, all_ands}
+use Rattle.syn_rows.specs.References.{refs_by_literals, all_ands}
 use Rattle.syn_core.specs.declared.View.{View}
-use Rattle.syn_core.specs.Cores.{Core, all_pins, differences}
+use Rattle.syn_core.specs.Cores.{Core, differences}
 use Rattle.syn_core.specs.Openings.{empty_view}
 use Rattle.syn_core.specs.Bounds.{RowsPack}
 use Rattle.syn_core.specs.Runs.{SomeValuation}
@@ -26,7 +24,7 @@ use Rattle.syn_table.specs.Numbers.{all_numbers}
 use Rattle.syn_table.specs.Laying.{IsLaid}
 use Rattle.syn_table.specs.Openings.{opened_rows, opened_literals}
 use Rattle.syn_table.specs.Rule.{views_of, HasOwnNumber, IsTied, IsTable, IsCore}
-use Rattle.syn_table.specs.Closing.{IsLast, HasValuations, IsClosing, ReadsBack}
+use Rattle.syn_table.specs.Closing.{IsClosing, ReadsBack}
 use Rattle.syn_table.proofs.Numbering.{lengths_of_two, all_counted}
 
 -- ---- the rows are those of the words

@@ -1,9 +1,9 @@
 -- The joining of a seat that holds and pins nothing keeps the rule of the table; what the rule says of a seat's numbers.
-use Rattle.std.proofs.Common.{◌≡◌, ◌≢◌, ℕ, zero, suc, ◌+◌, ◌<◌, ◌≤◌, All, List, [], ◌∷◌, ◌++◌, length, drop, set, get_or, refl, sym, ap, ap₂, ◌∙◌, subst, arith, inl, inr}
+use Rattle.std.proofs.Common.{◌≡◌, ◌≢◌, ℕ, zero, suc, ◌<◌, ◌≤◌, All, List, [], ◌∷◌, ◌++◌, drop, set, get_or, refl, sym, ap, ap₂, ◌∙◌, subst, arith, inl, inr}
 use Rattle.std.proofs.lemmas.Bool.{cases_lt}
 use mathlib.Core.Option.{some, none}
 use lib.ListN.{get_elem?}
-use Rattle.atomic_table.specs.Table.{State, Me, Act, Allows, Joins, keeps, step}
+use Rattle.atomic_table.specs.Table.{State, Me, Allows, Joins, keeps, step}
 use Rattle.atomic_table.proofs.Lists.{at_set, set_again, set_else}
 use Rattle.syn_rows.specs.References.{times}
 use Rattle.syn_core.specs.declared.View.{View}

@@ -1,22 +1,20 @@
 -- A split keeps the rule of the table.
-use Rattle.std.proofs.Common.{◌≡◌, ◌≢◌, ◌⊎◌, All, true, ℕ, zero, suc, ◌+◌, ◌<◌, ◌≤◌, List, [], ◌∷◌, ◌++◌, length, drop, set, get_or, refl, sym, ap, ap₂, ◌∙◌, subst, arith, inl, inr}
+use Rattle.std.proofs.Common.{◌≡◌, ◌≢◌, ◌⊎◌, All, true, ℕ, suc, ◌+◌, ◌<◌, ◌≤◌, List, [], ◌∷◌, ◌++◌, length, drop, set, refl, sym, ap, ◌∙◌, subst, arith, inl, inr}
 use Rattle.std.proofs.lemmas.Bool.{cases_eq, cases_lt}
 use mathlib.Core.Option.{some, some-injective}
 use lib.ListN.{get_elem?}
-use Rattle.atomic_table.specs.Table.{State, Splits}
+use Rattle.atomic_table.specs.Table.{Splits}
 use Rattle.atomic_table.proofs.Lists.{at_set, set_again}
-use Rattle.syn_rows.specs.References.{hits, times}
+use Rattle.syn_rows.specs.References.{times}
 use Rattle.syn_core.specs.declared.View.{View}
 use Rattle.syn_core.specs.Cores.{Core}
 use Rattle.syn_core.specs.Openings.{empty_view}
-use Rattle.syn_core.specs.Bounds.{IsSmall}
-use Rattle.syn_core.specs.Splits.{IsNewNumber, split_off}
+use Rattle.syn_core.specs.Splits.{split_off}
 use Rattle.syn_core.proofs.Counting.{hits_same}
 use Rattle.syn_core.proofs.Splitting.{splits_keep_sound}
 use Rattle.syn_table.specs.declared.Known.{Known}
 use Rattle.syn_table.specs.declared.Opening.{Opening}
 use Rattle.syn_table.specs.Numbers.{all_numbers}
-use Rattle.syn_table.specs.Laying.{IsLaid}
 use Rattle.syn_table.specs.Rule.{views_of, HasOwnNumber, IsTied, IsTable, IsCore, IsActive}
 use Rattle.syn_core.specs.Lists.{has}
 use Rattle.syn_core.specs.Events.{MayPin}

@@ -1,4 +1,4 @@
-use Rattle.std.proofs.Common.{◌≡◌, ℕ, List, ◌∷◌, [], length, sym, ap, ◌∙◌, subst, arith, length-append}
+use Rattle.std.proofs.Common.{List, ◌∷◌, [], length, sym, ap, subst, arith, length-append}
 use Rattle.std.specs.Mem.Slots.{slots_items}
 use Rattle.syn_rows.specs.declared.Row.{Row}
 use Rattle.syn_table.specs.Closing.{ReadsBack}

@@ -1,4 +1,4 @@
-use Rattle.std.proofs.Common.{◌≡◌, ◌+◌, ◌≤◌, ◌++◌, length, drop, take}
+use Rattle.std.proofs.Common.{◌≡◌, ◌++◌, take}
 use Rattle.syn_table.proofs.seats.append.Given as goal
 
 abbrev pub invariant-loop-number : goal.invariant-loop-number

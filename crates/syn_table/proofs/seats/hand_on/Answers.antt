@@ -1,4 +1,4 @@
-use Rattle.std.proofs.Common.{◌≡◌, ℕ, List, [], ◌∷◌, ◌++◌, sym, ap, ◌∙◌}
+use Rattle.std.proofs.Common.{ℕ, List, [], ◌∷◌, ◌++◌, sym, ap, ◌∙◌}
 use Rattle.syn_table.specs.Splitting.{last_of, all_but_last}
 use Rattle.syn_table.proofs.SplitLaws.{last_is, front_is}
 use Rattle.syn_table.proofs.seats.hand_on.Goals as goal
