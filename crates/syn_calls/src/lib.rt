@@ -5,4 +5,6 @@
 #![tactic(auto)]
 
 #[cfg(test)]
+mod tables;
+#[cfg(test)]
 mod tests;

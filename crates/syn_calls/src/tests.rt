@@ -12,7 +12,7 @@ use syn_truth::Truth;
 
 // The graph of the three-input cone: nodes 1 to 3 are the inputs a, b and c, node 4 is the AND of a and b, node 5 that
 // of a and c, node 6 that of the complements of both; f is the complement of node 6.
-fn cone(alloc: Global) -> Option<Graph> {
+pub fn cone(alloc: Global) -> Option<Graph> {
     let text = ".model m\n.inputs a b c\n.outputs f\n.names a b c f\n11- 1\n1-1 1\n.end\n";
     let netlist = read(alloc, text.as_bytes()).ok()?;
     graph_of(alloc, netlist).ok()

@@ -1,0 +1,10 @@
+pub mod Wording
+pub mod Ruling
+pub mod Turning
+pub mod Beginning
+pub mod Numbering
+pub mod Listed
+pub mod SplitLaws
+pub mod JoinLaws
+pub mod CloseLaws
+pub mod Reading

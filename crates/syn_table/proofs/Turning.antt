@@ -1,0 +1,267 @@
+-- Each step on a word is one event, which the rule allows.
+use Rattle.std.proofs.Common.{◌≡◌, ◌≢◌, ◌⊎◌, ℕ, suc, ◌+◌, ◌-◌, ◌*◌, ◌%◌, ◌^◌, ◌<◌, ◌≤◌, true, false, if◌then◌else◌, nat_eq, IsTrue, ◌↔◌, List, length, set, get_or, refl, sym, ap, ◌∙◌, subst, arith, inl, inr}
+use Rattle.std.proofs.lemmas.List.{set-get_or}
+use Rattle.std.proofs.lemmas.Bool.{eq-eqb, eqb-true, ne_eqb}
+use mathlib.Core.Option.{some, none}
+use lib.ListN.{get_elem?}
+use prog.Atomic.{either}
+use Rattle.atomic_table.specs.Table.{State, Me, Act, step, stepped, carried_after, keeps, Valid, Allows}
+use Rattle.atomic_table.proofs.Lists.{exchanged}
+use Rattle.syn_rows.specs.declared.Row.{Row}
+use Rattle.syn_rows.specs.Rows.{row_at}
+use Rattle.syn_core.specs.declared.View.{View}
+use Rattle.syn_core.specs.declared.EventKind.TheVariants as Kind
+use Rattle.syn_core.specs.Lists.{has}
+use Rattle.syn_core.specs.Views.{is_mine, own_refs, own_pins, claimed, missed, released, row_loaded, pinned, unpinned, count_loaded, key_loaded}
+use Rattle.syn_core.specs.Cores.{Core}
+use Rattle.syn_core.specs.Events.{MayPin, after}
+use Rattle.syn_rows.specs.References.{hits, times}
+use Rattle.syn_core.specs.Lists.{without_one}
+use Rattle.syn_core.proofs.Counting.{hits_same, times_has, times_less}
+use Rattle.syn_core.proofs.Listing.{or_cases}
+use Rattle.syn_core.proofs.Pinning.{pins_count}
+use Rattle.syn_core.proofs.Within.{counts_fit, nodes_are_there, rows_pack}
+use Rattle.syn_table.specs.declared.Known.{Known}
+use Rattle.syn_table.specs.declared.Opening.{Opening}
+use Rattle.syn_table.specs.Laying.{IsLaid, node_at}
+use Rattle.syn_table.specs.Rule.{IsTable, IsCore, IsActive}
+use Rattle.syn_table.specs.Steps.{with_view, Becomes, IsSoleCount, IsAlone, TellsClaim, TellsRelease, TellsRow, TellsPin, TellsUnpin, TellsCount, TellsKey}
+use Rattle.syn_table.proofs.Wording.{laid_claim, laid_count, laid_same, claim_node, row_node, count_node, key_node}
+use Rattle.syn_table.proofs.Ruling.{seat_there, stepped_on, view_at, nodes_known, is_active}
+
+-- what a step owes where word i becomes x: a new view of the seat under which the rule holds, and which tells T
+abbrev Goes : Opening → State ℕ Known → ℕ → Me ℕ Known → ℕ → ℕ → (Me ℕ Known → Type 0) → Type 0
+Goes o s id me i x T = (w : Known) × (a : Act ℕ) × Valid s.homes me.1 a × IsCore o (stepped s i x id me.1 w a) × T (w, carried_after me.1 a)
+
+goes : (o : Opening) (s : State ℕ Known) (id : ℕ) (me : Me ℕ Known) (i x : ℕ) (T : Me ℕ Known → Type 0) (v : View) (c : Core)
+    → IsTable o (set s.words i x) (set s.views id (with_view me.0 v)) c → T (with_view me.0 v, me.1) → Goes o s id me i x T
+goes o s id me i x T v c table told = (with_view me.0 v, keeps, tt, (c, table), told)
+
+-- the seat has the view v, which may be written in another way
+becomes : (o : Opening) (words : List ℕ) (seats : List Known) (c : Core) (id : ℕ) (me : Me ℕ Known) (v w : View)
+    → get_elem? seats id ≡ some me.0 → v.number < 64 → IsTable o words (set seats id (with_view me.0 v)) c → v ≡ w → Becomes me w (with_view me.0 v, me.1)
+becomes o words seats c id me v w at small t same =
+    subst (λ u. Becomes me u (with_view me.0 v, me.1)) same (refl, is_active o words (set seats id (with_view me.0 v)) c id (with_view me.0 v) t (seat_there seats id me.0 (with_view me.0 v) at) small)
+
+-- ---- claim, or failed claim
+claim_won : (o : Opening) (slots id : ℕ) (me : Me ℕ Known) (n x : ℕ) (s : State ℕ Known) → IsActive me.0 → x ≡ suc me.0.core.number → n < length me.0.opening → has n me.0.core.held ≡ false
+    → IsCore o s → get_elem? s.views id ≡ some me.0 → get_or s.words (1 + 4 * n) 0 ≡ 0
+    → Goes o s id me (1 + 4 * n) x (TellsClaim (step slots (1 + 4 * n) 0 x none) me (get_or s.words (1 + 4 * n) 0))
+claim_won o slots id me n x s active is inside free core at e =
+    let c : Core = core.0 in
+    let v : View = me.0.core in
+    let t : IsTable o s.words s.views c = core.1 in
+    let found : ℕ = get_or s.words (1 + 4 * n) 0 in
+    let there : n < length c.rows = omega (arith, nodes_known o s.words s.views c id me.0 t at active.number) in
+    let word : found ≡ get_or c.claims n 0 = t.laid.claims n there in
+    let next : Core = after c id v (Kind.Claim n) in
+    let table : IsTable o (set s.words (1 + 4 * n) x) (set s.views id (with_view me.0 (claimed v n))) next =
+    stepped_on o s.words (set s.words (1 + 4 * n) x) s.views c id me.0 (Kind.Claim n) (claimed v n) t at active.number there (sym word ∙ e, free) refl
+    (subst (λ y. IsLaid (set s.words (1 + 4 * n) y) next) (sym is) (laid_claim s.words c n (suc v.number) (set c.seats id (claimed v n)) t.laid there t.sound.claims_count)) refl refl refl refl in
+    goes o s id me (1 + 4 * n) x (TellsClaim (step slots (1 + 4 * n) 0 x none) me found) (claimed v n) next table
+    (becomes o (set s.words (1 + 4 * n) x) s.views next id me (claimed v n) _ at active.number table
+    (ap (λ b. if b then claimed v n else missed v n) (sym (eq-eqb found 0 e)) ∙ ap (λ m. if nat_eq found 0 then claimed v m else missed v m) (sym (claim_node n))))
+
+claim_lost : (o : Opening) (slots id : ℕ) (me : Me ℕ Known) (n x : ℕ) (s : State ℕ Known) → IsActive me.0 → n < length me.0.opening → has n me.0.core.held ≡ false
+    → IsCore o s → get_elem? s.views id ≡ some me.0 → get_or s.words (1 + 4 * n) 0 ≢ 0
+    → Goes o s id me (1 + 4 * n) (get_or s.words (1 + 4 * n) 0) (TellsClaim (step slots (1 + 4 * n) 0 x none) me (get_or s.words (1 + 4 * n) 0))
+claim_lost o slots id me n x s active inside free core at ne =
+    let c : Core = core.0 in
+    let v : View = me.0.core in
+    let t : IsTable o s.words s.views c = core.1 in
+    let found : ℕ = get_or s.words (1 + 4 * n) 0 in
+    let there : n < length c.rows = omega (arith, nodes_known o s.words s.views c id me.0 t at active.number) in
+    let word : found ≡ get_or c.claims n 0 = t.laid.claims n there in
+    let next : Core = after c id v (Kind.ClaimFailed n) in
+    let table : IsTable o (set s.words (1 + 4 * n) found) (set s.views id (with_view me.0 (missed v n))) next =
+    stepped_on o s.words (set s.words (1 + 4 * n) found) s.views c id me.0 (Kind.ClaimFailed n) (missed v n) t at active.number there ((λ e. ne (word ∙ e)), free) refl
+    (subst (λ l. IsLaid l next) (sym (set-get_or s.words (1 + 4 * n) 0)) (laid_same s.words c (set c.seats id (missed v n)) t.laid)) refl refl refl refl in
+    goes o s id me (1 + 4 * n) found (TellsClaim (step slots (1 + 4 * n) 0 x none) me found) (missed v n) next table
+    (becomes o (set s.words (1 + 4 * n) found) s.views next id me (missed v n) _ at active.number table
+    (ap (λ b. if b then claimed v n else missed v n) (sym (ne_eqb found 0 ne)) ∙ ap (λ m. if nat_eq found 0 then claimed v m else missed v m) (sym (claim_node n))))
+
+claims_turn : (o : Opening) (slots id : ℕ) (me : Me ℕ Known) (n x : ℕ) → IsActive me.0 → x ≡ suc me.0.core.number → n < length me.0.opening → has n me.0.core.held ≡ false
+    → Allows (IsCore o) slots id me (1 + 4 * n) (λ k. either (nat_eq k 0) x k) (TellsClaim (step slots (1 + 4 * n) 0 x none) me)
+claims_turn o slots id me n x active is inside free s core homes at fits =
+    let found : ℕ = get_or s.words (1 + 4 * n) 0 in
+    exchanged found 0 x (λ y. Goes o s id me (1 + 4 * n) y (TellsClaim (step slots (1 + 4 * n) 0 x none) me found))
+    (λ e. claim_won o slots id me n x s active is inside free core at e) (λ ne. claim_lost o slots id me n x s active inside free core at ne)
+
+-- ---- release
+releases_turn : (o : Opening) (slots id : ℕ) (me : Me ℕ Known) (n : ℕ) → IsActive me.0 → has n me.0.core.held ≡ true → has n me.0.core.idle ≡ false
+    → Allows (IsCore o) slots id me (1 + 4 * n) (λ _. 0) (λ _. TellsRelease (step slots (1 + 4 * n) 0 0 none) me 0)
+releases_turn o slots id me n active held idle s core homes at fits =
+    let c : Core = core.0 in
+    let v : View = me.0.core in
+    let t : IsTable o s.words s.views c = core.1 in
+    let there : n < length c.rows = nodes_are_there c id v n t.sound (view_at o s.words s.views c id me.0 t at) (inl held) in
+    let next : Core = after c id v (Kind.Release n) in
+    let table : IsTable o (set s.words (1 + 4 * n) 0) (set s.views id (with_view me.0 (released v n))) next =
+    stepped_on o s.words (set s.words (1 + 4 * n) 0) s.views c id me.0 (Kind.Release n) (released v n) t at active.number there (held, idle) refl
+    (laid_claim s.words c n 0 (set c.seats id (released v n)) t.laid there t.sound.claims_count) refl refl refl refl in
+    goes o s id me (1 + 4 * n) 0 (TellsRelease (step slots (1 + 4 * n) 0 0 none) me 0) (released v n) next table
+    (becomes o (set s.words (1 + 4 * n) 0) s.views next id me (released v n) _ at active.number table (ap (released v) (sym (claim_node n))))
+
+-- ---- loads
+rows_turn : (o : Opening) (slots id : ℕ) (me : Me ℕ Known) (n : ℕ) → IsActive me.0 → has n me.0.core.held ≡ true
+    → Allows (IsCore o) slots id me (2 + 4 * n) (λ k. k) (TellsRow (step slots (2 + 4 * n) 0 0 none) me)
+rows_turn o slots id me n active held s core homes at fits =
+    let c : Core = core.0 in
+    let v : View = me.0.core in
+    let t : IsTable o s.words s.views c = core.1 in
+    let there : n < length c.rows = nodes_are_there c id v n t.sound (view_at o s.words s.views c id me.0 t at) (inl held) in
+    let found : ℕ = get_or s.words (2 + 4 * n) 0 in
+    let row : Row = row_at c.rows n in
+    let next : Core = after c id v (Kind.LoadRow n) in
+    let table : IsTable o (set s.words (2 + 4 * n) found) (set s.views id (with_view me.0 (row_loaded v n row))) next =
+    stepped_on o s.words (set s.words (2 + 4 * n) found) s.views c id me.0 (Kind.LoadRow n) (row_loaded v n row) t at active.number there held refl
+    (subst (λ l. IsLaid l next) (sym (set-get_or s.words (2 + 4 * n) 0)) (laid_same s.words c (set c.seats id (row_loaded v n row)) t.laid)) refl refl refl refl in
+    goes o s id me (2 + 4 * n) found (TellsRow (step slots (2 + 4 * n) 0 0 none) me found) (row_loaded v n row) next table (
+      row,
+      rows_pack c n t.sound t.small.nodes,
+      sym (t.laid.rows n there),
+      becomes o (set s.words (2 + 4 * n) found) s.views next id me (row_loaded v n row) _ at active.number table (ap (λ m. row_loaded v m row) (sym (row_node n))),
+    )
+
+counts_turn : (o : Opening) (slots id : ℕ) (me : Me ℕ Known) (n : ℕ) → IsActive me.0 → has n me.0.core.held ≡ true
+    → Allows (IsCore o) slots id me (3 + 4 * n) (λ k. k) (TellsCount (step slots (3 + 4 * n) 0 0 none) me)
+counts_turn o slots id me n active held s core homes at fits =
+    let c : Core = core.0 in
+    let v : View = me.0.core in
+    let t : IsTable o s.words s.views c = core.1 in
+    let there : n < length c.rows = nodes_are_there c id v n t.sound (view_at o s.words s.views c id me.0 t at) (inl held) in
+    let found : ℕ = get_or s.words (3 + 4 * n) 0 in
+    let count : ℕ = get_or c.counts n 0 in
+    let word : found ≡ count = t.laid.counts n there in
+    let nodes : length me.0.opening ≡ length c.rows = nodes_known o s.words s.views c id me.0 t at active.number in
+    let loaded : View = count_loaded (length c.rows) v n count in
+    let next : Core = after c id v (Kind.LoadCount n) in
+    let table : IsTable o (set s.words (3 + 4 * n) found) (set s.views id (with_view me.0 loaded)) next =
+    stepped_on o s.words (set s.words (3 + 4 * n) found) s.views c id me.0 (Kind.LoadCount n) loaded t at active.number there held refl
+    (subst (λ l. IsLaid l next) (sym (set-get_or s.words (3 + 4 * n) 0)) (laid_same s.words c (set c.seats id loaded) t.laid)) refl refl refl refl in
+    goes o s id me (3 + 4 * n) found (TellsCount (step slots (3 + 4 * n) 0 0 none) me found) loaded next table (
+      omega (arith, counts_fit c n t.sound t.small),
+      becomes o (set s.words (3 + 4 * n) found) s.views next id me loaded _ at active.number table
+          (ap (λ z. count_loaded z v n count) (sym nodes) ∙ (ap (λ m. count_loaded (length me.0.opening) v m count) (sym (count_node n)) ∙ ap (count_loaded (length me.0.opening) v (node_at (3 + 4 * n))) (sym word))),
+    )
+
+-- what a seat holds or has pinned is in its reach
+pub reached : (v : View) (n : ℕ) → is_mine v n ≡ true → (has n v.held ≡ true) ⊎ MayPin v n
+reached v n mine = elim (or_cases (has n v.held) (has n v.pins) mine) [ inl held ↦ inl held | inr pinned ↦ inr (inr pinned) ]
+
+keys_turn : (o : Opening) (slots id : ℕ) (me : Me ℕ Known) (n : ℕ) → IsActive me.0 → is_mine me.0.core n ≡ true
+    → Allows (IsCore o) slots id me (4 + 4 * n) (λ k. k) (TellsKey (step slots (4 + 4 * n) 0 0 none) me)
+keys_turn o slots id me n active mine s core homes at fits =
+    let c : Core = core.0 in
+    let v : View = me.0.core in
+    let t : IsTable o s.words s.views c = core.1 in
+    let there : n < length c.rows = nodes_are_there c id v n t.sound (view_at o s.words s.views c id me.0 t at) (reached v n mine) in
+    let found : ℕ = get_or s.words (4 + 4 * n) 0 in
+    let key : ℕ = get_or c.keys n 0 in
+    let word : found ≡ key = t.laid.keys n there in
+    let next : Core = after c id v (Kind.LoadKey n) in
+    let table : IsTable o (set s.words (4 + 4 * n) found) (set s.views id (with_view me.0 (key_loaded v n key))) next =
+    stepped_on o s.words (set s.words (4 + 4 * n) found) s.views c id me.0 (Kind.LoadKey n) (key_loaded v n key) t at active.number there mine refl
+    (subst (λ l. IsLaid l next) (sym (set-get_or s.words (4 + 4 * n) 0)) (laid_same s.words c (set c.seats id (key_loaded v n key)) t.laid)) refl refl refl refl in
+    goes o s id me (4 + 4 * n) found (TellsKey (step slots (4 + 4 * n) 0 0 none) me found) (key_loaded v n key) next table
+    (becomes o (set s.words (4 + 4 * n) found) s.views next id me (key_loaded v n key) _ at active.number table
+    (ap (λ m. key_loaded v m key) (sym (key_node n)) ∙ ap (key_loaded v (node_at (4 + 4 * n))) (sym word)))
+
+-- ---- pin and unpin
+pins_turn : (o : Opening) (slots id : ℕ) (me : Me ℕ Known) (n : ℕ) → IsActive me.0 → MayPin me.0.core n → length me.0.core.pins < 512
+    → Allows (IsCore o) slots id me (3 + 4 * n) (λ k. (k + 1) % 2 ^ 64) (TellsPin (step slots (3 + 4 * n) 1 0 none) me)
+pins_turn o slots id me n active may room s core homes at fits =
+    let c : Core = core.0 in
+    let v : View = me.0.core in
+    let t : IsTable o s.words s.views c = core.1 in
+    let there : n < length c.rows = nodes_are_there c id v n t.sound (view_at o s.words s.views c id me.0 t at) (inr may) in
+    let found : ℕ = get_or s.words (3 + 4 * n) 0 in
+    let count : ℕ = get_or c.counts n 0 in
+    let word : found ≡ count = t.laid.counts n there in
+    let few : count + 1 < 2 ^ 32 = counts_fit c n t.sound t.small in
+    let same : (found + 1) % 2 ^ 64 ≡ suc count = omega arith in
+    let next : Core = after c id v (Kind.Pin n) in
+    let table : IsTable o (set s.words (3 + 4 * n) ((found + 1) % 2 ^ 64)) (set s.views id (with_view me.0 (pinned v n))) next =
+    stepped_on o s.words (set s.words (3 + 4 * n) ((found + 1) % 2 ^ 64)) s.views c id me.0 (Kind.Pin n) (pinned v n) t at active.number there (may, room) refl
+    (subst (λ y. IsLaid (set s.words (3 + 4 * n) y) next) (sym same) (laid_count s.words c n (suc count) (set c.seats id (pinned v n)) t.laid there t.sound.counts_count)) refl refl refl refl in
+    goes o s id me (3 + 4 * n) ((found + 1) % 2 ^ 64) (TellsPin (step slots (3 + 4 * n) 1 0 none) me found) (pinned v n) next table
+    (becomes o (set s.words (3 + 4 * n) ((found + 1) % 2 ^ 64)) s.views next id me (pinned v n) _ at active.number table (ap (pinned v) (sym (count_node n))))
+
+unpins_turn : (o : Opening) (slots id : ℕ) (me : Me ℕ Known) (n : ℕ) → IsActive me.0 → has n me.0.core.pins ≡ true
+    → Allows (IsCore o) slots id me (3 + 4 * n) (λ k. (k + (2 ^ 64 - 1)) % 2 ^ 64) (TellsUnpin (step slots (3 + 4 * n) 1 0 none) me)
+unpins_turn o slots id me n active mine s core homes at fits =
+    let c : Core = core.0 in
+    let v : View = me.0.core in
+    let t : IsTable o s.words s.views c = core.1 in
+    let seated : get_elem? c.seats id ≡ some v = view_at o s.words s.views c id me.0 t at in
+    let there : n < length c.rows = nodes_are_there c id v n t.sound seated (inr (inr mine)) in
+    let found : ℕ = get_or s.words (3 + 4 * n) 0 in
+    let count : ℕ = get_or c.counts n 0 in
+    let word : found ≡ count = t.laid.counts n there in
+    let few : count + 1 < 2 ^ 32 = counts_fit c n t.sound t.small in
+    let some_pin : 1 ≤ count = pins_count c id v t.sound seated n mine in
+    let same : (found + (2 ^ 64 - 1)) % 2 ^ 64 ≡ count - 1 = omega arith in
+    let nodes : length me.0.opening ≡ length c.rows = nodes_known o s.words s.views c id me.0 t at active.number in
+    let next : Core = after c id v (Kind.Unpin n) in
+    let table : IsTable o (set s.words (3 + 4 * n) ((found + (2 ^ 64 - 1)) % 2 ^ 64)) (set s.views id (with_view me.0 (unpinned v n count))) next =
+    stepped_on o s.words (set s.words (3 + 4 * n) ((found + (2 ^ 64 - 1)) % 2 ^ 64)) s.views c id me.0 (Kind.Unpin n) (unpinned v n count) t at active.number there mine refl
+    (subst (λ y. IsLaid (set s.words (3 + 4 * n) y) next) (sym same) (laid_count s.words c n (count - 1) (set c.seats id (unpinned v n count)) t.laid there t.sound.counts_count)) refl refl refl refl in
+    goes o s id me (3 + 4 * n) ((found + (2 ^ 64 - 1)) % 2 ^ 64) (TellsUnpin (step slots (3 + 4 * n) 1 0 none) me found) (unpinned v n count) next table (
+      subst (λ m. IsSoleCount me.0 m found) (sym (count_node n)) (λ sole. word ∙ (((t.sound.seats id v seated).soles n sole).2 ∙ ap (λ z. own_refs z v n + own_pins v n) (sym nodes))),
+      becomes o (set s.words (3 + 4 * n) ((found + (2 ^ 64 - 1)) % 2 ^ 64)) s.views next id me (unpinned v n count) _ at active.number table
+          (ap (λ m. unpinned v m count) (sym (count_node n)) ∙ ap (unpinned v (node_at (3 + 4 * n))) (sym word)),
+    )
+
+-- ---- the same, wherever the index of the word comes from
+pub claims_allowed : (o : Opening) (slots id : ℕ) (me : Me ℕ Known) (n x : ℕ) (i : ℕ) → i ≡ 1 + 4 * n → IsActive me.0 → x ≡ suc me.0.core.number → n < length me.0.opening → has n me.0.core.held ≡ false
+    → Allows (IsCore o) slots id me i (λ k. either (nat_eq k 0) x k) (TellsClaim (step slots i 0 x none) me)
+claims_allowed o slots id me n x i e active is inside free =
+    subst (λ w. Allows (IsCore o) slots id me w (λ k. either (nat_eq k 0) x k) (TellsClaim (step slots w 0 x none) me)) (sym e) (claims_turn o slots id me n x active is inside free)
+
+pub releases_allowed : (o : Opening) (slots id : ℕ) (me : Me ℕ Known) (n : ℕ) (i : ℕ) → i ≡ 1 + 4 * n → IsActive me.0 → has n me.0.core.held ≡ true → has n me.0.core.idle ≡ false
+    → Allows (IsCore o) slots id me i (λ _. 0) (λ _. TellsRelease (step slots i 0 0 none) me 0)
+releases_allowed o slots id me n i e active held busy =
+    subst (λ w. Allows (IsCore o) slots id me w (λ _. 0) (λ _. TellsRelease (step slots w 0 0 none) me 0)) (sym e) (releases_turn o slots id me n active held busy)
+
+pub rows_allowed : (o : Opening) (slots id : ℕ) (me : Me ℕ Known) (n : ℕ) (i : ℕ) → i ≡ 2 + 4 * n → IsActive me.0 → has n me.0.core.held ≡ true
+    → Allows (IsCore o) slots id me i (λ k. k) (TellsRow (step slots i 0 0 none) me)
+rows_allowed o slots id me n i e active held =
+    subst (λ w. Allows (IsCore o) slots id me w (λ k. k) (TellsRow (step slots w 0 0 none) me)) (sym e) (rows_turn o slots id me n active held)
+
+pub counts_allowed : (o : Opening) (slots id : ℕ) (me : Me ℕ Known) (n : ℕ) (i : ℕ) → i ≡ 3 + 4 * n → IsActive me.0 → has n me.0.core.held ≡ true
+    → Allows (IsCore o) slots id me i (λ k. k) (TellsCount (step slots i 0 0 none) me)
+counts_allowed o slots id me n i e active held =
+    subst (λ w. Allows (IsCore o) slots id me w (λ k. k) (TellsCount (step slots w 0 0 none) me)) (sym e) (counts_turn o slots id me n active held)
+
+pub keys_allowed : (o : Opening) (slots id : ℕ) (me : Me ℕ Known) (n : ℕ) (i : ℕ) → i ≡ 4 + 4 * n → IsActive me.0 → is_mine me.0.core n ≡ true
+    → Allows (IsCore o) slots id me i (λ k. k) (TellsKey (step slots i 0 0 none) me)
+keys_allowed o slots id me n i e active mine =
+    subst (λ w. Allows (IsCore o) slots id me w (λ k. k) (TellsKey (step slots w 0 0 none) me)) (sym e) (keys_turn o slots id me n active mine)
+
+pub pins_allowed : (o : Opening) (slots id : ℕ) (me : Me ℕ Known) (n : ℕ) (i : ℕ) → i ≡ 3 + 4 * n → IsActive me.0 → MayPin me.0.core n → length me.0.core.pins < 512
+    → Allows (IsCore o) slots id me i (λ k. (k + 1) % 2 ^ 64) (TellsPin (step slots i 1 0 none) me)
+pins_allowed o slots id me n i e active may room =
+    subst (λ w. Allows (IsCore o) slots id me w (λ k. (k + 1) % 2 ^ 64) (TellsPin (step slots w 1 0 none) me)) (sym e) (pins_turn o slots id me n active may room)
+
+pub unpins_allowed : (o : Opening) (slots id : ℕ) (me : Me ℕ Known) (n : ℕ) (i : ℕ) → i ≡ 3 + 4 * n → IsActive me.0 → has n me.0.core.pins ≡ true
+    → Allows (IsCore o) slots id me i (λ k. (k + (2 ^ 64 - 1)) % 2 ^ 64) (TellsUnpin (step slots i 1 0 none) me)
+unpins_allowed o slots id me n i e active mine =
+    subst (λ w. Allows (IsCore o) slots id me w (λ k. (k + (2 ^ 64 - 1)) % 2 ^ 64) (TellsUnpin (step slots w 1 0 none) me)) (sym e) (unpins_turn o slots id me n active mine)
+
+-- ---- the answer of an unpin
+-- a sole node's count was 1 exactly where no reference of the seat and no pin of it is left
+pub last_pin : (k new : Known) (n found : ℕ) → has n k.core.pins ≡ true → IsSoleCount k n found → new ≡ with_view k (unpinned k.core n found) → has n k.core.sole ≡ true
+    → IsTrue (nat_eq found 1) ↔ IsAlone new n
+last_pin k new n found mine counted is sole = subst (λ z. IsTrue (nat_eq found 1) ↔ IsAlone z n) (sym is) (gone, last)
+  where
+    pin_left : times n (without_one n k.core.pins) + 1 ≡ times n k.core.pins
+    pin_left = let less : times n (without_one n k.core.pins) + hits n n ≡ times n k.core.pins = times_less n n k.core.pins (times_has n k.core.pins mine) in omega (arith, hits_same n)
+
+    count : found ≡ own_refs (length k.opening) k.core n + times n k.core.pins
+    count = counted sole
+
+    gone : IsTrue (nat_eq found 1) → IsAlone (with_view k (unpinned k.core n found)) n
+    gone h = let one : found ≡ 1 = eqb-true found 1 h in (omega (arith, pin_left, count), omega (arith, pin_left, count))
+
+    last : IsAlone (with_view k (unpinned k.core n found)) n → IsTrue (nat_eq found 1)
+    last h = eq-eqb found 1 (omega (arith, pin_left, count, h.0, h.1))

@@ -1,0 +1,59 @@
+-- What each step tells its seat.
+use Rattle.std.specs.Prelude.{◌≡◌, ℕ, ◌==◌, ◌+◌, ◌<◌, ◌^◌, if◌then◌else◌, Bool, true, length}
+use Rattle.atomic_table.specs.Table.{Step, Me}
+use Rattle.syn_rows.specs.declared.Row.{Row}
+use Rattle.syn_rows.specs.Packing.{word_of, Packs}
+use Rattle.syn_core.specs.declared.View.{View}
+use Rattle.syn_core.specs.Lists.{has}
+use Rattle.syn_core.specs.Views.{own_refs, own_pins, claimed, missed, released, row_loaded, pinned, unpinned, count_loaded, key_loaded}
+use Rattle.syn_table.specs.declared.Known.{Known}
+use Rattle.syn_table.specs.Laying.{node_at}
+use Rattle.syn_table.specs.Rule.{IsActive}
+
+-- the same seat with another core's part
+abbrev pub with_view : Known → View → Known
+with_view k v = record k { core = v }
+
+-- the seat has this view, and its numbers, opening and observed literals as before; it still shows that it isn't spent
+abbrev pub Becomes : Me ℕ Known → View → Me ℕ Known → Type 0
+Becomes me v new = (new ≡ (with_view me.0 v, me.1)) × IsActive (with_view me.0 v)
+
+-- the claim was found free, and taken; or it was found taken
+abbrev pub TellsClaim : Step ℕ → Me ℕ Known → ℕ → Me ℕ Known → Type 0
+TellsClaim s me found = Becomes me (if found == 0 then claimed me.0.core (node_at s.word) else missed me.0.core (node_at s.word))
+
+-- the claim is 0 again
+abbrev pub TellsRelease : Step ℕ → Me ℕ Known → ℕ → Me ℕ Known → Type 0
+TellsRelease s me stored = Becomes me (released me.0.core (node_at s.word))
+
+-- the number found is a row's word
+abbrev pub TellsRow : Step ℕ → Me ℕ Known → ℕ → Me ℕ Known → Type 0
+TellsRow s me found new = (r : Row) × Packs r × (word_of r ≡ found) × Becomes me (row_loaded me.0.core (node_at s.word) r) new
+
+-- the count rose by 1
+abbrev pub TellsPin : Step ℕ → Me ℕ Known → ℕ → Me ℕ Known → Type 0
+TellsPin s me found = Becomes me (pinned me.0.core (node_at s.word))
+
+-- the count of a sole node is that of the seat's own references and pins
+abbrev pub IsSoleCount : Known → ℕ → ℕ → Type 0
+IsSoleCount k n count = has n k.core.sole ≡ true → count ≡ own_refs (length k.opening) k.core n + own_pins k.core n
+
+-- the number found is the count before it fell by 1
+abbrev pub TellsUnpin : Step ℕ → Me ℕ Known → ℕ → Me ℕ Known → Type 0
+TellsUnpin s me found new = IsSoleCount me.0 (node_at s.word) found × Becomes me (unpinned me.0.core (node_at s.word) found) new
+
+-- a pin is taken back, at some count that was found, and the answer is whether it was 1
+abbrev pub Unpins : Known → ℕ → Bool → Known → Type 0
+Unpins k n last new = (count : ℕ) × (last ≡ (count == 1)) × (new ≡ with_view k (unpinned k.core n count))
+
+-- no row that the seat knows refers to the node, and it has no pin of it
+abbrev pub IsAlone : Known → ℕ → Type 0
+IsAlone k n = (own_refs (length k.opening) k.core n ≡ 0) × (own_pins k.core n ≡ 0)
+
+-- the number found is the count, which fits 32 bits
+abbrev pub TellsCount : Step ℕ → Me ℕ Known → ℕ → Me ℕ Known → Type 0
+TellsCount s me found new = (found < 2 ^ 32) × Becomes me (count_loaded (length me.0.opening) me.0.core (node_at s.word) found) new
+
+-- the number found is the key
+abbrev pub TellsKey : Step ℕ → Me ℕ Known → ℕ → Me ℕ Known → Type 0
+TellsKey s me found = Becomes me (key_loaded me.0.core (node_at s.word) found)
