@@ -1,0 +1,142 @@
+//! What a replacement of one row frees and saves: the definition's program, and a count in the cone alone.
+#![tactic(auto)]
+
+ghost use Rattle.std.specs.Prelude.{◌≡◌, pos, ◌-ℤ◌, ◌+◌, ◌*◌, ◌<◌, ◌^◌, true, length, IfOk};
+ghost use Rattle.syn_rows.specs.Rows.{lits_within, refs_within};
+ghost use Rattle.syn_freed.specs.Laws.{AllAndsReached, AndsAreThere, CountsTell, FewerAreUnreached, FreedAreUnreached, SavedIsLocal, SavedTells, ValuesAreKept};
+ghost use Rattle.syn_freed.specs.Saved.{count_in, IsExtra, IsOwned, IsSaved, replaced};
+
+mod cone;
+mod extra;
+mod waiting;
+
+use crate::cone::{and_count, freed};
+use crate::extra::{keep, marked_ands};
+use std::alloc::{AllocError, Global};
+use syn_rows::{Lit, Row};
+
+/// The laws on freed rows, for all lists of rows. It computes nothing.
+pub fn freed_rows()
+    ensures freed { FreedAreUnreached }
+    ensures saved { SavedIsLocal }
+    ensures fewer { FewerAreUnreached }
+    ensures counts { CountsTell }
+    ensures values { ValuesAreKept }
+{}
+
+/// The laws on numbers of reached and of saved ANDs. It computes nothing.
+pub fn saved_numbers()
+    ensures there { AndsAreThere }
+    ensures all { AllAndsReached }
+    ensures difference { SavedTells }
+{}
+
+fn difference(first: u32, second: u32) -> i64
+    ensures { result ≡ (pos first -ℤ pos second) }
+{
+    i64::from(first) - i64::from(second)
+}
+
+/// What a change of rows saves, by the definition: the ANDs reached before less those reached afterwards.
+/// The only error is want of memory.
+pub fn saved_by_sweeps(
+    alloc: Global,
+    was: &[Row],
+    now: &[Row],
+    observed: &[Lit],
+) -> Result<i64, AllocError>
+    requires was_rows { refs_within was.now ≡ true }
+    requires was_observed { lits_within was.now observed.now ≡ true }
+    requires was_few { length was.now < 2 ^ 32 }
+    requires now_rows { refs_within now.now ≡ true }
+    requires now_observed { lits_within now.now observed.now ≡ true }
+    requires now_few { length now.now < 2 ^ 32 }
+    ensures { IfOk result (λ s. IsSaved was.now now.now observed.now s) }
+{
+    let before = syn_rows::ands(alloc, was, observed)?;
+    let after = syn_rows::ands(alloc, now, observed)?;
+    Ok(difference(before, after))
+}
+
+/// What a replacement of the row of n saves, the new rows standing at the end: the same number, found in the cone that
+/// goes, the new rows and what both refer to. `counts` are all references to each node. The only error is want of memory,
+/// which a small cone doesn't take.
+pub fn saved_near(
+    alloc: Global,
+    was: &[Row],
+    counts: &[u32],
+    observed: &[Lit],
+    n: u32,
+    row: Row,
+    extra: &[Row],
+) -> Result<i64, AllocError>
+    requires few { length was.now + length extra.now < 2 ^ 31 }
+    requires there { n < length was.now }
+    requires same { length counts.now ≡ length was.now }
+    requires owned { IsOwned was.now observed.now (count_in counts.now) n }
+    requires extra { IsExtra (length was.now) row extra.now }
+    ensures { IfOk result (λ s. IsSaved was.now (replaced was.now n row extra.now) observed.now s) }
+{
+    let _ = observed;
+    let kept = keep(alloc, was.len() as u32, row, extra)?;
+    let dead = freed(alloc, was, counts, n, kept.used.as_slice())?;
+    let lost = and_count(was[n as usize]) + dead.ands;
+    let added = and_count(row) + marked_ands(extra, kept.marks.as_slice());
+    Ok(difference(lost, added))
+}
+
+#[cfg(test)]
+mod tests {
+    use super::*;
+
+    // ab and ac over the sources a, b, c, and the AND of their complements.
+    const ROWS: [Row; 7] = [
+        Row::Source,
+        Row::Source,
+        Row::Source,
+        Row::Source,
+        Row::And(Lit(2), Lit(4)),
+        Row::And(Lit(2), Lit(6)),
+        Row::And(Lit(9), Lit(11)),
+    ];
+
+    // The last row replaced by a and (b or c).
+    const ROW: Row = Row::And(Lit(2), Lit(15));
+
+    const EXTRA: [Row; 1] = [Row::And(Lit(5), Lit(7))];
+
+    const AFTER: [Row; 8] = [
+        Row::Source,
+        Row::Source,
+        Row::Source,
+        Row::Source,
+        Row::And(Lit(2), Lit(4)),
+        Row::And(Lit(2), Lit(6)),
+        Row::And(Lit(2), Lit(15)),
+        Row::And(Lit(5), Lit(7)),
+    ];
+
+    #[test]
+    fn sweeps_count_what_goes_and_what_stays(rt: HostRuntime) -> Result<(), AllocError> {
+        // ab and ac go
+        assert_eq!(rt; saved_by_sweeps(rt.alloc(), &ROWS, &AFTER, &[Lit(13)])?, 1);
+        // they are observed and stay
+        assert_eq!(rt;
+            saved_by_sweeps(rt.alloc(), &ROWS, &AFTER, &[Lit(13), Lit(8), Lit(10)])?,
+            -1
+        );
+        Ok(())
+    }
+
+    #[test]
+    fn the_cone_gives_the_same(rt: HostRuntime) -> Result<(), AllocError> {
+        let counts = [0, 2, 1, 1, 1, 1, 1];
+        let saved = saved_near(rt.alloc(), &ROWS, &counts, &[Lit(13)], 6, ROW, &EXTRA)?;
+        assert_eq!(rt; saved, 1);
+        let counts = [0, 2, 1, 1, 2, 2, 1];
+        let observed = [Lit(13), Lit(8), Lit(10)];
+        let saved = saved_near(rt.alloc(), &ROWS, &counts, &observed, 6, ROW, &EXTRA)?;
+        assert_eq!(rt; saved, -1);
+        Ok(())
+    }
+}
