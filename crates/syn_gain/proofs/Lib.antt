@@ -1,0 +1,3 @@
+mod Searches
+mod Bounds
+mod Values

@@ -1,0 +1,5 @@
+pub mod Leaves
+pub mod Placing
+pub mod Searching
+pub mod Proposals
+pub mod Laws

@@ -1,0 +1,9 @@
+//! Proposals to replace a row of a graph by a plan, and what each saves.
+#![tactic(auto)]
+
+mod laws;
+mod placing;
+mod proposals;
+
+pub use laws::{placed_is_before, searched_is_placed};
+pub use proposals::Proposal;
