@@ -1,0 +1,3 @@
+pub mod Freed
+pub mod Saved
+pub mod Laws
