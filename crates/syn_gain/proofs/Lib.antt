@@ -1,3 +1,4 @@
 mod Searches
 mod Bounds
 mod Values
+mod Extending

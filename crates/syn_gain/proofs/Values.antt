@@ -22,8 +22,8 @@ not_not : (b : Bool) → not (not b) ≡ b
 not_not true = refl
 not_not false = refl
 
-by_sign : (w : ℕ → Bool) → ℕ → ℕ → Bool
-by_sign w sign n = if nat_eq sign 0 then w n else not (w n)
+pub lit_value-same : (v w : ℕ → Bool) (l : Lit) → v (node_of l) ≡ w (node_of l) → lit_value v l ≡ lit_value w l
+lit_value-same v w l e = ap (λ b. if nat_eq (l.0 % 2) 0 then b else not b) e
 
 even_value : (w : ℕ → Bool) (l : Lit) → l.0 % 2 ≡ 0 → lit_value w l ≡ w (node_of l)
 even_value w l e = cond-true (nat_eq (l.0 % 2) 0) (w (node_of l)) (not (w (node_of l))) (eq-eqb (l.0 % 2) 0 e)

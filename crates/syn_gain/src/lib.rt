@@ -5,5 +5,5 @@ mod laws;
 mod placing;
 mod proposals;
 
-pub use laws::{placed_is_before, searched_is_placed};
+pub use laws::{placed_is_before, searched_is_placed, values_go_on};
 pub use proposals::Proposal;
