@@ -2,3 +2,4 @@ mod Searches
 mod Bounds
 mod Values
 mod Extending
+mod Finding

@@ -1,4 +1,5 @@
 pub mod Leaves
+pub mod Pairing
 pub mod Placing
 pub mod Searching
 pub mod Proposals

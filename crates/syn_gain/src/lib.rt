@@ -6,4 +6,5 @@ mod placing;
 mod proposals;
 
 pub use laws::{placed_is_before, searched_is_placed, values_go_on};
+pub use placing::NewRows;
 pub use proposals::Proposal;
