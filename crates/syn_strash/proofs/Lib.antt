@@ -1,4 +1,3 @@
-mod Bucketing
 pub mod Dropped
 mod Graphing
 mod Kept

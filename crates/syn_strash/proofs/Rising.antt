@@ -60,27 +60,6 @@ gate_value count rows h given n a b lt e =
     values_step rows (hashed_in_order count rows h) given n lt
     ∙ ap (λ row. row_value given (value_in (values_of given rows)) n row) e
 
--- a pair that isn't there yet, as a new row
-pub hashed_push : (count : ℕ) (rows : List Row) (row : Row) → IsHashed count rows → is_gate (length rows) row ≡ true → ((n : ℕ) → row_at rows n ≡ row → ⊥) → IsHashed count (rows ++ row ∷ [])
-hashed_push count rows row h gate fresh = record {
-  there = omega (arith, h.there, length_push rows row);
-  front = λ n lt. get_or_append_left rows (row ∷ []) Free n (omega (arith, h.there)) ∙ h.front n lt;
-  gates = λ n after lt. elim (cases_lt n (length rows)) [
-    | inl inside ↦ subst (λ r. is_gate n r ≡ true) (sym (get_or_append_left rows (row ∷ []) Free n inside)) (h.gates n after inside)
-    | inr ge ↦
-        let here : n ≡ length rows = omega (arith, length_push rows row) in
-        subst (λ r. is_gate n r ≡ true) (sym (get_or_push rows row Free n (sym here))) (ap (λ k. is_gate k row) here ∙ gate)
-  ];
-  once = λ m n after less lt same. elim (cases_lt n (length rows)) [
-    | inl inside ↦
-        h.once m n after less inside
-        (sym (get_or_append_left rows (row ∷ []) Free m (omega arith)) ∙ same ∙ get_or_append_left rows (row ∷ []) Free n inside)
-    | inr ge ↦
-        let here : n ≡ length rows = omega (arith, length_push rows row) in
-        fresh m (sym (get_or_append_left rows (row ∷ []) Free m (omega arith)) ∙ same ∙ get_or_push rows row Free n (sym here))
-  ];
-}
-
 pub hashed_new : (count : ℕ) (rows : List Row) → rows ≡ replicate (count + 1) Source → IsHashed count rows
 hashed_new count rows e = subst (IsHashed count) (sym e) (record {
   there = omega (arith, length-replicate (count + 1) Source);

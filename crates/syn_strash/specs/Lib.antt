@@ -1,4 +1,3 @@
 pub mod Growing
 pub mod Compacting
 pub mod Visiting
-pub mod Pairs

@@ -3,7 +3,6 @@
 
 mod compaction;
 mod finishing;
-mod pairs;
 mod strash;
 mod visit;
 

@@ -6,10 +6,10 @@ ghost use Rattle.syn_rows.specs.Rows.{node_of, row_at};
 ghost use Rattle.syn_rows.specs.Values.{lit_value};
 ghost use Rattle.syn_shapes.specs.Graphs.{is_gate, IsHashed};
 ghost use Rattle.syn_strash.specs.Growing.{Extends, IsAnd, IsJoin, IsOr, KeepsValues};
-ghost use Rattle.syn_strash.specs.Pairs.{IsIndex, number_at};
+ghost use Rattle.syn_pairs.specs.Pairs.{IsIndex};
 
-use crate::pairs::{find_pair, index_rows, push_pair};
 use std::alloc::{AllocError, Global};
+use syn_pairs::{find_pair, index_rows, no_nodes, push_pair};
 use syn_rows::{Lit, Row};
 
 /// The constant 0.
@@ -142,14 +142,6 @@ fn source_rows(alloc: Global, source_count: usize) -> Result<Vec<Row>, AllocErro
     ensures { IfOk result (λ v. v.items ≡ replicate (source_count + 1) Row.Source) }
 {
     vec![in alloc; Row::Source; source_count + 1]
-}
-
-// So many times no node.
-fn no_nodes(alloc: Global, count: usize) -> Result<Vec<u32>, AllocError>
-    ensures count { IfOk result (λ v. length v.items ≡ count) }
-    ensures none { IfOk result (λ v. (k : ℕ) → number_at v.items k ≡ 0) }
-{
-    vec![in alloc; 0; count]
 }
 
 // The AND of two literals where it needs no row.

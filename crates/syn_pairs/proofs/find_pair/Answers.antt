@@ -1,8 +1,6 @@
-use Rattle.std.proofs.Common.{rules, ◌≡◌, ◌<◌, ℕ, length, refl, sym, ap, ◌∙◌, arith}
-use Rattle.syn_rows.specs.declared.Row.TheVariants.{And}
-use Rattle.syn_rows.specs.Rows.{row_at}
-use Rattle.syn_strash.proofs.Bucketing.{sought_next}
-use Rattle.syn_strash.proofs.pairs.find_pair.Goals as goal
+use Rattle.std.proofs.Common.{rules, length}
+use Rattle.syn_pairs.proofs.Bucketing.{sought_next}
+use Rattle.syn_pairs.proofs.find_pair.Goals as goal
 
 pub loop-node-smaller : goal.loop-node-smaller
 loop-node-smaller c = (sought_next (length c.args.heads.now) c.args.rows.now c.args.heads.now c.args.next.now c.args.first c.args.second c.loop-node.node c.requires.index c.loop-node-test.true (search rules) c.loop-node.invariant).1

@@ -1,8 +1,7 @@
-use Rattle.std.proofs.Common.{ℕ, List, sym, subst}
-use Rattle.syn_rows.specs.declared.Row.{Row}
-use Rattle.syn_strash.specs.Pairs.{IsIndex}
-use Rattle.syn_strash.proofs.Bucketing.{longer_kept}
-use Rattle.syn_strash.proofs.pairs.lengthen.Goals as goal
+use Rattle.std.proofs.Common.{sym, subst}
+use Rattle.syn_pairs.specs.Pairs.{IsIndex}
+use Rattle.syn_pairs.proofs.Bucketing.{longer_kept}
+use Rattle.syn_pairs.proofs.lengthen.Goals as goal
 
 pub returns-in_ok-push-clause-index : goal.returns-in_ok-push-clause-index
 returns-in_ok-push-clause-index c = λ buckets rows heads x. subst (IsIndex buckets rows heads) (sym c.in_ok-push.ensures.items) (longer_kept buckets rows heads c.args.next.now.items 0 x)

@@ -1,5 +1,5 @@
 use Rattle.std.proofs.Common.{length}
-use Rattle.syn_strash.proofs.pairs.make_room.Goals as goal
+use Rattle.syn_pairs.proofs.make_room.Goals as goal
 
 pub returns-in_err-lengthen-clause-index : goal.returns-in_err-lengthen-clause-index
 returns-in_err-lengthen-clause-index c = c.lengthen.ensures.index (length c.args.heads.now.items) c.args.rows.now c.args.heads.now.items c.requires.index

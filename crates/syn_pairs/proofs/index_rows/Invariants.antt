@@ -1,6 +1,6 @@
 use Rattle.std.proofs.Common.{◌≡◌, length, take}
-use Rattle.syn_strash.specs.Pairs.{IsIndex}
-use Rattle.syn_strash.proofs.pairs.index_rows.Given as goal
+use Rattle.syn_pairs.specs.Pairs.{IsIndex}
+use Rattle.syn_pairs.proofs.index_rows.Given as goal
 
 abbrev pub invariant-loop-n : goal.invariant-loop-n
 invariant-loop-n l = record {

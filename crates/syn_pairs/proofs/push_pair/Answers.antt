@@ -1,7 +1,7 @@
 use Rattle.std.proofs.Common.{ℕ, List, length, sym, subst, subst₂, arith}
 use Rattle.syn_rows.specs.declared.Row.{Row}
-use Rattle.syn_strash.specs.Pairs.{IsIndex}
-use Rattle.syn_strash.proofs.pairs.push_pair.Goals as goal
+use Rattle.syn_pairs.specs.Pairs.{IsIndex}
+use Rattle.syn_pairs.proofs.push_pair.Goals as goal
 
 pub returns-clause-index : goal.returns-clause-index
 returns-clause-index c =

@@ -1,10 +1,9 @@
-use Rattle.std.proofs.Common.{◌≡◌, ◌<◌, ◌≤◌, ◌++◌, ◌∷◌, ◌∙◌, [], ℕ, List, length, take, get_or, sym, ap, subst, arith}
+use Rattle.std.proofs.Common.{◌∙◌, ℕ, List, length, take, sym, subst, arith}
 use Rattle.std.proofs.lemmas.List.{length-take, take_more}
 use Rattle.syn_rows.specs.declared.Row.{Row}
 use Rattle.syn_rows.specs.declared.Row.TheVariants.{Free}
-use Rattle.syn_strash.specs.Pairs.{IsIndex}
-use Rattle.syn_strash.proofs.Bucketing.{index_begins}
-use Rattle.syn_strash.proofs.pairs.index_rows.Goals as goal
+use Rattle.syn_pairs.specs.Pairs.{IsIndex}
+use Rattle.syn_pairs.proofs.index_rows.Goals as goal
 
 pub loop-n-preserved : goal.loop-n-preserved
 loop-n-preserved c =

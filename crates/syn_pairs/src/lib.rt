@@ -1,13 +1,61 @@
 //! The index by which the row of a pair is found.
+#![tactic(auto)]
 
-ghost use Rattle.std.specs.Prelude.{◌≡◌, ◌≢◌, ℕ, ◌+◌, ◌<◌, ◌≤◌, ◌^◌, ◌++◌, ◌∷◌, [], List, length, true, IfNone, IfSome, OnErr, OnOk};
+ghost use Rattle.std.specs.Prelude.{◌≡◌, ◌≢◌, ℕ, ◌+◌, ◌<◌, ◌≤◌, ◌^◌, ◌++◌, ◌∷◌, [], List, length, true, IfNone, IfOk, IfSome, OnErr, OnOk};
 ghost use Rattle.syn_rows.specs.declared.Row.{Row};
 ghost use Rattle.syn_rows.specs.Rows.{row_at};
 ghost use Rattle.syn_shapes.specs.Graphs.{is_gate, IsHashed};
-ghost use Rattle.syn_strash.specs.Pairs.{bucket, IsIndex, number_at};
+ghost use Rattle.syn_pairs.specs.Pairs.{bucket, IsIndex, number_at};
 
-use std::alloc::AllocError;
+use std::alloc::{AllocError, Global};
 use syn_rows::{Lit, Row};
+
+/// An index of rows by their pairs. A row that is added to them is put into it by `push_pair`.
+#[derive(Debug, Drop)]
+pub struct PairIndex {
+    /// The greatest node of each bucket, 0 where it has none.
+    pub heads: Vec<u32>,
+    /// For each node the next smaller one of its bucket, 0 where there is none.
+    pub next: Vec<u32>,
+    pub ghost few: { length heads.items < 2 ^ 32 },
+}
+
+impl PairIndex {
+    /// The index of given rows, with one bucket more than rows. The only error is want of memory.
+    pub fn of(alloc: Global, rows: &[Row]) -> Result<PairIndex, AllocError>
+        requires { length rows.now < 2 ^ 31 }
+        ensures { IfOk result (λ x. IsIndex (length x.heads.items) rows.now x.heads.items x.next.items) }
+    {
+        let mut heads = no_nodes(alloc, rows.len() + 1)?;
+        let mut next = no_nodes(alloc, rows.len())?;
+        index_rows(rows, &mut heads, &mut next);
+        Ok(PairIndex { heads, next })
+    }
+
+    /// The node whose row is the AND of the two literals in this order.
+    pub fn find(&self, rows: &[Row], first: Lit, second: Lit) -> Option<u32>
+        requires index { IsIndex (length self.now.heads.items) rows.now self.now.heads.items self.now.next.items }
+        requires constant { row_at rows.now 0 ≡ Row.Source }
+        ensures some { IfSome result (λ n. (n < length rows.now) × (row_at rows.now n ≡ Row.And first second)) }
+        ensures none { IfNone result ((n : ℕ) → row_at rows.now n ≢ Row.And first second) }
+    {
+        find_pair(
+            rows,
+            self.heads.as_slice(),
+            self.next.as_slice(),
+            first,
+            second,
+        )
+    }
+}
+
+/// So many times no node: empty buckets, or the next smaller nodes of nodes in no bucket.
+pub fn no_nodes(alloc: Global, count: usize) -> Result<Vec<u32>, AllocError>
+    ensures count { IfOk result (λ v. length v.items ≡ count) }
+    ensures none { IfOk result (λ v. (k : ℕ) → number_at v.items k ≡ 0) }
+{
+    vec![in alloc; 0; count]
+}
 
 // The bucket of a pair, of so many.
 #[inline]

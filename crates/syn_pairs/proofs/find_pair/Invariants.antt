@@ -1,6 +1,6 @@
 use Rattle.std.proofs.Common.{length}
-use Rattle.syn_strash.proofs.Bucketing.{IsSought}
-use Rattle.syn_strash.proofs.pairs.find_pair.Given as goal
+use Rattle.syn_pairs.proofs.Bucketing.{IsSought}
+use Rattle.syn_pairs.proofs.find_pair.Given as goal
 
 abbrev pub invariant-loop-node : goal.invariant-loop-node
 invariant-loop-node l = IsSought (length l.heads) l.rows l.first l.second l.node

@@ -2,9 +2,9 @@ use Rattle.std.proofs.Common.{◌≡◌, ◌<◌, ◌++◌, ◌∷◌, [], ℕ, 
 use Rattle.std.proofs.lemmas.List.{length-set, get_or_default}
 use Rattle.syn_rows.specs.declared.Row.{Row}
 use Rattle.syn_rows.specs.declared.Row.TheVariants.{And}
-use Rattle.syn_strash.specs.Pairs.{IsIndex, bucket, number_at}
-use Rattle.syn_strash.proofs.Bucketing.{and_linked, no_and, other_linked}
-use Rattle.syn_strash.proofs.pairs.link.Goals as goal
+use Rattle.syn_pairs.specs.Pairs.{IsIndex, bucket, number_at}
+use Rattle.syn_pairs.proofs.Bucketing.{and_linked, no_and, other_linked}
+use Rattle.syn_pairs.proofs.link.Goals as goal
 
 pub returns-in-And : goal.returns-in-And
 returns-in-And c =

@@ -1,0 +1,2 @@
+mod Bucketing
+mod Pushing
