@@ -5,3 +5,8 @@ pub mod Counts
 pub mod Kept
 pub mod Valued
 pub mod Existing
+pub mod Replaced
+pub mod Listing
+pub mod Steps
+pub mod Sweeps
+pub mod Ends

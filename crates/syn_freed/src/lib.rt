@@ -4,8 +4,14 @@
 ghost use Rattle.std.specs.Prelude.{◌≡◌, ◌+◌, ◌*◌, ◌<◌, ◌^◌, true, length, IfOk};
 ghost use Rattle.syn_rows.specs.Rows.{lits_within, refs_within};
 ghost use Rattle.syn_freed.specs.Laws.{AllAndsReached, AndsAreThere, CountsTell, FewerAreUnreached, FreedAreUnreached, SavedIsLocal, SavedTells, ValuesAreKept};
-ghost use Rattle.syn_freed.specs.Saved.{IsSaved};
+ghost use Rattle.syn_freed.specs.Saved.{count_in, IsExtra, IsOwned, IsSaved, replaced};
 
+mod cone;
+mod extra;
+mod waiting;
+
+use crate::cone::{and_count, freed};
+use crate::extra::{keep, marked_ands};
 use std::alloc::{AllocError, Global};
 use syn_rows::{Lit, Row};
 
@@ -44,4 +50,31 @@ pub fn saved_by_sweeps(
     let before = syn_rows::ands(alloc, was, observed)?;
     let after = syn_rows::ands(alloc, now, observed)?;
     Ok(i64::from(before) - i64::from(after))
+}
+
+/// What a replacement of the row of n saves, the new rows standing at the end: the same number, found in the cone that
+/// goes, the new rows and what both refer to. `counts` are all references to each node. The only error is want of memory,
+/// which a small cone doesn't take.
+pub fn saved_near(
+    alloc: Global,
+    was: &[Row],
+    counts: &[u32],
+    observed: &[Lit],
+    n: u32,
+    row: Row,
+    extra: &[Row],
+) -> Result<i64, AllocError>
+    requires few { length was.now + length extra.now < 2 ^ 31 }
+    requires there { n < length was.now }
+    requires same { length counts.now ≡ length was.now }
+    requires owned { IsOwned was.now observed.now (count_in counts.now) n }
+    requires extra { IsExtra (length was.now) row extra.now }
+    ensures { IfOk result (λ s. IsSaved was.now (replaced was.now n row extra.now) observed.now s) }
+{
+    let _ = observed;
+    let kept = keep(alloc, was.len() as u32, row, extra)?;
+    let dead = freed(alloc, was, counts, n, kept.used.as_slice())?;
+    let lost = and_count(was[n as usize]) + dead.ands;
+    let added = and_count(row) + marked_ands(extra, kept.marks.as_slice());
+    Ok(i64::from(lost) - i64::from(added))
 }
