@@ -3,3 +3,4 @@ mod Bounds
 mod Values
 mod Extending
 mod Finding
+mod Owning

@@ -4,3 +4,4 @@ pub mod Placing
 pub mod Searching
 pub mod Proposals
 pub mod Laws
+pub mod Uses
