@@ -1,26 +1,26 @@
 -- What the sweep gives: the kept rows and what they use, and the saving.
-use Rattle.std.proofs.Common.{◌≡◌, ◌≢◌, ℕ, zero, suc, ◌+◌, ◌-◌, ◌<◌, ◌≤◌, ◌||◌, ◌&&◌, ◌==◌, leb, Bool, true, false, not, List, length, if◌then◌else◌, refl, sym, ap, ap₂, ◌∙◌, arith, inl, inr, ◌⊎◌, pos, ◌-ℤ◌, ◌+ℤ◌}
+use Rattle.std.proofs.Common.{◌≡◌, ℕ, ◌+◌, ◌-◌, ◌<◌, ◌≤◌, ◌||◌, ◌&&◌, ◌==◌, leb, Bool, true, false, not, List, length, if◌then◌else◌, refl, sym, ap, ap₂, ◌∙◌, arith, inl, inr, ◌⊎◌, pos, ◌-ℤ◌, ◌+ℤ◌}
 use Rattle.std.proofs.lemmas.Bool.{cases_Bool, cases_eq, cases_lt, eq-eqb, eqb-true, ne_eqb, both_ways, and_parts, and_from, and_left, and_right, or_left, or_right, or_cases, or_from, le-leb, not-true}
 use Rattle.std.proofs.lemmas.List.{get_or_past}
 use Rattle.std.proofs.lemmas.Int.{ints}
 use Rattle.syn_rows.specs.declared.Lit.{Lit}
 use Rattle.syn_rows.specs.declared.Row.{Row}
-use Rattle.syn_rows.specs.declared.Row.TheVariants.{Free, Source, And, Alias}
-use Rattle.syn_rows.specs.Rows.{row_at, refs_within, lits_within}
+use Rattle.syn_rows.specs.declared.Row.TheVariants.{Free}
+use Rattle.syn_rows.specs.Rows.{row_at}
 use Rattle.syn_rows.specs.Values.{value_in}
-use Rattle.syn_rows.specs.Reach.{is_and, ands_in, IsReachedSet}
-use Rattle.syn_rows.specs.References.{refs, refs_by_rows, and_count, all_ands, sum_below}
+use Rattle.syn_rows.specs.Reach.{is_and, ands_in, Reached, IsReachedSet}
+use Rattle.syn_rows.specs.References.{refs, refs_by_rows, refs_by_literals, and_count, all_ands}
 use Rattle.syn_freed.specs.Freed.{is_free, is_gate, refers, is_new, IsKept, uses, unused, count_below, added, lost, IsReplacement, IsFreed, IsFreedByCount}
 use Rattle.syn_freed.specs.Saved.{replaced, IsSaved, IsOwned, IsExtra}
 use Rattle.syn_freed.specs.Nodes.{has}
 use Rattle.syn_freed.specs.Freeing.{AllReferred, open_to, ands_among}
 use Rattle.syn_freed.specs.Keeping.{noted, IsUsed, IsKeeping}
-use Rattle.syn_freed.proofs.Pointwise.{each_ref, at_ref, inside, refers_not_free, refers_some, gate_there, observes, observes_none, none_observes, Observes, Closes, reached_in}
+use Rattle.syn_freed.proofs.Pointwise.{each_ref, at_ref, inside, refers_not_free, refers_some, gate_there, observes, none_observes, Observes, Closes, reached_in}
 use Rattle.syn_freed.proofs.Numbers.{one_if, sum_same, sum_both, sum_one, sum_apart, count_same, term_le_sum}
 use Rattle.syn_freed.proofs.Counts.{freed_from_counts}
 use Rattle.syn_freed.proofs.Kept.{any_below_at, any_below_some, saved_in_set}
 use Rattle.syn_freed.proofs.Existing.{reached_set, all_ands_reached}
-use Rattle.syn_freed.proofs.Replaced.{at_root, at_old, at_extra, replaced_length, order_within, lits_from, replaced_within, replaced_keeps, owned_inside}
+use Rattle.syn_freed.proofs.Replaced.{at_root, at_extra, replaced_length, order_within, lits_from, replaced_within, replaced_keeps, owned_inside}
 use Rattle.syn_freed.proofs.Sweeps.{noted_at_old, noted_at_new}
 
 -- the kept rows: n, and the new ones that are marked
@@ -207,23 +207,28 @@ added_is was n row extra marks there full =
     back = count_same (length extra) (λ i. g (length was + i)) (λ i. is_and (row_at extra i) && value_in marks i)
         (λ i. ap₂ (λ a b. a && b) (ap is_and (at_extra was n row extra i)) (ap₂ (λ a b. a && b) (new_far was n (length was + i) (omega arith)) (far_kept i)))
 
--- a reached node is referred to
+-- what nothing refers to is not reached
+unreferred : (was : List Row) (observed : List Lit) (m : ℕ) → refs_by_rows m was ≡ 0 → refs_by_literals m observed ≡ 0 → Reached was observed m → ⊥
+unreferred was observed m no_row no_literal reached = both_ways (less m) (ap not (eq-eqb m m refl)) (reached_in was observed m reached less closes seen)
+  where
+    less : ℕ → Bool
+    less k = not (k == m)
+
+    none_refers : (p : ℕ) → refers (row_at was p) m ≡ true → ⊥
+    none_refers p r =
+        let term = term_le_sum (length was) (λ q. refs m (row_at was q)) p (inside was p (refers_not_free (row_at was p) m r)) in
+        omega (arith, no_row, refers_some (row_at was p) m r, term)
+
+    closes : Closes was less
+    closes p k h r = ap not (ne_eqb k m (λ e. none_refers p (ap (refers (row_at was p)) (sym e) ∙ r)))
+
+    seen : Observes observed less
+    seen k h = ap not (ne_eqb k m (λ e. both_ways (observes observed m) (none_observes observed m no_literal) (ap (observes observed) (sym e) ∙ h)))
+
 pub reached_referred : (was : List Row) (observed : List Lit) (counts : ℕ → ℕ) (n : ℕ) → IsOwned was observed counts n → AllReferred was counts
 reached_referred was observed counts n owned m gate = elim (cases_eq (counts m) 0) [
   | inr ne ↦ omega (arith, ne)
-  | inl none ↦ absurd (both_ways (less m) (ap not (eq-eqb m m refl)) (reached_in was observed m (owned.gates m gate) less closes seen))
-    where
-      less : ℕ → Bool
-      less k = not (k == m)
-
-      none_refers : (p : ℕ) → refers (row_at was p) m ≡ true → ⊥
-      none_refers p r = omega (arith, none, owned.counted m, refers_some (row_at was p) m r, term_le_sum (length was) (λ q. refs m (row_at was q)) p (inside was p (refers_not_free (row_at was p) m r)))
-
-      closes : Closes was less
-      closes p k h r = ap not (ne_eqb k m (λ e. none_refers p (ap (refers (row_at was p)) (sym e) ∙ r)))
-
-      seen : Observes observed less
-      seen k h = ap not (ne_eqb k m (λ e. both_ways (observes observed m) (none_observes observed m (omega (arith, none, owned.counted m))) (ap (observes observed) (sym e) ∙ h)))
+  | inl none ↦ absurd (unreferred was observed m (omega (arith, none, owned.counted m)) (omega (arith, none, owned.counted m)) (owned.gates m gate))
 ]
 
 -- THE SAVING

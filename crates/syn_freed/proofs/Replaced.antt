@@ -1,13 +1,13 @@
 -- Where the rows stand after a replacement, and that it stays inside.
-use Rattle.std.proofs.Common.{◌≡◌, ◌≢◌, ℕ, zero, suc, ◌+◌, ◌-◌, ◌<◌, ◌≤◌, ◌&&◌, nat_lt, Bool, true, false, All, List, [], ◌∷◌, ◌++◌, length, get_or, set, refl, sym, ap, ◌∙◌, subst, arith, inl, inr, length-append}
+use Rattle.std.proofs.Common.{◌≡◌, ◌≢◌, ℕ, suc, ◌+◌, ◌-◌, ◌<◌, nat_lt, true, false, All, List, [], ◌∷◌, ◌++◌, length, get_or, set, refl, sym, ap, ◌∙◌, subst, arith, inl, inr, length-append}
 use Rattle.std.specs.List.{list_all}
 use Rattle.std.proofs.lemmas.Bool.{cases_eq, cases_lt, and_from, lt-ltb}
-use Rattle.std.proofs.lemmas.List.{get_or_past, get_or-set_same, get_or-set_other, length-set, get_or_append_left, get_or-append-add}
+use Rattle.std.proofs.lemmas.List.{get_or-set_same, get_or-set_other, length-set, get_or_append_left, get_or-append-add}
 use Rattle.std.proofs.lemmas.List.Elements.{All-head, All-tail}
 use Rattle.syn_rows.specs.declared.Lit.{Lit}
 use Rattle.syn_rows.specs.declared.Row.{Row}
 use Rattle.syn_rows.specs.declared.Row.TheVariants.{Free, Source, And, Alias}
-use Rattle.syn_rows.specs.Rows.{node_of, row_at, AllRefs, InOrder, refs_below, refs_within, lits_within}
+use Rattle.syn_rows.specs.Rows.{node_of, row_at, AllRefs, InOrder, refs_below, refs_within}
 use Rattle.syn_rows.proofs.Folds.{AllRefs-weaker}
 use Rattle.syn_freed.specs.Freed.{is_free, Keeps, RefersInside}
 use Rattle.syn_freed.specs.Saved.{replaced, IsExtra, IsOwned}
@@ -71,8 +71,12 @@ replaced_within was n row extra there order fits = within_from now each
           let back : length was + (p - length was) ≡ p = omega (arith, new) in
           subst (AllRefs (λ m. m < length now)) (sym (at_extra was n row extra (p - length was)) ∙ ap (row_at now) back)
           (each_ref (λ m. m < length now) (row_at extra (p - length was)) (λ m r.
-          omega (arith, at_ref (λ k. k < length was + (p - length was)) (row_at extra (p - length was)) (fits.each (p - length was)) m r,
-          inside extra (p - length was) (refers_not_free (row_at extra (p - length was)) m r), long)))
+          omega (
+            arith,
+            at_ref (λ k. k < length was + (p - length was)) (row_at extra (p - length was)) (fits.each (p - length was)) m r,
+            inside extra (p - length was) (refers_not_free (row_at extra (p - length was)) m r),
+            long,
+          )))
     ]
 
 pub replaced_keeps : (was : List Row) (n : ℕ) (row : Row) (extra : List Row) → Keeps was (replaced was n row extra) n

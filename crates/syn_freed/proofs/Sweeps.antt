@@ -1,5 +1,5 @@
 -- The sweep over the new rows.
-use Rattle.std.proofs.Common.{◌≡◌, ℕ, ◌+◌, ◌-◌, ◌<◌, ◌≤◌, ◌||◌, ◌&&◌, ◌==◌, ◌/◌, ltb, Bool, true, false, List, [], ◌∷◌, ◌++◌, length, get_or, if◌then◌else◌, refl, sym, ap, ◌∙◌, arith, inl, inr, ◌⊎◌}
+use Rattle.std.proofs.Common.{◌≡◌, ℕ, ◌+◌, ◌-◌, ◌<◌, ◌≤◌, ◌||◌, ◌&&◌, ◌==◌, ltb, Bool, true, false, List, [], ◌∷◌, ◌++◌, length, if◌then◌else◌, refl, sym, ap, ◌∙◌, arith, inl, inr}
 use Rattle.std.proofs.lemmas.Bool.{cases_eq, cases_lt, eq-eqb, ne_eqb, both_ways, and_parts, and_from, and_left, and_right, or_from, or_left, or_right, or_cases, lt-ltb, le-ltb, ltb-true}
 use Rattle.syn_freed.proofs.Listing.{has-append}
 use Rattle.syn_rows.specs.declared.Lit.{Lit}
@@ -11,7 +11,7 @@ use Rattle.syn_freed.specs.Freed.{refers}
 use Rattle.syn_freed.specs.Saved.{IsExtra}
 use Rattle.syn_rows.specs.Rows.{node_of}
 use Rattle.syn_rows.specs.References.{refs}
-use Rattle.syn_freed.proofs.Pointwise.{at_ref, hits_same, hits_other, refers_some, refers_none, refers_first, refers_second, refers_only}
+use Rattle.syn_freed.proofs.Pointwise.{at_ref, hits_other, refers_first, refers_second, refers_only}
 use Rattle.syn_freed.specs.Nodes.{has}
 use Rattle.syn_freed.specs.Keeping.{noted, IsUsed, IsKeeping}
 

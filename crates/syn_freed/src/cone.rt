@@ -139,5 +139,6 @@ fn settle(
     let row = rows[node as usize];
     dead.nodes.push(node)?;
     dead.ands += and_count(row);
-    add_references(row, waiting)
+    add_references(row, waiting)?;
+    Ok(())
 }

@@ -1,7 +1,7 @@
 //! What a replacement of one row frees and saves: the definition's program, and a count in the cone alone.
 #![tactic(auto)]
 
-ghost use Rattle.std.specs.Prelude.{◌≡◌, ◌+◌, ◌*◌, ◌<◌, ◌^◌, true, length, IfOk};
+ghost use Rattle.std.specs.Prelude.{◌≡◌, pos, ◌-ℤ◌, ◌+◌, ◌*◌, ◌<◌, ◌^◌, true, length, IfOk};
 ghost use Rattle.syn_rows.specs.Rows.{lits_within, refs_within};
 ghost use Rattle.syn_freed.specs.Laws.{AllAndsReached, AndsAreThere, CountsTell, FewerAreUnreached, FreedAreUnreached, SavedIsLocal, SavedTells, ValuesAreKept};
 ghost use Rattle.syn_freed.specs.Saved.{count_in, IsExtra, IsOwned, IsSaved, replaced};
@@ -31,6 +31,12 @@ pub fn saved_numbers()
     ensures difference { SavedTells }
 {}
 
+fn difference(first: u32, second: u32) -> i64
+    ensures { result ≡ (pos first -ℤ pos second) }
+{
+    i64::from(first) - i64::from(second)
+}
+
 /// What a change of rows saves, by the definition: the ANDs reached before less those reached afterwards.
 /// The only error is want of memory.
 pub fn saved_by_sweeps(
@@ -49,7 +55,7 @@ pub fn saved_by_sweeps(
 {
     let before = syn_rows::ands(alloc, was, observed)?;
     let after = syn_rows::ands(alloc, now, observed)?;
-    Ok(i64::from(before) - i64::from(after))
+    Ok(difference(before, after))
 }
 
 /// What a replacement of the row of n saves, the new rows standing at the end: the same number, found in the cone that
@@ -76,5 +82,5 @@ pub fn saved_near(
     let dead = freed(alloc, was, counts, n, kept.used.as_slice())?;
     let lost = and_count(was[n as usize]) + dead.ands;
     let added = and_count(row) + marked_ands(extra, kept.marks.as_slice());
-    Ok(i64::from(lost) - i64::from(added))
+    Ok(difference(lost, added))
 }
