@@ -6,6 +6,7 @@ use Rattle.syn_rows.specs.declared.Lit.{Lit}
 use Rattle.syn_rows.specs.declared.Row.{Row}
 use Rattle.syn_rows.specs.declared.Row.TheVariants.{Free, And, Alias}
 use Rattle.syn_rows.specs.Rows.{node_of, row_at, AllRefs}
+use Rattle.syn_rows.specs.Reach.{is_and}
 use Rattle.syn_rows.proofs.Folds.{AllRefs-weaker}
 use Rattle.syn_plan.specs.declared.PLit.{PLit}
 use Rattle.syn_plan.specs.Gates.{index_of}
@@ -89,13 +90,31 @@ each_push P xs x d each here i = elim (cases_lt i (length xs)) [
   ]
 ]
 
+-- new rows refer to nodes before them, and are ANDs
+pub record AreNew (root first : ℕ) (extra : List Row) : Type 0 where
+  pub before : (i : ℕ) → AllRefs (IsBefore root first (first + i)) (row_at extra i)
+  pub ands : (i : ℕ) → i < length extra → is_and (row_at extra i) ≡ true
+
+ordered_and_is : (x y : Lit) → is_and (ordered_and x y) ≡ true
+ordered_and_is x y = cond_both (nat_lt x.0 y.0) (And x y) (And y x) (λ row. is_and row ≡ true) (λ _. refl) (λ _. refl)
+
+new_push : (root first : ℕ) (extra : List Row) (x y : Lit) → AreNew root first extra → IsBefore root first (first + length extra) (node_of x) → IsBefore root first (first + length extra) (node_of y) → AreNew root first (extra ++ ordered_and x y ∷ [])
+new_push root first extra x y new x_in y_in = record {
+  before = each_push (λ i row. AllRefs (IsBefore root first (first + i)) row) extra (ordered_and x y) Free new.before (ordered_refs (IsBefore root first (first + length extra)) x y x_in y_in);
+  ands = λ i lt. elim (cases_lt i (length extra)) [
+    | inl old ↦ ap is_and (get_or_append_left extra (ordered_and x y ∷ []) Free i old) ∙ new.ands i old
+    | inr ge ↦
+        let here : length extra ≡ i = omega (arith, length_push extra (ordered_and x y)) in
+        ap is_and (get_or_push extra (ordered_and x y) Free i here) ∙ ordered_and_is x y
+  ];
+}
+
 -- a pair whose nodes come before becomes such a literal, and new rows of such nodes
 abbrev pub IsJoinedBefore : ℕ → ℕ → List Row → Joined → Type 0
-IsJoinedBefore root first extra j =
-    IsBefore root first (first + length j.extra) (node_of j.literal) × (length extra ≤ length j.extra) × ((i : ℕ) → AllRefs (IsBefore root first (first + i)) (row_at j.extra i))
+IsJoinedBefore root first extra j = IsBefore root first (first + length j.extra) (node_of j.literal) × (length extra ≤ length j.extra) × AreNew root first j.extra
 
 pub joined_in : (rows : List Row) (root : ℕ) (extra : List Row) (x y : Lit) → 0 < root
-    → ((i : ℕ) → AllRefs (IsBefore root (length rows) (length rows + i)) (row_at extra i))
+    → AreNew root (length rows) extra
     → IsBefore root (length rows) (length rows + length extra) (node_of x) → IsBefore root (length rows) (length rows + length extra) (node_of y)
     → IsJoinedBefore root (length rows) extra (joined rows root extra x y)
 joined_in rows root extra x y positive within x_in y_in =
@@ -104,22 +123,22 @@ joined_in rows root extra x y positive within x_in y_in =
     (λ _. (x_in, omega arith, within)) (λ _ _. (inl positive, omega arith, within)) (λ _. (inl positive, omega arith, within)) (λ _. (y_in, omega arith, within)) (λ _. (x_in, omega arith, within)) (λ _ _ _. tt))
     (λ n lt h. (inl (omega arith), omega arith, within))
     (λ i lt h. (inr (omega arith, omega arith), omega arith, within))
-    (inr (omega arith, omega (arith, length_push extra (ordered_and x y))), omega (arith, length_push extra (ordered_and x y)),
-    each_push (λ i row. AllRefs (IsBefore root (length rows) (length rows + i)) row) extra (ordered_and x y) Free within (ordered_refs (IsBefore root (length rows) (length rows + length extra)) x y x_in y_in))
+    (inr (omega arith, omega (arith, length_push extra (ordered_and x y))), omega (arith, length_push extra (ordered_and x y)), new_push root (length rows) extra x y within x_in y_in)
 
 pub gate_in : (rows : List Row) (root : ℕ) (s : Searched) (gate : PLit × PLit) → 0 < root → IsPlacing root (length rows) s.literals s.extra
     → IsPlacing root (length rows) (search_gate rows root s gate).literals (search_gate rows root s gate).extra
 gate_in rows root s gate positive p =
     let x = literal_for s.literals gate.0 in
     let y = literal_for s.literals gate.1 in
-    let j = joined_in rows root s.extra x y positive p.rows_before
-        (literal_in (IsBefore root (length rows) (length rows + length s.extra)) s.literals gate.0 p.literals_before)
-        (literal_in (IsBefore root (length rows) (length rows + length s.extra)) s.literals gate.1 p.literals_before) in
+    let j = joined_in rows root s.extra x y positive (record { before = p.rows_before; ands = p.rows_are_ands })
+    (literal_in (IsBefore root (length rows) (length rows + length s.extra)) s.literals gate.0 p.literals_before)
+    (literal_in (IsBefore root (length rows) (length rows + length s.extra)) s.literals gate.1 p.literals_before) in
     let after = (joined rows root s.extra x y).extra in
     record {
       literals_before = each_push (λ _ l. IsBefore root (length rows) (length rows + length after) (node_of l)) s.literals (joined rows root s.extra x y).literal constant
           (λ i. later root (length rows) (length rows + length s.extra) (length rows + length after) (omega (arith, j.1)) (node_of (get_or s.literals i constant)) (p.literals_before i)) j.0;
-      rows_before = j.2;
+      rows_before = j.2.before;
+      rows_are_ands = j.2.ands;
     }
 
 pub gates_in : (rows : List Row) (root : ℕ) (gates : List (PLit × PLit)) (s : Searched) → 0 < root → IsPlacing root (length rows) s.literals s.extra
@@ -141,6 +160,7 @@ pub begun_in : (first root count : ℕ) (leaves : List ℕ) → 0 < root → ((i
 begun_in first root count leaves positive all = record {
   literals_before = at;
   rows_before = λ i. subst (AllRefs (IsBefore root first (first + i))) (sym (get_or_past [] i Free (omega arith))) tt;
+  rows_are_ands = λ i lt. absurd (omega arith);
 }
   where
     leaf : (i : ℕ) → IsBefore root first (first + length {A = Row} []) (node_of (lit_of (get_or leaves i 0)))
@@ -189,7 +209,7 @@ pub placed_is_before : PlacedIsBefore
 placed_is_before rows root count leaves gates out positive low =
     let same = searched_is_placed rows root count leaves gates in
     let p : IsPlacing root (length rows) (placed rows root count leaves gates).literals (placed rows root count leaves gates).extra =
-        subst (λ (l : List Lit). IsPlacing root (length rows) l (placed rows root count leaves gates).extra) same.0
-        (subst (λ (e : List Row). IsPlacing root (length rows) (searched rows root count leaves gates).literals e) same.1
-        (searched_in rows root count leaves gates positive (below_each root leaves low))) in
+    subst (λ (l : List Lit). IsPlacing root (length rows) l (placed rows root count leaves gates).extra) same.0
+    (subst (λ (e : List Row). IsPlacing root (length rows) (searched rows root count leaves gates).literals e) same.1
+    (searched_in rows root count leaves gates positive (below_each root leaves low))) in
     (p, root_row_in root (length rows) (placed rows root count leaves gates).literals (placed rows root count leaves gates).extra out p)

@@ -20,14 +20,14 @@ pub returns-clause-extra : goal.returns-clause-extra
 returns-clause-extra c =
     let p = c.args.proposal.now in
     let is = is_searched c.args.rows.now p.root p.plan.leaves p.leaves.items c.as_slice.result.now p.plan.gates.items c.as_slice-gates.result.now c.begin-literals.result.items
-        c.place_gates.new.literals.items c.place_gates.new.extra.items c.in_ok-place_gates.ensures.placed c.begin-literals.ensures.literals c.as_slice.ensures.value c.as_slice-gates.ensures.value in
+    c.place_gates.new.literals.items c.place_gates.new.extra.items c.in_ok-place_gates.ensures.placed c.begin-literals.ensures.literals c.as_slice.ensures.value c.as_slice-gates.ensures.value in
     ap (λ (s : Searched). s.extra) is ∙ (searched_is_placed c.args.rows.now p.root p.plan.leaves p.leaves.items p.plan.gates.items).1
 
 pub returns-clause-root : goal.returns-clause-root
 returns-clause-root c =
     let p = c.args.proposal.now in
     let is = is_searched c.args.rows.now p.root p.plan.leaves p.leaves.items c.as_slice.result.now p.plan.gates.items c.as_slice-gates.result.now c.begin-literals.result.items
-        c.place_gates.new.literals.items c.place_gates.new.extra.items c.in_ok-place_gates.ensures.placed c.begin-literals.ensures.literals c.as_slice.ensures.value c.as_slice-gates.ensures.value in
+    c.place_gates.new.literals.items c.place_gates.new.extra.items c.in_ok-place_gates.ensures.placed c.begin-literals.ensures.literals c.as_slice.ensures.value c.as_slice-gates.ensures.value in
     let same = searched_is_placed c.args.rows.now p.root p.plan.leaves p.leaves.items p.plan.gates.items in
     let literals_are : c.place_gates.new.literals.items ≡ (placed_of c.args.rows.now p).literals = ap (λ (s : Searched). s.literals) is ∙ same.0 in
     let extra_are : c.place_gates.new.extra.items ≡ new_rows c.args.rows.now p = ap (λ (s : Searched). s.extra) is ∙ same.1 in
