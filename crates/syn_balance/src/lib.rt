@@ -13,7 +13,7 @@ use balancing::made_again;
 use std::alloc::{AllocError, Global};
 use syn_graph::Graph;
 use syn_netlist::Items;
-use syn_strash::{Rows, compact};
+use syn_strash::{Rows, compact_hashed};
 
 /// The graph balanced (DAG-aware rewriting's balancing, DAC 2006): each AND that is observed, has two or more references or is
 /// named by a complemented literal is the AND of its leaves, which are joined again, each time the two of least level. The frame
@@ -39,7 +39,7 @@ fn balanced(alloc: Global, graph: &Graph) -> Result<Rows, AllocError>
         graph.rows.as_slice(),
         graph.observed.as_slice(),
     )?;
-    let kept = compact(alloc, count, made.rows.as_slice(), made.observed.as_slice())?;
+    let kept = compact_hashed(alloc, count, made.rows.as_slice(), made.observed.as_slice())?;
     Ok(kept)
 }
 

@@ -1,14 +1,13 @@
 -- Values of literals while rows grow, and rows that stay hashed.
-use Rattle.std.proofs.Common.{if◌then◌else◌, ◌%◌, ◌≡◌, ℕ, ◌+◌, ◌<◌, ◌≤◌, Bool, true, false, not, ◌&&◌, nat_eq, nat_lt, nat_le, List, [], ◌∷◌, ◌++◌, length, get_or, replicate, refl, sym, ap, ◌∙◌, subst, arith, inl, inr, append_assoc, append-nil, length-append}
-use Rattle.std.proofs.lemmas.List.{length_push, get_or_append_left, get_or_push, get_or_past, get_or-replicate, length-replicate}
-use Rattle.std.proofs.lemmas.Bool.{cases_lt, and_parts, ltb-true}
+use Rattle.std.proofs.Common.{if◌then◌else◌, ◌%◌, ◌≡◌, ℕ, ◌+◌, ◌<◌, ◌≤◌, Bool, false, not, ◌&&◌, nat_eq, List, [], ◌∷◌, ◌++◌, length, get_or, replicate, refl, sym, ap, ◌∙◌, subst, arith, append_assoc, append-nil, length-append}
+use Rattle.std.proofs.lemmas.List.{get_or-replicate, length-replicate}
 use Rattle.syn_rows.specs.declared.Lit.{Lit}
 use Rattle.syn_rows.specs.declared.Row.{Row}
-use Rattle.syn_rows.specs.declared.Row.TheVariants.{Free, Source, And, Alias}
-use Rattle.syn_rows.specs.Rows.{node_of, row_at, AllRefs, InOrder, fold_rows}
+use Rattle.syn_rows.specs.declared.Row.TheVariants.{Free, Source, And}
+use Rattle.syn_rows.specs.Rows.{node_of, row_at, fold_rows}
 use Rattle.syn_rows.specs.Values.{lit_value, row_value, value_in, values_of}
 use Rattle.syn_rows.proofs.Folds.{length-values, fold_kept, values_step}
-use Rattle.syn_shapes.specs.Graphs.{is_gate, IsHashed}
+use Rattle.syn_shapes.specs.Graphs.{IsHashed}
 use Rattle.syn_graph.proofs.Orders.{hashed_in_order}
 use Rattle.syn_strash.specs.Growing.{Extends, KeepsValues, value_by}
 

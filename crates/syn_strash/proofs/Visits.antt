@@ -1,29 +1,32 @@
 -- Nodes that are visited one after the other.
-use Rattle.std.proofs.Common.{◌≡◌, ◌≢◌, ℕ, zero, suc, ◌+◌, ◌-◌, ◌*◌, ◌%◌, ◌<◌, ◌≤◌, ◌&&◌, nat_le, nat_eq, not, if◌then◌else◌, Bool, false, All, List, [], ◌∷◌, length, map, get_or, set, refl, sym, ap, ap₂, ◌∙◌, subst, arith, inl, inr, Option, Some, None, IsSome}
+use Rattle.std.proofs.Common.{◌≡◌, ◌≢◌, ℕ, zero, suc, ◌+◌, ◌-◌, ◌*◌, ◌%◌, ◌<◌, ◌≤◌, ◌&&◌, nat_le, nat_eq, not, if◌then◌else◌, Bool, true, false, All, List, [], ◌∷◌, length, map, set, refl, sym, ap, ap₂, ◌∙◌, subst, arith, inl, inr, Option, Some, None, IfSome, IsSome}
 use Rattle.std.proofs.lemmas.List.{get_or-set_same, get_or-set_other, length-set, get_or_past}
 use Rattle.std.proofs.lemmas.List.Sums.{sum_by-set}
 use Rattle.std.proofs.lemmas.Bool.{cases_Bool, cases_eq, cases_lt, cond-true, cond-false, le-leb, lt-leb, eqb-true, eqb-false, both_ways}
 use Rattle.syn_rows.specs.declared.Lit.{Lit}
 use Rattle.syn_rows.specs.declared.Row.{Row}
 use Rattle.syn_rows.specs.declared.Row.TheVariants.{Free, Source, And, Alias}
-use Rattle.syn_rows.specs.Rows.{node_of, row_at}
-use Rattle.syn_rows.specs.Values.{lit_value, value_in, values_of}
+use Rattle.syn_rows.specs.Rows.{node_of, row_at, AllRefs}
+use Rattle.syn_rows.specs.Values.{lit_value, value_in, values_of, Fits, RowFits}
+use Rattle.syn_rows.specs.Reach.{ands_in, is_and, IsReachedSet}
+use Rattle.syn_rows.specs.References.{and_count}
 use Rattle.syn_shapes.specs.Graphs.{IsHashed}
-use Rattle.syn_rows.specs.Levels.{level_in, levels_of}
+use Rattle.syn_rows.specs.Levels.{HasLevels, level_in, levels_of, row_level}
 use Rattle.std.proofs.Common.{max, ◌^◌}
-use Rattle.syn_strash.specs.Growing.{value_by, level_by, Extends, KeepsValues, IsAnd, IsJoin}
-use Rattle.syn_strash.proofs.LevelLaws.{level_kept, source_level, gate_level, join_level}
-use Rattle.syn_strash.specs.Visiting.{visited, with_sign, literal_of, both, fan_ins_of, unvisited, IsVisit, FirstsOf, StaysVisited, AllVisited, IsRebuilt}
-use Rattle.syn_strash.specs.Compacting.{IsCompaction}
+use Rattle.syn_strash.specs.Growing.{value_by, level_by, Extends, IsAnd, IsJoin}
+use Rattle.syn_strash.proofs.LevelLaws.{level_kept, source_level, join_level}
+use Rattle.syn_strash.specs.Visiting.{visited, with_sign, literal_of, both, fan_ins_of, unvisited, IsVisit, IsMade, IsReady, FirstsOf, StaysVisited, IsMadeAgain}
+use Rattle.syn_strash.specs.Walking.{VisitsReached}
+use Rattle.syn_strash.specs.Compacting.{CanCompact, HasSources}
 use Rattle.syn_rows.specs.Values.{given_by}
 use Rattle.std.specs.Option.{is_some}
 use Rattle.std.proofs.lemmas.List.{length-map}
 use Rattle.std.proofs.lemmas.List.Elements.{All-nil, All-cons}
 use Rattle.syn_shapes.specs.Graphs.{lit_at}
 use Rattle.std.proofs.lemmas.Bool.{eq-eqb}
-use Rattle.syn_strash.proofs.Rising.{source_value, gate_value}
+use Rattle.syn_strash.proofs.Rising.{extends_itself, extends_longer, literal_kept, source_value}
 use Rattle.syn_strash.proofs.Joining.{plain_value, not_value}
-use Rattle.syn_strash.proofs.Dropped.{gate_is_and}
+use Rattle.syn_strash.proofs.Counted.{ands_fewer, ands_more}
 
 -- what stands for a literal
 
@@ -70,21 +73,21 @@ sign_parts : (lit : Lit) (o : Option Lit) (x : Lit) → with_sign lit o ≡ Some
 sign_parts lit None x e = absurd (cc)
 sign_parts lit (Some l) x e = (l, refl, e)
 
--- it has the literal's value, and its node is there
-pub record StandsFor (rows new : List Row) (lit x : Lit) : Type 0 where
+-- it has the literal's value, lies no higher, and its node is there
+pub record StandsFor (count : ℕ) (rows new : List Row) (lit x : Lit) : Type 0 where
   pub there : node_of x < length new
-  pub level : level_by new x ≤ level_by rows lit
-  pub value : (given : ℕ → Bool) → given 0 ≡ false → value_by given new x ≡ value_by given rows lit
+  pub level : (level : ℕ → ℕ) → HasLevels rows level → level_by new x ≤ level (node_of lit)
+  pub value : (given v : ℕ → Bool) → Fits rows v → HasSources count given v → value_by given new x ≡ lit_value v lit
 
-pub stands_for : (count : ℕ) (rows : List Row) (literals : List (Option Lit)) (new : List Row) → IsVisit count rows literals new → (lit x : Lit) → literal_of literals lit ≡ Some x → StandsFor rows new lit x
+pub stands_for : (count : ℕ) (rows : List Row) (literals : List (Option Lit)) (new : List Row) → IsVisit count rows literals new → (lit x : Lit) → literal_of literals lit ≡ Some x → StandsFor count rows new lit x
 stands_for count rows literals new visit lit x e =
     let (l, at, signed) = sign_parts lit (visited literals (node_of lit)) x e in
     let node = signed_node lit l x signed in
     let inside = visit.there (node_of lit) l at in
     record {
       there = omega (arith, node, inside);
-      level = (let same : level_by new x ≡ level_by new l = ap (level_in (levels_of new)) node in let low = visit.levels (node_of lit) l at in omega (arith, same, low));
-      value = λ given at_0. signed_value (value_in (values_of given new)) lit l x (value_in (values_of given rows) (node_of lit)) signed refl (visit.values (node_of lit) l at given at_0);
+      level = λ level h. (let same : level_by new x ≡ level_by new l = ap (level_in (levels_of new)) node in let low = visit.levels (node_of lit) l at level h in omega (arith, same, low));
+      value = λ given v fits has. signed_value (value_in (values_of given new)) lit l x (v (node_of lit)) signed refl (visit.values (node_of lit) l at given v fits has);
     }
 
 both_parts : (o p : Option Lit) (x y : Lit) → both o p ≡ Some (x, y) → (o ≡ Some x) × (p ≡ Some y)
@@ -97,53 +100,46 @@ both_parts (Some a) (Some b) x y e = let pair : (a, b) ≡ (x, y) = first_of_som
 
 -- one more node
 
-pub visit_more : (count : ℕ) (rows : List Row) (literals : List (Option Lit)) (new more : List Row) (n : ℕ) (a b x y l : Lit) → IsHashed count rows → IsVisit count rows literals new → n < length rows
-    → visited literals n ≡ None → row_at rows n ≡ And a b → literal_of literals a ≡ Some x → literal_of literals b ≡ Some y
-    → IsHashed count more → Extends new more → KeepsValues new more → length new ≤ length more → length more ≤ length new + 1 → node_of l < length more → IsAnd new x y more l → IsJoin more x y l → IsVisit count rows (set literals n (Some l)) more
-visit_more count rows literals new more n a b x y l hashed visit lt none is fa fb made grown keeps longer few there joined join = record {
+pub visit_more : (count : ℕ) (rows : List Row) (literals : List (Option Lit)) (new more : List Row) (n : ℕ) (l : Lit) → IsVisit count rows literals new → n < length rows → visited literals n ≡ None → IsMade count rows n new more l
+    → IsVisit count rows (set literals n (Some l)) more
+visit_more count rows literals new more n l visit lt none made = record {
   all = length-set literals n (Some l) ∙ visit.all;
   there = λ m k e. elim (cases_eq m n) [
-    | inl same ↦ let at : l ≡ k = some_same l k (sym (here m same) ∙ e) in subst (λ (z : Lit). node_of z < length more) at there
-    | inr other ↦ let inside = visit.there m k (sym (get_or-set_other literals n m (Some l) None other) ∙ e) in omega (arith, inside, longer)
+    | inl same ↦ let at : l ≡ k = some_same l k (sym (here m same) ∙ e) in subst (λ (z : Lit). node_of z < length more) at made.there
+    | inr other ↦ let inside = visit.there m k (sym (get_or-set_other literals n m (Some l) None other) ∙ e) in omega (arith, inside, extends_longer new more made.grown)
   ];
-  values = λ m k e given at_0. elim (cases_eq m n) [
+  values = λ m k e. elim (cases_eq m n) [
     | inl same ↦
         let at : l ≡ k = some_same l k (sym (here m same) ∙ e) in
-        ap (value_by given more) (sym at) ∙ joined given at_0 ∙ ap₂ (λ p q. p && q) (first.value given at_0) (second.value given at_0)
-        ∙ sym (ap (value_in (values_of given rows)) same ∙ gate_value count rows hashed given n a b lt is)
+        λ given v fits has. ap (value_by given more) (sym at) ∙ made.value given v fits has ∙ sym (ap v same)
     | inr other ↦
         let old = sym (get_or-set_other literals n m (Some l) None other) ∙ e in
-        keeps given k (visit.there m k old) ∙ visit.values m k old given at_0
+        λ given v fits has. literal_kept given new more made.grown k (visit.there m k old) ∙ visit.values m k old given v fits has
   ];
   levels = λ m k e. elim (cases_eq m n) [
     | inl same ↦
         let at : l ≡ k = some_same l k (sym (here m same) ∙ e) in
         let mine : level_by more k ≡ level_by more l = ap (level_by more) (sym at) in
-        let high = join_level count more made x y l join in
-        let left : level_by more x ≡ level_by new x = level_kept new more grown (node_of x) first.there in
-        let right : level_by more y ≡ level_by new y = level_kept new more grown (node_of y) second.there in
-        let below : level_in (levels_of rows) m ≡ max (level_by rows a) (level_by rows b) + 1 = ap (level_in (levels_of rows)) same ∙ gate_level count rows hashed n a b is in
-        omega (arith, mine, high, left, right, below, first.level, second.level)
+        λ level h. (let low : level_by more l ≤ level n = made.level level h in let node : level m ≡ level n = ap level same in omega (arith, mine, low, node))
     | inr other ↦
         let old = sym (get_or-set_other literals n m (Some l) None other) ∙ e in
-        let kept : level_by more k ≡ level_by new k = level_kept new more grown (node_of k) (visit.there m k old) in
-        omega (arith, kept, visit.levels m k old)
+        let kept : level_by more k ≡ level_by new k = level_kept new more made.grown (node_of k) (visit.there m k old) in
+        λ level h. (let low : level_by new k ≤ level m = visit.levels m k old level h in omega (arith, kept, low))
   ];
   front = λ m low. elim (cases_eq m n) [
     | inl same ↦ absurd (none_front m same (visit.front m low))
     | inr other ↦ get_or-set_other literals n m (Some l) None other ∙ visit.front m low
   ];
-  few = omega (arith, sum_by-set unvisited literals n (Some l) None inside, ap unvisited none, visit.few, few);
+  few = omega (arith, sum_by-set unvisited literals n (Some l) None inside, ap unvisited none, visit.few, made.few, and_count_small (row_at rows n));
+  fewer =
+      let counted : ands_in (λ m. is_some (visited (set literals n (Some l)) m)) rows ≡ ands_in (λ m. is_some (visited literals m)) rows + and_count (row_at rows n) =
+      ands_more 0 n n (λ m. is_some (visited literals m)) (λ m. is_some (visited (set literals n (Some l)) m)) rows (omega arith)
+      (λ m ne. ap is_some (sym (get_or-set_other literals n m (Some l) None ne))) (ap is_some none) (ap is_some (here n refl)) in
+      omega (arith, counted, visit.fewer, made.few);
 }
   where
     inside : n < length literals
     inside = omega (arith, visit.all)
-
-    first : StandsFor rows new a x
-    first = stands_for count rows literals new visit a x fa
-
-    second : StandsFor rows new b y
-    second = stands_for count rows literals new visit b y fb
 
     some_same : (p q : Lit) → Some p ≡ Some q → p ≡ q
     some_same p q h = cc
@@ -156,6 +152,52 @@ visit_more count rows literals new more n a b x y l hashed visit lt none is fa f
       where
         clash : Some z ≡ None → ⊥
         clash h = cc
+
+    and_count_small : (row : Row) → and_count row ≤ 1
+    and_count_small Free = omega arith
+    and_count_small Source = omega arith
+    and_count_small (And a b) = omega arith
+    and_count_small (Alias a) = omega arith
+
+-- the AND of the literals that stand for the fan-ins
+pub and_made : (count : ℕ) (rows : List Row) (literals : List (Option Lit)) (new more : List Row) (n : ℕ) (a b x y l : Lit) → IsVisit count rows literals new → IsHashed count more → row_at rows n ≡ And a b → literal_of literals a ≡ Some x → literal_of literals b ≡ Some y
+    → Extends new more → length more ≤ length new + 1 → node_of l < length more → IsAnd new x y more l → IsJoin more x y l → IsMade count rows n new more l
+and_made count rows literals new more n a b x y l visit made is fa fb grown few there joined join = record {
+  grown = grown;
+  few = (let one : and_count (row_at rows n) ≡ 1 = ap and_count is in omega (arith, one, few));
+  there = there;
+  value = λ given v fits has.
+      joined given (sym (has 0 (omega arith)) ∙ fits.constant) ∙ ap₂ (λ p q. p && q) (first.value given v fits has) (second.value given v fits has) ∙ sym (subst (RowFits v n) is (fits.each n));
+  level = λ level h.
+      let high = join_level count more made x y l join in
+      let left : level_by more x ≡ level_by new x = level_kept new more grown (node_of x) first.there in
+      let right : level_by more y ≡ level_by new y = level_kept new more grown (node_of y) second.there in
+      let above : level n ≡ max (level (node_of a)) (level (node_of b)) + 1 = h n ∙ ap (row_level level n) is in
+      omega (arith, high, left, right, above, first.level level h, second.level level h);
+}
+  where
+    first : StandsFor count rows new a x
+    first = stands_for count rows literals new visit a x fa
+
+    second : StandsFor count rows new b y
+    second = stands_for count rows literals new visit b y fb
+
+-- what stands for an alias's literal
+pub alias_made : (count : ℕ) (rows : List Row) (literals : List (Option Lit)) (new : List Row) (n : ℕ) (a l : Lit) → IsVisit count rows literals new → row_at rows n ≡ Alias a → literal_of literals a ≡ Some l → IsMade count rows n new new l
+alias_made count rows literals new n a l visit is fa = record {
+  grown = extends_itself new;
+  few = omega arith;
+  there = first.there;
+  value = λ given v fits has. first.value given v fits has ∙ sym (subst (RowFits v n) is (fits.each n));
+  level = λ level h. (let same : level n ≡ level (node_of a) = h n ∙ ap (row_level level n) is in omega (arith, same, first.level level h));
+}
+  where
+    first : StandsFor count rows new a l
+    first = stands_for count rows literals new visit a l fa
+
+pub alias_all : (count : ℕ) (rows : List Row) (literals : List (Option Lit)) (new : List Row) (n : ℕ) (a : Lit) (o : Option Lit) → IsVisit count rows literals new → row_at rows n ≡ Alias a → o ≡ literal_of literals a → IfSome o (λ l. IsMade count rows n new new l)
+alias_all count rows literals new n a None visit is fa = tt
+alias_all count rows literals new n a (Some l) visit is fa = alias_made count rows literals new n a l visit is (sym fa)
 
 -- a node that was not visited leaves room for its row
 pub room_left : (count : ℕ) (rows : List Row) (literals : List (Option Lit)) (new : List Row) (n : ℕ) → IsVisit count rows literals new → n < length rows → visited literals n ≡ None → length rows < 2 ^ 29 → length new + 1 < 2 ^ 29
@@ -180,23 +222,24 @@ row_parts literals (Alias a) x y e = absurd (cc)
 
 -- the beginning
 
-pub visit_begins : (count : ℕ) (rows : List Row) (literals : List (Option Lit)) (new : List Row) → IsHashed count rows → IsHashed count new → length new ≡ count + 1 → FirstsOf count (length rows) literals → IsVisit count rows literals new
-visit_begins count rows literals new hashed made size firsts = record {
+pub visit_begins : (count : ℕ) (rows : List Row) (literals : List (Option Lit)) (new : List Row) → count < length rows → IsHashed count new → length new ≡ count + 1 → FirstsOf count (length rows) literals → IsVisit count rows literals new
+visit_begins count rows literals new wide made size firsts = record {
   all = firsts.all;
   there = λ n l e. let at = known n l e in omega (arith, at.0, at.1, size);
-  values = λ n l e given at_0.
+  values = λ n l e given v fits has.
       let at = known n l e in
       let number : l.0 ≡ 2 * n = at.1 in
       let node : node_of l ≡ n = omega arith in
-      plain_value (value_in (values_of given new)) l (omega arith) ∙ ap (value_in (values_of given new)) node ∙ source_value count new made given n at.0 ∙ sym (source_value count rows hashed given n at.0);
-  levels = λ n l e.
+      plain_value (value_in (values_of given new)) l (omega arith) ∙ ap (value_in (values_of given new)) node ∙ source_value count new made given n at.0 ∙ sym (has n at.0);
+  levels = λ n l e level h.
       let at = known n l e in
       let number : l.0 ≡ 2 * n = at.1 in
       let node : node_of l ≡ n = omega arith in
       let zero_there : level_by new l ≡ 0 = ap (level_in (levels_of new)) node ∙ source_level count new made n at.0 in
       omega (arith, zero_there);
-  front = λ n lt. firsts.each n (omega (arith, hashed.there)) ∙ cond-true (nat_le n count) (Some (record { 0 = 2 * n })) None (le-leb n count (omega arith));
+  front = λ n lt. firsts.each n (omega arith) ∙ cond-true (nat_le n count) (Some (record { 0 = 2 * n })) None (le-leb n count (omega arith));
   few = omega (arith, firsts.few, size);
+  fewer = omega (arith, size);
 }
   where
     number_of : (l m : Lit) → Some l ≡ Some m → l.0 ≡ m.0
@@ -214,7 +257,7 @@ visit_begins count rows literals new hashed made size firsts = record {
       | inr past ↦ absurd (clash l (sym (get_or_past literals n None (omega (arith, firsts.all))) ∙ e))
     ]
 
--- all nodes
+-- all that a row refers to was visited
 
 some_sign : (lit : Lit) (o : Option Lit) → IsSome o → IsSome (with_sign lit o)
 some_sign lit None h = h
@@ -225,36 +268,22 @@ both_some None p h k = h
 both_some (Some a) None h k = k
 both_some (Some a) (Some b) h k = refl
 
--- where all nodes below one were visited, its fan-ins were
-pub ready_below : (count : ℕ) (rows : List Row) (literals : List (Option Lit)) (n : ℕ) → IsHashed count rows → AllVisited n literals → count < n → n < length rows → IsSome (fan_ins_of literals (row_at rows n))
-ready_below count rows literals n hashed all above lt =
-    let (a, b, is, gate) = gate_is_and n (row_at rows n) (hashed.gates n above lt) in
-    let first = some_sign a (visited literals (node_of a)) (all (node_of a) (omega (arith, gate.rising, gate.below))) in
-    let second = some_sign b (visited literals (node_of b)) (all (node_of b) gate.below) in
-    subst (λ (row : Row). IsSome (fan_ins_of literals row)) (sym is) (both_some (literal_of literals a) (literal_of literals b) first second)
+pub ready_alias : (literals : List (Option Lit)) (row : Row) (a : Lit) → row ≡ Alias a → IsReady literals row → IsSome (literal_of literals a)
+ready_alias literals row a is ready = some_sign a (visited literals (node_of a)) (subst (AllRefs (λ m. IsSome (visited literals m))) is ready.1)
 
-some_of : (o : Option Lit) (l : Lit) → o ≡ Some l → IsSome o
+-- a row that is ready and no alias has both fan-ins
+pub ready_fan_ins : (literals : List (Option Lit)) (row : Row) → ((a : Lit) → row ≡ Alias a → ⊥) → IsReady literals row → IsSome (fan_ins_of literals row)
+ready_fan_ins literals Free other ready = absurd (both_ways true ready.0 refl)
+ready_fan_ins literals Source other ready = absurd (both_ways true ready.0 refl)
+ready_fan_ins literals (And a b) other ready = both_some (literal_of literals a) (literal_of literals b) (some_sign a (visited literals (node_of a)) ready.1.0) (some_sign b (visited literals (node_of b)) ready.1.1)
+ready_fan_ins literals (Alias a) other ready = absurd (other a refl)
+
+pub some_of : (o : Option Lit) (l : Lit) → o ≡ Some l → IsSome o
 some_of o l e = subst IsSome (sym e) refl
 
-some_is : (o : Option Lit) → IsSome o → (l : Lit) × (o ≡ Some l)
+pub some_is : (o : Option Lit) → IsSome o → (l : Lit) × (o ≡ Some l)
 some_is None h = absurd (both_ways false refl h)
 some_is (Some l) h = (l, refl)
-
--- what was visited is visited still
-pub still_visited : (old new : List (Option Lit)) (count : ℕ) → StaysVisited old new → AllVisited count old → AllVisited count new
-still_visited old new count stays all n lt = let (l, e) = some_is (visited old n) (all n lt) in some_of (visited new n) l (stays n l e)
-
-pub visited_more : (count : ℕ) (rows new_rows : List Row) (old new : List (Option Lit)) (n : ℕ) → IsHashed count rows → IsVisit count rows new new_rows → StaysVisited old new → AllVisited n old → n < length rows
-    → (n < length rows → IsSome (fan_ins_of old (row_at rows n)) → IsSome (visited new n)) → AllVisited (n + 1) new
-visited_more count rows new_rows old new n hashed visit stays all lt made m low = elim (cases_lt m n) [
-  | inl below ↦ still_visited old new n stays all m below
-  | inr ge ↦
-      let same : n ≡ m = omega arith in
-      subst (λ k. IsSome (visited new k)) same (elim (cases_lt count n) [
-        | inl above ↦ made lt (ready_below count rows old n hashed all above lt)
-        | inr front ↦ some_of (visited new n) (record { 0 = 2 * n }) (visit.front n (omega arith))
-      ])
-]
 
 pub none_where : (o : Option Lit) (b : Bool) → b ≡ is_some o → b ≡ false → o ≡ None
 none_where None b e f = refl
@@ -273,15 +302,15 @@ found_there count rows literals new visit (f ∷ fs) (l ∷ ls) e =
     let s = stands_for count rows literals new visit l f (sym parts.0) in
     All-cons (λ (x : Lit). node_of x < length new) f fs s.there (found_there count rows literals new visit fs ls parts.1)
 
-found_values : (count : ℕ) (rows : List Row) (literals : List (Option Lit)) (new : List Row) → IsVisit count rows literals new → (given : ℕ → Bool) → given 0 ≡ false → (found lits : List Lit) → map (λ l. Some l) found ≡ map (literal_of literals) lits
-    → map (value_by given new) found ≡ map (value_by given rows) lits
-found_values count rows literals new visit given at_0 [] [] e = refl
-found_values count rows literals new visit given at_0 [] (l ∷ ls) e = absurd (cc)
-found_values count rows literals new visit given at_0 (f ∷ fs) [] e = absurd (cc)
-found_values count rows literals new visit given at_0 (f ∷ fs) (l ∷ ls) e =
+found_values : (count : ℕ) (rows : List Row) (literals : List (Option Lit)) (new : List Row) → IsVisit count rows literals new → (given v : ℕ → Bool) → Fits rows v → HasSources count given v → (found lits : List Lit) → map (λ l. Some l) found ≡ map (literal_of literals) lits
+    → map (value_by given new) found ≡ map (lit_value v) lits
+found_values count rows literals new visit given v fits has [] [] e = refl
+found_values count rows literals new visit given v fits has [] (l ∷ ls) e = absurd (cc)
+found_values count rows literals new visit given v fits has (f ∷ fs) [] e = absurd (cc)
+found_values count rows literals new visit given v fits has (f ∷ fs) (l ∷ ls) e =
     let parts = one_less (Some f) (map (λ (x : Lit). Some x) fs) (literal_of literals l) (map (literal_of literals) ls) e in
     let s = stands_for count rows literals new visit l f (sym parts.0) in
-    ap₂ (λ (b : Bool) (bs : List Bool). b ∷ bs) (s.value given at_0) (found_values count rows literals new visit given at_0 fs ls parts.1)
+    ap₂ (λ (b : Bool) (bs : List Bool). b ∷ bs) (s.value given v fits has) (found_values count rows literals new visit given v fits has fs ls parts.1)
 
 found_at : (literals : List (Option Lit)) (found lits : List Lit) → map (λ l. Some l) found ≡ map (literal_of literals) lits → (i : ℕ) → i < length lits → Some (lit_at found i) ≡ literal_of literals (lit_at lits i)
 found_at literals [] [] e i lt = absurd (omega arith)
@@ -307,15 +336,20 @@ own_literal l = elim (cases_Bool (nat_eq (l.0 % 2) 0)) [
     next : ℕ → Lit
     next k = record { 0 = if nat_eq (k % 2) 0 then k + 1 else k - 1 }
 
-pub rebuilt : (count : ℕ) (rows : List Row) (lits : List Lit) (literals : List (Option Lit)) (new : List Row) (found : List Lit) → IsHashed count new → IsVisit count rows literals new → map (λ l. Some l) found ≡ map (literal_of literals) lits
-    → IsRebuilt count rows lits new found
-rebuilt count rows lits literals new found hashed visit e = record {
+pub made_again : (count : ℕ) (rows : List Row) (lits : List Lit) (literals : List (Option Lit)) (new : List Row) (found : List Lit) → CanCompact count rows lits → IsHashed count new → IsVisit count rows literals new → VisitsReached count rows lits literals
+    → map (λ l. Some l) found ≡ map (literal_of literals) lits → IsMadeAgain count rows lits new found
+made_again count rows lits literals new found can hashed visit reaches e = record {
   hashed = hashed;
   same_count = sym (length-map found (λ l. Some l)) ∙ ap length e ∙ length-map lits (literal_of literals);
   within = found_there count rows literals new visit found lits e;
   fewer = omega (arith, visit.few);
-  same_function = λ bits. found_values count rows literals new visit (given_by bits) refl found lits e;
-  levels = λ i lt. (stands_for count rows literals new visit (lit_at lits i) (lit_at found i) (sym (found_at literals found lits e i lt))).level;
+  ands = λ k counted.
+      let (test, is, number) = counted in
+      let less : ands_in (λ m. is_some (visited literals m)) rows ≤ ands_in test rows =
+      ands_fewer 0 (λ m. is_some (visited literals m)) test rows (λ m i at row v. let same : m ≡ i = omega arith in subst (λ (j : ℕ). test j ≡ true) (sym same) (was_reached i test is row (subst (λ (j : ℕ). is_some (visited literals j) ≡ true) same v))) in
+      omega (arith, less, number, visit.fewer);
+  same_values = λ bits v fits has. sym (found_values count rows literals new visit (given_by bits) v fits has found lits e);
+  levels = λ level h i lt. (stands_for count rows literals new visit (lit_at lits i) (lit_at found i) (sym (found_at literals found lits e i lt))).level level h;
   sources_stay = λ i l lt low at.
       let own : visited literals (node_of l) ≡ Some (record { 0 = 2 * node_of l }) = visit.front (node_of l) low in
       some_same (lit_at found i) l (found_at literals found lits e i lt ∙ ap (literal_of literals) at ∙ ap (with_sign l) own ∙ own_literal l);
@@ -324,19 +358,12 @@ rebuilt count rows lits literals new found hashed visit e = record {
     some_same : (p q : Lit) → Some p ≡ Some q → p ≡ q
     some_same p q h = cc
 
--- made again and then compacted, rows are compacted
-pub rebuilt_compaction : (count : ℕ) (rows mid new : List Row) (lits mid_lits new_lits : List Lit) → IsRebuilt count rows lits mid mid_lits → IsCompaction count mid mid_lits new new_lits → IsCompaction count rows lits new new_lits
-rebuilt_compaction count rows mid new lits mid_lits new_lits r c = record {
-  hashed = c.hashed;
-  same_count = c.same_count ∙ r.same_count;
-  within = c.within;
-  reached = c.reached;
-  fewer = omega (arith, c.fewer, r.fewer);
-  same_function = λ bits. c.same_function bits ∙ r.same_function bits;
-  levels = λ i lt. (let low = r.levels i lt in let lower = c.levels i (omega (arith, r.same_count)) in omega (arith, low, lower));
-  sources_stay = λ i l lt low at. c.sources_stay i l (omega (arith, r.same_count)) low (r.sources_stay i l lt low at);
-}
+    was_reached : (n : ℕ) (test : ℕ → Bool) → IsReachedSet rows lits test → is_and (row_at rows n) ≡ true → is_some (visited literals n) ≡ true → test n ≡ true
+    was_reached n test is row v = elim (cases_lt count n) [
+      | inl above ↦ reaches n above v test is.closed is.observes
+      | inr low ↦ absurd (both_ways (is_and (row_at rows n)) (ap is_and (can.front n (omega arith))) row)
+    ]
 
--- each observed literal's node was visited
-pub lits_visited : (count : ℕ) (literals : List (Option Lit)) (lits : List Lit) → AllVisited count literals → All (λ l. node_of l < count) lits → All (λ l. IsSome (visited literals (node_of l))) lits
-lits_visited count literals lits all inside i d lt = all (node_of (get_or lits i d)) (inside i d lt)
+-- node 0 and the sources were visited
+pub visited_front : (count : ℕ) (rows : List Row) (literals : List (Option Lit)) (new : List Row) → IsVisit count rows literals new → (m : ℕ) → m < count + 1 → IsSome (visited literals m)
+visited_front count rows literals new visit m lt = some_of (visited literals m) (record { 0 = 2 * m }) (visit.front m lt)

@@ -1,3 +1,4 @@
 pub mod Growing
 pub mod Compacting
 pub mod Visiting
+pub mod Walking

@@ -1,14 +1,23 @@
 //! Compaction: rows in the order in which the observed literals visit them, without those that they don't reach.
 
 ghost use Rattle.std.specs.Prelude.{◌++◌, if◌then◌else◌, OnOk, ◌≡◌, ℕ, ◌+◌, ◌*◌, ◌^◌, ◌<◌, ◌≤◌, ◌||◌, nat_lt, All, IfOk, length, map, true, vec_len, List, [], ◌∷◌, slice_index};
+ghost use Rattle.syn_rows.specs.declared.Lit.{Lit};
+ghost use Rattle.syn_rows.specs.declared.Row.{Row};
 ghost use Rattle.syn_rows.specs.Rows.{AllRefs, node_of, in_order_from};
+ghost use Rattle.syn_rows.specs.Levels.{HasLevels};
 ghost use Rattle.syn_rows.specs.Values.{value_in};
-ghost use Rattle.syn_rows.specs.Reach.{IsReachedSet};
-ghost use Rattle.syn_shapes.specs.Graphs.{IsHashed};
-ghost use Rattle.syn_strash.specs.Compacting.{IsCompaction, is_kept, IsPlaces, kept_below, kept_lits, kept_rows, moved_lit, moved_row};
+ghost use Rattle.syn_rows.specs.Reach.{Ands, IsReachedSet};
+ghost use Rattle.syn_netlist.specs.Frames.{frame_in};
+ghost use Rattle.syn_netlist.specs.Lists.{observed, sources};
+ghost use Rattle.syn_graph.specs.Graphs.{HasOwnSources};
+ghost use Rattle.syn_shapes.specs.Graphs.{IsHashed, lit_at};
+ghost use Rattle.syn_strash.specs.Growing.{level_by};
+ghost use Rattle.syn_strash.specs.Compacting.{CanCompact, HasValuation, IsCompacted, IsCompaction, is_kept, IsPlaces, kept_below, kept_lits, kept_rows, moved_lit, moved_row, SameValues};
 
 use crate::visit::in_visiting_order;
 use std::alloc::{AllocError, Global};
+use syn_graph::{Graph, copy_frame};
+use syn_netlist::{Frame, Items};
 use syn_rows::{Lit, Row};
 
 /// Rows with the literals of the observed signals.
@@ -134,17 +143,17 @@ fn drop_unreached(
     })
 }
 
-/// The rows that the observed literals reach, in the order in which these visit them.
-pub fn compact(
+/// The rows that the observed literals reach, in the order in which these visit them: each node after its first and then
+/// its second fan-in, aliases followed, no pair of literals twice. The only error is want of memory.
+pub fn compact_rows(
     alloc: Global,
     source_count: u32,
     rows: &[Row],
     observed: &[Lit],
 ) -> Result<Rows, AllocError>
-    requires hashed { IsHashed source_count rows.now }
-    requires within { All (λ l. node_of l < length rows.now) observed.now }
+    requires can { CanCompact source_count rows.now observed.now }
     requires few { length rows.now < 2 ^ 29 }
-    ensures { IfOk result (λ r. IsCompaction source_count rows.now observed.now r.rows.items r.observed.items) }
+    ensures { IfOk result (λ r. IsCompacted source_count rows.now observed.now r.rows.items r.observed.items) }
 {
     let ordered = in_visiting_order(alloc, source_count, rows, observed)?;
     let kept = drop_unreached(
@@ -154,4 +163,97 @@ pub fn compact(
         ordered.observed.as_slice(),
     )?;
     Ok(kept)
+}
+
+/// The same of hashed rows.
+pub fn compact_hashed(
+    alloc: Global,
+    source_count: u32,
+    rows: &[Row],
+    observed: &[Lit],
+) -> Result<Rows, AllocError>
+    requires hashed { IsHashed source_count rows.now }
+    requires within { All (λ l. node_of l < length rows.now) observed.now }
+    requires few { length rows.now < 2 ^ 29 }
+    ensures compact { IfOk result (λ r. IsCompaction source_count rows.now observed.now r.rows.items r.observed.items) }
+    ensures ands { IfOk result (λ r. (k : ℕ) → Ands rows.now observed.now k → length r.rows.items ≤ source_count + 1 + k) }
+{
+    let kept = compact_rows(alloc, source_count, rows, observed)?;
+    syn_rows::one_valuation();
+    Ok(kept)
+}
+
+/// Rows that can be compacted have a valuation for all given values of the sources.
+pub fn has_valuation()
+    ensures { (count : ℕ) (rows : List Row) (lits : List Lit) → CanCompact count rows lits → HasValuation count rows }
+{}
+
+/// The graph of the rows that the observed literals reach, one for each observed signal of the frame, in their order. The
+/// rows may stand in any order, with aliases, free rows and rows that nothing reaches among them. The only error is want
+/// of memory.
+pub fn compact(
+    alloc: Global,
+    frame: &Frame,
+    rows: &[Row],
+    lits: &[Lit],
+) -> Result<Graph, AllocError>
+    requires can { CanCompact (length (sources (frame_in frame.now))) rows.now lits.now }
+    requires count { length lits.now ≡ length (observed (frame_in frame.now)) }
+    requires own { HasOwnSources (frame_in frame.now) lits.now }
+    requires few { length rows.now < 2 ^ 29 }
+    requires names { length frame.now.names < 2 ^ 31 }
+    ensures frame { IfOk result (λ g. frame_in g.frame ≡ frame_in frame.now) }
+    ensures names { IfOk result (λ g. g.frame.names ≡ frame.now.names) }
+    ensures values { IfOk result (λ g. SameValues (length (sources (frame_in frame.now))) rows.now lits.now g.rows g.observed) }
+    ensures fewer { IfOk result (λ g. (k : ℕ) → Ands rows.now lits.now k → length g.rows ≤ length (sources (frame_in frame.now)) + 1 + k) }
+    ensures levels { IfOk result (λ g. (level : ℕ → ℕ) → HasLevels rows.now level → (i : ℕ) → i < length lits.now → level_by g.rows (lit_at g.observed i) ≤ level (node_of (lit_at lits.now i))) }
+{
+    let source_count = count_sources(alloc, frame)?;
+    let kept = compact_rows(alloc, source_count, rows, lits)?;
+    let copied = copy_frame(alloc, frame)?;
+    Ok(Graph {
+        frame: copied,
+        source_count,
+        rows: Items::of(kept.rows),
+        observed: Items::of(kept.observed),
+    })
+}
+
+// The number of the frame's sources.
+fn count_sources(alloc: Global, frame: &Frame) -> Result<u32, AllocError>
+    requires { length (sources (frame_in frame.now)) < 2 ^ 29 }
+    ensures { IfOk result (λ n. n ≡ length (sources (frame_in frame.now))) }
+{
+    let numbers = frame.sources(alloc)?;
+    Ok(numbers.len() as u32)
+}
+
+#[cfg(test)]
+mod tests {
+    use super::*;
+
+    // Three sources. Node 4 is the AND of node 5 and the third source, node 5 the complement of node 6, node 6 the AND of the
+    // first two sources; node 7 is free, and nothing reaches node 8.
+    #[test]
+    fn compacts_rows_in_any_order(rt: HostRuntime) -> Result<(), AllocError> {
+        let rows = [
+            Row::Source,
+            Row::Source,
+            Row::Source,
+            Row::Source,
+            Row::And(Lit(10), Lit(6)),
+            Row::Alias(Lit(13)),
+            Row::And(Lit(2), Lit(4)),
+            Row::Free,
+            Row::And(Lit(2), Lit(12)),
+        ];
+        let kept = compact_rows(rt.alloc(), 3, &rows, &[Lit(9), Lit(2)])?;
+        let first = Row::And(Lit(2), Lit(4));
+        let second = Row::And(Lit(6), Lit(9));
+        let source = Row::Source;
+        let want = [source, source, source, source, first, second];
+        assert_eq!(rt; kept.rows.as_slice(), want.as_slice());
+        assert_eq!(rt; kept.observed.as_slice(), [Lit(11), Lit(2)].as_slice());
+        Ok(())
+    }
 }

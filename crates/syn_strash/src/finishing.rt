@@ -1,13 +1,14 @@
 //! The graph of hashed rows.
 
-ghost use Rattle.std.specs.Prelude.{◌≡◌, ◌+◌, ◌<◌, ◌≤◌, ◌^◌, All, Bool, List, length, IfOk};
+ghost use Rattle.std.specs.Prelude.{◌≡◌, ℕ, ◌+◌, ◌<◌, ◌≤◌, ◌^◌, All, Bool, List, length, IfOk};
 ghost use Rattle.syn_rows.specs.Rows.{node_of};
+ghost use Rattle.syn_rows.specs.Reach.{Ands};
 ghost use Rattle.syn_rows.specs.Values.{rows_function};
 ghost use Rattle.syn_netlist.specs.Frames.{frame_in};
 ghost use Rattle.syn_netlist.specs.Lists.{observed, sources};
 ghost use Rattle.syn_graph.specs.Graphs.{HasOwnSources};
 
-use crate::compaction::compact;
+use crate::compaction::compact_hashed;
 use crate::strash::Hashed;
 use std::alloc::{AllocError, Global};
 use syn_graph::Graph;
@@ -27,9 +28,10 @@ impl Hashed {
         ensures frame { IfOk result (λ g. g.frame ≡ frame) }
         ensures values { IfOk result (λ g. (bits : List Bool) → rows_function g.rows g.observed bits ≡ rows_function self.rows.items lits.now bits) }
         ensures fewer { IfOk result (λ g. length g.rows ≤ length self.rows.items) }
+        ensures ands { IfOk result (λ g. (k : ℕ) → Ands self.rows.items lits.now k → length g.rows ≤ self.source_count + 1 + k) }
     {
         let source_count = self.source_count as u32;
-        let kept = compact(alloc, source_count, self.rows.as_slice(), lits)?;
+        let kept = compact_hashed(alloc, source_count, self.rows.as_slice(), lits)?;
         Ok(Graph {
             frame,
             source_count,

@@ -1,35 +1,35 @@
 //! The order in which the observed literals visit the rows, and the rows made again in that order.
 
-ghost use Rattle.std.specs.Prelude.{IsSome, ◌≡◌, ℕ, ◌+◌, ◌^◌, ◌<◌, ◌≤◌, All, Option, Some, None, length, map, vec_len, IfOk, IfSome, IsNone, OnOk, slice_index_or};
+ghost use Rattle.std.specs.Prelude.{◌++◌, IsSome, IfNone, ◌≡◌, ◌≢◌, ℕ, ◌+◌, ◌^◌, ◌<◌, ◌≤◌, All, List, Option, Some, None, false, true, length, map, replicate, set, vec_len, IfOk, IfSome, IsNone, OnOk, slice_index_or};
 ghost use Rattle.std.specs.List.{sum_by};
 ghost use Rattle.syn_rows.specs.Rows.{node_of, row_at};
+ghost use Rattle.syn_rows.specs.Values.{value_in};
 ghost use Rattle.syn_rows.specs.Walk.{unmarked};
 ghost use Rattle.syn_shapes.specs.Graphs.{IsHashed};
-ghost use Rattle.syn_strash.specs.Visiting.{AllVisited, first_literal, FirstsOf, fan_ins_of, IsRebuilt, IsVisit, literal_of, StaysVisited, unvisited, visited};
+ghost use Rattle.syn_strash.specs.Compacting.{CanCompact};
+ghost use Rattle.syn_strash.specs.Visiting.{first_literal, FirstsOf, fan_ins_of, IsMade, IsMadeAgain, IsReady, IsVisit, literal_of, StaysVisited, unvisited, visited};
+ghost use Rattle.syn_strash.specs.Walking.{enters, steps_of, VisitsReached};
 
 use crate::compaction::Rows;
 use crate::strash::Hashed;
 use std::alloc::{AllocError, Global};
 use syn_rows::{Lit, Row};
 
-/// The rows made again in the order in which the observed literals visit them, each AND after its first and then its
-/// second fan-in; what no observed literal reaches stands behind. The literals name the new rows.
+/// The rows that the observed literals reach, made again in the order in which these visit them, each node after its
+/// first and then its second fan-in; aliases are followed. The literals name the new rows.
 pub fn in_visiting_order(
     alloc: Global,
     source_count: u32,
     rows: &[Row],
     observed: &[Lit],
 ) -> Result<Rows, AllocError>
-    requires hashed { IsHashed source_count rows.now }
-    requires within { All (λ l. node_of l < length rows.now) observed.now }
+    requires can { CanCompact source_count rows.now observed.now }
     requires few { length rows.now < 2 ^ 29 }
-    ensures { IfOk result (λ r. IsRebuilt source_count rows.now observed.now r.rows.items r.observed.items) }
+    ensures { IfOk result (λ r. IsMadeAgain source_count rows.now observed.now r.rows.items r.observed.items) }
 {
-    let order = visiting_order(alloc, rows, observed)?;
     let mut hashed = Hashed::new(alloc, source_count as usize)?;
     let mut literals = first_literals(alloc, source_count as usize, rows.len())?;
-    make_listed(&mut hashed, rows, literals.as_mut_slice(), order.as_slice())?;
-    make_others(&mut hashed, rows, literals.as_mut_slice())?;
+    visit_all(alloc, &mut hashed, rows, observed, literals.as_mut_slice())?;
     let observed = literals_of(alloc, literals.as_slice(), observed)?;
     Ok(Rows {
         rows: hashed.into_rows(),
@@ -37,79 +37,97 @@ pub fn in_visiting_order(
     })
 }
 
-// A step of the walk: a node is entered, and left once its fan-ins were.
+/// A step of the walk: a node is entered, and left once all that it refers to was left.
 #[derive(Clone, Copy, Debug, PartialEq, Eq)]
-enum Step {
+pub enum Step {
     Enter(u32),
     Leave(u32),
 }
 
-// The ANDs that the literals reach, each after its first and then its second fan-in, the literals in their order.
-fn visiting_order(alloc: Global, rows: &[Row], observed: &[Lit]) -> Result<Vec<u32>, AllocError> {
-    let mut order = Vec::new(alloc);
-    let mut stack = Vec::new(alloc);
-    let mut marks = no_marks(alloc, rows.len())?;
-    for lit in observed {
-        visit_from(
-            rows,
-            lit.node(),
-            marks.as_mut_slice(),
-            &mut stack,
-            &mut order,
-        )?;
-    }
-    Ok(order)
-}
-
-fn no_marks(alloc: Global, count: usize) -> Result<Vec<bool>, AllocError> {
-    vec![in alloc; false; count]
-}
-
-// Adds what a node reaches and isn't marked yet; the stack is empty before and after.
-fn visit_from(
+// Visits all nodes that the observed literals reach, the literals in their order.
+fn visit_all(
+    alloc: Global,
+    hashed: &mut Hashed,
     rows: &[Row],
-    node: u32,
-    marks: &mut [bool],
-    stack: &mut Vec<Step>,
-    order: &mut Vec<u32>,
-) -> Result<(), AllocError> {
-    stack.push(Step::Enter(node))?;
+    observed: &[Lit],
+    literals: &mut [Option<Lit>],
+) -> Result<(), AllocError>
+    requires can { CanCompact hashed.old.source_count rows.now observed.now }
+    requires firsts { FirstsOf hashed.old.source_count (length rows.now) literals.old }
+    requires size { length hashed.old.rows.items ≡ hashed.old.source_count + 1 }
+    requires room { length rows.now < 2 ^ 29 }
+    ensures sources { hashed.new.source_count ≡ hashed.old.source_count }
+    ensures visit { OnOk result (IsVisit hashed.old.source_count rows.now literals.new hashed.new.rows.items) }
+    ensures reached { OnOk result (VisitsReached hashed.old.source_count rows.now observed.now literals.new) }
+    ensures observed { OnOk result (All (λ l. IsSome (visited literals.new (node_of l))) observed.now) }
+{
+    let mut marks = no_marks(alloc, rows.len())?;
+    let mut stack = first_steps(alloc, observed)?;
     while let Some(step) = stack.pop() {
         match step {
-            Step::Enter(node) => enter(rows, node, marks, stack)?,
-            Step::Leave(node) => order.push(node)?,
+            Step::Enter(node) => enter(rows, node, marks.as_mut_slice(), &mut stack)?,
+            Step::Leave(node) => make(hashed, rows, literals, node as usize)?,
         }
     }
     Ok(())
 }
 
-// Marks a node, and puts off leaving it until its fan-ins were left.
+fn no_marks(alloc: Global, count: usize) -> Result<Vec<bool>, AllocError>
+    ensures { IfOk result (λ marks. marks.items ≡ replicate count false) }
+{
+    vec![in alloc; false; count]
+}
+
+// Each literal's node is entered, the first one's next.
+fn first_steps(alloc: Global, observed: &[Lit]) -> Result<Vec<Step>, AllocError>
+    ensures { IfOk result (λ steps. steps.items ≡ enters observed.now) }
+{
+    let mut steps = Vec::new(alloc);
+    for i in (0..observed.len()).rev() {
+        steps.push(Step::Enter(observed[i].node()))?;
+    }
+    Ok(steps)
+}
+
+// Marks a node, and puts off leaving it until all that it refers to was left.
 fn enter(
     rows: &[Row],
     node: u32,
     marks: &mut [bool],
     stack: &mut Vec<Step>,
 ) -> Result<(), AllocError>
+    requires there { node < length rows.now }
+    requires marks { length marks.old ≡ length rows.now }
     ensures less { OnOk result (sum_by unmarked marks.new + vec_len stack.new < sum_by unmarked marks.old + vec_len stack.old + 1) }
+    ensures skipped { OnOk result (value_in marks.old node ≡ true → (marks.new ≡ marks.old) × (stack.new.items ≡ stack.old.items)) }
+    ensures entered { OnOk result (value_in marks.old node ≡ false → (marks.new ≡ set marks.old node true) × (stack.new.items ≡ stack.old.items ++ steps_of node (row_at rows.now node))) }
 {
     let n = node as usize;
-    if n >= rows.len() || n >= marks.len() || marks[n] {
+    if marks[n] {
         return Ok(());
     }
     marks[n] = true;
-    push_fan_ins(rows[n], node, stack)
+    push_steps(rows[n], node, stack)
 }
 
-fn push_fan_ins(row: Row, node: u32, stack: &mut Vec<Step>) -> Result<(), AllocError>
+fn push_steps(row: Row, node: u32, stack: &mut Vec<Step>) -> Result<(), AllocError>
     ensures few { OnOk result (vec_len stack.new ≤ vec_len stack.old + 3) }
+    ensures steps { OnOk result (stack.new.items ≡ stack.old.items ++ steps_of node row) }
 {
-    let Row::And(a, b) = row else {
-        return Ok(());
-    };
-    stack.push(Step::Leave(node))?;
-    stack.push(Step::Enter(b.node()))?;
-    stack.push(Step::Enter(a.node()))?;
-    Ok(())
+    match row {
+        Row::Free | Row::Source => Ok(()),
+        Row::And(a, b) => {
+            stack.push(Step::Leave(node))?;
+            stack.push(Step::Enter(b.node()))?;
+            stack.push(Step::Enter(a.node()))?;
+            Ok(())
+        }
+        Row::Alias(a) => {
+            stack.push(Step::Leave(node))?;
+            stack.push(Step::Enter(a.node()))?;
+            Ok(())
+        }
+    }
 }
 
 // The literal that stands for an old one, where its node was visited.
@@ -139,32 +157,60 @@ fn fan_ins(literals: &[Option<Lit>], row: Row) -> Option<(Lit, Lit)>
     Some((first, second))
 }
 
-// Visits a node whose fan-ins were visited: its AND is made again, of the literals that stand for them.
+// The literal that stands for a node of which all that its row refers to was visited: that of the AND of the literals
+// that stand for the fan-ins, or the one that stands for an alias's literal.
+fn stand_in(
+    hashed: &mut Hashed,
+    rows: &[Row],
+    literals: &[Option<Lit>],
+    node: usize,
+) -> Result<Option<Lit>, AllocError>
+    requires visit { IsVisit hashed.old.source_count rows.now literals.now hashed.old.rows.items }
+    requires room { length hashed.old.rows.items + 1 < 2 ^ 29 }
+    requires there { node < length rows.now }
+    ensures sources { hashed.new.source_count ≡ hashed.old.source_count }
+    ensures made { IfOk result (λ o. IfSome o (λ l. IsMade hashed.old.source_count rows.now node hashed.old.rows.items hashed.new.rows.items l)) }
+    ensures same { IfOk result (λ o. IfNone o (hashed.new.rows.items ≡ hashed.old.rows.items)) }
+    ensures ready { IfOk result (λ o. IsReady literals.now (row_at rows.now node) → IsSome o) }
+{
+    if let Row::Alias(a) = rows[node] {
+        return Ok(literal_of(literals, a));
+    }
+    match fan_ins(literals, rows[node]) {
+        Some((first, second)) => {
+            let literal = hashed.and(first, second)?;
+            Ok(Some(literal))
+        }
+        None => Ok(None),
+    }
+}
+
+// Visits a node of which all that its row refers to was visited.
 fn make(
     hashed: &mut Hashed,
     rows: &[Row],
     literals: &mut [Option<Lit>],
     node: usize,
 ) -> Result<(), AllocError>
-    requires rows { IsHashed hashed.old.source_count rows.now }
     requires visit { IsVisit hashed.old.source_count rows.now literals.old hashed.old.rows.items }
+    requires there { node < length rows.now }
     requires room { length rows.now < 2 ^ 29 }
     ensures sources { hashed.new.source_count ≡ hashed.old.source_count }
     ensures visit { OnOk result (IsVisit hashed.old.source_count rows.now literals.new hashed.new.rows.items) }
     ensures stays { OnOk result (StaysVisited literals.old literals.new) }
-    ensures made { OnOk result (node < length rows.now → IsSome (fan_ins_of literals.old (row_at rows.now node)) → IsSome (visited literals.new node)) }
+    ensures others { OnOk result ((m : ℕ) → m ≢ node → visited literals.new m ≡ visited literals.old m) }
+    ensures made { OnOk result (IsReady literals.old (row_at rows.now node) → IsSome (visited literals.new node)) }
 {
-    if node >= rows.len() || literals[node].is_some() {
+    if literals[node].is_some() {
         return Ok(());
     }
-    if let Some((first, second)) = fan_ins(literals, rows[node]) {
-        let literal = hashed.and(first, second)?;
+    if let Some(literal) = stand_in(hashed, rows, literals, node)? {
         literals[node] = Some(literal);
     }
     Ok(())
 }
 
-// The literal that stands for a node before any AND was visited.
+// The literal that stands for a node before any other was visited.
 fn first_literal(source_count: usize, node: u32) -> Option<Lit>
     requires { node < 2 ^ 31 }
     ensures { result ≡ first_literal source_count node }
@@ -176,7 +222,7 @@ fn first_literal(source_count: usize, node: u32) -> Option<Lit>
     }
 }
 
-// The literals that stand for so many nodes before any AND was visited.
+// The literals that stand for so many nodes before any other node was visited.
 fn first_literals(
     alloc: Global,
     source_count: usize,
@@ -191,44 +237,6 @@ fn first_literals(
         literals.push(first_literal(source_count, node as u32))?;
     }
     Ok(literals)
-}
-
-// Visits the listed nodes in their order.
-fn make_listed(
-    hashed: &mut Hashed,
-    rows: &[Row],
-    literals: &mut [Option<Lit>],
-    order: &[u32],
-) -> Result<(), AllocError>
-    requires rows { IsHashed hashed.old.source_count rows.now }
-    requires visit { IsVisit hashed.old.source_count rows.now literals.old hashed.old.rows.items }
-    requires room { length rows.now < 2 ^ 29 }
-    ensures sources { hashed.new.source_count ≡ hashed.old.source_count }
-    ensures visit { OnOk result (IsVisit hashed.old.source_count rows.now literals.new hashed.new.rows.items) }
-{
-    for node in order {
-        make(hashed, rows, literals, *node as usize)?;
-    }
-    Ok(())
-}
-
-// Visits all nodes that were not visited yet, which none of the observed literals reaches.
-fn make_others(
-    hashed: &mut Hashed,
-    rows: &[Row],
-    literals: &mut [Option<Lit>],
-) -> Result<(), AllocError>
-    requires rows { IsHashed hashed.old.source_count rows.now }
-    requires visit { IsVisit hashed.old.source_count rows.now literals.old hashed.old.rows.items }
-    requires room { length rows.now < 2 ^ 29 }
-    ensures sources { hashed.new.source_count ≡ hashed.old.source_count }
-    ensures visit { OnOk result (IsVisit hashed.old.source_count rows.now literals.new hashed.new.rows.items) }
-    ensures all { OnOk result (AllVisited (length rows.now) literals.new) }
-{
-    for node in 0..rows.len() {
-        make(hashed, rows, literals, node)?;
-    }
-    Ok(())
 }
 
 // The literals that stand for the observed ones, all of whose nodes were visited.

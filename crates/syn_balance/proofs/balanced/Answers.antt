@@ -21,5 +21,5 @@ returns c =
     let again : IsRebuilt g.source_count g.rows g.observed made.rows.items made.observed.items =
     subst₂ (λ (rs : List Row) (ls : List Lit). IsRebuilt g.source_count rs ls made.rows.items made.observed.items) c.as_slice.ensures c.as_slice-2.ensures c.in_ok-made.ensures in
     let compacted : IsCompaction g.source_count made.rows.items made.observed.items kept.rows.items kept.observed.items =
-    subst₂ (λ (rs : List Row) (ls : List Lit). IsCompaction g.source_count rs ls kept.rows.items kept.observed.items) c.as_slice-3.ensures.value c.as_slice-4.ensures.value c.in_ok-kept.ensures in
+    subst₂ (λ (rs : List Row) (ls : List Lit). IsCompaction g.source_count rs ls kept.rows.items kept.observed.items) c.as_slice-3.ensures.value c.as_slice-4.ensures.value c.in_ok-kept.ensures.compact in
     remade_compaction g.source_count g.rows made.rows.items kept.rows.items g.observed made.observed.items kept.observed.items again compacted

@@ -1,7 +1,0 @@
-use Rattle.std.proofs.Common.{◌+◌, vec_len}
-use Rattle.std.specs.List.{sum_by}
-use Rattle.syn_rows.specs.Walk.{unmarked}
-use Rattle.syn_strash.proofs.visit.visit_from.Given as goal
-
-abbrev pub decreases-loop-step : goal.decreases-loop-step
-decreases-loop-step l = sum_by unmarked l.marks + vec_len l.stack
