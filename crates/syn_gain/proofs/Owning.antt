@@ -87,7 +87,7 @@ gate_not_free n Source h = absurd (cc)
 gate_not_free n (And a b) h = refl
 gate_not_free n (Alias a) h = absurd (cc)
 
-none_free : (count : ℕ) (rows : List Row) → IsHashed count rows → (n : ℕ) → n < length rows → is_free (row_at rows n) ≡ false
+pub none_free : (count : ℕ) (rows : List Row) → IsHashed count rows → (n : ℕ) → n < length rows → is_free (row_at rows n) ≡ false
 none_free count rows h n lt = elim (cases_lt n (count + 1)) [
   | inl low ↦ ap is_free (h.front n low)
   | inr ge ↦ gate_not_free n (row_at rows n) (h.gates n (omega arith) lt)
