@@ -1,5 +1,5 @@
 -- A sound proposal keeps the values of the observed signals, and its graph has fewer ANDs by what it saves.
-use Rattle.std.proofs.Common.{◌≡◌, ℕ, ℤ, pos, ◌+ℤ◌, ◌≤ℤ◌, ◌+◌, ◌-◌, ◌<◌, ◌≤◌, ◌&&◌, if◌then◌else◌, Bool, true, false, not, nat_eq, All, List, [], ◌∷◌, length, map, get_or, refl, sym, ap, ap₂, ◌∙◌, arith}
+use Rattle.std.proofs.Common.{◌≡◌, ℕ, ℤ, pos, ◌+ℤ◌, ◌≤ℤ◌, ◌+◌, ◌<◌, ◌≤◌, Bool, true, false, All, List, [], ◌∷◌, length, map, refl, sym, ap, ap₂, ◌∙◌, arith}
 use Rattle.std.proofs.lemmas.List.{length-map}
 use Rattle.std.proofs.lemmas.Int.{ints}
 use Rattle.std.proofs.lemmas.List.Elements.{All-head, All-tail}
@@ -7,15 +7,13 @@ use Rattle.syn_rows.specs.declared.Lit.{Lit}
 use Rattle.syn_rows.specs.declared.Row.{Row}
 use Rattle.syn_rows.specs.Rows.{node_of, row_at, InOrder}
 use Rattle.syn_rows.specs.Reach.{Ands, is_and}
-use Rattle.syn_rows.specs.Values.{Fits, HasGiven, OneValuation, given_by, is_open, lit_value, rows_function, value_in, values_of}
+use Rattle.syn_rows.specs.Values.{Fits, OneValuation, given_by, is_open, lit_value, rows_function, value_in, values_of}
 use Rattle.syn_rows.proofs.Folds.{one_valuation_is}
 use Rattle.syn_rows.proofs.Reaches.{one_ands_is}
 use Rattle.syn_netlist.specs.Frames.{frame_in}
 use Rattle.syn_netlist.specs.Lists.{sources}
 use Rattle.syn_graph.specs.declared.Graph.{Graph}
 use Rattle.syn_graph.proofs.Orders.{hashed_in_order}
-use Rattle.syn_truth.specs.declared.Truth.{Truth}
-use Rattle.syn_truth.specs.Truth.{value_of}
 use Rattle.syn_plan.specs.Gates.{literal_value, values_after}
 use Rattle.syn_plan.specs.Plans.{plan_truth}
 use Rattle.syn_strash.specs.Compacting.{HasSources, SameValues}
@@ -24,7 +22,7 @@ use Rattle.syn_gain.specs.Proposals.{leaf_values, rows_after, Saved}
 use Rattle.syn_gain.proofs.Extending.{values_go_on}
 use Rattle.syn_gain.proofs.Owning.{root_there}
 use Rattle.syn_gain.proofs.Values.{lit_value-same}
-use Rattle.syn_apply.specs.Sound.{IsSound, PlanComputes}
+use Rattle.syn_apply.specs.Sound.{IsSound}
 
 -- in a valuation that fits, the plan has the root's value
 plan_is_root : (rows : List Row) (p : Proposal) (v : ℕ → Bool) → IsSound rows p → Fits rows v

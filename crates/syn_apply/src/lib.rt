@@ -45,17 +45,18 @@ fn applied(alloc: Global, graph: &Graph, proposal: &Proposal) -> Result<Graph, A
 {
     let _count = graph.count();
     let rows = rows_after(alloc, graph, proposal)?;
-    compact(alloc, &graph.frame, rows.as_slice(), graph.observed.as_slice())
+    compact(
+        alloc,
+        &graph.frame,
+        rows.as_slice(),
+        graph.observed.as_slice(),
+    )
 }
 
 /// The graph after a sound proposal for one of its ANDs: the same frame, the same values of the observed signals, and
 /// fewer ANDs by at least what the proposal saves. Where memory is refused, or the rows would be 2^29 or more, the same
 /// graph comes back.
-pub fn apply(
-    alloc: Global,
-    graph: Graph,
-    proposal: &Proposal,
-) -> Result<Graph, (Graph, AllocError)>
+pub fn apply(alloc: Global, graph: Graph, proposal: &Proposal) -> Result<Graph, (Graph, AllocError)>
     requires root { is_and (row_at graph.rows proposal.now.root) ≡ true }
     requires sound { IsSound graph.rows proposal.now }
     ensures frame { IfOk result (λ g. frame_in g.frame ≡ frame_in graph.frame) }

@@ -1,10 +1,9 @@
-use Rattle.std.proofs.Common.{◌≡◌, ℕ, ℤ, pos, ◌+ℤ◌, ◌≤ℤ◌, ◌+◌, ◌≤◌, Bool, List, length, map, Result, Ok, Err, IfOk, sym, ap, ◌∙◌, subst}
+use Rattle.std.proofs.Common.{ℕ, ◌+◌, ◌≤◌, List, length, Result, Ok, Err, IfOk, sym, ◌∙◌, subst}
 use Rattle.syn_rows.specs.declared.Lit.{Lit}
 use Rattle.syn_rows.specs.declared.Row.{Row}
 use Rattle.syn_rows.specs.Reach.{Ands}
 use Rattle.syn_netlist.specs.Frames.{frame_in}
 use Rattle.syn_netlist.specs.Lists.{sources}
-use Rattle.syn_graph.specs.declared.Graph.{Graph}
 use Rattle.syn_strash.specs.Compacting.{CanCompact, SameValues}
 use Rattle.syn_gain.specs.Proposals.{rows_after}
 use Rattle.syn_apply.proofs.Compactable.{can_compact}
