@@ -45,12 +45,8 @@ fn applied(alloc: Global, graph: &Graph, proposal: &Proposal) -> Result<Graph, A
 {
     let _count = graph.count();
     let rows = rows_after(alloc, graph, proposal)?;
-    compact(
-        alloc,
-        &graph.frame,
-        rows.as_slice(),
-        graph.observed.as_slice(),
-    )
+    let lits = graph.observed.as_slice();
+    compact(alloc, &graph.frame, rows.as_slice(), lits)
 }
 
 /// The graph after a sound proposal for one of its ANDs: the same frame, the same values of the observed signals, and
