@@ -17,7 +17,7 @@ use Rattle.syn_freed.specs.Freeing.{AllReferred, open_to, ands_among}
 use Rattle.syn_freed.specs.Keeping.{noted, IsUsed, IsKeeping}
 use Rattle.syn_freed.proofs.Pointwise.{each_ref, at_ref, inside, refers_not_free, refers_some, gate_there, observes, none_observes, Observes, Closes, reached_in}
 use Rattle.syn_freed.proofs.Numbers.{one_if, sum_same, sum_both, sum_one, sum_apart, count_same, term_le_sum}
-use Rattle.syn_freed.proofs.Counts.{freed_from_counts}
+use Rattle.syn_freed.proofs.Counts.{is_and_gate, freed_from_counts}
 use Rattle.syn_freed.proofs.Kept.{any_below_at, any_below_some, saved_in_set}
 use Rattle.syn_freed.proofs.Existing.{reached_set, all_ands_reached}
 use Rattle.syn_freed.proofs.Replaced.{at_root, at_extra, replaced_length, order_within, lits_from, replaced_within, replaced_keeps, owned_inside}
@@ -241,7 +241,7 @@ pub saved_by_cone : (was : List Row) (observed : List Lit) (counts : ℕ → ℕ
 saved_by_cone was observed counts n row extra marks used dead away come there owned fits k by e f = (
   all_ands was,
   ands_in found.0 now,
-  all_ands_reached was observed (order_within was owned.order) (lits_from (length was) observed owned.within) owned.gates,
+  all_ands_reached was observed (order_within was owned.order) (lits_from (length was) observed owned.within) (λ m h. owned.gates m (is_and_gate (row_at was m) h)),
   (found.0, found.1, refl),
   difference_is (all_ands was) (ands_in found.0 now) away come (omega (arith, balance, e, f, lost_is was n dead there alive, added_is was n row extra marks there owned.full)),
 )

@@ -14,7 +14,6 @@ use Rattle.syn_rows.proofs.Reaches.{one_ands_is}
 use Rattle.syn_rows.proofs.Walks.{marks_fall, walk_begins, walk_skip, walk_mark, walk_done}
 use Rattle.syn_freed.specs.Laws.{AndsAreThere, SavedTells, AllAndsReached}
 use Rattle.syn_freed.proofs.Numbers.{one_if, ands_count, sum_same}
-use Rattle.syn_freed.proofs.Counts.{is_and_gate}
 
 -- a list is empty, or has a last element
 by_last : (xs : List ℕ) → (xs ≡ []) ⊎ ((ys : List ℕ) × (y : ℕ) × (xs ≡ ys ++ y ∷ []))
@@ -78,6 +77,6 @@ all_ands_reached rows observed within lits reached = (found.0, found.1, ands_cou
 
     at : (p : ℕ) → one_if (is_and (row_at rows p) && found.0 p) ≡ one_if (is_and (row_at rows p))
     at p = elim (cases_Bool (is_and (row_at rows p))) [
-      | inl h ↦ ap one_if (and_from (is_and (row_at rows p)) (found.0 p) h (reached p (is_and_gate (row_at rows p) h) found.0 found.1.closed found.1.observes)) ∙ sym (ap one_if h)
+      | inl h ↦ ap one_if (and_from (is_and (row_at rows p)) (found.0 p) h (reached p h found.0 found.1.closed found.1.observes)) ∙ sym (ap one_if h)
       | inr h ↦ ap (λ t. one_if (t && found.0 p)) h ∙ sym (ap one_if h)
     ]

@@ -112,6 +112,20 @@ keeping_notes first row extra i marks after used next fits k here count more_mar
       | inr new ↦ absurd (omega (arith, at_ref (λ k. k < first + i) (row_at extra i) (fits.each i) (first + j) new, lt))
     ]
 
+-- the used nodes in another order
+pub keeping_sorted : (first : ℕ) (row : Row) (extra : List Row) (left : ℕ) (marks : List Bool) (used next : List ℕ)
+    → ((m : ℕ) → has m next ≡ has m used) → IsKeeping first row extra left marks used → IsKeeping first row extra left marks next
+keeping_sorted first row extra left marks used next same k = record {
+  count = k.count;
+  root = λ m r. still m (k.root m r);
+  done = λ i m le h r. still m (k.done i m le h r);
+  sound = k.sound;
+  using = λ m h. k.using m (sym (same m) ∙ h);
+}
+  where
+    still : (m : ℕ) → noted first marks used m ≡ true → noted first marks next m ≡ true
+    still m h = ap (λ t. if ltb m first then t else value_in marks (m - first)) (same m) ∙ h
+
 pub used_more : (used after : List ℕ) (node first : ℕ) → after ≡ used ++ node ∷ [] → node < first → (m : ℕ) → has m after ≡ (has m used || ((m == node) && ltb m first))
 used_more used after node first e lt m = ap (has m) e ∙ has-append m used (node ∷ []) ∙ ap (λ t. has m used || t) last
   where

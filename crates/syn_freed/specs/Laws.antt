@@ -4,7 +4,7 @@ use Rattle.syn_rows.specs.declared.Lit.{Lit}
 use Rattle.syn_rows.specs.declared.Row.{Row}
 use Rattle.syn_rows.specs.Rows.{row_at, refs_within, lits_within}
 use Rattle.syn_rows.specs.Values.{lit_value, RowFits, Fits}
-use Rattle.syn_rows.specs.Reach.{IsReachedSet, Reached, Ands, HasAnds}
+use Rattle.syn_rows.specs.Reach.{is_and, IsReachedSet, Reached, Ands, HasAnds}
 use Rattle.syn_rows.specs.References.{refs_by_rows, refs_by_literals, all_ands}
 use Rattle.syn_freed.specs.Freed.{is_free, is_gate, is_new, Keeps, RefersInside, IsReplacement, IsLocal, IsFreed, IsFreedByCount, SparesUsed, added, lost}
 use Rattle.syn_freed.specs.Saved.{IsSaved}
@@ -67,4 +67,4 @@ SavedTells =
 abbrev pub AllAndsReached : Type 0
 AllAndsReached =
     (rows : List Row) (observed : List Lit) → refs_within rows ≡ true → lits_within rows observed ≡ true
-    → ((m : ℕ) → is_gate (row_at rows m) ≡ true → Reached rows observed m) → Ands rows observed (all_ands rows)
+    → ((m : ℕ) → is_and (row_at rows m) ≡ true → Reached rows observed m) → Ands rows observed (all_ands rows)

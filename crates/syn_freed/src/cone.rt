@@ -1,6 +1,7 @@
 //! The rows that a replacement frees, found by counting references in the cone alone.
 
 ghost use Rattle.std.specs.Prelude.{◌≡◌, ℕ, ◌+◌, ◌*◌, ◌<◌, ◌≤◌, ◌^◌, ◌==◌, ◌&&◌, true, false, nat_le, length, if◌then◌else◌, IfOk, OnOk};
+ghost use Rattle.std.specs.List.Sorted.{IsNonDecreasing};
 ghost use Rattle.syn_rows.specs.Reach.{is_and};
 ghost use Rattle.syn_rows.specs.References.{and_count, refs};
 ghost use Rattle.syn_rows.specs.Rows.{InOrder, row_at};
@@ -29,15 +30,15 @@ fn add_references(row: Row, waiting: &mut Waiting) -> Result<(), AllocError>
     }
 }
 
+// Whether a node stands in a list in rising order.
 fn has_node(nodes: &[u32], node: u32) -> bool
+    requires { IsNonDecreasing nodes.now }
     ensures { result ≡ has node nodes.now }
 {
-    for other in nodes {
-        if *other == node {
-            return true;
-        }
+    match nodes.binary_search(&node) {
+        Ok(_) => true,
+        Err(_) => false,
     }
-    false
 }
 
 fn is_gate(row: Row) -> bool
@@ -60,7 +61,8 @@ pub fn and_count(row: Row) -> u32
 }
 
 fn may_be_freed(rows: &[Row], n: u32, used: &[u32], node: u32) -> bool
-    requires { node < length rows.now }
+    requires within { node < length rows.now }
+    requires rises { IsNonDecreasing used.now }
     ensures { result ≡ open_to rows.now n used.now node }
 {
     is_gate(rows[node as usize]) && !(node == n) && !has_node(used, node)
@@ -69,6 +71,7 @@ fn may_be_freed(rows: &[Row], n: u32, used: &[u32], node: u32) -> bool
 fn dies(rows: &[Row], counts: &[u32], n: u32, used: &[u32], node: u32, often: u128) -> bool
     requires within { node < length rows.now }
     requires same { length counts.now ≡ length rows.now }
+    requires rises { IsNonDecreasing used.now }
     ensures { result ≡ (nat_le (count_in counts.now node) often && open_to rows.now n used.now node) }
 {
     counts[node as usize] as u128 <= often && may_be_freed(rows, n, used, node)
@@ -94,6 +97,7 @@ pub fn freed(
     requires within { n < length rows.now }
     requires same { length counts.now ≡ length rows.now }
     requires order { InOrder rows.now }
+    requires rises { IsNonDecreasing used.now }
     requires referred { AllReferred rows.now (count_in counts.now) }
     ensures freed { IfOk result (λ f. IsFreedByCount rows.now (count_in counts.now) n (open_to rows.now n used.now) (λ m. has m f.nodes.items)) }
     ensures ands { IfOk result (λ f. f.ands ≡ ands_among rows.now f.nodes.items) }
@@ -129,6 +133,7 @@ fn settle(
     requires within { n < length rows.now }
     requires same { length counts.now ≡ length rows.now }
     requires order { InOrder rows.now }
+    requires rises { IsNonDecreasing used.now }
     requires taken { IsTaken rows.now (count_in counts.now) n (open_to rows.now n used.now) node often dead.old.nodes.items (waits_in waiting.old) }
     ensures freeing { OnOk result (IsFreeing rows.now (count_in counts.now) n (open_to rows.now n used.now) node dead.new.nodes.items (waits_in waiting.new)) }
     ensures ands { OnOk result (dead.new.ands ≡ ands_among rows.now dead.new.nodes.items) }

@@ -84,3 +84,59 @@ pub fn saved_near(
     let added = and_count(row) + marked_ands(extra, kept.marks.as_slice());
     Ok(difference(lost, added))
 }
+
+#[cfg(test)]
+mod tests {
+    use super::*;
+
+    // ab and ac over the sources a, b, c, and the AND of their complements.
+    const ROWS: [Row; 7] = [
+        Row::Source,
+        Row::Source,
+        Row::Source,
+        Row::Source,
+        Row::And(Lit(2), Lit(4)),
+        Row::And(Lit(2), Lit(6)),
+        Row::And(Lit(9), Lit(11)),
+    ];
+
+    // The last row replaced by a and (b or c).
+    const ROW: Row = Row::And(Lit(2), Lit(15));
+
+    const EXTRA: [Row; 1] = [Row::And(Lit(5), Lit(7))];
+
+    const AFTER: [Row; 8] = [
+        Row::Source,
+        Row::Source,
+        Row::Source,
+        Row::Source,
+        Row::And(Lit(2), Lit(4)),
+        Row::And(Lit(2), Lit(6)),
+        Row::And(Lit(2), Lit(15)),
+        Row::And(Lit(5), Lit(7)),
+    ];
+
+    #[test]
+    fn sweeps_count_what_goes_and_what_stays(rt: HostRuntime) -> Result<(), AllocError> {
+        // ab and ac go
+        assert_eq!(rt; saved_by_sweeps(rt.alloc(), &ROWS, &AFTER, &[Lit(13)])?, 1);
+        // they are observed and stay
+        assert_eq!(rt;
+            saved_by_sweeps(rt.alloc(), &ROWS, &AFTER, &[Lit(13), Lit(8), Lit(10)])?,
+            -1
+        );
+        Ok(())
+    }
+
+    #[test]
+    fn the_cone_gives_the_same(rt: HostRuntime) -> Result<(), AllocError> {
+        let counts = [0, 2, 1, 1, 1, 1, 1];
+        let saved = saved_near(rt.alloc(), &ROWS, &counts, &[Lit(13)], 6, ROW, &EXTRA)?;
+        assert_eq!(rt; saved, 1);
+        let counts = [0, 2, 1, 1, 2, 2, 1];
+        let observed = [Lit(13), Lit(8), Lit(10)];
+        let saved = saved_near(rt.alloc(), &ROWS, &counts, &observed, 6, ROW, &EXTRA)?;
+        assert_eq!(rt; saved, -1);
+        Ok(())
+    }
+}

@@ -48,7 +48,7 @@ returns c =
     (saved_by_cone c.args.was.now c.args.observed.now (count_in c.args.counts.now) c.args.n c.args.row c.args.extra.now
     c.in_ok-kept.kept.marks.items c.in_ok-kept.kept.used.items dead
     (c.and_count.result + c.in_ok-dead.dead.ands) (c.and_count-2.result + c.marked_ands.result)
-    c.requires.there c.requires.owned c.requires.extra c.in_ok-kept.ensures free
+    c.requires.there c.requires.owned c.requires.extra c.in_ok-kept.ensures.keeping free
     (ap₂ (λ a b. a + b) c.and_count.ensures c.in_ok-dead.ensures.ands)
     (ap₂ (λ a b. a + b) c.and_count-2.ensures
     (c.marked_ands.ensures ∙ ap (λ (l : List Bool). count_below (length c.args.extra.now) (λ m. is_and (row_at c.args.extra.now m) && value_in l m)) c.as_slice-2.ensures)))
