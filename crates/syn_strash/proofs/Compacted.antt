@@ -8,8 +8,8 @@ use Rattle.syn_rows.specs.declared.Row.{Row}
 use Rattle.syn_rows.specs.declared.Row.TheVariants.{Free, Source, And, Alias}
 use Rattle.syn_rows.specs.Rows.{node_of, row_at, AllRefs, InOrder, Rises}
 use Rattle.syn_rows.specs.Values.{given_by, OneValuation, row_value, RowFits, value_in, values_of}
-use Rattle.syn_rows.specs.Levels.{level_in, levels_of}
-use Rattle.syn_rows.proofs.Folds.{AllRefs-weaker, one_levels_is, row_value-local}
+use Rattle.syn_rows.specs.Levels.{HasLevels, level_in, levels_of, row_level}
+use Rattle.syn_rows.proofs.Folds.{AllRefs-weaker, IsLocal, one_levels_is, row_level-local, row_value-local}
 use Rattle.syn_shapes.specs.Graphs.{IsHashed}
 use Rattle.syn_strash.specs.Compacting.{CanCompact, HasValuation, IsCompacted, IsCompaction, IsThere}
 use Rattle.syn_strash.specs.Visiting.{IsMadeAgain}
@@ -79,17 +79,27 @@ hashed_can_compact count rows lits hashed within = record {
     order : InOrder rows
     order = hashed_in_order count rows hashed
 
--- Values by rank: the value of a node, where all that it needs lies so many references below at most.
-abbrev value_to : (ℕ → Bool) → List Row → ℕ → ℕ → Bool
-value_to given rows zero n = false
-value_to given rows (suc k) n = row_value given (value_to given rows k) n (row_at rows n)
+-- What is computed for each node by steps that look at nothing but the nodes that its row refers to, where all that it needs lies at most so many references below.
+abbrev step_to : {A : Type 0} → ((ℕ → A) → ℕ → Row → A) → A → List Row → ℕ → ℕ → A
+step_to step d rows zero n = d
+step_to step d rows (suc k) n = step (step_to step d rows k) n (row_at rows n)
 
-value_stands : (given : ℕ → Bool) (rows : List Row) (rank : ℕ → ℕ) → Rises rows rank → (j k n : ℕ) → rank n < j → rank n < k → value_to given rows j n ≡ value_to given rows k n
-value_stands given rows rank rises zero k n low high = absurd (omega arith)
-value_stands given rows rank rises (suc j) zero n low high = absurd (omega arith)
-value_stands given rows rank rises (suc j) (suc k) n low high =
-    row_value-local given (value_to given rows j) (value_to given rows k) n (row_at rows n)
-    (AllRefs-weaker (λ m. rank m < rank n) (λ m. value_to given rows j m ≡ value_to given rows k m) (λ m under. value_stands given rows rank rises j k m (omega arith) (omega arith)) (row_at rows n) (rises n))
+step_stands : {A : Type 0} (step : (ℕ → A) → ℕ → Row → A) (d : A) → IsLocal step → (rows : List Row) (rank : ℕ → ℕ) → Rises rows rank → (j k n : ℕ) → rank n < j → rank n < k → step_to step d rows j n ≡ step_to step d rows k n
+step_stands step d local rows rank rises zero k n low high = absurd (omega arith)
+step_stands step d local rows rank rises (suc j) zero n low high = absurd (omega arith)
+step_stands step d local rows rank rises (suc j) (suc k) n low high =
+    local (step_to step d rows j) (step_to step d rows k) n (row_at rows n)
+    (AllRefs-weaker (λ m. rank m < rank n) (λ m. step_to step d rows j m ≡ step_to step d rows k m) (λ m under. step_stands step d local rows rank rises j k m (omega arith) (omega arith)) (row_at rows n) (rises n))
+
+-- where some rank rises, the steps have a solution
+solution : {A : Type 0} (step : (ℕ → A) → ℕ → Row → A) (d : A) → IsLocal step → (rows : List Row) (rank : ℕ → ℕ) → Rises rows rank → (f : ℕ → A) × ((n : ℕ) → f n ≡ step f n (row_at rows n))
+solution step d local rows rank rises = (
+  λ n. step_to step d rows (suc (rank n)) n,
+  λ n.
+      local (step_to step d rows (rank n)) (λ m. step_to step d rows (suc (rank m)) m) n (row_at rows n)
+      (AllRefs-weaker (λ m. rank m < rank n) (λ m. step_to step d rows (rank n) m ≡ step_to step d rows (suc (rank m)) m)
+      (λ m under. step_stands step d local rows rank rises (rank n) (suc (rank m)) m under (omega arith)) (row_at rows n) (rises n)),
+)
 
 fits_row : (given v : ℕ → Bool) (n : ℕ) (row : Row) → v n ≡ row_value given v n row → RowFits v n row
 fits_row given v n Free e = tt
@@ -98,17 +108,16 @@ fits_row given v n (And a b) e = e
 fits_row given v n (Alias a) e = e
 
 pub has_valuation_is : (count : ℕ) (rows : List Row) (lits : List Lit) → CanCompact count rows lits → HasValuation count rows
-has_valuation_is count rows lits can given at_0 = (v, record { constant = sources 0 (omega arith) ∙ at_0; each = λ n. fits_row given v n (row_at rows n) (step n) }, sources)
+has_valuation_is count rows lits can given at_0 = (v, record { constant = sources 0 (omega arith) ∙ at_0; each = λ n. fits_row given v n (row_at rows n) (found.1 n) }, sources)
   where
-    rank : ℕ → ℕ
-    rank = can.acyclic.0
+    found : (f : ℕ → Bool) × ((n : ℕ) → f n ≡ row_value given f n (row_at rows n))
+    found = solution (row_value given) false (row_value-local given) rows can.acyclic.0 can.acyclic.1
 
     v : ℕ → Bool
-    v n = value_to given rows (suc (rank n)) n
-
-    step : (n : ℕ) → v n ≡ row_value given v n (row_at rows n)
-    step n = row_value-local given (value_to given rows (rank n)) v n (row_at rows n)
-        (AllRefs-weaker (λ m. rank m < rank n) (λ m. value_to given rows (rank n) m ≡ v m) (λ m under. value_stands given rows rank can.acyclic.1 (rank n) (suc (rank m)) m under (omega arith)) (row_at rows n) (can.acyclic.1 n))
+    v = found.0
 
     sources : (n : ℕ) → n < count + 1 → v n ≡ given n
-    sources n lt = step n ∙ ap (row_value given v n) (can.front n lt)
+    sources n lt = found.1 n ∙ ap (row_value given v n) (can.front n lt)
+
+pub has_level_is : (count : ℕ) (rows : List Row) (lits : List Lit) → CanCompact count rows lits → (level : ℕ → ℕ) × HasLevels rows level
+has_level_is count rows lits can = solution row_level 0 row_level-local rows can.acyclic.0 can.acyclic.1

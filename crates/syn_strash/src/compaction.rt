@@ -188,6 +188,11 @@ pub fn has_valuation()
     ensures { (count : ℕ) (rows : List Row) (lits : List Lit) → CanCompact count rows lits → HasValuation count rows }
 {}
 
+/// Rows that can be compacted have levels.
+pub fn has_level()
+    ensures { (count : ℕ) (rows : List Row) (lits : List Lit) → CanCompact count rows lits → (level : ℕ → ℕ) × HasLevels rows level }
+{}
+
 /// The graph of the rows that the observed literals reach, one for each observed signal of the frame, in their order. The
 /// rows may stand in any order, with aliases, free rows and rows that nothing reaches among them. The only error is want
 /// of memory.

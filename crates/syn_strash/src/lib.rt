@@ -6,5 +6,5 @@ mod finishing;
 mod strash;
 mod visit;
 
-pub use compaction::{Rows, compact, compact_hashed, compact_rows, has_valuation};
+pub use compaction::{Rows, compact, compact_hashed, compact_rows, has_level, has_valuation};
 pub use strash::{FALSE, Hashed, TRUE};
