@@ -5,6 +5,8 @@
 #![tactic(auto)]
 
 #[cfg(test)]
+mod proposals;
+#[cfg(test)]
 mod tables;
 #[cfg(test)]
 mod tests;
