@@ -5,8 +5,6 @@
 #![tactic(auto)]
 
 #[cfg(test)]
-mod proposals;
-#[cfg(test)]
 mod tables;
 #[cfg(test)]
 mod tests;
