@@ -1,11 +1,9 @@
-//! Calls on graphs of worked netlists.
+//! Calls on the graph of a worked netlist.
 //!
-//! Nothing here is for other crates: the tests read small texts, build their graphs, and compare the answers of calls on
-//! them with values worked by hand.
+//! Nothing here is for other crates: the tests read a small text, build its graph, and compare the answers of calls on
+//! it with values worked by hand.
 #![tactic(auto)]
 
-#[cfg(test)]
-mod proposals;
 #[cfg(test)]
 mod tables;
 #[cfg(test)]

@@ -8,7 +8,7 @@ use Rattle.syn_cuts.specs.Cones.{IsCut, IsTruthOver}
 use Rattle.syn_gain.specs.declared.proposals.Proposal.{Proposal}
 use Rattle.syn_gain.specs.Proposals.{leaf_values}
 use Rattle.syn_apply.specs.Sound.{IsSound, PlanComputes}
-use Rattle.syn_calls.proofs.proposals.factored.Goals as goal
+use Rattle.syn_proposed.proofs.tests.factored.Goals as goal
 
 -- a proposal of a plan that has a function's values, over the leaves of a cut
 sound_over : (rows : List Row) (p : Proposal) (node : ℕ) (cut : List ℕ) (t : Truth) (plan : Plan) → ((xs : List Bool) → leaf_values (length xs) xs ≡ xs)
