@@ -5,13 +5,13 @@ use Rattle.syn_rows.specs.declared.Row.{Row}
 use Rattle.syn_rows.specs.declared.Row.TheVariants.{Free, Source, And, Alias}
 use Rattle.syn_rows.specs.References.{refs, hits, times}
 use Rattle.syn_rows.specs.Rows.{node_of}
-use Rattle.syn_core.specs.declared.View.{View}
-use Rattle.syn_core.specs.Lists.{look}
+use Rattle.syn_core_laws.specs.declared.View.{View}
+use Rattle.syn_core_laws.specs.Lists.{look}
 use Rattle.syn_core.specs.Conditions.{refers_by, any_node, is_served}
-use Rattle.syn_core.specs.Views.{known_row}
-use Rattle.syn_core.specs.Events.{Refers, MayRedefine}
-use Rattle.syn_core.proofs.Listing.{or_cases, or_left, or_right, and_left, and_right, and_both}
-use Rattle.syn_core.proofs.Counting.{hits_other, hits_same}
+use Rattle.syn_core_laws.specs.Views.{known_row}
+use Rattle.syn_core_laws.specs.Events.{Refers, MayRedefine}
+use Rattle.syn_core_laws.proofs.Listing.{or_cases, or_left, or_right, and_left, and_right, and_both}
+use Rattle.syn_core_laws.proofs.Counting.{hits_other, hits_same}
 
 -- a node of which a row is told stands in the list
 told_there : (p : ℕ → Bool) (m : ℕ) (r : Row) (xs : List (ℕ × Row)) → look m xs ≡ Some r → p m ≡ true → any_node p xs ≡ true

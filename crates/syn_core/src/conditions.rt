@@ -5,11 +5,11 @@ ghost use Rattle.syn_rows.specs.declared.Row.{Row};
 ghost use Rattle.syn_rows.specs.declared.Row.TheVariants as RowIs;
 ghost use Rattle.syn_rows.specs.References.{refs};
 ghost use Rattle.syn_rows.specs.Rows.{AllRefs, refs_of};
-ghost use Rattle.syn_core.specs.Lists.{has, look};
-ghost use Rattle.syn_core.specs.Views.{is_gate, is_mine, known_row, known_key, own_pins, pins_after};
+ghost use Rattle.syn_core_laws.specs.Lists.{has, look};
+ghost use Rattle.syn_core_laws.specs.Views.{is_gate, is_mine, known_row, known_key, own_pins, pins_after};
 ghost use Rattle.syn_core.specs.Conditions.{refers_by, any_node, is_served};
-ghost use Rattle.syn_core.specs.Events.{Refers, KnowsUsed, MayPin, KeyBelow, MayRest, MayRedefine, MayFree, IsAnd};
-ghost use Rattle.syn_core.specs.SameValue.{SameValue};
+ghost use Rattle.syn_core_laws.specs.Events.{Refers, KnowsUsed, MayPin, KeyBelow, MayRest, MayRedefine, MayFree, IsAnd};
+ghost use Rattle.syn_core_laws.specs.SameValue.{SameValue};
 
 use crate::lists::{has, look, refs, times, with_each, without_each};
 use crate::places::{Place, is_gate};

@@ -1,8 +1,8 @@
 use Rattle.std.proofs.Common.{rules, ◌≡◌, Decides, Some}
 use Rattle.std.proofs.lemmas.Result.{IfOk-weaker}
 use Rattle.syn_rows.specs.declared.Row.{Row}
-use Rattle.syn_core.specs.Events.{MayRedefine}
-use Rattle.syn_core.specs.Views.{known_row}
+use Rattle.syn_core_laws.specs.Events.{MayRedefine}
+use Rattle.syn_core_laws.specs.Views.{known_row}
 use Rattle.syn_core.proofs.Testing.{decides_redefine}
 use Rattle.syn_core.proofs.places.Place.may_redefine.Goals as goal
 

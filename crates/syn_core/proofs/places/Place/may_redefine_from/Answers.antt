@@ -1,6 +1,6 @@
 use Rattle.std.proofs.Common.{Decides}
 use Rattle.std.proofs.lemmas.Result.{IfOk-weaker}
-use Rattle.syn_core.specs.Events.{MayRedefine}
+use Rattle.syn_core_laws.specs.Events.{MayRedefine}
 use Rattle.syn_core.proofs.places.Place.may_redefine_from.Goals as goal
 
 pub returns : goal.returns

@@ -1,8 +1,8 @@
 use Rattle.std.proofs.Common.{Decides}
 use Rattle.std.proofs.lemmas.Result.{IfOk-weaker}
 use Rattle.syn_rows.specs.declared.Row.{Row}
-use Rattle.syn_core.specs.Events.{MayRedefine}
-use Rattle.syn_core.specs.Openings.{view_at}
+use Rattle.syn_core_laws.specs.Events.{MayRedefine}
+use Rattle.syn_core_laws.specs.Openings.{view_at}
 use Rattle.syn_core.proofs.Testing.{decides_redefine_in}
 use Rattle.syn_core.proofs.states.State.may_redefine.Goals as goal
 
