@@ -234,7 +234,7 @@ impl State {
         ensures { IsTrue result ↔ MayAt self.now seat (Kind.Make node row) }
     {
         let view = self.view(seat);
-        view.knows_free(node) && is_and(row) && view.may_rest(node, row)
+        view.knows_free(node) && is_and(row) && view.may_rest(self.key(node), row)
     }
 
     fn step_make(&mut self, seat: usize, node: u32, row: Row) -> Result<(), StepFault>
@@ -263,7 +263,7 @@ impl State {
         ensures { IfOk result (λ b. IsTrue b ↔ MayAt self.now seat (Kind.Redefine node row over.now)) }
     {
         self.view(seat)
-            .may_redefine(self.alloc, node, row, over.as_slice())
+            .may_redefine(self.alloc, node, self.key(node), row, over.as_slice())
     }
 
     fn step_redefine(

@@ -8,5 +8,6 @@ pub mod Storing
 pub mod Laws
 pub mod Starting
 pub mod Within
+pub mod Showing
 pub mod Splitting
 pub mod Valuing

@@ -6,13 +6,13 @@ use mathlib.Core.Option.{some}
 use lib.ListN.{get_elem?}
 use Rattle.syn_rows.specs.declared.Row.{Row}
 use Rattle.syn_rows.specs.declared.Row.TheVariants.{Free, Source, And, Alias}
-use Rattle.syn_rows.specs.Rows.{row_at}
+use Rattle.syn_rows.specs.Rows.{row_at, is_derived}
 use Rattle.syn_rows.specs.References.{hits, times, refs, refs_by_rows}
 use Rattle.syn_core_laws.specs.declared.View.{View}
 use Rattle.syn_core_laws.specs.Lists.{has, without_one, look}
-use Rattle.syn_core_laws.specs.Views.{is_gate, is_gate_known, is_mine, known_row, refs_known, own_refs, own_pins, differs, is_sole, pinned, unpinned, count_loaded, key_loaded}
+use Rattle.syn_core_laws.specs.Views.{is_derived_known, is_mine, known_row, refs_known, own_refs, own_pins, differs, is_sole, pinned, unpinned, count_loaded, key_loaded}
 use Rattle.syn_core_laws.specs.Cores.{Core}
-use Rattle.syn_core_laws.specs.Sound.{KnowsGate, IsSeatSound, IsSound}
+use Rattle.syn_core_laws.specs.Sound.{KnowsDerived, IsSeatSound, IsSound}
 use Rattle.syn_core_laws.specs.Events.{sits, count_stored, MayPin}
 use Rattle.syn_core_laws.proofs.Listing.{and_left, and_right, or_cases, or_left, or_right, other_is, has_more, has_cases, has_only, look_here, look_there, kept_look, number_there}
 use Rattle.syn_core_laws.proofs.Counting.{sum_at, hits_same, hits_other, times_has, times_less, length_less, pins_at}
@@ -40,7 +40,7 @@ other_count claims rows counts keys u n x free t = record {
       (was.0, was.1, get_or-set_other counts n m x 0 (λ same. free.sole (subst (λ k. has k u.sole ≡ true) same e)) ∙ was.2);
 }
 
-gate_is_used : (r : Row) → is_gate r ≡ true → r ≢ Source
+gate_is_used : (r : Row) → is_derived r ≡ true → r ≢ Source
 gate_is_used Free h e = absurd (cc)
 gate_is_used Source h e = absurd (cc)
 gate_is_used (And a b) h e = absurd (cc)
@@ -199,31 +199,31 @@ module _ (c : Core) (id : ℕ) (v : View) (s : IsSound c) (at : get_elem? c.seat
       }
     where
       old_idle : (n m count : ℕ) → count ≡ get_or c.counts n 0 → 1 ≤ count → ((k : ℕ) → k ≢ n → get_or (set c.counts n (count - 1)) k 0 ≡ get_or c.counts k 0)
-          → IsSeatSound c.claims c.rows c.counts c.keys v → has m v.idle ≡ true → KnowsGate v m × (get_or (set c.counts n (count - 1)) m 0 ≡ 0)
+          → IsSeatSound c.claims c.rows c.counts c.keys v → has m v.idle ≡ true → KnowsDerived v m × (get_or (set c.counts n (count - 1)) m 0 ≡ 0)
       old_idle n m count is le there t e =
           let was = t.idles m e in
           (was.0, there m (λ same. let zero_there : get_or c.counts n 0 ≡ 0 = ap (λ k. get_or c.counts k 0) (sym same) ∙ was.1 in absurd (omega arith)) ∙ was.1)
 
-      new_idle : (n m count : ℕ) (r : Row) (g : Bool) → is_gate r ≡ g → count ≡ get_or c.counts n 0 → known_row v n ≡ Some r → nat_eq count 1 ≡ true → 1 ≤ count
+      new_idle : (n m count : ℕ) (r : Row) (g : Bool) → is_derived r ≡ g → count ≡ get_or c.counts n 0 → known_row v n ≡ Some r → nat_eq count 1 ≡ true → 1 ≤ count
           → get_or (set c.counts n (count - 1)) n 0 ≡ count - 1 → ((k : ℕ) → k ≢ n → get_or (set c.counts n (count - 1)) k 0 ≡ get_or c.counts k 0)
           → IsSeatSound c.claims c.rows c.counts c.keys v
-          → has m (if g then n ∷ v.idle else v.idle) ≡ true → KnowsGate v m × (get_or (set c.counts n (count - 1)) m 0 ≡ 0)
+          → has m (if g then n ∷ v.idle else v.idle) ≡ true → KnowsDerived v m × (get_or (set c.counts n (count - 1)) m 0 ≡ 0)
       new_idle n m count r false eg is eo eb le here there t e = old_idle n m count is le there t e
       new_idle n m count r true eg is eo eb le here there t e = elim (has_cases m n v.idle e) [
         | inl same ↦
             let one : count ≡ 1 = eqb-true count 1 eb in
             let none : get_or (set c.counts n (count - 1)) n 0 ≡ 0 = omega arith in
-            (subst (λ k. KnowsGate v k) (sym same) (r, eo, eg), ap (λ k. get_or (set c.counts n (count - 1)) k 0) same ∙ none)
+            (subst (λ k. KnowsDerived v k) (sym same) (r, eo, eg), ap (λ k. get_or (set c.counts n (count - 1)) k 0) same ∙ none)
         | inr was ↦ old_idle n m count is le there t was
       ]
 
       unpin_idles : (n m count : ℕ) → count ≡ get_or c.counts n 0 → (o : Option Row) → known_row v n ≡ o → (b : Bool) → nat_eq count 1 ≡ b → 1 ≤ count
           → get_or (set c.counts n (count - 1)) n 0 ≡ count - 1 → ((k : ℕ) → k ≢ n → get_or (set c.counts n (count - 1)) k 0 ≡ get_or c.counts k 0)
           → IsSeatSound c.claims c.rows c.counts c.keys v
-          → has m (if b && is_gate_known o then n ∷ v.idle else v.idle) ≡ true → KnowsGate v m × (get_or (set c.counts n (count - 1)) m 0 ≡ 0)
+          → has m (if b && is_derived_known o then n ∷ v.idle else v.idle) ≡ true → KnowsDerived v m × (get_or (set c.counts n (count - 1)) m 0 ≡ 0)
       unpin_idles n m count is o eo false eb le here there t e = old_idle n m count is le there t e
       unpin_idles n m count is None eo true eb le here there t e = old_idle n m count is le there t e
-      unpin_idles n m count is (Some r) eo true eb le here there t e = new_idle n m count r (is_gate r) refl is eo eb le here there t e
+      unpin_idles n m count is (Some r) eo true eb le here there t e = new_idle n m count r (is_derived r) refl is eo eb le here there t e
 
   -- the count of a held node is loaded
   pub load_count_sound : (n : ℕ) → has n v.held ≡ true → IsSound (sits c id (count_loaded (length c.rows) v n (get_or c.counts n 0)))

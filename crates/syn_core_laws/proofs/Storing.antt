@@ -7,15 +7,15 @@ use mathlib.Core.Option.{some}
 use lib.ListN.{get_elem?}
 use Rattle.syn_rows.specs.declared.Row.{Row}
 use Rattle.syn_rows.specs.declared.Row.TheVariants.{Free, Source, And, Alias}
-use Rattle.syn_rows.specs.Rows.{row_at, refs_of, AllRefs}
+use Rattle.syn_rows.specs.Rows.{row_at, refs_of, AllRefs, is_derived}
 use Rattle.syn_rows.specs.Values.{RowFits, Fits, SameSources}
 use Rattle.syn_rows.specs.References.{times, refs, and_count, all_ands, sum_below, refs_by_rows, refs_by_literals}
 use Rattle.syn_core_laws.specs.declared.View.{View}
 use Rattle.syn_core_laws.specs.declared.Change.{Change}
 use Rattle.syn_core_laws.specs.Lists.{has, only, without_each, look, kept}
-use Rattle.syn_core_laws.specs.Views.{is_gate, is_mine, known_row, known_key, refs_known, own_refs, differs, key_set, made, redefined, freed, pins_after}
+use Rattle.syn_core_laws.specs.Views.{is_mine, known_row, known_key, refs_known, own_refs, differs, key_set, made, redefined, freed, pins_after}
 use Rattle.syn_core_laws.specs.Cores.{Core, all_pins, differences}
-use Rattle.syn_core_laws.specs.Sound.{RowRests, KnowsGate, Agree, IsSeatSound, IsSound}
+use Rattle.syn_core_laws.specs.Sound.{RowRests, KnowsDerived, Agree, IsSeatSound, IsSound}
 use Rattle.syn_core_laws.specs.Events.{key_stored, row_stored, KeyBelow, MayRest, IsAnd}
 use Rattle.syn_core_laws.specs.SameValue.{SameValue}
 use Rattle.syn_core_laws.proofs.Listing.{or_cases, or_left, or_right, other_is, has_more, has_cases, has_only, look_here, look_there, kept_look, number_there}
@@ -125,7 +125,7 @@ module _ (c : Core) (id : ℕ) (v : View) (s : IsSound c) (at : get_elem? c.seat
       → ((x w : ℕ → Bool) → Fits (set c.rows n row) x → Fits c.opening w → SameSources c.opening x w → Agree c.observed x w)
       → pos (and_count row) +ℤ v.difference ≡ pos (and_count old) +ℤ difference
       → ((m k : ℕ) → look m told ≡ Some k → ((has m v.held || has m pins) ≡ true) × (get_or c.keys m 0 ≡ k))
-      → ((m : ℕ) → has m idle ≡ true → ((r : Row) × (look m ((n, row) ∷ v.rows) ≡ Some r) × (is_gate r ≡ true)) × (get_or c.counts m 0 ≡ 0))
+      → ((m : ℕ) → has m idle ≡ true → ((r : Row) × (look m ((n, row) ∷ v.rows) ≡ Some r) × (is_derived r ≡ true)) × (get_or c.counts m 0 ≡ 0))
       → length pins ≤ 512
       → IsSound (row_stored c id storing n row)
   store_sound unused rests move values sum keys idles few =
@@ -218,13 +218,13 @@ has_behind : (m : ℕ) (xs ys : List ℕ) → has m ys ≡ true → has m (xs ++
 has_behind m [] ys h = h
 has_behind m (x ∷ xs) ys h = has_more m x (xs ++ ys) (has_behind m xs ys h)
 
-gate_no_source : (r : Row) → is_gate r ≡ true → r ≢ Source
+gate_no_source : (r : Row) → is_derived r ≡ true → r ≢ Source
 gate_no_source Free h e = absurd (cc)
 gate_no_source Source h e = absurd (cc)
 gate_no_source (And a b) h e = absurd (cc)
 gate_no_source (Alias a) h e = absurd (cc)
 
-gate_no_free : (r : Row) → is_gate r ≡ true → r ≢ Free
+gate_no_free : (r : Row) → is_derived r ≡ true → r ≢ Free
 gate_no_free Free h e = absurd (cc)
 gate_no_free Source h e = absurd (cc)
 gate_no_free (And a b) h e = absurd (cc)
@@ -240,15 +240,14 @@ module _ (c : Core) (id : ℕ) (v : View) (s : IsSound c) (at : get_elem? c.seat
       go false is h = ((s.seats id v at).knows_keys m k h).1
 
   -- the row's nodes are there, with smaller keys
-  may_rests : (n : ℕ) (row : Row) → MayRest v n row → RowRests c.rows c.keys n row
+  may_rests : (n : ℕ) (row : Row) → MayRest v (get_or c.keys n 0) row → RowRests c.rows c.keys n row
   may_rests n row may =
-      all_refs (KeyBelow v may.1) (λ m. (row_at c.rows m ≢ Free) × (get_or c.keys m 0 < get_or c.keys n 0)) row
+      all_refs (KeyBelow v (get_or c.keys n 0)) (λ m. (row_at c.rows m ≢ Free) × (get_or c.keys m 0 < get_or c.keys n 0)) row
       (λ m one below.
       let pinned_there : 1 ≤ get_or c.counts m 0 = pins_count c id v s at m (has_times m v.pins (omega (arith, may.0 m))) in
       let theirs : get_or c.keys m 0 ≡ below.0 = key_is m below.0 below.1 in
-      let ours : get_or c.keys n 0 ≡ may.1 = key_is n may.1 may.2 in
       ((λ free. let none : get_or c.counts m 0 ≡ 0 = s.unused m free in absurd (omega arith)), omega (arith, below.2)))
-      may.3
+      may.1
 
   -- all rows rest on what is there after a row that isn't free is stored
   rests_after : (n : ℕ) (row : Row) → n < length c.rows → row ≢ Free → RowRests c.rows c.keys n row → (i : ℕ) → RowRests (set c.rows n row) c.keys i (row_at (set c.rows n row) i)
@@ -268,21 +267,21 @@ module _ (c : Core) (id : ℕ) (v : View) (s : IsSound c) (at : get_elem? c.seat
         | inr ne ↦ subst (λ r. RowRests (set c.rows n row) c.keys i r) (sym (get_or-set_other c.rows n i row Free ne)) (keeps i (row_at c.rows i) (s.rests i))
       ]
 
-  known_after : (n : ℕ) (row : Row) → is_gate row ≡ true → (m : ℕ) → KnowsGate v m → (r : Row) × (look m ((n, row) ∷ v.rows) ≡ Some r) × (is_gate r ≡ true)
+  known_after : (n : ℕ) (row : Row) → is_derived row ≡ true → (m : ℕ) → KnowsDerived v m → (r : Row) × (look m ((n, row) ∷ v.rows) ≡ Some r) × (is_derived r ≡ true)
   known_after n row gate m was = elim (cases_eq m n) [
     | inl same ↦ (row, subst (λ z. look z ((n, row) ∷ v.rows) ≡ Some row) (sym same) (look_here n row v.rows), gate)
     | inr ne ↦ (was.0, look_there m n row v.rows ne ∙ was.1, was.2)
   ]
 
   -- an `And` row is stored into a free node
-  pub make_sound : (n : ℕ) (row : Row) → known_row v n ≡ Some Free → IsAnd row → MayRest v n row → IsSound (row_stored c id (made v n row) n row)
+  pub make_sound : (n : ℕ) (row : Row) → known_row v n ≡ Some Free → IsAnd row → MayRest v (get_or c.keys n 0) row → IsSound (row_stored c id (made v n row) n row)
   make_sound n row known is_and may =
       let t : IsSeatSound c.claims c.rows c.counts c.keys v = s.seats id v at in
       let mine : has n v.held ≡ true = (t.knows_rows n Free known).0 in
       let free : row_at c.rows n ≡ Free = (t.knows_rows n Free known).1 in
       let inside : n < length c.rows = held_there c id v s at n mine in
       let is : row ≡ And is_and.0 is_and.1 = is_and.2 in
-      let gate : is_gate row ≡ true = ap is_gate is in
+      let gate : is_derived row ≡ true = ap is_derived is in
       let one_more : and_count row ≡ 1 = ap and_count is in
       store_sound c id v s at small n Free row known (λ e. absurd (cc)) (gate_no_source row gate)
       (without_each (refs_of row) v.pins) (kept (is_mine (record v { pins = without_each (refs_of row) v.pins })) v.keys) (n ∷ v.idle) v.changes (v.difference +ℤ pos 1)
@@ -311,7 +310,7 @@ module _ (c : Core) (id : ℕ) (v : View) (s : IsSound c) (at : get_elem? c.seat
       make_sum r x e = omega (arith, ints)
 
   -- a row is stored in the place of another of the same value
-  pub redefine_sound : (n : ℕ) (old row : Row) (over : List ℕ) → known_row v n ≡ Some old → is_gate old ≡ true → is_gate row ≡ true → MayRest v n row
+  pub redefine_sound : (n : ℕ) (old row : Row) (over : List ℕ) → known_row v n ≡ Some old → is_derived old ≡ true → is_derived row ≡ true → MayRest v (get_or c.keys n 0) row
       → length (pins_after v old row) ≤ 512 → SameValue v over old row → IsSound (row_stored c id (redefined v n old row) n row)
   redefine_sound n old row over known was_gate gate may room same_value =
       let t : IsSeatSound c.claims c.rows c.counts c.keys v = s.seats id v at in
@@ -339,7 +338,7 @@ module _ (c : Core) (id : ℕ) (v : View) (s : IsSound c) (at : get_elem? c.seat
       redefine_sum : (r o : ℕ) (x : ℤ) → pos r +ℤ x ≡ pos o +ℤ ((x +ℤ pos r) -ℤ pos o)
       redefine_sum r o x = omega (arith, ints)
 
-      old_fits : (n : ℕ) (old row : Row) (over : List ℕ) → known_row v n ≡ Some old → row_at c.rows n ≡ old → n < length c.rows → MayRest v n row → SameValue v over old row
+      old_fits : (n : ℕ) (old row : Row) (over : List ℕ) → known_row v n ≡ Some old → row_at c.rows n ≡ old → n < length c.rows → MayRest v (get_or c.keys n 0) row → SameValue v over old row
           → (x : ℕ → Bool) → Fits (set c.rows n row) x → RowFits x n old
       old_fits n old row over known was_old inside may same_value x fits =
           let smaller : (k : ℕ) (r : Row) → RowRests c.rows c.keys k r → AllRefs (λ i. get_or c.keys i 0 < get_or c.keys k 0) r =
@@ -363,7 +362,7 @@ module _ (c : Core) (id : ℕ) (v : View) (s : IsSound c) (at : get_elem? c.seat
       let inside : n < length c.rows = held_there c id v s at n mine in
       let gone = t.idles n unused_there in
       let equal : old ≡ gone.0.0 = let y : Some old ≡ Some gone.0.0 = sym known ∙ gone.0.1 in cc in
-      let was_gate : is_gate old ≡ true = ap is_gate equal ∙ gone.0.2 in
+      let was_gate : is_derived old ≡ true = ap is_derived equal ∙ gone.0.2 in
       let none : get_or c.counts n 0 ≡ 0 = gone.1 in
       let here : row_at (set c.rows n Free) n ≡ Free = get_or-set_same c.rows n Free Free inside in
       let there : (m : ℕ) → m ≢ n → row_at (set c.rows n Free) m ≡ row_at c.rows m = λ m ne. get_or-set_other c.rows n m Free Free ne in

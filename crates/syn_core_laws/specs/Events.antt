@@ -5,13 +5,13 @@ use lib.ListN.{get_elem?}
 use Rattle.syn_rows.specs.declared.Row.{Row}
 use Rattle.syn_rows.specs.declared.Row.TheVariants.{Free, And}
 use Rattle.syn_rows.specs.declared.Lit.{Lit}
-use Rattle.syn_rows.specs.Rows.{row_at, AllRefs}
+use Rattle.syn_rows.specs.Rows.{row_at, AllRefs, is_derived}
 use Rattle.syn_rows.specs.References.{refs}
 use Rattle.syn_core_laws.specs.declared.View.{View}
 use Rattle.syn_core_laws.specs.declared.EventKind.TheVariants as Kind
 use Rattle.syn_core_laws.specs.declared.EventKind.{EventKind}
 use Rattle.syn_core_laws.specs.Lists.{has}
-use Rattle.syn_core_laws.specs.Views.{is_gate, is_mine, known_row, known_key, own_pins, pins_after, claimed, missed, released, row_loaded, pinned, unpinned, count_loaded, key_loaded, key_set, made, redefined, freed}
+use Rattle.syn_core_laws.specs.Views.{is_mine, known_row, known_key, own_pins, pins_after, claimed, missed, released, row_loaded, pinned, unpinned, count_loaded, key_loaded, key_set, made, redefined, freed}
 use Rattle.syn_core_laws.specs.Cores.{Core}
 use Rattle.syn_core_laws.specs.SameValue.{SameValue}
 
@@ -32,17 +32,17 @@ MayPin v n = (KnowsUsed v n ⊎ Refers v n) ⊎ (has n v.pins ≡ true)
 abbrev pub KeyBelow : View → ℕ → ℕ → Type 0
 KeyBelow v key m = (k : ℕ) × (known_key v m ≡ Some k) × (k < key)
 
--- the row's nodes are pinned, one pin for each place, and their known keys are below the node's known key
+-- the row's nodes are pinned, one pin for each place, and their known keys are below the given one
 abbrev pub MayRest : View → ℕ → Row → Type 0
-MayRest v n row = ((m : ℕ) → refs m row ≤ own_pins v m) × (key : ℕ) × (known_key v n ≡ Some key) × AllRefs (KeyBelow v key) row
+MayRest v key row = ((m : ℕ) → refs m row ≤ own_pins v m) × AllRefs (KeyBelow v key) row
 
 -- the row is an AND
 abbrev pub IsAnd : Row → Type 0
 IsAnd row = (a : Lit) × (b : Lit) × (row ≡ And a b)
 
--- what a redefine asks where the node's row is known as `old`: both rows are gates, the new one may rest on its nodes, at most 512 pins are left, and the two have the same value over at most 8 named nodes
-abbrev pub MayRedefine : View → ℕ → Row → List ℕ → Row → Type 0
-MayRedefine v n row over old = (known_row v n ≡ Some old) × (is_gate old ≡ true) × (is_gate row ≡ true) × MayRest v n row × (length (pins_after v old row) ≤ 512) × (length over ≤ 8) × SameValue v over old row
+-- what a redefine asks where the node has this key and its row is known as `old`: both rows are ANDs or aliases, the new one may rest on its nodes, at most 512 pins are left, and the two have the same value over at most 8 named nodes
+abbrev pub MayRedefine : View → ℕ → ℕ → Row → List ℕ → Row → Type 0
+MayRedefine v n key row over old = (known_row v n ≡ Some old) × (is_derived old ≡ true) × (is_derived row ≡ true) × MayRest v key row × (length (pins_after v old row) ≤ 512) × (length over ≤ 8) × SameValue v over old row
 
 -- what a free asks: the node is on the zero list, and at most 512 pins are left
 abbrev pub MayFree : View → ℕ → Type 0
@@ -59,8 +59,8 @@ May c v (Kind.Unpin n) = has n v.pins ≡ true
 May c v (Kind.LoadCount n) = has n v.held ≡ true
 May c v (Kind.LoadKey n) = is_mine v n ≡ true
 May c v (Kind.SetKey n key) = known_row v n ≡ Some Free
-May c v (Kind.Make n row) = (known_row v n ≡ Some Free) × IsAnd row × MayRest v n row
-May c v (Kind.Redefine n row over) = (old : Row) × MayRedefine v n row over.items old
+May c v (Kind.Make n row) = (known_row v n ≡ Some Free) × IsAnd row × MayRest v (slice_index c.keys n) row
+May c v (Kind.Redefine n row over) = (old : Row) × MayRedefine v n (slice_index c.keys n) row over.items old
 May c v (Kind.Free n) = MayFree v n
 
 -- the node of the event

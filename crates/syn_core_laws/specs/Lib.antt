@@ -4,6 +4,7 @@ pub mod Cores
 pub mod SameValue
 pub mod Events
 pub mod Sound
+pub mod Shown
 pub mod Runs
 pub mod Openings
 pub mod Splits

@@ -5,12 +5,12 @@ use lib.ListN.{get_elem?}
 use Rattle.syn_rows.specs.declared.Row.{Row}
 use Rattle.syn_rows.specs.declared.Row.TheVariants.{Free, Source}
 use Rattle.syn_rows.specs.declared.Lit.{Lit}
-use Rattle.syn_rows.specs.Rows.{row_at, AllRefs}
+use Rattle.syn_rows.specs.Rows.{row_at, AllRefs, is_derived}
 use Rattle.syn_rows.specs.Values.{lit_value, Fits, SameSources}
 use Rattle.syn_rows.specs.References.{refs_by_rows, refs_by_literals, all_ands}
 use Rattle.syn_core_laws.specs.declared.View.{View}
 use Rattle.syn_core_laws.specs.Lists.{has, look}
-use Rattle.syn_core_laws.specs.Views.{is_gate, is_mine, known_row, own_refs, own_pins}
+use Rattle.syn_core_laws.specs.Views.{is_mine, known_row, own_refs, own_pins}
 use Rattle.syn_core_laws.specs.Cores.{Core, all_pins, differences}
 
 -- each literal of the row goes to a node that is there, with a smaller key than n's
@@ -23,8 +23,8 @@ Agree [] v w = Unit {0}
 Agree (l ∷ ls) v w = (lit_value v l ≡ lit_value w l) × Agree ls v w
 
 -- the seat knows the node as `And` or `Alias`
-abbrev pub KnowsGate : View → ℕ → Type 0
-KnowsGate v n = (r : Row) × (known_row v n ≡ Some r) × (is_gate r ≡ true)
+abbrev pub KnowsDerived : View → ℕ → Type 0
+KnowsDerived v n = (r : Row) × (known_row v n ≡ Some r) × (is_derived r ≡ true)
 
 -- what is true of a seat, by the words
 pub record IsSeatSound (claims : List ℕ) (rows : List Row) (counts keys : List ℕ) (v : View) : Type 0 where
@@ -35,7 +35,7 @@ pub record IsSeatSound (claims : List ℕ) (rows : List Row) (counts keys : List
   pub knows_rows : (n : ℕ) (r : Row) → known_row v n ≡ Some r → (has n v.held ≡ true) × (row_at rows n ≡ r)
   pub knows_keys : (n k : ℕ) → look n v.keys ≡ Some k → (is_mine v n ≡ true) × (slice_index keys n ≡ k)
   -- a node on the zero list is held, known as `And` or `Alias`, and has count 0
-  pub idles : (n : ℕ) → has n v.idle ≡ true → KnowsGate v n × (slice_index counts n ≡ 0)
+  pub idles : (n : ℕ) → has n v.idle ≡ true → KnowsDerived v n × (slice_index counts n ≡ 0)
   -- at most 512 pins
   pub few : length v.pins ≤ 512
   -- a sole node is held and isn't node 0, and only this seat refers to it

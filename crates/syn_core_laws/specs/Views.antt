@@ -1,19 +1,12 @@
 -- What a seat knows, and its view after each event of its own.
 use Rattle.std.specs.Prelude.{ℕ, ◌+◌, ◌==◌, ◌&&◌, ◌||◌, not, Bool, true, false, if◌then◌else◌, List, [], ◌∷◌, ◌++◌, Option, Some, None, pos, ◌+ℤ◌, ◌-ℤ◌}
 use Rattle.syn_rows.specs.declared.Row.{Row}
-use Rattle.syn_rows.specs.declared.Row.TheVariants.{Free, Source, And, Alias}
-use Rattle.syn_rows.specs.Rows.{refs_of}
+use Rattle.syn_rows.specs.declared.Row.TheVariants.{Free}
+use Rattle.syn_rows.specs.Rows.{refs_of, is_derived}
 use Rattle.syn_rows.specs.References.{refs, times, and_count, sum_below}
 use Rattle.syn_core_laws.specs.declared.View.{View}
 use Rattle.syn_core_laws.specs.declared.Seen.TheVariants as Seen
 use Rattle.syn_core_laws.specs.Lists.{has, only, without_one, without_each, look, kept}
-
--- the row is an `And` or an `Alias`
-abbrev pub is_gate : Row → Bool
-is_gate Free = false
-is_gate Source = false
-is_gate (And a b) = true
-is_gate (Alias a) = true
 
 -- the seat holds the node or has it pinned
 abbrev pub is_mine : View → ℕ → Bool
@@ -41,9 +34,9 @@ abbrev pub own_pins : View → ℕ → ℕ
 own_pins v m = times m v.pins
 
 -- the row is known, as `And` or `Alias`
-abbrev pub is_gate_known : Option Row → Bool
-is_gate_known None = false
-is_gate_known (Some r) = is_gate r
+abbrev pub is_derived_known : Option Row → Bool
+is_derived_known None = false
+is_derived_known (Some r) = is_derived r
 
 -- keys are known of held or pinned nodes alone
 abbrev pub trimmed : View → View
@@ -79,7 +72,7 @@ pinned v n = record v { pins = n ∷ v.pins; idle = only (differs n) v.idle }
 
 -- the seat took a pin of the node back, and found this count: a gate that it knows joins the zero list where no reference is left
 abbrev pub unpinned : View → ℕ → ℕ → View
-unpinned v n count = trimmed (record v { pins = without_one n v.pins; idle = if (count == 1) && is_gate_known (known_row v n) then n ∷ v.idle else v.idle })
+unpinned v n count = trimmed (record v { pins = without_one n v.pins; idle = if (count == 1) && is_derived_known (known_row v n) then n ∷ v.idle else v.idle })
 
 -- the count is that of the seat's own references and pins alone; node 0 is never sole
 abbrev pub is_sole : ℕ → View → ℕ → ℕ → Bool

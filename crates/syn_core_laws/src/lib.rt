@@ -6,6 +6,7 @@ ghost use Rattle.syn_core_laws.specs.Bounds.{NodesAreThere, RowsPack, CountsFit}
 ghost use Rattle.syn_core_laws.specs.Events.{event_node};
 ghost use Rattle.syn_core_laws.specs.Openings.{OpeningsAreSound};
 ghost use Rattle.syn_core_laws.specs.Runs.{EventsKeepSound, RunsKeepSound, RunsStaySound, SoleCountsStay, SoleCountsStayAlong, SomeValuation, OneValuation};
+ghost use Rattle.syn_core_laws.specs.Shown.{SeatsAreShown, CountsCoverSeats};
 ghost use Rattle.syn_core_laws.specs.Splits.{SplitsKeepSound, JoinsKeepSound};
 ghost use Rattle.syn_core_laws.specs.Worked.{Worked};
 
@@ -193,6 +194,16 @@ pub fn rows_pack()
 /// A count of a sound core leaves room for one reference more.
 pub fn counts_fit()
     ensures { CountsFit }
+{}
+
+/// What each seat of a sound core shows by itself.
+pub fn seats_are_shown()
+    ensures { SeatsAreShown }
+{}
+
+/// A count of a sound core is at least each seat's own references and pins.
+pub fn counts_cover_seats()
+    ensures { CountsCoverSeats }
 {}
 
 /// The sources determine the value of each node that is there.

@@ -9,5 +9,5 @@ use Rattle.syn_core.proofs.places.Place.may_redefine.Goals as goal
 pub returns-in-Some : goal.returns-in-Some
 returns-in-Some c =
     let known : known_row c.args.self.now c.args.node ≡ Some c.in-Some.old = search rules in
-    IfOk-weaker c.may_redefine_from.result _ (λ b. Decides b ((old : Row) × MayRedefine c.args.self.now c.args.node c.args.row c.args.over.now old))
-    (λ b h. decides_redefine c.args.self.now c.args.node c.args.row c.args.over.now c.in-Some.old b known h) c.may_redefine_from.ensures
+    IfOk-weaker c.may_redefine_from.result _ (λ b. Decides b ((old : Row) × MayRedefine c.args.self.now c.args.node c.args.key c.args.row c.args.over.now old))
+    (λ b h. decides_redefine c.args.self.now c.args.node c.args.key c.args.row c.args.over.now c.in-Some.old b known h) c.may_redefine_from.ensures
