@@ -1,7 +1,7 @@
 //! Shared tables over the graph of the cone.
 
 ghost use Rattle.std.specs.Prelude.{◌≡◌, ◌<◌, [], true, length, IfSome};
-ghost use Rattle.syn_core.specs.Openings.{empty_view};
+ghost use Rattle.syn_core_laws.specs.Openings.{empty_view};
 ghost use Rattle.syn_calls.specs.Tables.{IsResting};
 ghost use Rattle.syn_table.specs.Seating.{IsOf, known_of, nodes_of, view_of};
 

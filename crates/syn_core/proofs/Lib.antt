@@ -1,15 +1,5 @@
-pub mod Listing
-pub mod Counting
-pub mod Seating
-pub mod Claiming
-pub mod Pinning
-pub mod Fitting
-pub mod Storing
-pub mod Laws
-pub mod Starting
 pub mod Testing
-pub mod Within
+pub mod Reading
+pub mod Replaying
 pub mod Spreading
 pub mod Telling
-pub mod Splitting
-pub mod Valuing

@@ -5,11 +5,11 @@ use Rattle.syn_rows.specs.declared.Row.{Row}
 use Rattle.syn_rows.specs.declared.Row.TheVariants.{Free, Source, And, Alias}
 use Rattle.syn_rows.specs.declared.Lit.{Lit}
 use Rattle.syn_rows.specs.Rows.{node_of}
-use Rattle.syn_core.specs.Lists.{has, look}
-use Rattle.syn_core.specs.SameValue.{turned_by, both, value_of_row, known_value, value_by, HasValue, SameFor, SameValue}
-use Rattle.syn_core.specs.declared.View.{View}
+use Rattle.syn_core_laws.specs.Lists.{has, look}
+use Rattle.syn_core_laws.specs.SameValue.{turned_by, both, value_of_row, known_value, value_by, HasValue, SameFor, SameValue}
+use Rattle.syn_core_laws.specs.declared.View.{View}
 use Rattle.syn_core.specs.Told.{IsTold, if_untold, new_value, IsFull, or_next, first_new, if_missing, untold, SameTold, Covers, Agrees, SameForAll}
-use Rattle.syn_core.proofs.Listing.{look_here, look_there}
+use Rattle.syn_core_laws.proofs.Listing.{look_here, look_there}
 
 -- ---- values of rows grow with those of nodes
 turned_more : (l : Lit) (o p : Option Bool) (b : Bool) → ((c : Bool) → o ≡ Some c → p ≡ Some c) → turned_by l o ≡ Some b → turned_by l p ≡ Some b

@@ -5,13 +5,13 @@ use Rattle.syn_rows.specs.declared.Row.{Row}
 use Rattle.syn_rows.specs.declared.Row.TheVariants.{Free, Source, And, Alias}
 use Rattle.syn_rows.specs.References.{refs, hits, times}
 use Rattle.syn_rows.specs.Rows.{node_of}
-use Rattle.syn_core.specs.declared.View.{View}
-use Rattle.syn_core.specs.Lists.{look}
+use Rattle.syn_core_laws.specs.declared.View.{View}
+use Rattle.syn_core_laws.specs.Lists.{look}
 use Rattle.syn_core.specs.Conditions.{refers_by, any_node, is_served}
-use Rattle.syn_core.specs.Views.{known_row}
-use Rattle.syn_core.specs.Events.{Refers, MayRedefine}
-use Rattle.syn_core.proofs.Listing.{or_cases, or_left, or_right, and_left, and_right, and_both}
-use Rattle.syn_core.proofs.Counting.{hits_other, hits_same}
+use Rattle.syn_core_laws.specs.Views.{known_row}
+use Rattle.syn_core_laws.specs.Events.{Refers, MayRedefine}
+use Rattle.syn_core_laws.proofs.Listing.{or_cases, or_left, or_right, and_left, and_right, and_both}
+use Rattle.syn_core_laws.proofs.Counting.{hits_other, hits_same}
 
 -- a node of which a row is told stands in the list
 told_there : (p : ℕ → Bool) (m : ℕ) (r : Row) (xs : List (ℕ × Row)) → look m xs ≡ Some r → p m ≡ true → any_node p xs ≡ true
@@ -87,13 +87,16 @@ pub decides_served_in : (pins own : List ℕ) (row : Row) (b : Bool) → pins �
 decides_served_in pins own row b e is = decides_served own row b (is ∙ ap (λ l. is_served l row) e)
 
 -- ---- whether a node may be redefined
-pub decides_redefine : (v : View) (n : ℕ) (row : Row) (over : List ℕ) (old : Row) (b : Bool) → known_row v n ≡ Some old → Decides b (MayRedefine v n row over old) → Decides b ((o : Row) × MayRedefine v n row over o)
-decides_redefine v n row over old b known h = (
+pub decides_redefine : (v : View) (n key : ℕ) (row : Row) (over : List ℕ) (old : Row) (b : Bool) → known_row v n ≡ Some old → Decides b (MayRedefine v n key row over old) → Decides b ((o : Row) × MayRedefine v n key row over o)
+decides_redefine v n key row over old b known h = (
   (λ yes. (old, h.0 yes)),
   (λ may.
       let same : may.0 ≡ old = let e : Some may.0 ≡ Some old = sym may.1.0 ∙ known in cc in
-      h.1 (subst (MayRedefine v n row over) same may.1)),
+      h.1 (subst (MayRedefine v n key row over) same may.1)),
 )
 
-pub decides_redefine_in : (v w : View) (over seen : List ℕ) (n : ℕ) (row : Row) (b : Bool) → v ≡ w → seen ≡ over → Decides b ((o : Row) × MayRedefine v n row seen o) → Decides b ((o : Row) × MayRedefine w n row over o)
-decides_redefine_in v w over seen n row b same is h = subst (λ u. Decides b ((o : Row) × MayRedefine u n row over o)) same (subst (λ l. Decides b ((o : Row) × MayRedefine v n row l o)) is h)
+pub decides_redefine_in : (v w : View) (over seen : List ℕ) (n key found : ℕ) (row : Row) (b : Bool) → v ≡ w → found ≡ key → seen ≡ over
+    → Decides b ((o : Row) × MayRedefine v n found row seen o) → Decides b ((o : Row) × MayRedefine w n key row over o)
+decides_redefine_in v w over seen n key found row b same equal is h =
+    subst (λ u. Decides b ((o : Row) × MayRedefine u n key row over o)) same
+    (subst (λ k. Decides b ((o : Row) × MayRedefine v n k row over o)) equal (subst (λ l. Decides b ((o : Row) × MayRedefine v n found row l o)) is h))

@@ -3,10 +3,10 @@ use Rattle.std.specs.Prelude.{◌≡◌, ℕ, ◌==◌, ◌||◌, ◌&&◌, ◌<
 use Rattle.syn_rows.specs.declared.Row.{Row}
 use Rattle.syn_rows.specs.declared.Row.TheVariants.{Free, Source, And, Alias}
 use Rattle.syn_rows.specs.Rows.{node_of}
-use Rattle.syn_core.specs.declared.EventKind.{EventKind}
-use Rattle.syn_core.specs.Cores.{Core}
-use Rattle.syn_core.specs.Events.{event_node, May, Allowed, after}
-use Rattle.syn_core.specs.Openings.{view_at}
+use Rattle.syn_core_laws.specs.declared.EventKind.{EventKind}
+use Rattle.syn_core_laws.specs.Cores.{Core}
+use Rattle.syn_core_laws.specs.Events.{event_node, May, Allowed, after}
+use Rattle.syn_core_laws.specs.Openings.{view_at}
 use Rattle.syn_rows.specs.References.{refs, times}
 
 -- a row that is known refers to the node; each refers to node 0

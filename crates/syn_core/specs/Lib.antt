@@ -1,13 +1,3 @@
-pub mod Lists
-pub mod Views
-pub mod Cores
-pub mod SameValue
-pub mod Events
-pub mod Sound
-pub mod Runs
-pub mod Openings
 pub mod Conditions
+pub mod Refusals
 pub mod Told
-pub mod Worked
-pub mod Splits
-pub mod Bounds

@@ -1,8 +1,8 @@
 -- The search for the values of nodes by known rows: what has been told so far.
 use Rattle.std.specs.Prelude.{◌≡◌, ℕ, ◌+◌, ◌||◌, Bool, true, false, List, [], ◌∷◌, Option, Some, None, is_some}
 use Rattle.syn_rows.specs.declared.Row.{Row}
-use Rattle.syn_core.specs.Lists.{has, look}
-use Rattle.syn_core.specs.SameValue.{value_of_row, known_value, value_by, SameFor}
+use Rattle.syn_core_laws.specs.Lists.{has, look}
+use Rattle.syn_core_laws.specs.SameValue.{value_of_row, known_value, value_by, SameFor}
 
 -- each value that is told is one by some number of known rows; the nodes of `over` and node 0 are told
 pub record IsTold (known : ℕ → Option Row) (over : List ℕ) (choice : ℕ → Bool) (told : List (ℕ × Bool)) : Type 0 where

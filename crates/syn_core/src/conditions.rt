@@ -4,15 +4,15 @@ ghost use Rattle.std.specs.Prelude.{◌≡◌, ◌≢◌, ℕ, ◌+◌, ◌*◌,
 ghost use Rattle.syn_rows.specs.declared.Row.{Row};
 ghost use Rattle.syn_rows.specs.declared.Row.TheVariants as RowIs;
 ghost use Rattle.syn_rows.specs.References.{refs};
-ghost use Rattle.syn_rows.specs.Rows.{AllRefs, refs_of};
-ghost use Rattle.syn_core.specs.Lists.{has, look};
-ghost use Rattle.syn_core.specs.Views.{is_gate, is_mine, known_row, known_key, own_pins, pins_after};
+ghost use Rattle.syn_rows.specs.Rows.{AllRefs, refs_of, is_derived};
+ghost use Rattle.syn_core_laws.specs.Lists.{has, look};
+ghost use Rattle.syn_core_laws.specs.Views.{is_mine, known_row, known_key, own_pins, pins_after};
 ghost use Rattle.syn_core.specs.Conditions.{refers_by, any_node, is_served};
-ghost use Rattle.syn_core.specs.Events.{Refers, KnowsUsed, MayPin, KeyBelow, MayRest, MayRedefine, MayFree, IsAnd};
-ghost use Rattle.syn_core.specs.SameValue.{SameValue};
+ghost use Rattle.syn_core_laws.specs.Events.{Refers, KnowsUsed, MayPin, KeyBelow, MayRest, MayRedefine, MayFree, IsAnd};
+ghost use Rattle.syn_core_laws.specs.SameValue.{SameValue};
 
 use crate::lists::{has, look, refs, times, with_each, without_each};
-use crate::places::{Place, is_gate};
+use crate::places::Place;
 use crate::values::same_value;
 use std::alloc::{AllocError, Global};
 use syn_rows::{Lit, Row};
@@ -92,13 +92,11 @@ impl Place {
         }
     }
 
-    pub(crate) fn may_rest(&self, node: u32, row: Row) -> bool
-        ensures { IsTrue result ↔ (MayRest self.now node row) }
+    /// Whether a row of a node with this key may rest on the seat's pins.
+    pub(crate) fn may_rest(&self, key: u64, row: Row) -> bool
+        ensures { IsTrue result ↔ (MayRest self.now key row) }
     {
-        match self.known_key(node) {
-            Some(key) => self.serves(row) && self.keys_below(key, row),
-            None => false,
-        }
+        self.serves(row) && self.keys_below(key, row)
     }
 
     /// Whether the pins stay few when the row's references become pins.
@@ -140,11 +138,11 @@ impl Place {
         same_value(alloc, self.rows.as_slice(), over, old, new)
     }
 
-    /// Whether the node, known as `old`, may get the row, the pins left aside.
-    pub(crate) fn may_turn(&self, node: u32, row: Row, over: &[u32], old: Row) -> bool
-        ensures { IsTrue result ↔ ((is_gate old ≡ true) × (is_gate row ≡ true) × MayRest self.now node row × (length over.now ≤ 8)) }
+    /// Whether a node with this key, known as `old`, may get the row, the pins left aside.
+    pub(crate) fn may_turn(&self, key: u64, row: Row, over: &[u32], old: Row) -> bool
+        ensures { IsTrue result ↔ ((is_derived old ≡ true) × (is_derived row ≡ true) × MayRest self.now key row × (length over.now ≤ 8)) }
     {
-        is_gate(old) && is_gate(row) && self.may_rest(node, row) && over.len() <= 8
+        old.is_derived() && row.is_derived() && self.may_rest(key, row) && over.len() <= 8
     }
 
     /// Whether the node, known as `old`, may be redefined.
@@ -152,14 +150,15 @@ impl Place {
         &self,
         alloc: Global,
         node: u32,
+        key: u64,
         row: Row,
         over: &[u32],
         old: Row,
     ) -> Result<bool, AllocError>
         requires { known_row self.now node ≡ Some old }
-        ensures { IfOk result (λ b. IsTrue b ↔ (MayRedefine self.now node row over.now old)) }
+        ensures { IfOk result (λ b. IsTrue b ↔ (MayRedefine self.now node key row over.now old)) }
     {
-        if !self.may_turn(node, row, over, old) {
+        if !self.may_turn(key, row, over, old) {
             return Ok(false);
         }
         if !self.has_room_after(alloc, old, row)? {
@@ -172,14 +171,15 @@ impl Place {
         &self,
         alloc: Global,
         node: u32,
+        key: u64,
         row: Row,
         over: &[u32],
     ) -> Result<bool, AllocError>
-        ensures { IfOk result (λ b. IsTrue b ↔ ((old : Row) × MayRedefine self.now node row over.now old)) }
+        ensures { IfOk result (λ b. IsTrue b ↔ ((old : Row) × MayRedefine self.now node key row over.now old)) }
     {
         match look(self.rows.as_slice(), node) {
             None => Ok(false),
-            Some(old) => self.may_redefine_from(alloc, node, row, over, old),
+            Some(old) => self.may_redefine_from(alloc, node, key, row, over, old),
         }
     }
 

@@ -3,8 +3,8 @@
 ghost use Rattle.std.specs.Prelude.{◌≡◌, ℕ, ◌+◌, ◌*◌, ◌<◌, ◌≤◌, ◌^◌, ◌++◌, length, replicate, IfOk};
 ghost use Rattle.syn_rows.specs.Rows.{row_at};
 ghost use Rattle.syn_rows.specs.References.{refs, refs_by_rows, refs_by_literals, sum_below};
-ghost use Rattle.syn_core.specs.Openings.{empty_view, seats_from, counts_from, opening_of, IsStart};
-ghost use Rattle.syn_core.specs.Sound.{IsSound};
+ghost use Rattle.syn_core_laws.specs.Openings.{empty_view, seats_from, counts_from, opening_of, IsStart};
+ghost use Rattle.syn_core_laws.specs.Sound.{IsSound};
 
 use crate::lists::{copied, refs};
 use crate::places::Place;

@@ -1,17 +1,17 @@
 //! What a seat knows, as values.
 
 ghost use Rattle.std.specs.Prelude.{◌≡◌, ℕ, ◌+◌, ◌*◌, ◌^◌, ◌≤◌, pos, ◌<◌, ◌==◌, ◌||◌, ◌&&◌, not, true, false, [], ◌∷◌, ◌++◌, length, IfOk, Some, None, if◌then◌else◌};
-ghost use Rattle.syn_core.specs.Lists.{has, only, kept};
-ghost use Rattle.syn_core.specs.Views.{differs, trimmed, claimed, missed, released, row_loaded, pinned, unpinned, count_loaded, key_loaded, key_set, made, redefined, freed, is_mine, stays_sole, is_gate, is_gate_known, refs_known};
+ghost use Rattle.syn_core_laws.specs.Lists.{has, only, kept};
+ghost use Rattle.syn_core_laws.specs.Views.{differs, trimmed, claimed, missed, released, row_loaded, pinned, unpinned, count_loaded, key_loaded, key_set, made, redefined, freed, is_mine, stays_sole, is_derived_known, refs_known};
 ghost use Rattle.syn_rows.specs.References.{and_count, sum_below};
-ghost use Rattle.syn_core.specs.Lists.{look};
+ghost use Rattle.syn_core_laws.specs.Lists.{look};
 
 use crate::lists::{
     copied, has, look, others, others_told, refs, times, with, with_each, without_each, without_one,
 };
-use crate::{Change, Seen, View};
 use std::alloc::{AllocError, Global};
 use std::marker::Model;
+use syn_core_laws::{Change, Seen, View};
 use syn_rows::{Lit, Row};
 
 /// What a seat knows.
@@ -31,7 +31,7 @@ pub struct Place {
 }
 
 impl Model for Place {
-    ghost use Rattle.syn_core.specs.declared.View.{View};
+    ghost use Rattle.syn_core_laws.specs.declared.View.{View};
 
     ghost Value = { View };
 
@@ -265,21 +265,11 @@ fn and_count(row: Row) -> i64
     }
 }
 
-pub(crate) fn is_gate(row: Row) -> bool
-    ensures { result ≡ is_gate row }
+fn is_derived_known(row: Option<Row>) -> bool
+    ensures { result ≡ is_derived_known row }
 {
     match row {
-        Row::And(_, _) => true,
-        Row::Alias(_) => true,
-        _ => false,
-    }
-}
-
-fn is_gate_known(row: Option<Row>) -> bool
-    ensures { result ≡ is_gate_known row }
-{
-    match row {
-        Some(row) => is_gate(row),
+        Some(row) => row.is_derived(),
         None => false,
     }
 }
@@ -352,9 +342,9 @@ fn idle_after(
     count: u32,
     row: Option<Row>,
 ) -> Result<Vec<u32>, AllocError>
-    ensures { IfOk result (λ r. r.items ≡ (if (count == 1) && is_gate_known row then node ∷ idle.now else idle.now)) }
+    ensures { IfOk result (λ r. r.items ≡ (if (count == 1) && is_derived_known row then node ∷ idle.now else idle.now)) }
 {
-    if count == 1 && is_gate_known(row) {
+    if count == 1 && is_derived_known(row) {
         with(alloc, node, idle)
     } else {
         copied(alloc, idle)

@@ -1,11 +1,13 @@
 //! Lists of events, from a state on.
 
 ghost use Rattle.std.specs.Prelude.{◌≡◌, IfOk, IfErr, OnOk};
-ghost use Rattle.syn_core.specs.Runs.{Steps, Runs, Refuses, RefusesHere, SoundAlong};
-ghost use Rattle.syn_core.specs.Sound.{IsSound};
+ghost use Rattle.syn_core.specs.Refusals.{Refuses, RefusesHere};
+ghost use Rattle.syn_core_laws.specs.Runs.{Steps, Runs, SoundAlong};
+ghost use Rattle.syn_core_laws.specs.Sound.{IsSound};
 
 use crate::states::State;
-use crate::{Event, ReplayFault, StepFault};
+use crate::{ReplayFault, StepFault};
+use syn_core_laws::Event;
 
 // One event of a list, at this index.
 fn replay_one(state: &mut State, event: &Event, index: usize) -> Result<(), ReplayFault>

@@ -2,15 +2,15 @@
 
 ghost use Rattle.std.specs.Prelude.{◌≡◌, ℕ, ◌<◌, length, IfOk, slice_index, slice_set};
 ghost use Rattle.syn_rows.specs.Rows.{row_at};
-ghost use Rattle.syn_core.specs.Cores.{Core};
-ghost use Rattle.syn_core.specs.Events.{sits};
-ghost use Rattle.syn_core.specs.Openings.{view_at};
+ghost use Rattle.syn_core_laws.specs.Cores.{Core};
+ghost use Rattle.syn_core_laws.specs.Events.{sits};
+ghost use Rattle.syn_core_laws.specs.Openings.{view_at};
 
-use crate::Seen;
 use crate::lists::copied;
 use crate::places::Place;
 use std::alloc::{AllocError, Global};
 use std::marker::Model;
+use syn_core_laws::Seen;
 use syn_rows::{Lit, Row};
 
 /// The state of the core.
@@ -27,7 +27,7 @@ pub struct State {
 }
 
 impl Model for State {
-    ghost use Rattle.syn_core.specs.Cores.{Core};
+    ghost use Rattle.syn_core_laws.specs.Cores.{Core};
 
     ghost Value = { Core };
 

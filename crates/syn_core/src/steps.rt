@@ -2,19 +2,20 @@
 
 ghost use Rattle.std.specs.Prelude.{◌≡◌, ◌↔◌, ◌<◌, length, IfOk, IsTrue, OnOk, OnErr, IsErrOf};
 ghost use Rattle.syn_core.specs.declared.StepFault.TheVariants as Fault;
-ghost use Rattle.syn_core.specs.declared.EventKind.TheVariants as Kind;
-ghost use Rattle.syn_core.specs.Events.{Allowed, after};
-ghost use Rattle.syn_core.specs.Openings.{view_at};
+ghost use Rattle.syn_core_laws.specs.declared.EventKind.TheVariants as Kind;
+ghost use Rattle.syn_core_laws.specs.Events.{Allowed, after};
+ghost use Rattle.syn_core_laws.specs.Openings.{view_at};
 ghost use Rattle.syn_core.specs.Conditions.{IsAllowedAt, MayAt, Does};
-ghost use Rattle.syn_core.specs.Runs.{Steps};
-ghost use Rattle.syn_core.specs.Sound.{IsSound};
+ghost use Rattle.syn_core_laws.specs.Runs.{Steps};
+ghost use Rattle.syn_core_laws.specs.Sound.{IsSound};
 
+use crate::StepFault;
 use crate::conditions::is_and;
 use crate::lists::has;
 use crate::states::State;
-use crate::{Event, EventKind, StepFault};
 use arrayvec::ArrayVec;
 use std::alloc::AllocError;
+use syn_core_laws::{Event, EventKind};
 use syn_rows::Row;
 
 impl State {
@@ -233,7 +234,7 @@ impl State {
         ensures { IsTrue result ↔ MayAt self.now seat (Kind.Make node row) }
     {
         let view = self.view(seat);
-        view.knows_free(node) && is_and(row) && view.may_rest(node, row)
+        view.knows_free(node) && is_and(row) && view.may_rest(self.key(node), row)
     }
 
     fn step_make(&mut self, seat: usize, node: u32, row: Row) -> Result<(), StepFault>
@@ -262,7 +263,7 @@ impl State {
         ensures { IfOk result (λ b. IsTrue b ↔ MayAt self.now seat (Kind.Redefine node row over.now)) }
     {
         self.view(seat)
-            .may_redefine(self.alloc, node, row, over.as_slice())
+            .may_redefine(self.alloc, node, self.key(node), row, over.as_slice())
     }
 
     fn step_redefine(

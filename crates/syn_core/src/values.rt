@@ -1,8 +1,8 @@
 //! Whether two rows have the same value, whatever values some nodes are given: plain and slow.
 
 ghost use Rattle.std.specs.Prelude.{◌≡◌, ◌≢◌, ◌↔◌, ℕ, ◌<◌, ◌+◌, true, false, Bool, [], ◌∷◌, ◌++◌, Some, None, List, IfOk, IfSome, IfNone, IsTrue};
-ghost use Rattle.syn_core.specs.Lists.{look};
-ghost use Rattle.syn_core.specs.SameValue.{turned_by, both, value_of_row, known_value, SameFor};
+ghost use Rattle.syn_core_laws.specs.Lists.{look};
+ghost use Rattle.syn_core_laws.specs.SameValue.{turned_by, both, value_of_row, known_value, SameFor};
 ghost use Rattle.syn_core.specs.Told.{IsTold, new_value, IsFull, first_new, untold, SameTold, Covers, SameForAll};
 
 use crate::lists::{copied, look, with};

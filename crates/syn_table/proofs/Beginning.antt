@@ -16,12 +16,12 @@ use Rattle.syn_shapes.specs.Graphs.{is_gate, IsHashed, IsGraph}
 use Rattle.syn_netlist.specs.Frames.{frame_in}
 use Rattle.syn_graph.specs.declared.Graph.{Graph}
 use Rattle.syn_graph.proofs.Orders.{hashed_in_order}
-use Rattle.syn_core.specs.declared.View.{View}
-use Rattle.syn_core.specs.Cores.{Core, all_pins}
-use Rattle.syn_core.specs.Openings.{AllThere, IsStart, empty_view, opening_of}
-use Rattle.syn_core.specs.Sound.{RowRests, IsSound}
-use Rattle.syn_core.proofs.Counting.{hits_same, hits_other, times_append}
-use Rattle.syn_core.proofs.Starting.{openings_are_sound}
+use Rattle.syn_core_laws.specs.declared.View.{View}
+use Rattle.syn_core_laws.specs.Cores.{Core, all_pins}
+use Rattle.syn_core_laws.specs.Openings.{AllThere, IsStart, empty_view, opening_of}
+use Rattle.syn_core_laws.specs.Sound.{RowRests, IsSound}
+use Rattle.syn_core_laws.proofs.Counting.{hits_same, hits_other, times_append}
+use Rattle.syn_core_laws.proofs.Starting.{openings_are_sound}
 use Rattle.syn_table.specs.declared.Known.{Known}
 use Rattle.syn_table.specs.declared.Opening.{Opening}
 use Rattle.syn_table.specs.Laying.{IsLaid, AreWords}

@@ -11,13 +11,13 @@ use Rattle.syn_rows.specs.declared.Lit.{Lit}
 use Rattle.syn_rows.specs.Rows.{row_at, node_of, AllRefs}
 use Rattle.syn_rows.specs.Values.{Fits, SameSources}
 use Rattle.syn_rows.specs.References.{refs_by_literals, all_ands}
-use Rattle.syn_core.specs.declared.View.{View}
-use Rattle.syn_core.specs.Cores.{Core, differences}
-use Rattle.syn_core.specs.Openings.{empty_view}
-use Rattle.syn_core.specs.Bounds.{RowsPack}
-use Rattle.syn_core.specs.Runs.{SomeValuation}
-use Rattle.syn_core.specs.Sound.{Agree, IsSound}
-use Rattle.syn_core.proofs.Counting.{hits_same}
+use Rattle.syn_core_laws.specs.declared.View.{View}
+use Rattle.syn_core_laws.specs.Cores.{Core, differences}
+use Rattle.syn_core_laws.specs.Openings.{empty_view}
+use Rattle.syn_core_laws.specs.Bounds.{RowsPack}
+use Rattle.syn_core_laws.specs.Runs.{SomeValuation}
+use Rattle.syn_core_laws.specs.Sound.{Agree, IsSound}
+use Rattle.syn_core_laws.proofs.Counting.{hits_same}
 use Rattle.syn_table.specs.declared.Known.{Known}
 use Rattle.syn_table.specs.declared.Opening.{Opening}
 use Rattle.syn_table.specs.Numbers.{all_numbers}

@@ -6,12 +6,12 @@ use lib.ListN.{get_elem?}
 use Rattle.atomic_table.specs.Table.{State, Me, Allows, Joins, keeps, step}
 use Rattle.atomic_table.proofs.Lists.{at_set, set_again, set_else}
 use Rattle.syn_rows.specs.References.{times}
-use Rattle.syn_core.specs.declared.View.{View}
-use Rattle.syn_core.specs.Cores.{Core}
-use Rattle.syn_core.specs.Openings.{empty_view}
-use Rattle.syn_core.specs.Splits.{joined_in}
-use Rattle.syn_core.proofs.Counting.{hits_same, times_append}
-use Rattle.syn_core.proofs.Splitting.{joins_keep_sound}
+use Rattle.syn_core_laws.specs.declared.View.{View}
+use Rattle.syn_core_laws.specs.Cores.{Core}
+use Rattle.syn_core_laws.specs.Openings.{empty_view}
+use Rattle.syn_core_laws.specs.Splits.{joined_in}
+use Rattle.syn_core_laws.proofs.Counting.{hits_same, times_append}
+use Rattle.syn_core_laws.proofs.Splitting.{joins_keep_sound}
 use Rattle.syn_table.specs.declared.Known.{Known}
 use Rattle.syn_table.specs.declared.Opening.{Opening}
 use Rattle.syn_table.specs.Numbers.{all_numbers}

@@ -2,9 +2,9 @@
 use Rattle.std.proofs.Common.{◌≡◌, ◌⊎◌, ℕ, zero, suc, ◌≤◌, List, [], ◌∷◌, ◌++◌, drop, refl, sym, ap, ◌∙◌, arith, inl, inr}
 use mathlib.Core.Option.{some, some-injective, some-ne-none}
 use lib.ListN.{get_elem?}
-use Rattle.syn_core.specs.declared.View.{View}
+use Rattle.syn_core_laws.specs.declared.View.{View}
 use Rattle.syn_table.specs.declared.Known.{Known}
-use Rattle.syn_core.specs.Cores.{Core}
+use Rattle.syn_core_laws.specs.Cores.{Core}
 use Rattle.syn_table.specs.Laying.{IsLaid}
 use Rattle.syn_table.specs.Rule.{views_of, HasOwnNumber, IsTied}
 

@@ -4,7 +4,7 @@ use Rattle.std.proofs.lemmas.Bool.{cases_lt, cases_eq}
 use mathlib.Core.Option.{some, some-injective, some-ne-none}
 use lib.ListN.{get_elem?}
 use Rattle.syn_rows.specs.References.{hits, times, sum_below}
-use Rattle.syn_core.proofs.Counting.{hits_same, hits_other, times_append}
+use Rattle.syn_core_laws.proofs.Counting.{hits_same, hits_other, times_append}
 use Rattle.syn_table.specs.declared.Known.{Known}
 use Rattle.syn_table.specs.Numbers.{all_numbers}
 

@@ -4,14 +4,14 @@ use mathlib.Core.Option.{some, some-injective, some-ne-none}
 use lib.ListN.{get_elem?}
 use Rattle.atomic_table.proofs.Lists.{at_map, at_set, set_here}
 use Rattle.syn_rows.specs.References.{times}
-use Rattle.syn_core.specs.declared.View.{View}
-use Rattle.syn_core.specs.declared.EventKind.{EventKind}
-use Rattle.syn_core.specs.Cores.{Core}
-use Rattle.syn_core.specs.Bounds.{IsSmall}
-use Rattle.syn_core.specs.Events.{May, event_node, after}
-use Rattle.syn_core.specs.Sound.{IsSound}
-use Rattle.syn_core.proofs.Laws.{events_keep_sound}
-use Rattle.syn_core.proofs.Within.{nodes_are_there}
+use Rattle.syn_core_laws.specs.declared.View.{View}
+use Rattle.syn_core_laws.specs.declared.EventKind.{EventKind}
+use Rattle.syn_core_laws.specs.Cores.{Core}
+use Rattle.syn_core_laws.specs.Bounds.{IsSmall}
+use Rattle.syn_core_laws.specs.Events.{May, event_node, after}
+use Rattle.syn_core_laws.specs.Sound.{IsSound}
+use Rattle.syn_core_laws.proofs.Laws.{events_keep_sound}
+use Rattle.syn_core_laws.proofs.Within.{nodes_are_there}
 use Rattle.syn_table.specs.declared.Known.{Known}
 use Rattle.syn_table.specs.declared.Opening.{Opening}
 use Rattle.syn_table.specs.Numbers.{all_numbers}

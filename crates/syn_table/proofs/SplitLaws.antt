@@ -6,18 +6,18 @@ use lib.ListN.{get_elem?}
 use Rattle.atomic_table.specs.Table.{Splits}
 use Rattle.atomic_table.proofs.Lists.{at_set, set_again}
 use Rattle.syn_rows.specs.References.{times}
-use Rattle.syn_core.specs.declared.View.{View}
-use Rattle.syn_core.specs.Cores.{Core}
-use Rattle.syn_core.specs.Openings.{empty_view}
-use Rattle.syn_core.specs.Splits.{split_off}
-use Rattle.syn_core.proofs.Counting.{hits_same}
-use Rattle.syn_core.proofs.Splitting.{splits_keep_sound}
+use Rattle.syn_core_laws.specs.declared.View.{View}
+use Rattle.syn_core_laws.specs.Cores.{Core}
+use Rattle.syn_core_laws.specs.Openings.{empty_view}
+use Rattle.syn_core_laws.specs.Splits.{split_off}
+use Rattle.syn_core_laws.proofs.Counting.{hits_same}
+use Rattle.syn_core_laws.proofs.Splitting.{splits_keep_sound}
 use Rattle.syn_table.specs.declared.Known.{Known}
 use Rattle.syn_table.specs.declared.Opening.{Opening}
 use Rattle.syn_table.specs.Numbers.{all_numbers}
 use Rattle.syn_table.specs.Rule.{views_of, HasOwnNumber, IsTied, IsTable, IsCore, IsActive}
-use Rattle.syn_core.specs.Lists.{has}
-use Rattle.syn_core.specs.Events.{MayPin}
+use Rattle.syn_core_laws.specs.Lists.{has}
+use Rattle.syn_core_laws.specs.Events.{MayPin}
 use Rattle.syn_table.specs.Splitting.{last_of, all_but_last, without_last, split_from, AreNumbers}
 use Rattle.syn_table.proofs.Numbering.{numbers_set, numbers_last, numbers_in, numbers_of_two}
 use Rattle.syn_table.proofs.Ruling.{views_set, view_there, tied_still}

@@ -9,18 +9,18 @@ use Rattle.atomic_table.specs.Table.{State, Me, Act, step, stepped, carried_afte
 use Rattle.atomic_table.proofs.Lists.{exchanged}
 use Rattle.syn_rows.specs.declared.Row.{Row}
 use Rattle.syn_rows.specs.Rows.{row_at}
-use Rattle.syn_core.specs.declared.View.{View}
-use Rattle.syn_core.specs.declared.EventKind.TheVariants as Kind
-use Rattle.syn_core.specs.Lists.{has}
-use Rattle.syn_core.specs.Views.{is_mine, own_refs, own_pins, claimed, missed, released, row_loaded, pinned, unpinned, count_loaded, key_loaded}
-use Rattle.syn_core.specs.Cores.{Core}
-use Rattle.syn_core.specs.Events.{MayPin, after}
+use Rattle.syn_core_laws.specs.declared.View.{View}
+use Rattle.syn_core_laws.specs.declared.EventKind.TheVariants as Kind
+use Rattle.syn_core_laws.specs.Lists.{has}
+use Rattle.syn_core_laws.specs.Views.{is_mine, own_refs, own_pins, claimed, missed, released, row_loaded, pinned, unpinned, count_loaded, key_loaded}
+use Rattle.syn_core_laws.specs.Cores.{Core}
+use Rattle.syn_core_laws.specs.Events.{MayPin, after}
 use Rattle.syn_rows.specs.References.{hits, times}
-use Rattle.syn_core.specs.Lists.{without_one}
-use Rattle.syn_core.proofs.Counting.{hits_same, times_has, times_less}
-use Rattle.syn_core.proofs.Listing.{or_cases}
-use Rattle.syn_core.proofs.Pinning.{pins_count}
-use Rattle.syn_core.proofs.Within.{counts_fit, nodes_are_there, rows_pack}
+use Rattle.syn_core_laws.specs.Lists.{without_one}
+use Rattle.syn_core_laws.proofs.Counting.{hits_same, times_has, times_less}
+use Rattle.syn_core_laws.proofs.Listing.{or_cases}
+use Rattle.syn_core_laws.proofs.Pinning.{pins_count}
+use Rattle.syn_core_laws.proofs.Within.{counts_fit, nodes_are_there, rows_pack}
 use Rattle.syn_table.specs.declared.Known.{Known}
 use Rattle.syn_table.specs.declared.Opening.{Opening}
 use Rattle.syn_table.specs.Laying.{IsLaid, node_at}

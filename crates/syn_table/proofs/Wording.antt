@@ -6,8 +6,8 @@ use Rattle.syn_rows.specs.declared.Row.{Row}
 use Rattle.syn_rows.specs.declared.Row.TheVariants.{Free}
 use Rattle.syn_rows.specs.Packing.{word_of}
 use Rattle.syn_rows.specs.Rows.{row_at}
-use Rattle.syn_core.specs.declared.View.{View}
-use Rattle.syn_core.specs.Cores.{Core}
+use Rattle.syn_core_laws.specs.declared.View.{View}
+use Rattle.syn_core_laws.specs.Cores.{Core}
 use Rattle.syn_table.specs.Laying.{IsLaid, node_at}
 
 -- a word of one kind is stored, and so is the entry of its list: the words of this kind are still the list

@@ -9,8 +9,8 @@ use Rattle.syn_rows.specs.Packing.{word_of, Packs}
 use Rattle.syn_rows.specs.Rows.{row_at, node_of, AllRefs, Rises}
 use Rattle.syn_rows.specs.Values.{Fits, SameSources}
 use Rattle.syn_rows.specs.References.{all_ands}
-use Rattle.syn_core.specs.Cores.{Core}
-use Rattle.syn_core.specs.Sound.{Agree}
+use Rattle.syn_core_laws.specs.Cores.{Core}
+use Rattle.syn_core_laws.specs.Sound.{Agree}
 use Rattle.syn_table.specs.declared.Known.{Known}
 use Rattle.syn_table.specs.declared.Seat.{Seat}
 use Rattle.syn_table.specs.declared.Shared.{Shared}

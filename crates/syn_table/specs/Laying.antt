@@ -3,7 +3,7 @@ use Rattle.std.specs.Prelude.{◌≡◌, ℕ, ◌+◌, ◌-◌, ◌*◌, ◌/◌
 use Rattle.syn_rows.specs.declared.Row.{Row}
 use Rattle.syn_rows.specs.Packing.{word_of}
 use Rattle.syn_rows.specs.Rows.{row_at}
-use Rattle.syn_core.specs.Cores.{Core}
+use Rattle.syn_core_laws.specs.Cores.{Core}
 
 -- the words are those of the core's nodes
 pub record IsLaid (words : List ℕ) (c : Core) : Type 0 where

@@ -6,13 +6,13 @@ use Rattle.atomic_table.specs.Table.{State}
 use Rattle.syn_rows.specs.declared.Row.{Row}
 use Rattle.syn_rows.specs.declared.Lit.{Lit}
 use Rattle.syn_rows.specs.References.{times}
-use Rattle.syn_core.specs.declared.View.{View}
-use Rattle.syn_core.specs.Cores.{Core}
-use Rattle.syn_core.specs.Lists.{has}
-use Rattle.syn_core.specs.Events.{MayPin}
-use Rattle.syn_core.specs.Openings.{empty_view}
-use Rattle.syn_core.specs.Bounds.{IsSmall}
-use Rattle.syn_core.specs.Sound.{IsSound}
+use Rattle.syn_core_laws.specs.declared.View.{View}
+use Rattle.syn_core_laws.specs.Cores.{Core}
+use Rattle.syn_core_laws.specs.Lists.{has}
+use Rattle.syn_core_laws.specs.Events.{MayPin}
+use Rattle.syn_core_laws.specs.Openings.{empty_view}
+use Rattle.syn_core_laws.specs.Bounds.{IsSmall}
+use Rattle.syn_core_laws.specs.Sound.{IsSound}
 use Rattle.syn_table.specs.declared.Known.{Known}
 use Rattle.syn_table.specs.declared.Opening.{Opening}
 use Rattle.syn_table.specs.Openings.{opened_rows, opened_literals}

@@ -1,7 +1,7 @@
 -- What contracts see of a shared table and of its seats.
 use Rattle.std.specs.Prelude.{◌≡◌, ℕ}
 use Rattle.syn_graph.specs.declared.Graph.{Graph}
-use Rattle.syn_core.specs.declared.View.{View}
+use Rattle.syn_core_laws.specs.declared.View.{View}
 use Rattle.syn_table.specs.declared.Known.{Known}
 use Rattle.syn_table.specs.declared.Seat.{Seat}
 use Rattle.syn_table.specs.declared.Shared.{Shared}

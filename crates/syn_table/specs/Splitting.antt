@@ -1,8 +1,8 @@
 -- What seats know after a split and after a join.
 use Rattle.std.specs.Prelude.{◌≡◌, ℕ, ◌<◌, ◌≤◌, All, List, [], ◌∷◌, ◌++◌, length}
 use Rattle.atomic_table.specs.Table.{Step, Me}
-use Rattle.syn_core.specs.Openings.{empty_view}
-use Rattle.syn_core.specs.Splits.{joined}
+use Rattle.syn_core_laws.specs.Openings.{empty_view}
+use Rattle.syn_core_laws.specs.Splits.{joined}
 use Rattle.syn_table.specs.declared.Known.{Known}
 
 -- the last of the numbers, 0 where there is none

@@ -3,9 +3,9 @@ use Rattle.std.specs.Prelude.{◌≡◌, ℕ, ◌==◌, ◌+◌, ◌<◌, ◌^�
 use Rattle.atomic_table.specs.Table.{Step, Me}
 use Rattle.syn_rows.specs.declared.Row.{Row}
 use Rattle.syn_rows.specs.Packing.{word_of, Packs}
-use Rattle.syn_core.specs.declared.View.{View}
-use Rattle.syn_core.specs.Lists.{has}
-use Rattle.syn_core.specs.Views.{own_refs, own_pins, claimed, missed, released, row_loaded, pinned, unpinned, count_loaded, key_loaded}
+use Rattle.syn_core_laws.specs.declared.View.{View}
+use Rattle.syn_core_laws.specs.Lists.{has}
+use Rattle.syn_core_laws.specs.Views.{own_refs, own_pins, claimed, missed, released, row_loaded, pinned, unpinned, count_loaded, key_loaded}
 use Rattle.syn_table.specs.declared.Known.{Known}
 use Rattle.syn_table.specs.Laying.{node_at}
 use Rattle.syn_table.specs.Rule.{IsActive}

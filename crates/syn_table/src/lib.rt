@@ -17,7 +17,7 @@ pub use closing::Rows;
 use std::alloc::Global;
 use std::collections::LinkedList;
 use std::snapshot::Snapshot;
-use syn_core::View;
+use syn_core_laws::View;
 use syn_graph::Graph;
 use syn_netlist::Items;
 use syn_rows::{Lit, Row};

@@ -3,9 +3,9 @@
 ghost use Rattle.std.specs.Prelude.{◌≡◌, ◌≢◌, ◌⊎◌, ℕ, suc, ◌+◌, ◌*◌, ◌==◌, ◌^◌, ◌<◌, true, false, if◌then◌else◌, IsTrue, ◌↔◌, length};
 ghost use Rattle.syn_rows.specs.declared.Row.{Row};
 ghost use Rattle.syn_rows.specs.Packing.{word_of, Packs};
-ghost use Rattle.syn_core.specs.Events.{MayPin};
-ghost use Rattle.syn_core.specs.Lists.{has};
-ghost use Rattle.syn_core.specs.Views.{is_mine, claimed, missed, released, row_loaded, pinned, count_loaded, key_loaded};
+ghost use Rattle.syn_core_laws.specs.Events.{MayPin};
+ghost use Rattle.syn_core_laws.specs.Lists.{has};
+ghost use Rattle.syn_core_laws.specs.Views.{is_mine, claimed, missed, released, row_loaded, pinned, count_loaded, key_loaded};
 ghost use Rattle.syn_table.specs.Seating.{IsOf, known_of, nodes_of, view_of};
 ghost use Rattle.syn_table.specs.Steps.{with_view, IsAlone, Unpins};
 

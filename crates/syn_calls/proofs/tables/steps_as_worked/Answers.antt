@@ -3,7 +3,7 @@ use Rattle.syn_rows.specs.declared.Lit.{Lit}
 use Rattle.syn_rows.specs.declared.Row.TheVariants.{And}
 use Rattle.syn_rows.specs.Rows.{node_of}
 use Rattle.syn_rows.specs.References.{hits, refs}
-use Rattle.syn_core.specs.Events.{MayPin}
+use Rattle.syn_core_laws.specs.Events.{MayPin}
 use Rattle.syn_table.specs.declared.Known.{Known}
 use Rattle.syn_calls.proofs.tables.steps_as_worked.Goals as goal
 

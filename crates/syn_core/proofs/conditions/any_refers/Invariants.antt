@@ -1,6 +1,6 @@
 use Rattle.std.proofs.Common.{◌≡◌, drop}
 use Rattle.syn_core.specs.Conditions.{refers_by, any_node}
-use Rattle.syn_core.specs.Lists.{look}
+use Rattle.syn_core_laws.specs.Lists.{look}
 use Rattle.syn_core.proofs.conditions.any_refers.Given as goal
 
 abbrev pub invariant-loop-x : goal.invariant-loop-x

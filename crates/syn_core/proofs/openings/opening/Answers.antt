@@ -1,7 +1,7 @@
 use Rattle.std.proofs.Common.{sym, subst}
 use Rattle.std.proofs.lemmas.Result.{IfOk-weaker}
-use Rattle.syn_core.specs.Sound.{IsSound}
-use Rattle.syn_core.proofs.Starting.{openings_are_sound}
+use Rattle.syn_core_laws.specs.Sound.{IsSound}
+use Rattle.syn_core_laws.proofs.Starting.{openings_are_sound}
 use Rattle.syn_core.proofs.openings.opening.Goals as goal
 
 pub returns-clause-sound : goal.returns-clause-sound

@@ -1,6 +1,6 @@
 use Rattle.std.proofs.lemmas.Result.{IfOk-weaker}
-use Rattle.syn_core.specs.Sound.{IsSound}
-use Rattle.syn_core.proofs.Laws.{runs_keep_sound, runs_stay_sound}
+use Rattle.syn_core_laws.specs.Sound.{IsSound}
+use Rattle.syn_core_laws.proofs.Laws.{runs_keep_sound, runs_stay_sound}
 use Rattle.syn_core.proofs.replays.replay.Goals as goal
 
 pub returns-clause-sound : goal.returns-clause-sound

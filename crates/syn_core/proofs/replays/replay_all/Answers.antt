@@ -1,5 +1,5 @@
 use Rattle.std.proofs.Common.{◌+◌, drop}
-use Rattle.syn_core.proofs.Laws.{from_index, runs_more, replay_first, replay_refuses}
+use Rattle.syn_core.proofs.Replaying.{from_index, runs_more, replay_first, replay_refuses}
 use Rattle.syn_core.proofs.replays.replay_all.Goals as goal
 
 pub returns-in-Err-clause-refused : goal.returns-in-Err-clause-refused

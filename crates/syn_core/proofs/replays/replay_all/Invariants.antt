@@ -1,6 +1,6 @@
 use Rattle.std.proofs.Common.{ℕ, ◌+◌, drop}
-use Rattle.syn_core.specs.Cores.{Core}
-use Rattle.syn_core.specs.Runs.{Runs, FirstForbidden}
+use Rattle.syn_core_laws.specs.Cores.{Core}
+use Rattle.syn_core_laws.specs.Runs.{Runs, FirstForbidden}
 use Rattle.syn_core.proofs.replays.replay_all.Given as goal
 
 abbrev pub invariant-loop-index : goal.invariant-loop-index

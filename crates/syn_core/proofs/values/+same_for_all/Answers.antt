@@ -1,7 +1,7 @@
 use Rattle.std.proofs.Common.{rules, ℕ, Option, ◌≡◌, ◌↔◌, [], ◌∷◌, subst, is_some, true, false, IsTrue}
 use Rattle.std.proofs.lemmas.Result.{IfOk-weaker}
 use Rattle.syn_rows.specs.declared.Row.{Row}
-use Rattle.syn_core.specs.Lists.{look}
+use Rattle.syn_core_laws.specs.Lists.{look}
 use Rattle.syn_core.specs.Told.{Covers, SameForAll}
 use Rattle.syn_core.proofs.Telling.{none_left, skipped, chosen_more, low_differs, high_decides}
 use Rattle.syn_core.proofs.values.+same_for_all.Goals as goal

@@ -1,5 +1,5 @@
 use Rattle.std.proofs.Common.{ℕ, Bool, List}
-use Rattle.syn_core.specs.Lists.{look}
+use Rattle.syn_core_laws.specs.Lists.{look}
 use Rattle.syn_core.specs.Told.{IsTold, untold}
 use Rattle.syn_core.proofs.values.all_values.Given as goal
 

@@ -1,5 +1,5 @@
 use Rattle.std.proofs.Common.{◌≡◌, drop}
-use Rattle.syn_core.specs.Lists.{look}
+use Rattle.syn_core_laws.specs.Lists.{look}
 use Rattle.syn_core.specs.Told.{new_value, first_new}
 use Rattle.syn_core.proofs.values.first_new.Given as goal
 

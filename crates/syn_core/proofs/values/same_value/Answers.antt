@@ -1,7 +1,7 @@
 use Rattle.std.proofs.Common.{ℕ, Bool, ◌↔◌, IsTrue}
 use Rattle.std.proofs.lemmas.Result.{IfOk-weaker}
-use Rattle.syn_core.specs.Lists.{look}
-use Rattle.syn_core.specs.SameValue.{SameFor}
+use Rattle.syn_core_laws.specs.Lists.{look}
+use Rattle.syn_core_laws.specs.SameValue.{SameFor}
 use Rattle.syn_core.proofs.Telling.{covers_first, same_from_all}
 use Rattle.syn_core.proofs.values.same_value.Goals as goal
 

@@ -1,4 +1,4 @@
-use Rattle.syn_core.specs.Lists.{look}
+use Rattle.syn_core_laws.specs.Lists.{look}
 use Rattle.syn_core.proofs.Telling.{same_leaf_in}
 use Rattle.syn_core.proofs.values.same_when.Goals as goal
 

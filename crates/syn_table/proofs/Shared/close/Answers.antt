@@ -2,8 +2,8 @@ use Rattle.std.proofs.Common.{◌≡◌, ◌+◌, ◌*◌, List, length, sym, �
 use Rattle.std.specs.Mem.Slots.{slots_items, slots_counts}
 use Rattle.syn_rows.specs.declared.Row.{Row}
 use Rattle.syn_rows.specs.declared.Lit.{Lit}
-use Rattle.syn_core.proofs.Within.{rows_pack}
-use Rattle.syn_core.proofs.Valuing.{some_valuation}
+use Rattle.syn_core_laws.proofs.Within.{rows_pack}
+use Rattle.syn_core_laws.proofs.Valuing.{some_valuation}
 use Rattle.syn_table.specs.Closing.{IsClosing}
 use Rattle.syn_table.specs.Openings.{opened_rows, opened_literals}
 use Rattle.syn_table.proofs.CloseLaws.{closed_core, closing_is}

@@ -1,5 +1,5 @@
 use Rattle.std.proofs.Common.{rules, ◌≡◌, ap, ◌∙◌, subst, arith, inr}
-use Rattle.syn_core.specs.Views.{unpinned}
+use Rattle.syn_core_laws.specs.Views.{unpinned}
 use Rattle.syn_table.specs.Laying.{node_at}
 use Rattle.syn_table.specs.Steps.{IsSoleCount, with_view}
 use Rattle.syn_table.proofs.Turning.{unpins_allowed, last_pin}

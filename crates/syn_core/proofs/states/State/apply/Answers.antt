@@ -1,7 +1,7 @@
 use Rattle.std.proofs.Common.{◌≡◌, ◌<◌, ◌∙◌, sym, ap, subst, length}
 use Rattle.std.proofs.lemmas.Result.{IfOk-weaker}
-use Rattle.syn_core.specs.Events.{event_node, May, after}
-use Rattle.syn_core.specs.Openings.{view_at}
+use Rattle.syn_core_laws.specs.Events.{event_node, May, after}
+use Rattle.syn_core_laws.specs.Openings.{view_at}
 use Rattle.syn_core.specs.Conditions.{IsAllowedAt}
 use Rattle.syn_core.proofs.states.State.apply.Goals as goal
 

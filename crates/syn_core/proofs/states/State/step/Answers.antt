@@ -1,8 +1,8 @@
 use Rattle.std.proofs.lemmas.Result.{IfOk-weaker}
-use Rattle.syn_core.specs.Runs.{Steps}
-use Rattle.syn_core.specs.Sound.{IsSound}
-use Rattle.syn_core.proofs.Laws.{events_keep_sound}
-use Rattle.syn_core.proofs.Within.{seats_are_read, steps_read}
+use Rattle.syn_core_laws.specs.Runs.{Steps}
+use Rattle.syn_core_laws.specs.Sound.{IsSound}
+use Rattle.syn_core_laws.proofs.Laws.{events_keep_sound}
+use Rattle.syn_core.proofs.Reading.{seats_are_read, steps_read}
 use Rattle.syn_core.proofs.states.State.step.Goals as goal
 
 pub returns-clause-ok : goal.returns-clause-ok

@@ -1,5 +1,0 @@
-use Rattle.syn_core.proofs.Splitting as Splitting
-use Rattle.syn_core.proofs.joins_keep_sound.Goals as goal
-
-pub returns : goal.returns
-returns c = Splitting.joins_keep_sound

@@ -1,5 +1,0 @@
-use Rattle.syn_core.proofs.Within as Within
-use Rattle.syn_core.proofs.rows_pack.Goals as goal
-
-pub returns : goal.returns
-returns c = Within.rows_pack

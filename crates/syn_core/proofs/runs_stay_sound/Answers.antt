@@ -1,5 +1,0 @@
-use Rattle.syn_core.proofs.Laws as Laws
-use Rattle.syn_core.proofs.runs_stay_sound.Goals as goal
-
-pub returns : goal.returns
-returns c = Laws.runs_stay_sound

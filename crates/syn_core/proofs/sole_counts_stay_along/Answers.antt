@@ -1,5 +1,0 @@
-use Rattle.syn_core.proofs.Laws as Laws
-use Rattle.syn_core.proofs.sole_counts_stay_along.Goals as goal
-
-pub returns : goal.returns
-returns c = Laws.sole_counts_stay_along

@@ -1,5 +1,0 @@
-use Rattle.syn_core.proofs.Valuing as Valuing
-use Rattle.syn_core.proofs.some_valuation.Goals as goal
-
-pub returns : goal.returns
-returns c = Valuing.some_valuation

@@ -1,0 +1,13 @@
+pub mod Listing
+pub mod Counting
+pub mod Seating
+pub mod Claiming
+pub mod Pinning
+pub mod Fitting
+pub mod Storing
+pub mod Laws
+pub mod Starting
+pub mod Within
+pub mod Showing
+pub mod Splitting
+pub mod Valuing

@@ -1,0 +1,12 @@
+pub mod Lists
+pub mod Views
+pub mod Cores
+pub mod SameValue
+pub mod Events
+pub mod Sound
+pub mod Shown
+pub mod Runs
+pub mod Openings
+pub mod Splits
+pub mod Bounds
+pub mod Worked
