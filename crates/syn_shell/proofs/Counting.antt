@@ -1,5 +1,5 @@
 -- Refusals of the files, of the lines and of the sink, and their counts of faults.
-use Rattle.std.proofs.Common.{◌≡◌, ◌⊎◌, ℕ, ◌+◌, ◌-◌, ◌^◌, ◌<◌, ◌≤◌, Bool, List, [], ◌∷◌, ◌++◌, refl, sym, ap, subst, arith, inl, inr, Option, None, Some, Ok, Err, string_bytes}
+use Rattle.std.proofs.Common.{◌≡◌, ◌⊎◌, ℕ, ◌+◌, ◌-◌, ◌^◌, ◌<◌, ◌≤◌, Bool, List, [], ◌∷◌, ◌++◌, refl, sym, ap, subst, arith, inl, inr, Option, None, Some, Ok, Err}
 use Rattle.syn_io.specs.Outside.{Rose}
 use Rattle.syn_netlist.specs.Lists.{Netlist}
 use Rattle.syn_words.specs.declared.Command.{Command}
@@ -76,9 +76,9 @@ remaking_counted m name other d d' s s' why e f = absurd why
 -- a command that is refused, and one that is accepted
 
 refused_counted : (c : Command) (name : List ℕ) (cause : Refusal) (m m' : Option Netlist) (d d' : Disk) (s s' : Screen) → SessionStep c m d s (Err cause) m' d' s' → Counted (record { cause = cause; name = name } ∷ []) d s d' s'
-refused_counted (commands.Read file) name cause m m' d d' s s' (same, why, stand, e) = read_counted (string_bytes file) name cause d d' s s' why stand.later e
+refused_counted (commands.Read file) name cause m m' d d' s s' (same, why, stand, e) = read_counted file name cause d d' s s' why stand.later e
 refused_counted commands.Stats name cause m m' d d' s s' (same, e, why) = stats_counted m name cause d d' s s' why e
-refused_counted (commands.Write file) name cause m m' d d' s s' (same, why, e) = write_counted m (string_bytes file) name cause d d' s s' why e
+refused_counted (commands.Write file) name cause m m' d d' s s' (same, why, e) = write_counted m file name cause d d' s s' why e
 refused_counted commands.Strash name cause m m' d d' s s' (same, why, e, f) = remaking_counted m name cause d d' s s' why e f
 refused_counted commands.Balance name cause m m' d d' s s' (same, why, e, f) = remaking_counted m name cause d d' s s' why e f
 

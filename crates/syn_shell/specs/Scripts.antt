@@ -1,9 +1,8 @@
 -- A script: its commands one after the other up to the first that is refused, and the line of that refusal.
-use Rattle.std.specs.Prelude.{◌≡◌, ◌≢◌, ◌⊎◌, ℕ, ◌≤◌, ◌<◌, List, [], ◌∷◌, length, map, Option, Some, None, Result, Ok, Err, ⊤, string_bytes}
+use Rattle.std.specs.Prelude.{◌≡◌, ◌≢◌, ◌⊎◌, ℕ, ◌≤◌, ◌<◌, List, [], ◌∷◌, length, Option, Some, None, Result, Ok, Err, ⊤}
 use Rattle.syn_words.specs.declared.Command.{Command}
 use Rattle.syn_words.specs.declared.Command.TheVariants as commands
 use Rattle.syn_words.specs.declared.ScriptFault.TheVariants as script
-use Rattle.syn_words.specs.Commands.{spoken}
 use Rattle.syn_words.specs.Scripts.{IsScript, IsFirstFault}
 use Rattle.syn_shell.specs.declared.refusal.Refusal.{Refusal}
 use Rattle.syn_shell.specs.declared.refusal.Refusal.TheVariants.{Script, LineTooLong, SinkFailed, NoMemory}
@@ -22,8 +21,8 @@ nameless cause = record { cause = cause; name = [] }
 
 -- the name of the file that a command names
 abbrev pub name_in : Command → List ℕ
-name_in (commands.Read name) = string_bytes name
-name_in (commands.Write name) = string_bytes name
+name_in (commands.Read name) = name
+name_in (commands.Write name) = name
 name_in other = []
 
 -- One command, accepted or refused.
@@ -52,7 +51,7 @@ DoesNothing cause before outcome after = (outcome ≡ Some (nameless cause)) × 
 abbrev pub RunsScript : List ℕ → State → Option Refused → State → Type 0
 RunsScript text before outcome after =
     ((cause : Refusal) × ScriptRefused text cause × DoesNothing cause before outcome after)
-    ⊎ ((commands : List Command) × (length text ≤ script_limit) × IsScript text (map spoken commands) × RunsCommands commands before outcome after)
+    ⊎ ((commands : List Command) × (length text ≤ script_limit) × IsScript text commands × RunsCommands commands before outcome after)
 
 -- Of two states: only what the sink took may be another.
 pub record OnlySink (before after : State) : Type 0 where

@@ -1,5 +1,5 @@
 -- What each command does, accepted or refused: a relation between the network, the files and the sink before and after it.
-use Rattle.std.specs.Prelude.{◌≡◌, ℕ, ◌≤◌, ◌<◌, List, length, Option, Some, None, IfSome, IsSome, IsSomeAnd, Result, Ok, Err, ⊤, string_bytes}
+use Rattle.std.specs.Prelude.{◌≡◌, ℕ, ◌≤◌, ◌<◌, List, length, Option, Some, None, IfSome, IsSome, IsSomeAnd, Result, Ok, Err, ⊤}
 use Rattle.syn_io.specs.Outside.{Rose, file_at}
 use Rattle.syn_rows.specs.Rows.{node_of}
 use Rattle.syn_rows.specs.Levels.{level_in, levels_of}
@@ -102,12 +102,12 @@ RemakingRefused m other = ⊥
 
 -- One command, from the network, the files and the sink before it to those after it. A refused command leaves the network.
 abbrev pub SessionStep : Command → Option Netlist → Disk → Screen → Result (Unit {0}) Refusal → Option Netlist → Disk → Screen → Type 0
-SessionStep (commands.Read name) m d s (Ok done) m' d' s' = (net : Netlist) × (m' ≡ Some net) × IsReadAs (string_bytes name) d net × FilesStand d d' × (s' ≡ s)
-SessionStep (commands.Read name) m d s (Err refusal) m' d' s' = (m' ≡ m) × ReadRefused (string_bytes name) d d' refusal × FilesStand d d' × (s' ≡ s)
+SessionStep (commands.Read name) m d s (Ok done) m' d' s' = (net : Netlist) × (m' ≡ Some net) × IsReadAs name d net × FilesStand d d' × (s' ≡ s)
+SessionStep (commands.Read name) m d s (Err refusal) m' d' s' = (m' ≡ m) × ReadRefused name d d' refusal × FilesStand d d' × (s' ≡ s)
 SessionStep commands.Stats m d s (Ok done) m' d' s' = (net : Netlist) × (line : List ℕ) × (m ≡ Some net) × (m' ≡ m) × (d' ≡ d) × IsNumbersLine net line × Took line s s'
 SessionStep commands.Stats m d s (Err refusal) m' d' s' = (m' ≡ m) × (d' ≡ d) × StatsRefused m s s' refusal
-SessionStep (commands.Write name) m d s (Ok done) m' d' s' = (net : Netlist) × (m ≡ Some net) × (m' ≡ m) × FileIs (string_bytes name) d' (printed net) × OthersStand (string_bytes name) d d' × (s' ≡ s)
-SessionStep (commands.Write name) m d s (Err refusal) m' d' s' = (m' ≡ m) × WriteRefused m (string_bytes name) d d' refusal × (s' ≡ s)
+SessionStep (commands.Write name) m d s (Ok done) m' d' s' = (net : Netlist) × (m ≡ Some net) × (m' ≡ m) × FileIs name d' (printed net) × OthersStand name d d' × (s' ≡ s)
+SessionStep (commands.Write name) m d s (Err refusal) m' d' s' = (m' ≡ m) × WriteRefused m name d d' refusal × (s' ≡ s)
 SessionStep commands.Strash m d s (Ok done) m' d' s' = (old : Netlist) × (net : Netlist) × (m ≡ Some old) × (m' ≡ Some net) × IsRemade old net × (d' ≡ d) × (s' ≡ s)
 SessionStep commands.Strash m d s (Err refusal) m' d' s' = (m' ≡ m) × RemakingRefused m refusal × (d' ≡ d) × (s' ≡ s)
 SessionStep commands.Balance m d s (Ok done) m' d' s' = BalancesTo m m' × (d' ≡ d) × (s' ≡ s)

@@ -1,8 +1,7 @@
 -- What the shell's own types tell of a run.
-use Rattle.std.specs.Prelude.{◌≡◌, ◌≢◌, ◌⊎◌, ℕ, ◌≤◌, ◌<◌, ◌==◌, if◌then◌else◌, List, length, map, Option, Some, None, Result, Ok, Err, Vec}
+use Rattle.std.specs.Prelude.{◌≡◌, ◌≢◌, ◌⊎◌, ℕ, ◌≤◌, ◌<◌, ◌==◌, if◌then◌else◌, List, length, Option, Some, None, Result, Ok, Err, Vec}
 use Rattle.std.specs.Global.{Global}
 use Rattle.syn_words.specs.declared.Command.{Command}
-use Rattle.syn_words.specs.Commands.{spoken}
 use Rattle.syn_words.specs.Scripts.{IsScript}
 use Rattle.syn_shell.specs.declared.refusal.Refusal.{Refusal}
 use Rattle.syn_shell.specs.declared.refusal.Refusal.TheVariants.{SinkFailed}
@@ -24,7 +23,7 @@ outcome_of (Err stopped) = Some (record { cause = stopped.cause; name = stopped.
 
 -- A script that was read: its commands, or why it has none.
 abbrev pub Parsed : List ℕ → Result (Vec Command Global) Refusal → Type 0
-Parsed text (Ok commands) = (length text ≤ script_limit) × IsScript text (map spoken commands.items)
+Parsed text (Ok commands) = (length text ≤ script_limit) × IsScript text commands.items
 Parsed text (Err cause) = ScriptRefused text cause
 
 -- the status of a refusal whose line was told

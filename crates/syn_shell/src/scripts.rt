@@ -27,7 +27,7 @@ fn name_in(command: &Command) -> &[u8]
     ensures { result.now ≡ name_in command.now }
 {
     match command {
-        Command::Read(name) | Command::Write(name) => name.as_bytes(),
+        Command::Read(name) | Command::Write(name) => name.as_str().as_bytes(),
         _ => &[],
     }
 }

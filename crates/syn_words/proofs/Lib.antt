@@ -1,3 +1,4 @@
 pub mod Splits
 pub mod Pieces
+pub mod Values
 pub mod Deciding

@@ -1,7 +1,9 @@
 use Rattle.std.proofs.Common.{◌≡◌, ℕ, suc, ◌+◌, nat_eq, Bool, true, false, if◌then◌else◌, List, [], ◌∷◌, length, take, drop, refl, sym, ap, ◌∙◌, subst, arith, add-zero, inl, inr, ◌⊎◌}
 use Rattle.std.proofs.lemmas.Bool.{eqb-true, cases_Bool, and_from, cond-true, cond-false}
 use Rattle.std.specs.List.{list_all}
-use Rattle.syn_words.specs.Words.{is_word_byte, begins_word, grown, Word, words_at}
+use Rattle.syn_words.specs.Bytes.{is_word_byte}
+use Rattle.syn_words.specs.Words.{begins_word, grown, words_at}
+use Rattle.syn_words.specs.declared.words.Word.{Word}
 use Rattle.syn_words.specs.Words.{word_len, blank_len}
 
 -- blanks in front hold no word

@@ -1,8 +1,9 @@
 pub mod Bytes
 pub mod Words
 pub mod Phrases
+pub mod Numbers
+pub mod Forms
 pub mod Commands
 pub mod Scripts
-pub mod Written
 pub mod Laws
 pub mod Worked

@@ -1,18 +1,14 @@
 -- Phrases: the commands of a script as words.
 use Rattle.std.specs.Prelude.{ℕ, suc, ◌+◌, ◌≡◌, ◌<◌, ◌≤◌, ◌==◌, if◌then◌else◌, List, [], ◌∷◌, length}
 use Rattle.std.specs.List.{onto_first}
-use Rattle.syn_words.specs.Words.{Word, words_at}
+use Rattle.syn_words.specs.Words.{words_at}
+use Rattle.syn_words.specs.declared.words.Word.{Word}
+use Rattle.syn_words.specs.declared.words.Phrase.{Phrase}
 
 -- The pieces of a text: the bytes before each semicolon, and those behind the last one where there are any.
 abbrev pub pieces : List ℕ → List (List ℕ)
 pieces [] = []
 pieces (b ∷ bs) = if b == 59 then [] ∷ pieces bs else onto_first b (pieces bs)
-
--- A command as it is written: its first word, the words behind it, and the offset of the semicolon that ends it, or of the text's end.
-pub record Phrase : Type 0 where
-  pub name : Word
-  pub further : List Word
-  pub end : ℕ
 
 -- The phrase of a piece's words before further phrases. A piece without words is skipped.
 abbrev pub onto_phrases : List Word → ℕ → List Phrase → List Phrase

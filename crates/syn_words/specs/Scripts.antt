@@ -1,36 +1,36 @@
--- Scripts: the commands that a text spells, and its first fault.
-use Rattle.std.specs.Prelude.{◌≡◌, ℕ, List, [], ◌∷◌, ◌++◌, Option, Some, None, option_map}
-use Rattle.std.specs.Option.{option_or}
+-- Scripts: what a text says, the commands that it spells or its first fault.
+use Rattle.std.specs.Prelude.{◌≡◌, ℕ, List, [], ◌∷◌, ◌++◌, Option, Some, None, Result, Ok, Err}
 use Rattle.syn_words.specs.Bytes.{bad_byte}
-use Rattle.syn_words.specs.Phrases.{Phrase, phrases}
-use Rattle.syn_words.specs.Commands.{SpokenCommand, spelled, fault_of}
+use Rattle.syn_words.specs.Phrases.{phrases}
+use Rattle.syn_words.specs.declared.words.Phrase.{Phrase}
+use Rattle.syn_words.specs.Forms.{and_then}
+use Rattle.syn_words.specs.Commands.{said}
+use Rattle.syn_words.specs.declared.Command.{Command}
 use Rattle.syn_words.specs.declared.ScriptFault.{ScriptFault}
 use Rattle.syn_words.specs.declared.ScriptFault.TheVariants.{BadByte}
 
--- Both lists, one after the other, where both are there.
-abbrev pub joined : Option (List SpokenCommand) → Option (List SpokenCommand) → Option (List SpokenCommand)
-joined None more = None
-joined (Some commands) None = None
-joined (Some commands) (Some more) = Some (commands ++ more)
+-- What a phrase says behind commands that were read: they and its own, or its fault.
+abbrev pub said_onto : List Command → Phrase → Result (List Command) ScriptFault
+said_onto before phrase = and_then (said phrase) (λ commands. Ok (before ++ commands))
 
--- The commands of phrases in order, where each spells some.
-abbrev pub spelled_all : List Phrase → Option (List SpokenCommand)
-spelled_all [] = Some []
-spelled_all (phrase ∷ phrases) = joined (spelled phrase) (spelled_all phrases)
+-- What phrases say behind commands that were read: all commands in order, or the fault of the first phrase that has one.
+abbrev pub said_after : List Command → List Phrase → Result (List Command) ScriptFault
+said_after before [] = Ok before
+said_after before (phrase ∷ phrases) = and_then (said_onto before phrase) (λ commands. said_after commands phrases)
 
--- The fault of the first phrase that has one.
-abbrev pub fault_of_all : List Phrase → Option ScriptFault
-fault_of_all [] = None
-fault_of_all (phrase ∷ phrases) = option_or (fault_of phrase) (fault_of_all phrases)
+-- The same, by the first byte that may not stand in a script: it comes before all else.
+abbrev pub said_unless : Option ℕ → List Phrase → Result (List Command) ScriptFault
+said_unless (Some at) phrases = Err (BadByte at)
+said_unless None phrases = said_after [] phrases
 
--- The text is a script of these commands: each of its bytes may stand there, and its phrases spell them.
-pub record IsScript (text : List ℕ) (commands : List SpokenCommand) : Type 0 where
-  pub bytes : bad_byte text ≡ None
-  pub spells : spelled_all (phrases text) ≡ Some commands
+-- What a text says: the commands that its phrases spell in order, or its first fault in text order.
+abbrev pub meaning : List ℕ → Result (List Command) ScriptFault
+meaning text = said_unless (bad_byte text) (phrases text)
 
--- The first fault of a text: a byte that may not stand comes before all else, then the faults of phrases in text order.
-abbrev pub first_fault : List ℕ → Option ScriptFault
-first_fault text = option_or (option_map BadByte (bad_byte text)) (fault_of_all (phrases text))
+-- The text is a script of these commands.
+abbrev pub IsScript : List ℕ → List Command → Type 0
+IsScript text commands = meaning text ≡ Ok commands
 
+-- The text is no script, for this first fault.
 abbrev pub IsFirstFault : List ℕ → ScriptFault → Type 0
-IsFirstFault text fault = first_fault text ≡ Some fault
+IsFirstFault text fault = meaning text ≡ Err fault

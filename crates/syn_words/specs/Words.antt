@@ -1,14 +1,7 @@
--- The words of a command.
-use Rattle.std.specs.Prelude.{ℕ, suc, nat_lt, ◌&&◌, Bool, false, if◌then◌else◌, List, [], ◌∷◌}
-
--- A byte of a word: 33 to 126. Spaces, tabs and CRs stand between words.
-abbrev pub is_word_byte : ℕ → Bool
-is_word_byte b = nat_lt 32 b && nat_lt b 127
-
--- A word: the offset of its first byte in the text, and its bytes.
-pub record Word : Type 0 where
-  pub at : ℕ
-  pub text : List ℕ
+-- The words of a command. A word is the offset of its first byte in the text, and its bytes.
+use Rattle.std.specs.Prelude.{ℕ, suc, Bool, false, if◌then◌else◌, List, [], ◌∷◌}
+use Rattle.syn_words.specs.Bytes.{is_word_byte}
+use Rattle.syn_words.specs.declared.words.Word.{Word}
 
 -- Whether a word stands in front.
 abbrev pub begins_word : List ℕ → Bool

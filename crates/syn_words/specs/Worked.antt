@@ -1,10 +1,32 @@
--- Worked scripts with their commands, and texts with their first faults.
-use Rattle.std.specs.Prelude.{[], ◌∷◌, ◌++◌, codes}
-use Rattle.syn_words.specs.Commands.{Read, Write, Stats, Strash, Balance}
+-- Worked scripts with their commands, texts with their first faults, and words read by forms.
+use Rattle.std.specs.Prelude.{◌≡◌, true, false, ℕ, List, [], ◌∷◌, ◌++◌, Some, None, Result, Ok, Err, codes}
+use Rattle.syn_words.specs.Words.{words_at}
+use Rattle.syn_words.specs.Forms.{given_by}
 use Rattle.syn_words.specs.Scripts.{IsScript, IsFirstFault}
-use Rattle.syn_words.specs.declared.ScriptFault.TheVariants.{BadByte, UnknownCommand, MissingWord, ExtraWord}
+use Rattle.syn_words.specs.declared.Command.TheVariants.{Read, Write, Stats, Strash, Balance}
+use Rattle.syn_words.specs.declared.ScriptFault.{ScriptFault}
+use Rattle.syn_words.specs.declared.ScriptFault.TheVariants.{BadByte, UnknownCommand, MissingWord, ExtraWord, BadNumber, OutOfRange}
+use Rattle.syn_words.specs.declared.forms.Form.{Form}
+use Rattle.syn_words.specs.declared.forms.Operands.TheVariants.{Nothing, Name, TwoNumbers}
+use Rattle.syn_words.specs.declared.reading.Given.{Given}
 
-pub record Worked : Type 0 where
+-- What a text of words gives by a form, from the offset 0.
+abbrev pub Gives : Form → List ℕ → Result Given ScriptFault → Type 0
+Gives form text wanted = given_by form 99 (words_at 0 text) ≡ wanted
+
+-- A flag `-z`, and an option `-w` with a number from 1 to 16.
+abbrev pub zero_and_workers : Form
+zero_and_workers = record { flag = Some 122; numbered = Some (record { letter = 119; range = record { least = 1; most = 16 } }); operands = Nothing }
+
+-- A flag `-a`, and then a file's name.
+abbrev pub flag_and_name : Form
+flag_and_name = record { flag = Some 97; numbered = None; operands = Name }
+
+-- A number of 64 bits, and one from 1 to 32768.
+abbrev pub two_numbers : Form
+two_numbers = record { flag = None; numbered = None; operands = TwoNumbers (record { least = 0; most = 18446744073709551615 }) (record { least = 1; most = 32768 }) }
+
+pub record WorkedScripts : Type 0 where
   pub empty : IsScript [] []
   pub semicolon : IsScript (codes ";") []
   pub blanks : IsScript (codes " ; ;" ++ 9 ∷ 13 ∷ []) []
@@ -13,7 +35,9 @@ pub record Worked : Type 0 where
   pub long_names : IsScript (codes "print_stats; strash; balance;") (Stats ∷ Strash ∷ Balance ∷ [])
   pub tab_and_cr : IsScript (codes "read_blif" ++ 9 ∷ codes "a.blif" ++ 13 ∷ []) (Read (codes "a.blif") ∷ [])
   pub comment_is_none : IsScript (codes "write_blif #a\\b") (Write (codes "#a\\b") ∷ [])
+  pub hyphen_is_a_name : IsScript (codes "read_blif -a") (Read (codes "-a") ∷ [])
   pub unknown : IsFirstFault (codes "rewrit") (UnknownCommand 0)
+  pub not_yet : IsFirstFault (codes "ps; resyn2") (UnknownCommand 4)
   pub upper_case : IsFirstFault (codes "PS") (UnknownCommand 0)
   pub cut_short : IsFirstFault (codes "read_bli a") (UnknownCommand 0)
   pub extra : IsFirstFault (codes "ps now") (ExtraWord 3)
@@ -24,3 +48,26 @@ pub record Worked : Type 0 where
   pub first_of_two : IsFirstFault (codes "ps; rewrit; read_blif") (UnknownCommand 4)
   pub line_feed : IsFirstFault (codes "ps" ++ 10 ∷ codes "ps") (BadByte 2)
   pub byte_before_all : IsFirstFault (codes "rewrit; " ++ 127 ∷ []) (BadByte 8)
+
+pub record WorkedForms : Type 0 where
+  pub options : Gives zero_and_workers (codes "-z -w 4") (Ok (record { flag = true; number = Some 4; name = []; numbers = (0, 0) }))
+  pub other_order : Gives zero_and_workers (codes "-w 4 -z") (Ok (record { flag = true; number = Some 4; name = []; numbers = (0, 0) }))
+  pub no_option : Gives zero_and_workers [] (Ok (record { flag = false; number = None; name = []; numbers = (0, 0) }))
+  pub leading_zeros : Gives zero_and_workers (codes "-w 0016") (Ok (record { flag = false; number = Some 16; name = []; numbers = (0, 0) }))
+  pub number_missing : Gives zero_and_workers (codes "-w") (Err (MissingWord 99))
+  pub no_number : Gives zero_and_workers (codes "-w -z") (Err (BadNumber 3))
+  pub signed : Gives zero_and_workers (codes "-w +4") (Err (BadNumber 3))
+  pub too_small : Gives zero_and_workers (codes "-w 0") (Err (OutOfRange 3))
+  pub too_great : Gives zero_and_workers (codes "-w 17") (Err (OutOfRange 3))
+  pub flag_twice : Gives zero_and_workers (codes "-z -z") (Err (ExtraWord 3))
+  pub number_twice : Gives zero_and_workers (codes "-w 4 -w x") (Err (ExtraWord 5))
+  pub stray_word : Gives zero_and_workers (codes "z") (Err (ExtraWord 0))
+  pub flag_before_a_name : Gives flag_and_name (codes "-a o") (Ok (record { flag = true; number = None; name = codes "o"; numbers = (0, 0) }))
+  pub flag_behind_a_name : Gives flag_and_name (codes "o -a") (Err (ExtraWord 2))
+  pub flag_for_a_name : Gives flag_and_name (codes "-a -a") (Err (ExtraWord 3))
+  pub name_missing : Gives flag_and_name (codes "-a") (Err (MissingWord 99))
+  pub seed_and_size : Gives two_numbers (codes "18446744073709551615 1") (Ok (record { flag = false; number = None; name = []; numbers = (18446744073709551615, 1) }))
+  pub size_missing : Gives two_numbers (codes "1") (Err (MissingWord 99))
+  pub size_no_number : Gives two_numbers (codes "1 x") (Err (BadNumber 2))
+  pub size_too_great : Gives two_numbers (codes "1 32769") (Err (OutOfRange 2))
+  pub however_long : Gives two_numbers (codes "18446744073709551616 x") (Err (OutOfRange 0))

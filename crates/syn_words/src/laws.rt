@@ -1,11 +1,16 @@
 //! Laws of scripts, and worked scripts.
 
 ghost use Rattle.syn_words.specs.Laws.{EitherOr, NotBoth, OneFault, OneScript};
-ghost use Rattle.syn_words.specs.Worked.{Worked};
+ghost use Rattle.syn_words.specs.Worked.{WorkedForms, WorkedScripts};
 
 /// The definitions give the wanted commands and first faults of worked texts.
 pub fn worked_scripts()
-    ensures { Worked }
+    ensures { WorkedScripts }
+{}
+
+/// Words give what is wanted by worked forms, or have the wanted first fault.
+pub fn worked_forms()
+    ensures { WorkedForms }
 {}
 
 /// A text is a script of some commands, or has a first fault.

@@ -5,31 +5,37 @@
 //! words is skipped. The whole script is read before anything runs, and the first fault in text
 //! order is answered, alone.
 //!
-//! Names and what they take stand in one table in `specs/Commands.antt`; the table in the code is
-//! `Keyword`. No memory is taken but for the list and the names of files.
+//! What may stand behind a name is data, a form: an option without a number, an option with a
+//! number in a range, and then a file's name or two numbers. One function reads words by a form,
+//! and one table says which form and which commands belong to a name: `specs/Commands.antt`, and
+//! in the code `table.rt`. No memory is taken but for the list and the names of files.
 #![tactic(auto)]
 
-ghost use Rattle.std.specs.Prelude.{◌≡◌, ◌⊎◌, ◌<◌, ◌^◌, List, length, map, Some, IfOk, IfErr, IsOkUnless};
-ghost use Rattle.syn_words.specs.Commands.{SpokenCommand, spoken};
-ghost use Rattle.syn_words.specs.Scripts.{fault_of_all, IsFirstFault, IsScript, spelled_all};
+ghost use Rattle.std.specs.Prelude.{◌≡◌, ◌⊎◌, ◌<◌, ◌^◌, [], Err, List, length, Ok, Some, IfOk, IfErr, IsOkUnless};
+ghost use Rattle.syn_words.specs.Scripts.{IsFirstFault, IsScript, said_after};
 
-mod commands;
+mod forms;
 mod laws;
+mod names;
+mod numbers;
+mod reading;
+mod table;
 mod words;
 
-use commands::command_of;
-pub use laws::{either_or, not_both, one_fault, one_script, worked_scripts};
+pub use laws::{either_or, not_both, one_fault, one_script, worked_forms, worked_scripts};
+pub use names::FileName;
 use std::alloc::{AllocError, AllocFailed, Global};
+use table::push_commands;
 use thiserror::Error;
 use words::{Phrases, bad_byte};
 
-/// A command of a script.
-#[derive(Debug, Drop, PartialEq, Eq)]
+/// A command of a script. Contracts see the names of files as bytes.
+#[derive(Debug, Drop)]
 pub enum Command {
     /// `read_blif F`: the graph of the netlist in the file of that name becomes the network.
-    Read(String),
+    Read(FileName),
     /// `write_blif F`: writes the network to the file of that name.
-    Write(String),
+    Write(FileName),
     /// `print_stats`, `ps`: prints the network's line.
     Stats,
     /// `strash`, `st`: makes the network a graph, hashed and compacted.
@@ -53,10 +59,10 @@ pub enum ScriptFault {
     /// A word that the command doesn't expect.
     #[error("script {0}: extra word")]
     ExtraWord(u32),
-    /// A word that should be a number isn't one. No command gives it yet.
+    /// A word that should be a number isn't one.
     #[error("script {0}: bad number")]
     BadNumber(u32),
-    /// A number is outside its range. No command gives it yet.
+    /// A number is outside its range.
     #[error("script {0}: out of range")]
     OutOfRange(u32),
     /// Memory was refused.
@@ -92,9 +98,9 @@ impl<T: Drop> From<AllocFailed<T>> for ScriptFault {
 /// the faults of its commands in text order. `NoMemory` may come for any text.
 pub fn parse_script(alloc: Global, text: &[u8]) -> Result<Vec<Command>, ScriptFault>
     requires { length text.now < 2 ^ 32 }
-    ensures script { IfOk result (λ commands. IsScript text.now (map spoken commands.items)) }
+    ensures script { IfOk result (λ commands. IsScript text.now commands.items) }
     ensures refused { IfErr result (λ fault. (fault ≡ ScriptFault.NoMemory) ⊎ IsFirstFault text.now fault) }
-    ensures accepted { (commands : List SpokenCommand) → IsScript text.now commands → IsOkUnless result ScriptFault.NoMemory }
+    ensures accepted { (commands : List Command) → IsScript text.now commands → IsOkUnless result ScriptFault.NoMemory }
 {
     if let Some(at) = bad_byte(text) {
         return Err(ScriptFault::BadByte(at));
@@ -104,15 +110,12 @@ pub fn parse_script(alloc: Global, text: &[u8]) -> Result<Vec<Command>, ScriptFa
 
 // The commands of phrases, one after the other.
 fn commands_of(alloc: Global, phrases: Phrases<'_>) -> Result<Vec<Command>, ScriptFault>
-    ensures spelled { IfOk result (λ commands. spelled_all phrases.entry ≡ Some (map spoken commands.items)) }
-    ensures refused { IfErr result (λ fault. (fault ≡ ScriptFault.NoMemory) ⊎ (fault_of_all phrases.entry ≡ Some fault)) }
+    ensures said { IfOk result (λ commands. said_after [] phrases.entry ≡ Ok commands.items) }
+    ensures refused { IfErr result (λ fault. (fault ≡ ScriptFault.NoMemory) ⊎ (said_after [] phrases.entry ≡ Err fault)) }
 {
     let mut commands = Vec::new(alloc);
     for phrase in phrases {
-        commands.push(command_of(alloc, phrase)?)?;
+        push_commands(alloc, &mut commands, phrase)?;
     }
     Ok(commands)
 }
-
-#[cfg(test)]
-mod tests;

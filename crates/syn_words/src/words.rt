@@ -2,11 +2,11 @@
 
 ghost use Rattle.std.specs.Prelude.{◌≡◌, ◌+◌, ◌^◌, ◌<◌, ◌≤◌, [], ◌∷◌, length, true, IfSome, IfNone};
 ghost use Rattle.std.specs.List.{list_all};
-ghost use Rattle.syn_words.specs.Bytes.{bad_byte, may_stand};
+ghost use Rattle.syn_words.specs.Bytes.{bad_byte, is_word_byte, may_stand};
 ghost use Rattle.syn_words.specs.Phrases.{IsCut, phrases, phrases_at, piece_len, pieces};
-ghost use Rattle.syn_words.specs.Words.{blank_len, is_word_byte, word_len, words_at};
-ghost use Rattle.syn_words.specs.Written.{phrase_in, word_in};
+ghost use Rattle.syn_words.specs.Words.{blank_len, word_len, words_at};
 
+use crate::names::WordText;
 use std::marker::Model;
 
 fn may_stand(byte: u8) -> bool
@@ -87,10 +87,10 @@ fn cut_piece(bytes: &[u8]) -> (&[u8], &[u8])
 }
 
 // A word: the offset of its first byte in the text, and its bytes.
-#[derive(Clone, Copy)]
+#[derive(Debug, Drop)]
 pub struct Word<'a> {
     pub at: u32,
-    pub text: &'a [u8],
+    pub text: WordText<'a>,
 }
 
 // The words that are left of a command, in order. Contracts see their list.
@@ -102,7 +102,8 @@ pub struct Words<'a> {
 
 impl<'a> Model for Words<'a> {
     ghost use Rattle.std.specs.Prelude.{List, ◌+◌, ◌<◌, ◌^◌, length};
-    ghost use Rattle.syn_words.specs.Words.{Word, words_at};
+    ghost use Rattle.syn_words.specs.Words.{words_at};
+    ghost use Rattle.syn_words.specs.declared.words.Word.{Word};
 
     ghost Value = { List Word };
 
@@ -115,8 +116,7 @@ impl<'a> Model for Words<'a> {
 fn cut_word<'a>(text: &'a [u8], start: usize) -> Option<(Word<'a>, Words<'a>)>
     requires { start + length text.now < 2 ^ 32 }
     ensures none { IfNone result (words_at start text.now ≡ []) }
-    ensures some { IfSome result (λ cut. words_at start text.now ≡ word_in cut.0 ∷ cut.1) }
-    ensures bytes { IfSome result (λ cut. list_all is_word_byte cut.0.text.now ≡ true) }
+    ensures some { IfSome result (λ cut. words_at start text.now ≡ cut.0 ∷ cut.1) }
 {
     let blanks = blank_len(text);
     let (_, rest) = text.split_at(blanks);
@@ -128,7 +128,7 @@ fn cut_word<'a>(text: &'a [u8], start: usize) -> Option<(Word<'a>, Words<'a>)>
     let (word, rest) = rest.split_at(len);
     let first = Word {
         at: at as u32,
-        text: word,
+        text: WordText::of(word),
     };
     let behind = Words { rest, at: at + len };
     Some((first, behind))
@@ -138,8 +138,7 @@ impl<'a> Words<'a> {
     // Takes the next word.
     pub fn take_word(&mut self) -> Option<Word<'a>>
         ensures none { IfNone result (self.old ≡ []) }
-        ensures some { IfSome result (λ word. self.old ≡ word_in word ∷ self.new) }
-        ensures bytes { IfSome result (λ word. list_all is_word_byte word.text.now ≡ true) }
+        ensures some { IfSome result (λ word. self.old ≡ word ∷ self.new) }
     {
         let (word, behind) = cut_word(self.rest, self.at)?;
         *self = behind;
@@ -164,7 +163,8 @@ pub struct Phrases<'a> {
 
 impl<'a> Model for Phrases<'a> {
     ghost use Rattle.std.specs.Prelude.{List, ◌+◌, ◌<◌, ◌^◌, length};
-    ghost use Rattle.syn_words.specs.Phrases.{Phrase, phrases_at, pieces};
+    ghost use Rattle.syn_words.specs.declared.words.Phrase.{Phrase};
+    ghost use Rattle.syn_words.specs.Phrases.{phrases_at, pieces};
 
     ghost Value = { List Phrase };
 
@@ -177,7 +177,7 @@ impl<'a> Model for Phrases<'a> {
 fn cut_phrase<'a>(text: &'a [u8], start: usize) -> Option<(Phrase<'a>, Phrases<'a>)>
     requires { start + length text.now < 2 ^ 32 }
     ensures none { IfNone result (phrases_at start (pieces text.now) ≡ []) }
-    ensures some { IfSome result (λ cut. phrases_at start (pieces text.now) ≡ phrase_in cut.0 ∷ cut.1) }
+    ensures some { IfSome result (λ cut. phrases_at start (pieces text.now) ≡ cut.0 ∷ cut.1) }
 {
     let mut rest = text;
     let mut at = start;
@@ -206,11 +206,10 @@ impl<'a> Phrases<'a> {
 
 impl<'a> Iterator for Phrases<'a> {
     ghost use Rattle.std.specs.Iterator.{item_count, YieldsFirstBy};
-    ghost use Rattle.syn_words.specs.Written.{phrase_in};
 
     type Item = Phrase<'a>;
 
-    ghost next_gives = { YieldsFirstBy phrase_in (λ rest. rest) };
+    ghost next_gives = { YieldsFirstBy (λ phrase. phrase) (λ rest. rest) };
 
     ghost remaining = { item_count (λ rest. rest) };
 

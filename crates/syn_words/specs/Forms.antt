@@ -1,0 +1,94 @@
+-- Forms: what may stand behind a command's name, read word by word.
+use Rattle.std.specs.Prelude.{ℕ, true, false, Bool, is_some, if◌then◌else◌, List, [], ◌∷◌, Option, Some, None, Result, Ok, Err, bytes_eq}
+use Rattle.syn_words.specs.declared.words.Word.{Word}
+use Rattle.syn_words.specs.Numbers.{number_at}
+use Rattle.syn_words.specs.declared.forms.Form.{Form}
+use Rattle.syn_words.specs.declared.forms.Numbered.{Numbered}
+use Rattle.syn_words.specs.declared.forms.NumberRange.{NumberRange}
+use Rattle.syn_words.specs.declared.forms.Operands.{Operands}
+use Rattle.syn_words.specs.declared.forms.Operands.TheVariants as operands
+use Rattle.syn_words.specs.declared.reading.Given.{Given}
+use Rattle.syn_words.specs.declared.reading.Awaits.{Awaits}
+use Rattle.syn_words.specs.declared.reading.Awaits.TheVariants as awaits
+use Rattle.syn_words.specs.declared.reading.Progress.{Progress}
+use Rattle.syn_words.specs.declared.ScriptFault.{ScriptFault}
+use Rattle.syn_words.specs.declared.ScriptFault.TheVariants.{MissingWord, ExtraWord}
+
+-- What follows on a success; a fault stays the fault.
+abbrev pub and_then : {A B : Type 0} → Result A ScriptFault → (A → Result B ScriptFault) → Result B ScriptFault
+and_then (Ok value) next = next value
+and_then (Err fault) next = Err fault
+
+-- The word is the option of that letter: a hyphen and the letter.
+abbrev pub is_option : ℕ → List ℕ → Bool
+is_option letter text = bytes_eq (45 ∷ letter ∷ []) text
+
+-- The word is the form's option without a number.
+abbrev pub is_flag : Option ℕ → List ℕ → Bool
+is_flag None text = false
+is_flag (Some letter) text = is_option letter text
+
+-- The range of the number behind the word, where it is the form's option with a number.
+abbrev pub number_behind : Option Numbered → List ℕ → Option NumberRange
+number_behind None text = None
+number_behind (Some numbered) text = if is_option numbered.letter text then Some numbered.range else None
+
+-- Nothing was given yet.
+abbrev pub nothing_given : Given
+nothing_given = record { flag = false; number = None; name = []; numbers = (0, 0) }
+
+-- The words behind a name are read from here.
+abbrev pub from_the_name : Progress
+from_the_name = record { given = nothing_given; awaits = awaits.Options }
+
+-- The option without a number, once.
+abbrev pub with_flag : Given → Word → Result Progress ScriptFault
+with_flag given word =
+    if given.flag then Err (ExtraWord word.at) else Ok (record { given = record { flag = true; number = given.number; name = given.name; numbers = given.numbers }; awaits = awaits.Options })
+
+-- The option with a number, once.
+abbrev pub with_numbered : NumberRange → Given → Word → Result Progress ScriptFault
+with_numbered range given word = if is_some given.number then Err (ExtraWord word.at) else Ok (record { given = given; awaits = awaits.OptionNumber range })
+
+-- The first word that is no option.
+abbrev pub with_first : Operands → Given → Word → Result Progress ScriptFault
+with_first operands.Nothing given word = Err (ExtraWord word.at)
+with_first operands.Name given word = Ok (record { given = record { flag = given.flag; number = given.number; name = word.text; numbers = given.numbers }; awaits = awaits.Nothing })
+with_first (operands.TwoNumbers first second) given word =
+    and_then (number_at first word) (λ n. Ok (record { given = record { flag = given.flag; number = given.number; name = given.name; numbers = (n, 0) }; awaits = awaits.SecondNumber second }))
+
+-- Of a word that may be an option with a number: it is one, or the first word that is none.
+abbrev pub with_further : Option NumberRange → Form → Given → Word → Result Progress ScriptFault
+with_further (Some range) form given word = with_numbered range given word
+with_further None form given word = with_first form.operands given word
+
+-- One word further, by what is awaited.
+abbrev pub after_word : Form → Awaits → Given → Word → Result Progress ScriptFault
+after_word form awaits.Options given word = if is_flag form.flag word.text then with_flag given word else with_further (number_behind form.numbered word.text) form given word
+after_word form (awaits.OptionNumber range) given word =
+    and_then (number_at range word) (λ n. Ok (record { given = record { flag = given.flag; number = Some n; name = given.name; numbers = given.numbers }; awaits = awaits.Options }))
+after_word form (awaits.SecondNumber range) given word =
+    and_then (number_at range word) (λ n. Ok (record { given = record { flag = given.flag; number = given.number; name = given.name; numbers = (given.numbers.0, n) }; awaits = awaits.Nothing }))
+after_word form awaits.Nothing given word = Err (ExtraWord word.at)
+
+-- No further word, where a first one may be awaited.
+abbrev pub without_first : Operands → ℕ → Given → Result Given ScriptFault
+without_first operands.Nothing end given = Ok given
+without_first operands.Name end given = Err (MissingWord end)
+without_first (operands.TwoNumbers first second) end given = Err (MissingWord end)
+
+-- No further word: what is awaited is missing, at the place where the words end.
+abbrev pub at_end : Form → ℕ → Awaits → Given → Result Given ScriptFault
+at_end form end awaits.Options given = without_first form.operands end given
+at_end form end (awaits.OptionNumber range) given = Err (MissingWord end)
+at_end form end (awaits.SecondNumber range) given = Err (MissingWord end)
+at_end form end awaits.Nothing given = Ok given
+
+-- What words give by a form, or their first fault: one word after the other.
+abbrev pub given_from : Form → ℕ → Progress → List Word → Result Given ScriptFault
+given_from form end progress [] = at_end form end progress.awaits progress.given
+given_from form end progress (word ∷ words) = and_then (after_word form progress.awaits progress.given word) (λ next. given_from form end next words)
+
+-- The same of all words behind a name.
+abbrev pub given_by : Form → ℕ → List Word → Result Given ScriptFault
+given_by form end words = given_from form end from_the_name words

@@ -1,0 +1,35 @@
+//! Forms: what may stand behind a command's name, as data.
+
+/// A range of numbers, whose ends belong to it.
+#[derive(Clone, Copy, Debug, PartialEq, Eq)]
+pub struct NumberRange {
+    pub least: u64,
+    pub most: u64,
+}
+
+/// An option with a number: a hyphen and its letter, and then a number in the range.
+#[derive(Clone, Copy, Debug, PartialEq, Eq)]
+pub struct Numbered {
+    pub letter: u8,
+    pub range: NumberRange,
+}
+
+/// The words behind the options.
+#[derive(Clone, Copy, Debug, PartialEq, Eq)]
+pub enum Operands {
+    Nothing,
+    /// A file's name.
+    Name,
+    /// Two numbers, each in its range.
+    TwoNumbers(NumberRange, NumberRange),
+}
+
+/// What may stand behind a command's name: options in any order, each once at most, and then words.
+#[derive(Clone, Copy, Debug, PartialEq, Eq)]
+pub struct Form {
+    /// The letter of the option without a number.
+    pub flag: Option<u8>,
+    /// The option with a number.
+    pub numbered: Option<Numbered>,
+    pub operands: Operands,
+}

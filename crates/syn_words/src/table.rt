@@ -1,0 +1,87 @@
+//! The table of commands: their names, what may stand behind each, and what it then says.
+
+ghost use Rattle.std.specs.Prelude.{◌≡◌, ◌⊎◌, [], ◌∷◌, Err, Ok, IfOk, OnOk, IfErr};
+ghost use Rattle.syn_words.specs.Commands.{commands_of, form_of, named_in, names, said};
+ghost use Rattle.syn_words.specs.Scripts.{said_onto};
+
+use crate::forms::{Form, Operands};
+use crate::names::FileName;
+use crate::reading::{Given, given_by};
+use crate::words::Phrase;
+use crate::{Command, ScriptFault};
+use std::alloc::{AllocError, Global};
+
+/// What the names of commands say, long and short ones together.
+#[derive(Clone, Copy, Debug, PartialEq, Eq)]
+pub enum Keyword {
+    ReadBlif,
+    WriteBlif,
+    PrintStats,
+    Strash,
+    Balance,
+}
+
+// The keyword that a word names.
+fn keyword_of(word: &[u8]) -> Option<Keyword>
+    ensures { result ≡ named_in names word.now }
+{
+    if b"read_blif".as_slice() == word {
+        Some(Keyword::ReadBlif)
+    } else if b"write_blif".as_slice() == word {
+        Some(Keyword::WriteBlif)
+    } else if b"print_stats".as_slice() == word || b"ps".as_slice() == word {
+        Some(Keyword::PrintStats)
+    } else if b"strash".as_slice() == word || b"st".as_slice() == word {
+        Some(Keyword::Strash)
+    } else if b"balance".as_slice() == word || b"b".as_slice() == word {
+        Some(Keyword::Balance)
+    } else {
+        None
+    }
+}
+
+// What may stand behind a keyword.
+fn form_of(keyword: Keyword) -> Form
+    ensures { result ≡ form_of keyword }
+{
+    let operands = match keyword {
+        Keyword::ReadBlif | Keyword::WriteBlif => Operands::Name,
+        Keyword::PrintStats | Keyword::Strash | Keyword::Balance => Operands::Nothing,
+    };
+    Form {
+        flag: None,
+        numbered: None,
+        operands,
+    }
+}
+
+// The command that a keyword spells with what was given behind it.
+fn command_of(alloc: Global, keyword: Keyword, given: Given<'_>) -> Result<Command, AllocError>
+    ensures { IfOk result (λ command. command ∷ [] ≡ commands_of keyword given.entry) }
+{
+    match keyword {
+        Keyword::ReadBlif => Ok(Command::Read(FileName::of(alloc, given.name)?)),
+        Keyword::WriteBlif => Ok(Command::Write(FileName::of(alloc, given.name)?)),
+        Keyword::PrintStats => Ok(Command::Stats),
+        Keyword::Strash => Ok(Command::Strash),
+        Keyword::Balance => Ok(Command::Balance),
+    }
+}
+
+/// Puts the commands that a phrase spells behind those that were read before it.
+pub fn push_commands(
+    alloc: Global,
+    commands: &mut Vec<Command>,
+    phrase: Phrase<'_>,
+) -> Result<(), ScriptFault>
+    ensures spelled { OnOk result (said_onto commands.old.items phrase.entry ≡ Ok commands.new.items) }
+    ensures refused { IfErr result (λ fault. (fault ≡ ScriptFault.NoMemory) ⊎ (said phrase.entry ≡ Err fault)) }
+{
+    let Phrase { name, further, end } = phrase;
+    let Some(keyword) = keyword_of(name.text.as_slice()) else {
+        return Err(ScriptFault::UnknownCommand(name.at));
+    };
+    let given = given_by(form_of(keyword), further, end)?;
+    commands.push(command_of(alloc, keyword, given)?)?;
+    Ok(())
+}
