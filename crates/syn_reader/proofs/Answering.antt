@@ -32,11 +32,11 @@ undriven_is ss n read spell e =
     find_same (λ name. not (has (map name_of (flat_map definitions ss)) name)) (λ name. not (has (defined n) name)) (λ w. ap not (spelled_names ss n w spell)) (flat_map reads ss)
     ∙ ap (first_undefined n) (sym e)
 
-all_each : (test : List ℕ → Bool) (ws : List (List ℕ)) → ((w : List ℕ) → has ws w ≡ true → test w ≡ true) → list_all test ws ≡ true
+pub all_each : (test : List ℕ → Bool) (ws : List (List ℕ)) → ((w : List ℕ) → has ws w ≡ true → test w ≡ true) → list_all test ws ≡ true
 all_each test [] h = refl
 all_each test (x ∷ xs) h = and_from (test x) (list_all test xs) (h x (has_head x xs)) (all_each test xs (λ w t. h w (has_tail x w xs t)))
 
-none_from_all : (test : List ℕ → Bool) (ws : List (List ℕ)) → list_all test ws ≡ true → find (λ w. not (test w)) ws ≡ None
+pub none_from_all : (test : List ℕ → Bool) (ws : List (List ℕ)) → list_all test ws ≡ true → find (λ w. not (test w)) ws ≡ None
 none_from_all test [] h = refl
 none_from_all test (x ∷ xs) h =
     let parts = and_parts (test x) (list_all test xs) h in

@@ -17,7 +17,7 @@ use Rattle.syn_reader.proofs.ReadingPlaces.{latch_defines}
 abbrev pub defines : Netlist → List ℕ → Bool
 defines n w = has n.frame.inputs w || (has n.frame.clocks w || (has (map latch_output n.frame.latches) w || has (map output_of n.tables) w))
 
-has-without : (xs ys : List (List ℕ)) (w : List ℕ) → has (without xs ys) w ≡ (has ys w && not (has xs w))
+pub has-without : (xs ys : List (List ℕ)) (w : List ℕ) → has (without xs ys) w ≡ (has ys w && not (has xs w))
 has-without xs [] w = refl
 has-without xs (y ∷ ys) w = go (has xs y) refl (bytes_eq y w) refl (has-without xs ys w)
   where
