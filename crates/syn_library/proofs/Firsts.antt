@@ -9,8 +9,6 @@ use Rattle.std.proofs.lemmas.List.Elements.{All-push, filter_agree}
 use Rattle.std.proofs.lemmas.List.Folds.{list_any-append}
 use Rattle.syn_plan.specs.declared.PLit.{PLit}
 use Rattle.syn_plan.specs.Factoring.{Built, factored, names_once}
-use Rattle.syn_truth.specs.declared.Truth.{Truth}
-use Rattle.syn_truth.specs.Truth.{value_at, value_of}
 use Rattle.syn_plan.specs.declared.plan.Plan.{Plan}
 use Rattle.syn_npn.proofs.Computed.{every_at}
 use Rattle.syn_library.specs.Fitting.{built_of}
@@ -156,13 +154,6 @@ pub names_once-orders : (i : ℕ) → i < 4 → names_once 4 (get_or orders i []
 names_once-orders = every_at 4 (λ i. names_once 4 (get_or orders i [])) refl
 
 -- ---- the plan of a class in an order
-pub value_of-class : (f : Truth) (class : ℕ) → f.bits ≡ class → value_of f ≡ function_of class
-unfolding value_of value_at
-value_of-class f class e = ap function_of e
-
-pub value_of-along : (f : Truth) (class : ℕ) → f.bits ≡ class → (xs : List Bool) → value_of f xs ≡ function_of class xs
-value_of-along f class e xs = ap (λ (g : List Bool → Bool). g xs) (value_of-class f class e)
-
 pub built_of-is : (p : Plan) (b : Built) → p.gates.items ≡ b.gates → p.out ≡ b.out → built_of p ≡ b
 built_of-is p b g o =
     let made : List (PLit × PLit) → PLit → Built = λ gates out. record { gates = gates; out = out } in

@@ -50,11 +50,7 @@ fn class_plan(class: u16, order: &[u8]) -> Plan
     ensures leaves { result.leaves ≡ 4 }
     ensures truth { Computes result class }
 {
-    let function = Truth {
-        vars: 4,
-        bits: u128::from(class),
-    };
-    factor_in(function, order)
+    factor_in(Truth::from_bits(class), order)
 }
 
 /// The distinct plans that factoring gives of a class, the least member, in four orders of the variables.

@@ -21,17 +21,17 @@ order_parts n order h =
 pub order_covers : (n : ℕ) (order : List ℕ) (f : List Bool → Bool) → names_once n order ≡ true → Covers n order f
 order_covers n order f h i l d = named n order (order_parts n order h).2 i l
 
-pub few_gates : (n : ℕ) → n ≤ 7 → most_gates n ≤ 189
+pub few_gates : (n : ℕ) → n ≤ 8 → most_gates n ≤ 381
 few_gates n h =
-    let few : n - 1 ≤ 6 = omega arith in
-    let low : 2 ^ (n - 1) ≤ 2 ^ 6 = pow-le-pow_right {n = 2} (omega arith) few in
+    let few : n - 1 ≤ 7 = omega arith in
+    let low : 2 ^ (n - 1) ≤ 2 ^ 7 = pow-le-pow_right {n = 2} (omega arith) few in
     omega (arith, low)
 
 -- ---- the order from the highest variable down
 abbrev pub all_falling : List ℕ
-all_falling = 6 ∷ 5 ∷ 4 ∷ 3 ∷ 2 ∷ 1 ∷ 0 ∷ []
+all_falling = 7 ∷ 6 ∷ 5 ∷ 4 ∷ 3 ∷ 2 ∷ 1 ∷ 0 ∷ []
 
-pub falling_is : (n : ℕ) → n ≤ 7 → (take (7 - (7 - n)) (drop (7 - n) all_falling) ≡ falling n) × (names_once n (falling n) ≡ true)
+pub falling_is : (n : ℕ) → n ≤ 8 → (take (8 - (8 - n)) (drop (8 - n) all_falling) ≡ falling n) × (names_once n (falling n) ≡ true)
 falling_is zero h = (refl, refl)
 falling_is (suc zero) h = (refl, refl)
 falling_is (suc (suc zero)) h = (refl, refl)
@@ -40,4 +40,5 @@ falling_is (suc (suc (suc (suc zero)))) h = (refl, refl)
 falling_is (suc (suc (suc (suc (suc zero))))) h = (refl, refl)
 falling_is (suc (suc (suc (suc (suc (suc zero)))))) h = (refl, refl)
 falling_is (suc (suc (suc (suc (suc (suc (suc zero))))))) h = (refl, refl)
-falling_is (suc (suc (suc (suc (suc (suc (suc (suc n)))))))) h = absurd (omega arith)
+falling_is (suc (suc (suc (suc (suc (suc (suc (suc zero)))))))) h = (refl, refl)
+falling_is (suc (suc (suc (suc (suc (suc (suc (suc (suc n))))))))) h = absurd (omega arith)

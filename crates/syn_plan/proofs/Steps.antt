@@ -44,14 +44,14 @@ module _ (n x : ℕ) (rest order : List ℕ) (f : List Bool → Bool) (gates : L
   factored_skip d = ap (λ xs. factored_after n xs f gates) is ∙ cond-false (depends_on n f x) _ _ d
 
 -- the room of the first cofactor of a choice
-pub choice_room : (n x : ℕ) (rest : List ℕ) (f : List Bool → Bool) (gates : List (PLit × PLit)) → split_of n (cofactor_of f x false) (cofactor_of f x true) ≡ Choice → list_all (λ i. ltb i n) rest ≡ true → Covers n (x ∷ rest) f → length (joined_at n x rest f gates).gates ≤ 255 → length (factored_after n rest (cofactor_of f x false) gates).gates ≤ 255
+pub choice_room : (n x : ℕ) (rest : List ℕ) (f : List Bool → Bool) (gates : List (PLit × PLit)) → split_of n (cofactor_of f x false) (cofactor_of f x true) ≡ Choice → list_all (λ i. ltb i n) rest ≡ true → Covers n (x ∷ rest) f → length (joined_at n x rest f gates).gates ≤ 381 → length (factored_after n rest (cofactor_of f x false) gates).gates ≤ 381
 choice_room n x rest f gates s r h room =
     let low : Built = factored_after n rest (cofactor_of f x false) gates in
     let high : IsBuilt n low.gates (factored_after n rest (cofactor_of f x true) low.gates) (cofactor_of f x true) (most_gates (length rest)) =
     is_factored n rest (cofactor_of f x true) low.gates r (covers_cofactor n x rest f true h) in
     let last : Built = factored_after n rest (cofactor_of f x true) low.gates in
-    let final : length (with_choice n last.gates (literal_of (1 + x)) last.out low.out).gates ≤ 255 =
-    subst (λ (c : Split). length (joined n c (literal_of (1 + x)) (factored_after n rest (cofactor_of f x false)) (factored_after n rest (cofactor_of f x true)) gates).gates ≤ 255) s room in
+    let final : length (with_choice n last.gates (literal_of (1 + x)) last.out low.out).gates ≤ 381 =
+    subst (λ (c : Split). length (joined n c (literal_of (1 + x)) (factored_after n rest (cofactor_of f x false)) (factored_after n rest (cofactor_of f x true)) gates).gates ≤ 381) s room in
     omega (arith, high.longer, simp length-append at final)
 
 -- a table that is a cofactor builds what the cofactor builds

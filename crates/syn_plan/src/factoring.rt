@@ -8,7 +8,7 @@ ghost use Rattle.syn_plan.specs.Gates.{index_of};
 ghost use Rattle.syn_plan.specs.Plans.{plan_truth};
 ghost use Rattle.syn_plan.specs.Factoring as spec;
 
-use crate::{PLit, Plan};
+use crate::{MOST_GATES, MOST_LEAVES, PLit, Plan};
 use syn_truth::Truth;
 
 /// How a function is put together from its cofactors by a variable x: `low` is the cofactor where x is
@@ -96,7 +96,7 @@ fn build(f: Truth, order: &[u8], plan: &mut Plan) -> PLit
     requires leaves { plan.old.leaves ≡ f.vars }
     requires within { list_all (λ i. nat_lt i f.vars) order.now ≡ true }
     requires covers { spec.Covers f.vars order.now (value_of f) }
-    requires room { length (spec.factored_after f.vars order.now (value_of f) plan.old.gates.items).gates ≤ 255 }
+    requires room { length (spec.factored_after f.vars order.now (value_of f) plan.old.gates.items).gates ≤ MOST_GATES }
     ensures leaves { plan.new.leaves ≡ plan.old.leaves }
     ensures gates { plan.new.gates.items ≡ (spec.factored_after f.vars order.now (value_of f) plan.old.gates.items).gates }
     ensures out { result ≡ (spec.factored_after f.vars order.now (value_of f) plan.old.gates.items).out }
@@ -118,7 +118,7 @@ fn join(f: Truth, x: u8, rest: &[u8], plan: &mut Plan) -> PLit
     requires variable { x < f.vars }
     requires within { list_all (λ i. nat_lt i f.vars) rest.now ≡ true }
     requires covers { spec.Covers f.vars (x ∷ rest.now) (value_of f) }
-    requires room { length (spec.joined_at f.vars x rest.now (value_of f) plan.old.gates.items).gates ≤ 255 }
+    requires room { length (spec.joined_at f.vars x rest.now (value_of f) plan.old.gates.items).gates ≤ MOST_GATES }
     ensures leaves { plan.new.leaves ≡ plan.old.leaves }
     ensures gates { plan.new.gates.items ≡ (spec.joined_at f.vars x rest.now (value_of f) plan.old.gates.items).gates }
     ensures out { result ≡ (spec.joined_at f.vars x rest.now (value_of f) plan.old.gates.items).out }
@@ -162,7 +162,7 @@ fn build_cofactor(f: Truth, x: u8, value: bool, rest: &[u8], plan: &mut Plan) ->
     requires variable { x < f.vars }
     requires within { list_all (λ i. nat_lt i f.vars) rest.now ≡ true }
     requires covers { spec.Covers f.vars (x ∷ rest.now) (value_of f) }
-    requires room { length (spec.factored_after f.vars rest.now (spec.cofactor_of (value_of f) x value) plan.old.gates.items).gates ≤ 255 }
+    requires room { length (spec.factored_after f.vars rest.now (spec.cofactor_of (value_of f) x value) plan.old.gates.items).gates ≤ MOST_GATES }
     ensures leaves { plan.new.leaves ≡ plan.old.leaves }
     ensures gates { plan.new.gates.items ≡ (spec.factored_after f.vars rest.now (spec.cofactor_of (value_of f) x value) plan.old.gates.items).gates }
     ensures out { result ≡ (spec.factored_after f.vars rest.now (spec.cofactor_of (value_of f) x value) plan.old.gates.items).out }
@@ -174,7 +174,7 @@ fn build_cofactor(f: Truth, x: u8, value: bool, rest: &[u8], plan: &mut Plan) ->
 
 /// Adds the three gates of a choice: `!(!(x & high) & !(!x & low))`.
 fn choose(x: PLit, high: PLit, low: PLit, plan: &mut Plan) -> PLit
-    requires room { array_vec_len plan.old.gates + 3 ≤ 255 }
+    requires room { array_vec_len plan.old.gates + 3 ≤ MOST_GATES }
     requires variable { index_of x < 1 + plan.old.leaves + array_vec_len plan.old.gates }
     requires high { index_of high < 1 + plan.old.leaves + array_vec_len plan.old.gates }
     requires low { index_of low < 1 + plan.old.leaves + array_vec_len plan.old.gates }
@@ -188,7 +188,7 @@ fn choose(x: PLit, high: PLit, low: PLit, plan: &mut Plan) -> PLit
 }
 
 /// Factors a function by the variables of an order, which names each of them once. The first on which
-/// the function depends stands nearest the output. A function of 7 variables takes at most 189 gates.
+/// the function depends stands nearest the output. A function of 8 variables takes at most 381 gates.
 pub fn factor_in(f: Truth, order: &[u8]) -> Plan
     requires { spec.names_once f.vars order.now ≡ true }
     ensures leaves { result.leaves ≡ f.vars }
@@ -203,8 +203,8 @@ pub fn factor_in(f: Truth, order: &[u8]) -> Plan
     plan
 }
 
-/// Factors a function by its variables from the highest down. A function of 7 variables takes at most
-/// 189 gates.
+/// Factors a function by its variables from the highest down. A function of 8 variables takes at most
+/// 381 gates.
 pub fn factor(f: Truth) -> Plan
     ensures leaves { result.leaves ≡ f.vars }
     ensures gates { result.gates.items ≡ (spec.factored f.vars (spec.falling f.vars) (value_of f)).gates }
@@ -212,6 +212,6 @@ pub fn factor(f: Truth) -> Plan
     ensures truth { AtEach f.vars (λ xs. plan_truth result xs ≡ value_of f xs) }
     ensures few { array_vec_len result.gates ≤ spec.most_gates f.vars }
 {
-    let order = [6, 5, 4, 3, 2, 1, 0];
-    factor_in(f, &order[7 - f.vars as usize..])
+    let order = [7, 6, 5, 4, 3, 2, 1, 0];
+    factor_in(f, &order[(MOST_LEAVES - f.vars) as usize..])
 }

@@ -5,8 +5,6 @@ mod factoring;
 mod laws;
 mod plan;
 mod tables;
-#[cfg(test)]
-mod tests;
 
 ghost use Rattle.std.specs.Prelude.{◌≡◌, ℕ, ◌+◌, ◌*◌, ◌/◌, ◌%◌, ◌^◌, ◌<◌, ◌==◌, if◌then◌else◌, IsTrue, ◌↔◌};
 ghost use Rattle.syn_plan.specs.Gates.{complement_of};
@@ -14,6 +12,15 @@ ghost use Rattle.syn_plan.specs.Gates.{complement_of};
 pub use factoring::{Split, factor, factor_in};
 pub use laws::factored_truth;
 pub use plan::Plan;
+
+/// The most leaves of a plan, as many as a truth table has variables.
+pub const MOST_LEAVES: u8 = 8;
+
+/// The most gates of a plan: what factoring a function of 8 variables may take.
+pub const MOST_GATES: usize = 381;
+
+/// The most indexes of a plan: the constant 0, the leaves and the gates.
+const MOST_INDEXES: usize = 390;
 
 /// A literal of a plan: `2 * index + complement`. Index 0 is the constant 0, then come the leaves,
 /// then the gates.

@@ -2,21 +2,22 @@
 
 ghost use Rattle.std.specs.Prelude.{◌≡◌, ℕ, ◌+◌, ◌-◌, ◌*◌, ◌/◌, ◌<◌, ◌≤◌, ◌∷◌, [], ◌++◌, length, Bool, true, false};
 ghost use Rattle.arrayvec.specs.ArrayVec.{array_vec_len};
+ghost use Rattle.syn_plan.specs.declared.TheConstants.{MOST_LEAVES};
 ghost use Rattle.syn_plan.specs.Gates.{complement_of, in_order, index_of, literal_of};
 
-use crate::PLit;
 use crate::tables::Tables;
+use crate::{MOST_GATES, MOST_LEAVES, PLit};
 use arrayvec::ArrayVec;
 use syn_truth::Truth;
 
-/// A circuit of AND gates over at most 7 leaves. Each gate refers to smaller indexes: the constant 0,
+/// A circuit of AND gates over at most 8 leaves. Each gate refers to smaller indexes: the constant 0,
 /// the leaves, and the gates before it.
 #[derive(Debug, PartialEq, Eq, Drop)]
 pub struct Plan {
     pub leaves: u8,
-    pub gates: ArrayVec<(PLit, PLit), 255>,
+    pub gates: ArrayVec<(PLit, PLit), MOST_GATES>,
     pub out: PLit,
-    ghost few: { leaves ≤ 7 },
+    ghost few: { leaves ≤ MOST_LEAVES },
     ghost ordered: { in_order (1 + leaves) gates.items ≡ true },
     ghost there: { index_of out < 1 + leaves + array_vec_len gates },
 }
@@ -27,7 +28,7 @@ impl Plan {
 
     /// The plan over so many leaves that has no gate, and is 0.
     pub fn new(leaves: u8) -> Plan
-        requires { leaves ≤ 7 }
+        requires { leaves ≤ MOST_LEAVES }
         ensures leaves { result.leaves ≡ leaves }
         ensures gates { result.gates.items ≡ [] }
         ensures out { result.out ≡ literal_of 0 }
@@ -41,7 +42,7 @@ impl Plan {
 
     /// Adds the gate that is the AND of two literals, and gives its plain literal. The output stays.
     pub fn and(&mut self, a: PLit, b: PLit) -> PLit
-        requires room { array_vec_len self.old.gates < 255 }
+        requires room { array_vec_len self.old.gates < MOST_GATES }
         requires first { index_of a < 1 + self.old.leaves + array_vec_len self.old.gates }
         requires second { index_of b < 1 + self.old.leaves + array_vec_len self.old.gates }
         ensures literal { result ≡ literal_of (1 + self.old.leaves + array_vec_len self.old.gates) }

@@ -3,10 +3,11 @@
 ghost use Rattle.std.specs.Prelude.{◌≡◌, ℕ, ◌+◌, ◌/◌, ◌<◌, ◌≤◌, [], ◌∷◌, ◌++◌, length, All, Bool, false};
 ghost use Rattle.arrayvec.specs.ArrayVec.{array_vec_len};
 ghost use Rattle.syn_truth.specs.Truth.{AtEach, value_of};
+ghost use Rattle.syn_plan.specs.declared.TheConstants.{MOST_LEAVES};
 ghost use Rattle.syn_plan.specs.Gates.{index_of, literal_value};
 ghost use Rattle.syn_plan.specs.Tables.{values_in};
 
-use crate::PLit;
+use crate::{MOST_INDEXES, MOST_LEAVES, PLit};
 use arrayvec::ArrayVec;
 use syn_truth::Truth;
 
@@ -14,15 +15,15 @@ use syn_truth::Truth;
 #[derive(Drop)]
 pub(crate) struct Tables {
     pub(crate) vars: u8,
-    pub(crate) items: ArrayVec<Truth, 263>,
-    ghost few: { vars ≤ 7 },
+    pub(crate) items: ArrayVec<Truth, MOST_INDEXES>,
+    ghost few: { vars ≤ MOST_LEAVES },
     ghost alike: { All (λ t. t.vars ≡ vars) items.items },
 }
 
 impl Tables {
     /// The tables of the constant 0 and of so many leaves.
     pub(crate) fn of_leaves(vars: u8) -> Tables
-        requires { vars ≤ 7 }
+        requires { vars ≤ MOST_LEAVES }
         ensures vars { result.vars ≡ vars }
         ensures len { array_vec_len result.items ≡ 1 + vars }
         ensures values { AtEach vars (λ xs. values_in result.items.items xs ≡ false ∷ xs) }
@@ -38,7 +39,7 @@ impl Tables {
     /// Adds the table of the next index.
     #[inline]
     pub(crate) fn push(&mut self, table: Truth)
-        requires room { array_vec_len self.old.items < 263 }
+        requires room { array_vec_len self.old.items < MOST_INDEXES }
         requires vars { table.vars ≡ self.old.vars }
         ensures vars { self.new.vars ≡ self.old.vars }
         ensures items { self.new.items.items ≡ self.old.items.items ++ table ∷ [] }

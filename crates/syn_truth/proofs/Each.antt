@@ -1,5 +1,5 @@
 -- Tests at each list of values, and tables with the same values.
-use Rattle.std.proofs.Common.{◌≡◌, ℕ, zero, suc, ◌^◌, ◌<◌, ◌≤◌, Bool, true, false, ◌&&◌, eqb, List, [], ◌∷◌, length, nat_eq, refl, sym, ap, ap₂, ◌∙◌, subst, inl, inr, arith}
+use Rattle.std.proofs.Common.{◌≡◌, ℕ, zero, suc, ◌+◌, ◌-◌, ◌*◌, ◌%◌, ◌^◌, ◌<◌, ◌≤◌, min, cond, ltb, Bool, true, false, ◌&&◌, eqb, List, [], ◌∷◌, length, nat_eq, refl, sym, ap, ap₂, ◌∙◌, subst, inl, inr, arith}
 use Rattle.std.proofs.Math.Bridge.{le_prop}
 use Rattle.std.proofs.Math.ListN.{set}
 use Rattle.std.proofs.lemmas.Bool.{and_parts, and_from, and_cases, eqb-true, eq-eqb, false≢true, false_from_ne_true}
@@ -8,7 +8,9 @@ use Rattle.std.specs.Bool.{beq}
 use Rattle.std.proofs.lemmas.Nat.Bits.{bit_at-lt, same_from_bits_below}
 use Rattle.std.specs.Int.{bit_at}
 use Rattle.syn_truth.specs.declared.Truth.{Truth}
-use Rattle.syn_truth.specs.Truth.{AtEach, Depends, holds_at_each, minterm_of, value_at, value_of}
+use Rattle.std.proofs.Math.Nat.{pow-le-pow_right}
+use Rattle.syn_truth.specs.Truth.{AtEach, Depends, digit, holds_at_each, minterm_of, value_at, value_of}
+use Rattle.syn_truth.proofs.Halves.{word_at}
 use Rattle.syn_truth.proofs.Minterms.{values_at, length-values_at, minterm_of-values_at}
 
 pub each_at : (n : ℕ) (p : List Bool → Bool) → holds_at_each n p ≡ true → AtEach n (λ xs. p xs ≡ true)
@@ -45,20 +47,37 @@ each_same (suc n) p q h =
 same_bit : (a b : ℕ) → a < 2 → b < 2 → nat_eq a 1 ≡ nat_eq b 1 → a ≡ b
 same_bit a b h k e = grind arith
 
--- two tables of as many variables with the same values have the same bits
-pub same_bits : (f g : Truth) → f.vars ≡ g.vars → AtEach f.vars (λ xs. value_of f xs ≡ value_of g xs) → f.bits ≡ g.bits
-unfolding value_of value_at
-same_bits f g e h =
-    let small : g.bits < 2 ^ (2 ^ f.vars) = omega (arith, g.small, ap (λ n. 2 ^ (2 ^ n)) e) in
-    same_from_bits_below (2 ^ f.vars) f.bits g.bits f.small small
-    (λ m l. same_bit (bit_at f.bits m) (bit_at g.bits m) (bit_at-lt f.bits m) (bit_at-lt g.bits m)
-    (subst (λ (k : ℕ). nat_eq (bit_at f.bits k) 1 ≡ nat_eq (bit_at g.bits k) 1) (minterm_of-values_at f.vars m l)
-    (h (values_at f.vars m) (length-values_at f.vars m))))
+-- two tables of as many variables with the same values have the same words
+module _ (f g : Truth) (e : f.vars ≡ g.vars) (same : AtEach f.vars (λ xs. value_of f xs ≡ value_of g xs)) where
+  same_at : (m : ℕ) → m < 2 ^ f.vars → nat_eq (bit_at (cond (ltb m 128) f.low f.high) (m % 128)) 1 ≡ nat_eq (bit_at (cond (ltb m 128) g.low g.high) (m % 128)) 1
+  unfolding value_of value_at
+  same_at m l =
+      subst (λ (k : ℕ). nat_eq (bit_at (cond (ltb k 128) f.low f.high) (k % 128)) 1 ≡ nat_eq (bit_at (cond (ltb k 128) g.low g.high) (k % 128)) 1) (minterm_of-values_at f.vars m l)
+      (same (values_at f.vars m) (length-values_at f.vars m))
 
--- and tables with the same number of variables and the same bits have the same values
-pub same_values : (f g : Truth) → f.bits ≡ g.bits → (xs : List Bool) → value_of f xs ≡ value_of g xs
+  -- bit b of the word that holds the minterms from 128 * digit x on
+  bit_in : (b : ℕ) (x : Bool) → b < 128 → b + digit x * 128 < 2 ^ f.vars → bit_at (cond x f.high f.low) b ≡ bit_at (cond x g.high g.low) b
+  bit_in b x h l =
+      same_bit (bit_at (cond x f.high f.low) b) (bit_at (cond x g.high g.low) b) (bit_at-lt (cond x f.high f.low) b) (bit_at-lt (cond x g.high g.low) b)
+      (ap (λ d. nat_eq d 1) (sym (word_at f.low f.high (b + digit x * 128) b x h refl))
+      ∙ same_at (b + digit x * 128) l
+      ∙ ap (λ d. nat_eq d 1) (word_at g.low g.high (b + digit x * 128) b x h refl))
+
+  pub same_low : f.low ≡ g.low
+  same_low =
+      let small : g.low < 2 ^ min (2 ^ f.vars) 128 = omega (arith, g.low_small, ap (λ n. 2 ^ min (2 ^ n) 128) e) in
+      same_from_bits_below (min (2 ^ f.vars) 128) f.low g.low f.low_small small (λ b l. bit_in b false (omega arith) (omega arith))
+
+  pub same_high : f.high ≡ g.high
+  same_high =
+      let small : g.high < 2 ^ (2 ^ f.vars - 128) = omega (arith, g.high_small, ap (λ n. 2 ^ (2 ^ n - 128)) e) in
+      let most : 2 ^ f.vars ≤ 2 ^ 8 = pow-le-pow_right (omega arith) f.few in
+      same_from_bits_below (2 ^ f.vars - 128) f.high g.high f.high_small small (λ b l. bit_in b true (omega arith) (omega arith))
+
+-- and tables with the same words have the same values
+pub same_values : (f g : Truth) → f.low ≡ g.low → f.high ≡ g.high → (xs : List Bool) → value_of f xs ≡ value_of g xs
 unfolding value_of value_at
-same_values f g e xs = ap (λ n. nat_eq (bit_at n (minterm_of xs)) 1) e
+same_values f g e h xs = ap₂ (λ low high. nat_eq (bit_at (cond (ltb (minterm_of xs) 128) low high) (minterm_of xs % 128)) 1) e h
 
 pub same_test : (a b : Bool) → a ≡ b → beq a b ≡ true
 same_test true b e = subst (λ (x : Bool). beq true x ≡ true) e refl
@@ -71,11 +90,15 @@ same_from_test true false e = cc
 same_from_test false true e = cc
 
 -- `==` on two tables of as many variables tells whether they have the same values
-pub equal_test : (f g : Truth) → f.vars ≡ g.vars → (eqb f.vars g.vars && eqb f.bits g.bits) ≡ holds_at_each f.vars (λ xs. beq (value_of f xs) (value_of g xs))
+pub equal_test : (f g : Truth) → f.vars ≡ g.vars → (eqb f.vars g.vars && (eqb f.low g.low && eqb f.high g.high)) ≡ holds_at_each f.vars (λ xs. beq (value_of f xs) (value_of g xs))
 equal_test f g e =
-    same_from_decides {P = f.bits ≡ g.bits} _ _
-    (λ h. eqb-true _ _ (and_parts _ _ h).1, λ h. and_from _ _ (eq-eqb _ _ e) (eq-eqb _ _ h))
-    (λ h. same_bits f g e (λ xs l. same_from_test _ _ (each_at f.vars _ h xs l)), λ h. each_from f.vars _ (λ xs l. same_test _ _ (same_values f g h xs)))
+    same_from_decides {P = (f.low ≡ g.low) × (f.high ≡ g.high)} _ _ (
+      λ h. let words : (eqb f.low g.low ≡ true) × (eqb f.high g.high ≡ true) = and_parts _ _ (and_parts _ _ h).1 in (eqb-true _ _ words.0, eqb-true _ _ words.1),
+      λ h. and_from _ _ (eq-eqb _ _ e) (and_from _ _ (eq-eqb _ _ h.0) (eq-eqb _ _ h.1)),
+    ) (
+      λ h. let same : AtEach f.vars (λ xs. value_of f xs ≡ value_of g xs) = λ xs l. same_from_test _ _ (each_at f.vars _ h xs l) in (same_low f g e same, same_high f g e same),
+      λ h. each_from f.vars _ (λ xs l. same_test _ _ (same_values f g h.0 h.1 xs)),
+    )
 
 -- a table depends on a variable exactly where its two cofactors differ at some list
 pub depends_from : (f : Truth) (i : ℕ) → holds_at_each f.vars (λ xs. beq (value_of f (set xs i true)) (value_of f (set xs i false))) ≡ false → Depends f i
@@ -87,14 +110,16 @@ pub depends_test : (f : Truth) (i : ℕ) → Depends f i → holds_at_each f.var
 depends_test f i d =
     false_from_ne_true _ (λ h. d.2 (same_from_test _ _ (each_at f.vars (λ xs. beq (value_of f (set xs i true)) (value_of f (set xs i false))) h d.0 d.1)))
 
-abbrev record_of : (vars bits : ℕ) (few : vars ≤ 7) (small : bits < 2 ^ (2 ^ vars)) → Truth
-record_of vars bits few small = record { vars = vars; bits = bits; few = few; small = small }
+abbrev record_of : (vars low high : ℕ) (few : vars ≤ 8) (low_small : low < 2 ^ min (2 ^ vars) 128) (high_small : high < 2 ^ (2 ^ vars - 128)) → Truth
+record_of vars low high few low_small high_small = record { vars = vars; low = low; high = high; few = few; low_small = low_small; high_small = high_small }
 
-proofs_aside : (v b : ℕ) (p p' : v ≤ 7) (q q' : b < 2 ^ (2 ^ v)) → record_of v b p q ≡ record_of v b p' q'
-proofs_aside v b p p' q q' = ap₂ (record_of v b) (le_prop p p') (le_prop q q')
+proofs_aside : (v a b : ℕ) (p p' : v ≤ 8) (q q' : a < 2 ^ min (2 ^ v) 128) (r r' : b < 2 ^ (2 ^ v - 128)) → record_of v a b p q r ≡ record_of v a b p' q' r'
+proofs_aside v a b p p' q q' r r' = ap₂ (λ p q. record_of v a b p q r) (le_prop p p') (le_prop q q') ∙ ap (record_of v a b p' q') (le_prop r r')
 
 pub same_table : (f g : Truth) → f.vars ≡ g.vars → AtEach f.vars (λ xs. value_of f xs ≡ value_of g xs) → f ≡ g
 same_table f g e h =
-    subst (λ (b : ℕ). (q : b < 2 ^ (2 ^ g.vars)) → f ≡ record_of g.vars b g.few q) (same_bits f g e h)
-    (subst (λ (v : ℕ). (p : v ≤ 7) (q : f.bits < 2 ^ (2 ^ v)) → f ≡ record_of v f.bits p q) e (λ p q. proofs_aside f.vars f.bits f.few p f.small q) g.few)
-    g.small
+    subst (λ (b : ℕ). (r : b < 2 ^ (2 ^ g.vars - 128)) → f ≡ record_of g.vars g.low b g.few g.low_small r) (same_high f g e h)
+    (subst (λ (a : ℕ). (q : a < 2 ^ min (2 ^ g.vars) 128) (r : f.high < 2 ^ (2 ^ g.vars - 128)) → f ≡ record_of g.vars a f.high g.few q r) (same_low f g e h)
+    (subst (λ (v : ℕ). (p : v ≤ 8) (q : f.low < 2 ^ min (2 ^ v) 128) (r : f.high < 2 ^ (2 ^ v - 128)) → f ≡ record_of v f.low f.high p q r) e (λ p q r. proofs_aside f.vars f.low f.high f.few p f.low_small q f.high_small r) g.few)
+    g.low_small)
+    g.high_small

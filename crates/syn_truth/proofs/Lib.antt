@@ -1,5 +1,6 @@
 pub mod Minterms
-pub mod Masks
+pub mod Shifts
 pub mod Operations
+pub mod Halves
 pub mod Each
 pub mod Swaps

@@ -1,5 +1,5 @@
 -- What each operation leaves of a word at the minterm of a list of values.
-use Rattle.std.proofs.Common.{◌≡◌, ℕ, suc, ◌+◌, ◌-◌, ◌*◌, ◌/◌, ◌%◌, ◌^◌, ◌<◌, ◌≤◌, min, max, Bool, true, false, not, List, length, get_or, take, nat_eq, ◌&&◌, refl, sym, subst, ap, ap₂, ◌∙◌, arith, bit_and, bit_or, bit_xor}
+use Rattle.std.proofs.Common.{◌≡◌, ℕ, suc, ◌+◌, ◌-◌, ◌*◌, ◌/◌, ◌%◌, ◌^◌, ◌<◌, ◌≤◌, min, max, cond, Bool, true, false, not, List, length, get_or, take, nat_eq, ◌&&◌, refl, sym, subst, ap, ap₂, ◌∙◌, arith, bit_and, bit_or, bit_xor}
 use Rattle.std.proofs.Math.ListN.{set}
 use Rattle.std.proofs.Math.Nat.{pow-le-pow_right, pow-suc}
 use Rattle.std.proofs.lemmas.Nat.{or_lt, shl_below, shl_whole}
@@ -7,9 +7,9 @@ use Rattle.std.proofs.lemmas.List.{length-take-le}
 use Rattle.std.proofs.lemmas.Nat.Bits.{bit_at_and, bit_at_or, bit_at_xor, bit_at_ones, bit_at_above, bit_at-lt}
 use Rattle.std.specs.Int.{bit_at}
 use Rattle.syn_truth.specs.Truth.{digit, minterm_of}
-use Rattle.syn_truth.specs.Masks.{IsMask}
+use Rattle.syn_truth.specs.Words.{IsMask}
 use Rattle.syn_truth.proofs.Minterms.{minterm_below, bit_at-minterm_of, minterm_of-set, minterm_of-last}
-use Rattle.syn_truth.proofs.Masks.{bit_at_shl_low, bit_at_shl_high, kept_high, kept_low, moved_down, moved_up}
+use Rattle.syn_truth.proofs.Shifts.{bit_at_shl_low, bit_at_shl_high, kept_high, kept_low, moved_down, moved_up}
 
 pub minterm_fits : (xs : List Bool) → length xs ≤ 7 → minterm_of xs < 128
 minterm_fits xs h = omega (arith, minterm_below xs, pow-le-pow_right {n = 2} (omega arith) h)
@@ -47,6 +47,10 @@ pick_false : (n m there p : ℕ) (x : Bool) → there + digit x * p ≡ m + 0 * 
 pick_false n m there p true e = let same : m - p ≡ there = omega arith in omega (arith, bit_at-lt n (m - p)) ∙ ap (bit_at n) same
 pick_false n m there p false e = let same : m ≡ there = omega arith in omega (arith, bit_at-lt n m) ∙ ap (bit_at n) same
 
+pick_chosen : (a b m : ℕ) (x : Bool) → max (min (bit_at a m) (1 - digit x)) (min (bit_at b m) (digit x)) ≡ bit_at (cond x b a) m
+pick_chosen a b m true = omega (arith, bit_at-lt b m)
+pick_chosen a b m false = omega (arith, bit_at-lt a m)
+
 pick_flipped : (n m there p : ℕ) (x : Bool) → there + digit x * p ≡ m + digit (not x) * p → max (min (bit_at n (p + m)) (1 - digit x)) (min (bit_at n (m - p)) (digit x)) ≡ bit_at n there
 pick_flipped n m there p true e = let same : m - p ≡ there = omega arith in omega (arith, bit_at-lt n (m - p)) ∙ ap (bit_at n) same
 pick_flipped n m there p false e = let same : p + m ≡ there = omega arith in omega (arith, bit_at-lt n (p + m)) ∙ ap (bit_at n) same
@@ -81,6 +85,13 @@ module _ (n word i : ℕ) (xs : List Bool) (mask : IsMask word i) (within : i < 
       ∙ ap₂ max (moved_down n word i (minterm_of xs) mask small fits) (moved_up n word i (minterm_of xs) mask small fits)
       ∙ ap (λ d. max (min (bit_at n (2 ^ i + minterm_of xs)) (1 - d)) (min (bit_at n (minterm_of xs - 2 ^ i)) d)) value
       ∙ pick_flipped n _ _ (2 ^ i) (get_or xs i false) (minterm_of-set xs i (not (get_or xs i false)) within)
+
+  pub chosen_at : (other : ℕ) → bit_at (bit_or (bit_and n (2 ^ 128 - 1 - word)) (bit_and other word)) (minterm_of xs) ≡ bit_at (cond (get_or xs i false) other n) (minterm_of xs)
+  chosen_at other =
+      bit_at_or (bit_and n (2 ^ 128 - 1 - word)) (bit_and other word) (minterm_of xs)
+      ∙ ap₂ max (kept_low n word i (minterm_of xs) mask fits) (kept_high other word i (minterm_of xs) mask fits)
+      ∙ ap (λ d. max (min (bit_at n (minterm_of xs)) (1 - d)) (min (bit_at other (minterm_of xs)) d)) value
+      ∙ pick_chosen n other (minterm_of xs) (get_or xs i false)
 
 -- ---- one variable more: a copy of the table above itself
 pick_half : (n m p : ℕ) (x : Bool) → m < p → n < 2 ^ p → m + digit x * p < 128 → bit_at (bit_or n (n * 2 ^ p % 2 ^ 128)) (m + digit x * p) ≡ bit_at n m

@@ -6,9 +6,9 @@ use Rattle.std.proofs.lemmas.Nat.Bits.{bit_at_and, bit_at_or, bit_at_above, bit_
 use Rattle.std.specs.Int.{bit_at}
 use Rattle.std.specs.List.{swap}
 use Rattle.syn_truth.specs.Truth.{digit, minterm_of}
-use Rattle.syn_truth.specs.Masks.{IsMask}
+use Rattle.syn_truth.specs.Words.{IsMask}
 use Rattle.syn_truth.proofs.Minterms.{bit_at-minterm_of, minterm_of-swap}
-use Rattle.syn_truth.proofs.Masks.{every, every_at, bit_at_shr, bit_at_shl_low, bit_at_shl_high, complement}
+use Rattle.syn_truth.proofs.Shifts.{every, every_at, bit_at_shr, bit_at_shl_low, bit_at_shl_high, complement}
 use Rattle.syn_truth.proofs.Operations.{minterm_fits}
 
 -- 1 where variable a is true and variable b is not

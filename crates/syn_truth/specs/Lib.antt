@@ -1,2 +1,2 @@
 pub mod Truth
-pub mod Masks
+pub mod Words

@@ -1,5 +1,5 @@
 -- What a truth table says: its value at each list of values of its variables.
-use Rattle.std.specs.Prelude.{◌≡◌, ◌≢◌, ℕ, zero, suc, ◌+◌, ◌*◌, ◌^◌, ◌<◌, ◌==◌, ◌&&◌, Bool, true, false, List, [], ◌∷◌, length, slice_set}
+use Rattle.std.specs.Prelude.{◌≡◌, ◌≢◌, ℕ, zero, suc, ◌+◌, ◌*◌, ◌%◌, ◌^◌, ◌<◌, ◌==◌, ◌&&◌, if◌then◌else◌, nat_lt, Bool, true, false, List, [], ◌∷◌, length, slice_set}
 use Rattle.std.specs.Int.{bit_at}
 use Rattle.syn_truth.specs.declared.Truth.{Truth}
 
@@ -13,9 +13,9 @@ abbrev pub minterm_of : List Bool → ℕ
 minterm_of [] = 0
 minterm_of (x ∷ xs) = digit x + 2 * minterm_of xs
 
--- the value of a table at a minterm
+-- the value of a table at a minterm: the minterms 0 to 127 stand in the low word, 128 to 255 in the high one
 unfoldable pub value_at : Truth → ℕ → Bool
-value_at f m = bit_at f.bits m == 1
+value_at f m = bit_at (if nat_lt m 128 then f.low else f.high) (m % 128) == 1
 
 -- the value of a table where its variables have these values, variable 0 first
 unfoldable pub value_of : Truth → List Bool → Bool

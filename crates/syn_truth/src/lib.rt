@@ -1,96 +1,106 @@
-//! Truth tables of functions of 0 to 7 variables.
+//! Truth tables of functions of 0 to 8 variables.
 //!
 //! Contracts speak of the value of a table at a list of values of its variables, variable 0 first.
 //! The operations are masks and shifts: none goes over the minterms, and none takes memory.
 #![tactic(auto)]
 
 mod laws;
-#[cfg(test)]
-mod tests;
+mod words;
 
-ghost use Rattle.std.specs.Prelude.{◌≡◌, ℕ, ◌+◌, ◌-◌, ◌*◌, ◌^◌, ◌<◌, ◌≤◌};
-ghost use Rattle.syn_truth.specs.Masks.{IsMask};
+ghost use Rattle.std.specs.Prelude.{◌≡◌, ℕ, ◌+◌, ◌-◌, ◌*◌, ◌^◌, ◌<◌, ◌≤◌, min};
+ghost use Rattle.syn_truth.specs.declared.TheConstants.{MOST_VARS};
 
 pub use laws::{each_minterm, one_table};
+use words::{WORD_VARS, ones, stride, variable};
 
-/// The minterms at which a variable is true, as the bits of a word, one word for each variable.
-static VARIABLES: [u128; 7] = [
-    0xaaaa_aaaa_aaaa_aaaa_aaaa_aaaa_aaaa_aaaa,
-    0xcccc_cccc_cccc_cccc_cccc_cccc_cccc_cccc,
-    0xf0f0_f0f0_f0f0_f0f0_f0f0_f0f0_f0f0_f0f0,
-    0xff00_ff00_ff00_ff00_ff00_ff00_ff00_ff00,
-    0xffff_0000_ffff_0000_ffff_0000_ffff_0000,
-    0xffff_ffff_0000_0000_ffff_ffff_0000_0000,
-    0xffff_ffff_ffff_ffff_0000_0000_0000_0000,
-];
+/// The most variables of a table.
+pub const MOST_VARS: u8 = 8;
 
-/// The table of a function of 0 to 7 variables.
+/// The table of a function of 0 to 8 variables.
 ///
-/// Bit m of `bits` is the value at minterm m, whose bit j is the value of variable j. The bits from
-/// `2 ^ vars` up are 0.
+/// The value at minterm m, whose bit j is the value of variable j, is bit m of `low` where m is below
+/// 128, and else bit m - 128 of `high`. The bits of the minterms from `2 ^ vars` up are 0.
 #[derive(Clone, Copy, Debug, PartialEq, Eq, Hash)]
 pub struct Truth {
     pub vars: u8,
-    pub bits: u128,
-    ghost few: { vars ≤ 7 },
-    ghost small: { bits < 2 ^ (2 ^ vars) },
-}
-
-/// A word whose bits below `2 ^ vars` are 1.
-#[inline]
-fn ones(vars: u8) -> u128
-    requires { vars ≤ 7 }
-    ensures { result ≡ 2 ^ (2 ^ vars) - 1 }
-{
-    u128::MAX >> (128 - (1u32 << vars))
-}
-
-/// How far apart two minterms are that differ in variable `i` alone.
-#[inline]
-fn stride(i: u8) -> u32
-    requires { i < 7 }
-    ensures stride { result ≡ 2 ^ i }
-    ensures below { result < 128 }
-{
-    1 << i
-}
-
-/// A word that has a 1 at each minterm at which variable `i` is true.
-#[inline]
-fn variable(i: u8) -> u128
-    requires { i < 7 }
-    ensures { IsMask result i }
-{
-    VARIABLES[i as usize]
+    pub low: u128,
+    pub high: u128,
+    ghost few: { vars ≤ MOST_VARS },
+    ghost low_small: { low < 2 ^ min (2 ^ vars) 128 },
+    ghost high_small: { high < 2 ^ (2 ^ vars - 128) },
 }
 
 impl Truth {
-    ghost use Rattle.std.specs.Prelude.{◌&&◌, ◌≢◌, not, Bool, false, true, IsTrue, ◌↔◌, List, length, slice_set, slice_index_or, take};
+    ghost use Rattle.std.specs.Prelude.{◌&&◌, ◌≢◌, not, Bool, false, true, IsTrue, ◌↔◌, if◌then◌else◌, List, length, slice_set, slice_index_or, take};
     ghost use Rattle.std.specs.List.{swap};
     ghost use Rattle.syn_truth.specs.Truth.{AtEach, Depends, value_of};
+    ghost use Rattle.syn_truth.specs.Words.{value_in};
+
+    /// The table of at most 7 variables that has the values of a word.
+    #[inline]
+    fn of_word(vars: u8, word: u128) -> Truth
+        requires { vars ≤ 7 }
+        ensures vars { result.vars ≡ vars }
+        ensures values { AtEach vars (λ xs. value_of result xs ≡ value_in word xs) }
+    {
+        Truth {
+            vars,
+            low: word & ones(vars),
+            high: 0,
+        }
+    }
+
+    /// The table of 8 variables that has the values of `high` where variable 7 is true, else of `low`.
+    #[inline]
+    fn of_both(low: u128, high: u128) -> Truth
+        ensures vars { result.vars ≡ 8 }
+        ensures values { AtEach 8 (λ xs. value_of result xs ≡ value_in (if slice_index_or xs 7 false then high else low) (take 7 xs)) }
+    {
+        Truth {
+            vars: MOST_VARS,
+            low,
+            high,
+        }
+    }
+
+    /// The table of `vars` variables that has the values of `high` where variable 7 is true, else of `low`.
+    #[inline]
+    fn of_words(vars: u8, low: u128, high: u128) -> Truth
+        requires { vars ≤ MOST_VARS }
+        ensures vars { result.vars ≡ vars }
+        ensures values { AtEach vars (λ xs. value_of result xs ≡ value_in (if slice_index_or xs 7 false then high else low) (take 7 xs)) }
+    {
+        if vars <= WORD_VARS {
+            Truth::of_word(vars, low)
+        } else {
+            Truth::of_both(low, high)
+        }
+    }
 
     /// The table of `vars` variables that has one value at each minterm.
     #[inline]
     pub fn constant(vars: u8, value: bool) -> Truth
-        requires { vars ≤ 7 }
+        requires { vars ≤ MOST_VARS }
         ensures vars { result.vars ≡ vars }
         ensures values { AtEach vars (λ xs. value_of result xs ≡ value) }
     {
-        let bits = if value { ones(vars) } else { 0 };
-        Truth { vars, bits }
+        let word = if value { u128::MAX } else { 0 };
+        Truth::of_words(vars, word, word)
     }
 
     /// The table of variable `i` among `vars` variables.
     #[inline]
     pub fn var(vars: u8, i: u8) -> Truth
-        requires few { vars ≤ 7 }
+        requires few { vars ≤ MOST_VARS }
         requires within { i < vars }
         ensures vars { result.vars ≡ vars }
         ensures values { AtEach vars (λ xs. value_of result xs ≡ slice_index_or xs i false) }
     {
-        Truth {
-            vars,
-            bits: variable(i) & ones(vars),
+        if i < WORD_VARS {
+            let word = variable(i);
+            Truth::of_words(vars, word, word)
+        } else {
+            Truth::of_words(vars, 0, u128::MAX)
         }
     }
 
@@ -103,7 +113,8 @@ impl Truth {
     {
         Truth {
             vars: self.vars,
-            bits: self.bits & other.bits,
+            low: self.low & other.low,
+            high: self.high & other.high,
         }
     }
 
@@ -113,10 +124,7 @@ impl Truth {
         ensures vars { result.vars ≡ self.vars }
         ensures values { AtEach self.vars (λ xs. value_of result xs ≡ not (value_of self xs)) }
     {
-        Truth {
-            vars: self.vars,
-            bits: self.bits ^ ones(self.vars),
-        }
+        Truth::of_words(self.vars, !self.low, !self.high)
     }
 
     /// The table with variable `i` set to a value. It has as many variables, and does not depend on that one.
@@ -126,36 +134,13 @@ impl Truth {
         ensures vars { result.vars ≡ self.vars }
         ensures values { AtEach self.vars (λ xs. value_of result xs ≡ value_of self (slice_set xs i value)) }
     {
-        if value {
-            self.cofactor_true(i)
+        if i < WORD_VARS {
+            let low = words::with_value(self.low, i, value);
+            let high = words::with_value(self.high, i, value);
+            Truth::of_words(self.vars, low, high)
         } else {
-            self.cofactor_false(i)
-        }
-    }
-
-    #[inline]
-    fn cofactor_true(self, i: u8) -> Truth
-        requires { i < self.vars }
-        ensures vars { result.vars ≡ self.vars }
-        ensures values { AtEach self.vars (λ xs. value_of result xs ≡ value_of self (slice_set xs i true)) }
-    {
-        let high = self.bits & variable(i);
-        Truth {
-            vars: self.vars,
-            bits: high | high >> stride(i),
-        }
-    }
-
-    #[inline]
-    fn cofactor_false(self, i: u8) -> Truth
-        requires { i < self.vars }
-        ensures vars { result.vars ≡ self.vars }
-        ensures values { AtEach self.vars (λ xs. value_of result xs ≡ value_of self (slice_set xs i false)) }
-    {
-        let low = self.bits & !variable(i);
-        Truth {
-            vars: self.vars,
-            bits: (low | low << stride(i)) & ones(self.vars),
+            let word = if value { self.high } else { self.low };
+            Truth::of_words(self.vars, word, word)
         }
     }
 
@@ -192,18 +177,26 @@ impl Truth {
         ensures vars { result.vars ≡ self.vars }
         ensures values { AtEach self.vars (λ xs. value_of result xs ≡ value_of self (swap xs low high)) }
     {
-        let low_mask = variable(low);
-        let high_mask = variable(high);
-        let only_low = low_mask & !high_mask;
-        let only_high = high_mask & !low_mask;
-        let distance = stride(high) - stride(low);
-        let stay = self.bits & !(only_low | only_high);
-        let rise = (self.bits & only_low) << distance;
-        let fall = (self.bits & only_high) >> distance;
-        Truth {
-            vars: self.vars,
-            bits: (stay | rise | fall) & ones(self.vars),
+        if high < WORD_VARS {
+            let low_word = words::swapped(self.low, low, high);
+            let high_word = words::swapped(self.high, low, high);
+            Truth::of_words(self.vars, low_word, high_word)
+        } else {
+            self.swap_with_last(low)
         }
+    }
+
+    /// The table in which variables `i` and 7 have changed places.
+    #[inline]
+    fn swap_with_last(self, i: u8) -> Truth
+        requires within { i < 7 }
+        requires vars { self.vars ≡ 8 }
+        ensures vars { result.vars ≡ self.vars }
+        ensures values { AtEach self.vars (λ xs. value_of result xs ≡ value_of self (swap xs i 7)) }
+    {
+        let low = words::chosen(i, self.low, words::with_value(self.high, i, false));
+        let high = words::chosen(i, words::with_value(self.low, i, true), self.high);
+        Truth::of_words(self.vars, low, high)
     }
 
     /// The table with variable `i` complemented.
@@ -213,19 +206,18 @@ impl Truth {
         ensures vars { result.vars ≡ self.vars }
         ensures values { AtEach self.vars (λ xs. value_of result xs ≡ value_of self (slice_set xs i (not (slice_index_or xs i false)))) }
     {
-        let mask = variable(i);
-        let distance = stride(i);
-        let high = self.bits & mask;
-        let low = self.bits & !mask;
-        Truth {
-            vars: self.vars,
-            bits: (high >> distance | low << distance) & ones(self.vars),
+        if i < WORD_VARS {
+            let low = words::flipped(self.low, i);
+            let high = words::flipped(self.high, i);
+            Truth::of_words(self.vars, low, high)
+        } else {
+            Truth::of_words(self.vars, self.high, self.low)
         }
     }
 
     /// The table of `vars` variables that does not depend on the new ones.
     pub fn widen(self, vars: u8) -> Truth
-        requires few { vars ≤ 7 }
+        requires few { vars ≤ MOST_VARS }
         requires not_fewer { self.vars ≤ vars }
         ensures vars { result.vars ≡ vars }
         ensures values { AtEach vars (λ xs. value_of result xs ≡ value_of self (take self.vars xs)) }
@@ -239,14 +231,52 @@ impl Truth {
 
     #[inline]
     fn widen_by_one(self) -> Truth
+        requires { self.vars < MOST_VARS }
+        ensures vars { result.vars ≡ self.vars + 1 }
+        ensures values { AtEach (self.vars + 1) (λ xs. value_of result xs ≡ value_of self (take self.vars xs)) }
+    {
+        if self.vars < WORD_VARS {
+            self.widen_word()
+        } else {
+            Truth::of_both(self.low, self.low)
+        }
+    }
+
+    #[inline]
+    fn widen_word(self) -> Truth
         requires { self.vars < 7 }
         ensures vars { result.vars ≡ self.vars + 1 }
         ensures values { AtEach (self.vars + 1) (λ xs. value_of result xs ≡ value_of self (take self.vars xs)) }
     {
         Truth {
             vars: self.vars + 1,
-            bits: self.bits | self.bits << stride(self.vars),
+            low: self.low | self.low << stride(self.vars),
+            high: 0,
         }
+    }
+}
+
+impl Truth {
+    ghost use Rattle.std.specs.Prelude.{List, take};
+    ghost use Rattle.syn_truth.specs.Truth.{AtEach, value_of};
+    ghost use Rattle.syn_truth.specs.Words.{value_in};
+
+    /// The table of four variables whose value at minterm m is bit m of a number.
+    #[inline]
+    pub fn from_bits(bits: u16) -> Truth
+        ensures vars { result.vars ≡ 4 }
+        ensures values { AtEach 4 (λ xs. value_of result xs ≡ value_in bits xs) }
+    {
+        Truth::of_word(4, u128::from(bits))
+    }
+
+    /// The table of at most four variables, widened to four, as a number: bit m is the value at minterm m.
+    #[inline]
+    pub fn to_bits(self) -> u16
+        requires { self.vars ≤ 4 }
+        ensures { AtEach 4 (λ xs. value_in result xs ≡ value_of self (take self.vars xs)) }
+    {
+        self.widen(4).low as u16
     }
 }
 

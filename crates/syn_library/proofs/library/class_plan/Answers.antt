@@ -1,16 +1,20 @@
-use Rattle.std.proofs.Common.{ap, ◌∙◌}
-use Rattle.syn_plan.specs.Factoring.{factored}
+use Rattle.std.proofs.Common.{◌≡◌, true, [], ap, subst, sym, ◌∙◌}
+use Rattle.syn_truth.specs.Truth.{value_of}
+use Rattle.syn_plan.specs.Factoring.{factored, names_once}
+use Rattle.syn_plan.proofs.Steps.{factored-table}
 use Rattle.syn_library.specs.Library.{function_of}
-use Rattle.syn_library.proofs.Firsts.{built_of-is, value_of-along, value_of-class}
+use Rattle.syn_library.proofs.Firsts.{built_of-is}
 use Rattle.syn_library.proofs.library.class_plan.Goals as goal
+
+pub factor_in-requires : goal.factor_in-requires
+factor_in-requires c = subst (λ n. names_once n c.args.order.now ≡ true) (sym c.from_bits.ensures.vars) c.requires
 
 pub returns-clause-built : goal.returns-clause-built
 returns-clause-built c =
-    let order = c.args.order.now in
-    let wanted = factored 4 order (function_of c.args.class) in
-    built_of-is c.factor_in.result wanted
-    (c.factor_in.ensures.gates ∙ ap (λ g. (factored 4 order g).gates) (value_of-class _ c.args.class c.from.ensures))
-    (c.factor_in.ensures.out ∙ ap (λ g. (factored 4 order g).out) (value_of-class _ c.args.class c.from.ensures))
+    let same = factored-table c.from_bits.result.vars 4 c.args.order.now (value_of c.from_bits.result) (function_of c.args.class) [] c.from_bits.ensures.vars c.from_bits.ensures.values in
+    built_of-is c.factor_in.result (factored 4 c.args.order.now (function_of c.args.class))
+    (c.factor_in.ensures.gates ∙ ap (λ b. b.gates) same)
+    (c.factor_in.ensures.out ∙ ap (λ b. b.out) same)
 
 pub returns-clause-truth : goal.returns-clause-truth
-returns-clause-truth c = λ xs h. c.factor_in.ensures.truth xs h ∙ value_of-along _ c.args.class c.from.ensures xs
+returns-clause-truth c = λ xs h. c.factor_in.ensures.truth xs (h ∙ sym c.from_bits.ensures.vars) ∙ c.from_bits.ensures.values xs h

@@ -33,7 +33,7 @@ build-join-requires t c =
             parts.1,
             (
               covers_parts c.args.f.vars c.in-Some.x.now c.in-Some.rest.now c.args.order.now (value_of c.args.f) c.args.plan.now.gates.items is c.requires.covers,
-              subst (λ (b : Built). length b.gates ≤ 255) (factored_join c.args.f.vars c.in-Some.x.now c.in-Some.rest.now c.args.order.now (value_of c.args.f) c.args.plan.now.gates.items is depends) c.requires.room,
+              subst (λ (b : Built). length b.gates ≤ 381) (factored_join c.args.f.vars c.in-Some.x.now c.in-Some.rest.now c.args.order.now (value_of c.args.f) c.args.plan.now.gates.items is depends) c.requires.room,
             ),
           ),
         ),
@@ -53,7 +53,7 @@ build-build-requires t c =
           (
             covers_rest c.args.f.vars c.in-Some.x.now c.in-Some.rest.now (value_of c.args.f)
                 (covers_parts c.args.f.vars c.in-Some.x.now c.in-Some.rest.now c.args.order.now (value_of c.args.f) c.args.plan.now.gates.items is c.requires.covers) depends,
-            subst (λ (b : Built). length b.gates ≤ 255) (factored_skip c.args.f.vars c.in-Some.x.now c.in-Some.rest.now c.args.order.now (value_of c.args.f) c.args.plan.now.gates.items is depends) c.requires.room,
+            subst (λ (b : Built). length b.gates ≤ 381) (factored_skip c.args.f.vars c.in-Some.x.now c.in-Some.rest.now c.args.order.now (value_of c.args.f) c.args.plan.now.gates.items is depends) c.requires.room,
           ),
         ),
       ),
@@ -95,7 +95,7 @@ build_cofactor-build-requires t c =
             subst (λ n. Covers n c.args.rest.now (value_of c.cofactor.result)) (sym same)
                 (covers_same c.args.f.vars c.args.rest.now (value_of c.cofactor.result) (cofactor_of (value_of c.args.f) c.args.x c.args.value) c.cofactor.ensures.values
                 (covers_cofactor c.args.f.vars c.args.x c.args.rest.now (value_of c.args.f) c.args.value c.requires.covers)),
-            subst (λ (b : Built). length b.gates ≤ 255)
+            subst (λ (b : Built). length b.gates ≤ 381)
                 (sym (factored-table c.cofactor.result.vars c.args.f.vars c.args.rest.now (value_of c.cofactor.result) (cofactor_of (value_of c.args.f) c.args.x c.args.value) c.args.plan.now.gates.items same c.cofactor.ensures.values))
                 c.requires.room,
           ),

@@ -23,7 +23,7 @@ build-out-requires-clause-covers c = order_covers c.args.f.vars c.args.order.now
 pub build-out-requires-clause-room : goal.build-out-requires-clause-room
 build-out-requires-clause-room c =
     let built : IsBuilt c.args.f.vars [] (factored c.args.f.vars c.args.order.now (value_of c.args.f)) (value_of c.args.f) (most_gates c.args.f.vars) = whole c.args.f c.args.order.now c.requires in
-    subst (λ (gates : List (PLit × PLit)). length (factored_after c.args.f.vars c.args.order.now (value_of c.args.f) gates).gates ≤ 255) (sym c.new-plan.ensures.gates)
+    subst (λ (gates : List (PLit × PLit)). length (factored_after c.args.f.vars c.args.order.now (value_of c.args.f) gates).gates ≤ 381) (sym c.new-plan.ensures.gates)
     (omega (arith, built.few, few_gates c.args.f.vars c.args.f.few))
 
 pub invariant_of-plan-clause-there : goal.invariant_of-plan-clause-there

@@ -1,18 +1,21 @@
-use Rattle.std.proofs.Common.{ℕ, ◌<◌, ◌^◌, ◌-◌, ◌*◌, ◌/◌, ◌%◌, ap, ◌∙◌, nat_eq, bit_and, bit_or, arith}
-use Rattle.std.specs.Int.{bit_at}
-use Rattle.syn_truth.specs.Truth.{minterm_of, value_at, value_of}
-use Rattle.syn_truth.proofs.Minterms.{minterm_below}
-use Rattle.syn_truth.proofs.Operations.{bit_at_masked, flip_at}
+use Rattle.std.proofs.Common.{◌≡◌, false, not, get_or, take, ap, ◌∙◌, arith}
+use Rattle.std.proofs.Math.ListN.{set}
+use Rattle.syn_truth.specs.Truth.{value_of}
+use Rattle.syn_truth.specs.Words.{value_in}
+use Rattle.syn_truth.proofs.Halves.{by_words, turned_words, set_last, flip_stays}
 use Rattle.syn_truth.proofs.Truth.flip.Goals as goal
 
-pub returns-clause-values : goal.returns-clause-values
-unfolding value_of value_at
-returns-clause-values c = λ xs h.
-    let high : ℕ = bit_and c.args.self.bits c.variable-mask.result in
-    let low : ℕ = bit_and c.args.self.bits (2 ^ 128 - 1 - c.variable-mask.result) in
-    let below : minterm_of xs < 2 ^ c.args.self.vars = omega (arith, minterm_below xs, ap (λ n. 2 ^ n) h) in
-    ap (λ s. nat_eq (bit_at (bit_and (bit_or (high / 2 ^ s) (low * 2 ^ s % 2 ^ 128)) c.ones.result) (minterm_of xs)) 1) c.stride-distance.ensures.stride
-    ∙ ap (λ w. nat_eq (bit_at (bit_and (bit_or (high / 2 ^ (2 ^ c.args.i)) (low * 2 ^ (2 ^ c.args.i) % 2 ^ 128)) w) (minterm_of xs)) 1) c.ones.ensures
-    ∙ ap (λ b. nat_eq b 1)
-    (bit_at_masked (bit_or (high / 2 ^ (2 ^ c.args.i)) (low * 2 ^ (2 ^ c.args.i) % 2 ^ 128)) (2 ^ c.args.self.vars) (minterm_of xs) below
-    ∙ flip_at c.args.self.bits c.variable-mask.result c.args.i xs c.variable-mask.ensures (omega arith) (omega arith))
+pub returns-then-i-lt-WORD_VARS-clause-values : goal.returns-then-i-lt-WORD_VARS-clause-values
+returns-then-i-lt-WORD_VARS-clause-values c = λ xs e.
+    c.of_words.ensures.values xs e
+    ∙ by_words c.args.self c.args.i (λ xs. set xs c.args.i (not (get_or xs c.args.i false))) c.requires c.if-i-lt-WORD_VARS.true
+    (flip_stays c.args.self.vars c.args.i c.if-i-lt-WORD_VARS.true)
+    c.flipped-low.result c.flipped-high.result c.flipped-low.ensures c.flipped-high.ensures xs e
+
+pub returns-else-i-lt-WORD_VARS-clause-values : goal.returns-else-i-lt-WORD_VARS-clause-values
+returns-else-i-lt-WORD_VARS-clause-values c = λ xs e.
+    let last : 7 ≡ c.args.i = omega (arith, c.args.self.few, c.requires, c.if-i-lt-WORD_VARS.false) in
+    c.of_words-else-i-lt-WORD_VARS.ensures.values xs e
+    ∙ ap (λ w. value_in w (take 7 xs)) (turned_words (get_or xs 7 false) c.args.self.low c.args.self.high)
+    ∙ set_last c.args.self (omega (arith, last, c.args.self.few, c.requires)) (not (get_or xs 7 false)) xs e
+    ∙ ap (λ k. value_of c.args.self (set xs k (not (get_or xs k false)))) last

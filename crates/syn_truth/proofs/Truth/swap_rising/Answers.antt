@@ -1,27 +1,11 @@
-use Rattle.std.proofs.Common.{ℕ, ◌<◌, ◌^◌, ◌-◌, ◌*◌, ◌/◌, ◌%◌, ap, ap₂, ◌∙◌, nat_eq, bit_and, bit_or, arith}
-use Rattle.std.proofs.lemmas.Nat.{pow_below}
-use Rattle.std.specs.Int.{bit_at}
-use Rattle.syn_truth.specs.Truth.{minterm_of, value_at, value_of}
-use Rattle.syn_truth.proofs.Minterms.{minterm_below}
-use Rattle.syn_truth.proofs.Operations.{bit_at_masked}
-use Rattle.syn_truth.proofs.Swaps.{swap_at}
+use Rattle.std.proofs.Common.{◌∙◌}
+use Rattle.std.specs.List.{swap}
+use Rattle.syn_truth.proofs.Halves.{by_words, swap_stays}
 use Rattle.syn_truth.proofs.Truth.swap_rising.Goals as goal
 
-pub overflow_sub-distance : goal.overflow_sub-distance
-overflow_sub-distance c = omega (arith, pow_below c.args.low c.args.high c.requires.rising)
-
-pub returns-clause-values : goal.returns-clause-values
-unfolding value_of value_at
-returns-clause-values c = λ xs h.
-    let n : ℕ = c.args.self.bits in
-    let ups : ℕ = bit_and c.variable-low_mask.result (2 ^ 128 - 1 - c.variable-high_mask.result) in
-    let downs : ℕ = bit_and c.variable-high_mask.result (2 ^ 128 - 1 - c.variable-low_mask.result) in
-    let stay : ℕ = bit_and n (2 ^ 128 - 1 - bit_or ups downs) in
-    let p : ℕ = 2 ^ c.args.high - 2 ^ c.args.low in
-    let below : minterm_of xs < 2 ^ c.args.self.vars = omega (arith, minterm_below xs, ap (λ n. 2 ^ n) h) in
-    ap (λ s. nat_eq (bit_at (bit_and (bit_or (bit_or stay (bit_and n ups * 2 ^ s % 2 ^ 128)) (bit_and n downs / 2 ^ s)) c.ones.result) (minterm_of xs)) 1)
-    (ap₂ (λ a b. a - b) c.stride.ensures.stride c.stride-2.ensures.stride)
-    ∙ ap (λ w. nat_eq (bit_at (bit_and (bit_or (bit_or stay (bit_and n ups * 2 ^ p % 2 ^ 128)) (bit_and n downs / 2 ^ p)) w) (minterm_of xs)) 1) c.ones.ensures
-    ∙ ap (λ b. nat_eq b 1)
-    (bit_at_masked (bit_or (bit_or stay (bit_and n ups * 2 ^ p % 2 ^ 128)) (bit_and n downs / 2 ^ p)) (2 ^ c.args.self.vars) (minterm_of xs) below
-    ∙ swap_at n c.variable-low_mask.result c.variable-high_mask.result c.args.low c.args.high c.variable-low_mask.ensures c.variable-high_mask.ensures c.requires.rising (omega arith) xs (omega arith) (omega arith))
+pub returns-then-high-lt-WORD_VARS-clause-values : goal.returns-then-high-lt-WORD_VARS-clause-values
+returns-then-high-lt-WORD_VARS-clause-values c = λ xs e.
+    c.of_words.ensures.values xs e
+    ∙ by_words c.args.self c.args.high (λ xs. swap xs c.args.low c.args.high) c.requires.within c.if-high-lt-WORD_VARS.true
+    (swap_stays c.args.self.vars c.args.low c.args.high c.requires.rising c.if-high-lt-WORD_VARS.true c.requires.within)
+    c.swapped-low_word.result c.swapped-high_word.result c.swapped-low_word.ensures c.swapped-high_word.ensures xs e

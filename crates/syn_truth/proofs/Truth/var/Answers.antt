@@ -1,18 +1,25 @@
-use Rattle.std.proofs.Common.{◌<◌, ◌≤◌, ◌^◌, false, length, get_or, ap, ◌∙◌, nat_eq, bit_and, arith}
-use Rattle.std.specs.Int.{bit_at}
-use Rattle.syn_truth.specs.Truth.{minterm_of, value_at, value_of}
-use Rattle.syn_truth.proofs.Minterms.{minterm_below, bit_at-minterm_of}
-use Rattle.syn_truth.proofs.Operations.{minterm_fits, bit_at_masked, set_bit}
+use Rattle.std.proofs.Common.{◌≡◌, false, get_or, take, nat_eq, ap, ◌∙◌, arith}
+use Rattle.std.proofs.lemmas.List.{get_or-take}
+use Rattle.syn_truth.specs.Truth.{minterm_of}
+use Rattle.syn_truth.specs.Words.{value_in}
+use Rattle.syn_truth.proofs.Minterms.{bit_at-minterm_of}
+use Rattle.syn_truth.proofs.Operations.{minterm_fits, set_bit}
+use Rattle.syn_truth.proofs.Halves.{one_word, first_fits, last_value}
 use Rattle.syn_truth.proofs.Truth.var.Goals as goal
 
-pub returns-clause-values : goal.returns-clause-values
-unfolding value_of value_at
-returns-clause-values c = λ xs h.
-    let below : minterm_of xs < 2 ^ c.args.vars = omega (arith, minterm_below xs, ap (λ n. 2 ^ n) h) in
-    let few : length xs ≤ 7 = omega arith in
-    ap (λ w. nat_eq (bit_at (bit_and c.variable.result w) (minterm_of xs)) 1) c.ones.ensures
+pub returns-then-i-lt-WORD_VARS-clause-values : goal.returns-then-i-lt-WORD_VARS-clause-values
+returns-then-i-lt-WORD_VARS-clause-values c = λ xs e.
+    c.of_words.ensures.values xs e
+    ∙ ap (λ w. value_in w (take 7 xs)) (one_word (get_or xs 7 false) c.variable-word.result)
     ∙ ap (λ b. nat_eq b 1)
-    (bit_at_masked c.variable.result (2 ^ c.args.vars) (minterm_of xs) below
-    ∙ c.variable.ensures.bit (minterm_of xs) (minterm_fits xs few)
-    ∙ bit_at-minterm_of xs c.args.i)
-    ∙ set_bit (get_or xs c.args.i false)
+    (c.variable-word.ensures.bit (minterm_of (take 7 xs)) (minterm_fits (take 7 xs) (first_fits xs))
+    ∙ bit_at-minterm_of (take 7 xs) c.args.i)
+    ∙ set_bit (get_or (take 7 xs) c.args.i false)
+    ∙ get_or-take 7 xs c.args.i false c.if-i-lt-WORD_VARS.true
+
+pub returns-else-i-lt-WORD_VARS-clause-values : goal.returns-else-i-lt-WORD_VARS-clause-values
+returns-else-i-lt-WORD_VARS-clause-values c = λ xs e.
+    let last : 7 ≡ c.args.i = omega (arith, c.requires.few, c.requires.within, c.if-i-lt-WORD_VARS.false) in
+    c.of_words-else-i-lt-WORD_VARS.ensures.values xs e
+    ∙ last_value (take 7 xs) (first_fits xs) (get_or xs 7 false)
+    ∙ ap (λ k. get_or xs k false) last

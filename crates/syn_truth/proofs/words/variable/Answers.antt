@@ -2,9 +2,9 @@
 use Rattle.std.proofs.Common.{◌≡◌, ℕ, ◌<◌, ◌^◌, true, get_or, eqb, ltb, refl}
 use Rattle.std.proofs.lemmas.Bool.{eqb-true, ltb-true}
 use Rattle.std.specs.Int.{bit_at}
-use Rattle.syn_truth.specs.declared.TheConstants.{VARIABLES}
-use Rattle.syn_truth.proofs.Masks.{every, every_at}
-use Rattle.syn_truth.proofs.variable.Goals as goal
+use Rattle.syn_truth.specs.declared.words.TheConstants.{VARIABLES}
+use Rattle.syn_truth.proofs.Shifts.{every, every_at}
+use Rattle.syn_truth.proofs.words.variable.Goals as goal
 
 each_within : (i : ℕ) → i < 7 → ltb (get_or VARIABLES i 0) (2 ^ 128) ≡ true
 each_within = every_at 7 (λ i. ltb (get_or VARIABLES i 0) (2 ^ 128)) refl

@@ -2,7 +2,7 @@ use Rattle.std.proofs.Common.{◌-◌, ◌/◌, ◌^◌, ◌≤◌, ap, ◌∙�
 use Rattle.std.proofs.Math.Nat.{pow-le-pow_right}
 use Rattle.std.proofs.lemmas.Nat.{one_shl}
 use Rattle.std.proofs.lemmas.Nat.Bits.{ones_shr}
-use Rattle.syn_truth.proofs.ones.Goals as goal
+use Rattle.syn_truth.proofs.words.ones.Goals as goal
 
 pub returns : goal.returns
 returns c =

@@ -4,7 +4,7 @@ use Rattle.std.proofs.lemmas.Bool.{and_parts, or_cases, cases_eq, cases_lt, eqb-
 use Rattle.std.proofs.lemmas.Nat.{shr-shr, and_mask, pow_pos}
 use Rattle.std.proofs.lemmas.Nat.Bits.{bit_at_and, bit_at_not, bit_at_ones, bit_at_above, bit_at-zero, bit_at-lt, bit_at_cat_low, bit_at_cat_high}
 use Rattle.std.specs.Int.{bit_at, w128}
-use Rattle.syn_truth.specs.Masks.{IsMask}
+use Rattle.syn_truth.specs.Words.{IsMask}
 
 -- a test of each number below n, which computes where n is written out
 abbrev pub every : ℕ → (ℕ → Bool) → Bool
