@@ -1,0 +1,12 @@
+pub mod Pointwise
+pub mod Numbers
+pub mod Sets
+pub mod Counts
+pub mod Kept
+pub mod Valued
+pub mod Existing
+pub mod Replaced
+pub mod Listing
+pub mod Steps
+pub mod Sweeps
+pub mod Ends

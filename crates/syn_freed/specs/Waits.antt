@@ -1,8 +1,0 @@
--- How often a node waits.
-use Rattle.std.specs.Prelude.{ℕ}
-use Rattle.std.specs.BinaryHeap.{heap_items}
-use Rattle.syn_freed.specs.declared.waiting.Waiting.{Waiting}
-use Rattle.syn_freed.specs.Nodes.{waits}
-
-abbrev pub waits_in : Waiting → ℕ → ℕ
-waits_in w m = waits w.near.items (heap_items w.far) m

@@ -1,0 +1,30 @@
+use Rattle.std.proofs.Common.{rules, ◌≡◌, ℕ, Bool, List, length, sym, ap, ◌∙◌, subst, arith}
+use Rattle.syn_rows.specs.declared.Row.{Row}
+use Rattle.syn_truth.specs.declared.Truth.{Truth}
+use Rattle.syn_truth.specs.Truth.{AtEach, value_of}
+use Rattle.syn_plan.specs.declared.plan.Plan.{Plan}
+use Rattle.syn_plan.specs.Plans.{plan_truth}
+use Rattle.syn_cuts.specs.Cones.{IsCut, IsTruthOver}
+use Rattle.syn_gain.specs.declared.proposals.Proposal.{Proposal}
+use Rattle.syn_gain.specs.Proposals.{replacement}
+use Rattle.syn_gain.specs.Replacements.{leaf_values}
+use Rattle.syn_apply.specs.Sound.{IsSoundBy, PlanComputes}
+use Rattle.test_proposals.proofs.tests.factored.Goals as goal
+
+-- a proposal of a plan that has a function's values, over the leaves of a cut
+sound_over : (rows : List Row) (p : Proposal) (node : ℕ) (cut : List ℕ) (t : Truth) (plan : Plan) → ((xs : List Bool) → leaf_values (length xs) xs ≡ xs)
+    → IsCut rows cut node → IsTruthOver rows cut node t → plan.leaves ≡ t.vars → AtEach t.vars (λ xs. plan_truth plan xs ≡ value_of t xs)
+    → p.root ≡ node → p.leaves.items ≡ cut → p.plan ≡ plan → IsSoundBy rows (replacement p)
+unfolding plan_truth
+sound_over rows p node cut t plan all is_cut truth leaves values same_root same_leaves same_plan = record {
+  cut = subst (λ (k : ℕ). IsCut rows p.leaves.items k) (sym same_root) (subst (λ (l : List ℕ). IsCut rows l node) (sym same_leaves) is_cut);
+  truth = (t, subst (λ (k : ℕ). IsTruthOver rows p.leaves.items k t) (sym same_root) (subst (λ (l : List ℕ). IsTruthOver rows l node t) (sym same_leaves) truth), computes);
+}
+  where
+    computes : PlanComputes (replacement p) t
+    computes xs h =
+        let width : length xs ≡ t.vars = h ∙ ap length same_leaves ∙ sym truth.vars in
+        ap (λ (q : Plan). plan_truth q (leaf_values q.leaves xs)) same_plan
+        ∙ ap (λ k. plan_truth plan (leaf_values k xs)) (leaves ∙ sym width)
+        ∙ ap (plan_truth plan) (all xs)
+        ∙ values xs width

@@ -1,0 +1,374 @@
+ghost use Rattle.std.specs.Prelude.{◌≡◌, ℕ, ◌<◌, ◌≤◌, ◌&&◌, All, true, length, IfOk, IfSome};
+ghost use Rattle.syn_rows.specs.Rows.{row_at};
+ghost use Rattle.syn_rows.specs.Reach.{is_and};
+ghost use Rattle.syn_cuts.specs.Cones.{IsCut};
+ghost use Rattle.syn_cuts.specs.Lists.{list_at};
+ghost use Rattle.syn_gain.specs.Leaves.{are_below, gates_within, names_within, rise_above};
+ghost use Rattle.syn_gain.specs.Proposals.{replacement};
+ghost use Rattle.syn_apply.specs.Sound.{IsSoundBy};
+
+use arrayvec::ArrayVec;
+use std::alloc::{AllocError, Global};
+use std::test::Fail;
+use syn_apply::apply;
+use syn_build::graph_of;
+use syn_cuts::{Cut, CutLists, function, listed};
+use syn_gain::{Candidate, Proposal, Uses, saved, saved_by_sweeps};
+use syn_graph::Graph;
+use syn_library::{fit, plans};
+use syn_npn::canon;
+use syn_plan::{PLit, Plan, factor};
+use syn_reader::read;
+use syn_rows::Row;
+
+// f is ab or ac: node 4 is the AND of a and b, node 5 that of a and c, node 6 that of the complements of both.
+const ALONE: &str = ".model m\n.inputs a b c\n.outputs f\n.names a b c f\n11- 1\n1-1 1\n.end\n";
+
+// The same rows, with nodes 4 and 5 observed too.
+const SHARED: &str =
+    ".model m\n.inputs a b c\n.outputs f g h\n.names a b g\n11 1\n.names a c h\n11 1\n.names g h f\n1- 1\n-1 1\n.end\n";
+
+// The same function and a fourth input: node 8 is the AND of d and of the complement of node 7.
+const GATED: &str =
+    ".model m\n.inputs a b c d\n.outputs g\n.names a b c f\n11- 1\n1-1 1\n.names d f g\n11 1\n.end\n";
+
+// A sum and a carry of three bits, and two ANDs that share some of their cones.
+const ADDER: &str =
+    ".model m\n.inputs a b c d\n.outputs s k e\n.names a b x\n10 1\n01 1\n.names x c s\n10 1\n01 1\n.names a b c k\n11- 1\n1-1 1\n-11 1\n.names x k d e\n11- 1\n1-1 1\n-11 1\n.end\n";
+
+// The graph that a text spells.
+fn graph_from(alloc: Global, text: &str) -> Option<Graph> {
+    let netlist = read(alloc, text.as_bytes()).ok()?;
+    graph_of(alloc, netlist).ok()
+}
+
+// Whether cuts have these leaves.
+fn are_cuts(cuts: &[Cut], wanted: &[&[u32]]) -> bool {
+    if cuts.len() != wanted.len() {
+        return false;
+    }
+    for (i, cut) in cuts.iter().enumerate() {
+        if cut.as_slice() != wanted[i] {
+            return false;
+        }
+    }
+    true
+}
+
+#[test]
+fn lists_cuts(rt: HostRuntime) -> Result<(), Fail> {
+    let alloc = rt.alloc();
+    let Some(graph) = graph_from(alloc, ALONE) else {
+        panic!(rt; "no graph");
+    };
+    for workers in 1..17 {
+        let lists = listed(&rt, alloc, &graph, 4, workers)?;
+        if lists.len() != 7 {
+            panic!(rt; "no list for each node");
+        }
+        assert!(rt; are_cuts(lists.of(4), &[&[1, 2], &[4]]));
+        assert!(rt; are_cuts(lists.of(5), &[&[1, 3], &[5]]));
+        let six: [&[u32]; 5] = [&[4, 5], &[1, 2, 3], &[1, 2, 5], &[1, 3, 4], &[6]];
+        assert!(rt; are_cuts(lists.of(6), &six), "with {workers} workers");
+    }
+    Ok(())
+}
+
+// The listed cut of a node at this place; none where there is none.
+fn cut_at<'a>(graph: &Graph, lists: &'a CutLists, node: u32, place: usize) -> Option<&'a Cut>
+    requires { (n : ℕ) → n < length graph.now.rows → All (λ c. IsCut graph.now.rows c n) (list_at lists.now n) }
+    ensures { IfSome result (λ c. (node < length graph.now.rows) × IsCut graph.now.rows c.now.items node) }
+{
+    if node as usize >= lists.len() || node as usize >= graph.rows.as_slice().len() {
+        return None;
+    }
+    let cuts = lists.of(node);
+    if place >= cuts.len() {
+        return None;
+    }
+    Some(&cuts[place])
+}
+
+#[test]
+fn computes_functions_over_cuts(rt: HostRuntime) -> Result<(), Fail> {
+    let alloc = rt.alloc();
+    let Some(graph) = graph_from(alloc, ALONE) else {
+        panic!(rt; "no graph");
+    };
+    let lists = listed(&rt, alloc, &graph, 4, 1)?;
+    for (place, vars, bits) in [(0, 2, 0x1), (1, 3, 0x57)] {
+        let Some(cut) = cut_at(&graph, &lists, 6, place) else {
+            panic!(rt; "no cut");
+        };
+        let truth = function(alloc, &graph, 6, cut)?;
+        assert_eq!(rt; truth.vars, vars);
+        assert_eq!(rt; truth.bits, bits);
+    }
+    Ok(())
+}
+
+// Whether the node's row is an AND.
+fn is_and(graph: &Graph, node: u32) -> bool
+    ensures { result ≡ is_and (row_at graph.now.rows node) }
+{
+    let rows = graph.rows.as_slice();
+    if node as usize >= rows.len() {
+        return false;
+    }
+    match rows[node as usize] {
+        Row::And(_, _) => true,
+        _ => false,
+    }
+}
+
+// What the proposal saves, counted nearby and by two sweeps; none where its root is no AND.
+fn both_counts(
+    alloc: Global,
+    graph: &Graph,
+    candidate: Candidate,
+) -> Result<Option<(i64, i64)>, AllocError> {
+    if !is_and(graph, candidate.root) {
+        return Ok(None);
+    }
+    let uses = Uses::new(alloc, graph)?;
+    let near = saved(alloc, graph, &uses, candidate)?;
+    let swept = saved_by_sweeps(alloc, graph, &uses, candidate)?;
+    Ok(Some((near, swept)))
+}
+
+// The complement of the AND of the first leaf with "the second or the third".
+fn shared_gate() -> Plan
+    ensures { result.leaves ≡ 3 }
+{
+    let mut plan = Plan::new(3);
+    let neither = plan.and(PLit(5), PLit(7));
+    let both = plan.and(PLit(2), neither.not());
+    plan.out = both.not();
+    plan
+}
+
+#[test]
+fn saves_what_dies(rt: HostRuntime) -> Result<(), Fail> {
+    let alloc = rt.alloc();
+    let plan = shared_gate();
+    for (text, wanted) in [(ALONE, 1), (SHARED, -1)] {
+        let Some(graph) = graph_from(alloc, text) else {
+            panic!(rt; "no graph");
+        };
+        let counts = both_counts(alloc, &graph, Candidate::over(6, &[1, 2, 3], &plan))?;
+        assert_eq!(rt; counts, Some((wanted, wanted)));
+    }
+    Ok(())
+}
+
+// Whether the nodes rise, the first above this one.
+fn rise_above(low: u32, nodes: &[u32]) -> bool
+    ensures { result ≡ rise_above low nodes.now }
+{
+    let mut last = low;
+    for node in nodes {
+        if *node <= last {
+            return false;
+        }
+        last = *node;
+    }
+    true
+}
+
+// Whether the nodes are below this one.
+fn are_below(high: u32, nodes: &[u32]) -> bool
+    ensures { result ≡ are_below high nodes.now }
+{
+    for node in nodes {
+        if *node >= high {
+            return false;
+        }
+    }
+    true
+}
+
+// Whether a literal of a plan over so many leaves names none behind the first `count`.
+fn names_within(count: usize, leaves: u8, literal: PLit) -> bool
+    ensures { result ≡ names_within count leaves literal }
+{
+    let index = literal.index();
+    index as usize <= count || index > u16::from(leaves)
+}
+
+// Whether the gates of such a plan name none.
+fn gates_within(count: usize, leaves: u8, gates: &[(PLit, PLit)]) -> bool
+    ensures { result ≡ gates_within count leaves gates.now }
+{
+    for gate in gates {
+        if !(names_within(count, leaves, gate.0) && names_within(count, leaves, gate.1)) {
+            return false;
+        }
+    }
+    true
+}
+
+// The proposal of a plan over a cut; none where the leaves don't rise below the node, or the plan names one behind them.
+fn candidate_of<'a>(node: u32, cut: &'a Cut, plan: &'a Plan) -> Option<Candidate<'a>> {
+    let leaves = cut.as_slice();
+    if node == 0 || !rise_above(0, leaves) || !are_below(node, leaves) {
+        return None;
+    }
+    if !gates_within(leaves.len(), plan.leaves, plan.gates.as_slice())
+        || !names_within(leaves.len(), plan.leaves, plan.out)
+    {
+        return None;
+    }
+    Some(Candidate {
+        root: node,
+        leaves,
+        plan,
+    })
+}
+
+// The plan of the class of a node's function over a cut, fitted to the function; none where the cut has more leaves than
+// the classes.
+fn class_plan(
+    alloc: Global,
+    graph: &Graph,
+    node: u32,
+    cut: &Cut,
+) -> Result<Option<Plan>, AllocError>
+    requires node { node < length graph.now.rows }
+    requires cut { IsCut graph.now.rows cut.now.items node }
+{
+    let truth = function(alloc, graph, node, cut)?;
+    if truth.vars > 4 {
+        return Ok(None);
+    }
+    let (class, transform) = canon((truth.widen(4).bits % 65_536) as u16);
+    for plan in plans(class) {
+        if plan.leaves == 4 {
+            return Ok(Some(fit(&plan, transform)));
+        }
+    }
+    Ok(None)
+}
+
+// From a cut through its function, the class of that and a fitted plan to what the proposal saves.
+#[test]
+fn plans_of_classes_save(rt: HostRuntime) -> Result<(), Fail> {
+    let alloc = rt.alloc();
+    for (text, node, place, leaves, wanted) in [
+        (ALONE, 6, 0, 2, 0),
+        (ALONE, 6, 1, 3, 1),
+        (SHARED, 6, 1, 3, -1),
+        (GATED, 8, 2, 4, 1),
+    ] {
+        let Some(graph) = graph_from(alloc, text) else {
+            panic!(rt; "no graph");
+        };
+        let lists = listed(&rt, alloc, &graph, 4, 1)?;
+        let Some(cut) = cut_at(&graph, &lists, node, place) else {
+            panic!(rt; "no cut");
+        };
+        assert_eq!(rt; cut.len(), leaves);
+        let Some(plan) = class_plan(alloc, &graph, node, cut)? else {
+            panic!(rt; "no plan");
+        };
+        let Some(candidate) = candidate_of(node, cut, &plan) else {
+            panic!(rt; "a leaf behind the cut");
+        };
+        let counts = both_counts(alloc, &graph, candidate)?;
+        assert_eq!(rt; counts, Some((wanted, wanted)));
+    }
+    Ok(())
+}
+
+// The nodes as the leaves of a proposal; none where there are too many.
+fn leaves_of(nodes: &[u32]) -> Option<ArrayVec<u32, 7>>
+    ensures { IfSome result (λ leaves. leaves.items ≡ nodes.now) }
+{
+    let mut leaves = ArrayVec::new();
+    for node in nodes {
+        leaves.try_push(*node).ok()?;
+    }
+    Some(leaves)
+}
+
+// The proposal to replace a node by the factored form of its function over a cut; none where the leaves don't rise below it.
+fn factored(
+    alloc: Global,
+    graph: &Graph,
+    node: u32,
+    cut: &Cut,
+) -> Result<Option<Proposal>, AllocError>
+    requires node { node < length graph.now.rows }
+    requires cut { IsCut graph.now.rows cut.now.items node }
+    ensures { IfOk result (λ found. IfSome found (λ p. IsSoundBy graph.now.rows (replacement p))) }
+{
+    if node == 0 || !rise_above(0, cut.as_slice()) || !are_below(node, cut.as_slice()) {
+        return Ok(None);
+    }
+    let truth = function(alloc, graph, node, cut)?;
+    syn_gain::all_leaf_values();
+    let Some(leaves) = leaves_of(cut.as_slice()) else {
+        return Ok(None);
+    };
+    Ok(Some(Proposal::over(node, leaves, factor(truth))))
+}
+
+// The proposal of a node and its listed cut at this place; none where there is no such cut.
+fn listed_proposal(
+    alloc: Global,
+    graph: &Graph,
+    lists: &CutLists,
+    node: u32,
+    place: usize,
+) -> Result<Option<Proposal>, AllocError>
+    requires { (n : ℕ) → n < length graph.now.rows → All (λ c. IsCut graph.now.rows c n) (list_at lists.now n) }
+    ensures { IfOk result (λ found. IfSome found (λ p. IsSoundBy graph.now.rows (replacement p))) }
+{
+    match cut_at(graph, lists, node, place) {
+        Some(cut) => factored(alloc, graph, node, cut),
+        None => Ok(None),
+    }
+}
+
+// Whether applying a proposal makes the graph smaller, and changes no value at one choice of inputs.
+fn applies(alloc: Global, graph: Graph, proposal: &Proposal) -> Result<bool, AllocError>
+    requires { IsSoundBy graph.rows (replacement proposal.now) }
+{
+    syn_gain::rows_after_are_few();
+    if graph.rows.as_slice().len() > 1_000 {
+        return Ok(false);
+    }
+    let before = graph.count();
+    let inputs = [true, false, true, false];
+    let values = graph.eval(alloc, &inputs)?;
+    let Ok(after) = apply(alloc, graph, proposal.borrow()) else {
+        return Err(AllocError);
+    };
+    let kept = after.eval(alloc, &inputs)?;
+    Ok(after.count() < before && kept.as_slice() == values.as_slice())
+}
+
+// Both counts of each node's listed proposals are one number; the first proposal that saves is applied.
+#[test]
+fn counts_alike_and_applies(rt: HostRuntime) -> Result<(), Fail> {
+    let alloc = rt.alloc();
+    let Some(graph) = graph_from(alloc, ADDER) else {
+        panic!(rt; "no graph");
+    };
+    let lists = listed(&rt, alloc, &graph, 4, 1)?;
+    for node in 0..100 {
+        for place in 0..31 {
+            let Some(proposal) = listed_proposal(alloc, &graph, &lists, node, place)? else {
+                continue;
+            };
+            let Some((near, swept)) = both_counts(alloc, &graph, proposal.borrow())? else {
+                continue;
+            };
+            assert_eq!(rt; near, swept);
+            if near > 0 {
+                assert!(rt; applies(alloc, graph, &proposal)?);
+                return Ok(());
+            }
+        }
+    }
+    panic!(rt; "nothing saved");
+}
