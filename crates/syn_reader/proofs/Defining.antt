@@ -4,13 +4,12 @@ use Rattle.std.proofs.lemmas.List.{map-append}
 use Rattle.syn_netlist.specs.Words.{has, without}
 use Rattle.syn_netlist.specs.Lists.{Netlist, latch_output, output_of, sources}
 use Rattle.syn_netlist.specs.Order.{defined}
-use Rattle.syn_netlist.proofs.Sets.{has-append}
+use Rattle.syn_netlist.proofs.Sets.{has-append, same_word}
 use Rattle.syn_reader.specs.declared.Kind.{Kind}
 use Rattle.syn_reader.specs.declared.Kind.TheVariants as kinds
 use Rattle.syn_reader.specs.Statements.{Statement}
 use Rattle.syn_reader.specs.Definitions.{Definition, definitions, name_of, names_defined}
 use Rattle.syn_reader.specs.Reading.{Adds, Spell, rows_below}
-use Rattle.syn_reader.proofs.Words.{same_word}
 use Rattle.syn_reader.proofs.Once.{output_is}
 use Rattle.syn_reader.proofs.ReadingPlaces.{latch_defines}
 
