@@ -1,6 +1,6 @@
 -- What a sound core shows of each seat, and of each count.
-use Rattle.std.proofs.Common.{◌≡◌, ◌≢◌, ℕ, zero, suc, ◌+◌, ◌<◌, ◌≤◌, Bool, true, false, get_or, length, Option, Some, None, refl, sym, ap, ◌∙◌, subst, arith, inl, inr}
-use Rattle.std.proofs.lemmas.Bool.{cases_Bool}
+use Rattle.std.proofs.Common.{◌≡◌, ◌≢◌, ℕ, zero, suc, ◌+◌, ◌<◌, ◌≤◌, Bool, true, get_or, length, Option, Some, None, refl, sym, ap, ◌∙◌, subst, arith, inl, inr}
+use Rattle.std.proofs.lemmas.Bool.{cases_Bool, false_from_ne_true}
 use mathlib.Core.Option.{some}
 use lib.ListN.{get_elem?}
 use Rattle.syn_rows.specs.declared.Row.{Row}
@@ -9,12 +9,14 @@ use Rattle.syn_rows.specs.Rows.{row_at}
 use Rattle.syn_rows.specs.References.{refs, refs_by_rows, sum_below}
 use Rattle.syn_core_laws.specs.declared.View.{View}
 use Rattle.syn_core_laws.specs.Lists.{has}
-use Rattle.syn_core_laws.specs.Views.{known_row, is_derived_known, refs_known, own_refs, own_pins}
+use Rattle.syn_core_laws.specs.Views.{known_row, is_derived_known, refs_known, own_refs}
 use Rattle.syn_core_laws.specs.Cores.{Core}
 use Rattle.syn_core_laws.specs.Sound.{IsSound}
-use Rattle.syn_core_laws.specs.Shown.{HasNoCircle, SeatsAreShown, CountsCoverSeats}
+use Rattle.syn_core_laws.specs.Openings.{empty_view}
+use Rattle.syn_core_laws.specs.Shown.{HasNoCircle, IsShown, SeatsAreShown, CountsCoverSeats}
 use Rattle.syn_core_laws.proofs.Counting.{sum_at, sum_two, pins_at}
 use Rattle.syn_core_laws.proofs.Seating.{rests_on, own_le}
+use Rattle.syn_core_laws.proofs.Pinning.{pins_count}
 use Rattle.syn_core_laws.proofs.Storing.{held_there}
 
 pub counts_cover_seats : CountsCoverSeats
@@ -63,6 +65,10 @@ seats_are_shown c id v s at =
     record {
       no_circle = no_circle c id v s at;
       used = λ n m le free. (known_rests c id v s at m n le).0 (t.knows_rows m Free free).1;
+      pinned = λ n mine free.
+          let some_there : 1 ≤ get_or c.counts n 0 = pins_count c id v s at n mine in
+          let none : get_or c.counts n 0 ≡ 0 = s.unused n (t.knows_rows n Free free).1 in
+          absurd (omega arith);
       rows = λ n r e. let held : has n v.held ≡ true = (t.knows_rows n r e).0 in (held_there c id v s at n held, held);
       keys = λ n key e. (t.knows_keys n key e).0;
       idles = λ n h.
@@ -70,3 +76,18 @@ seats_are_shown c id v s at =
           (ap is_derived_known known.1 ∙ known.2, omega (arith, counts_cover_seats c id v n s at, (t.idles n h).1));
       few = t.few;
     }
+
+-- a seat that knows nothing shows it
+pub empty_shown : (nodes number : ℕ) → IsShown nodes (empty_view number)
+empty_shown nodes number = record {
+  no_circle = λ set next m. false_from_ne_true (set m) (λ h. no_refs (next m h).3);
+  used = λ n m le free. no_refs le;
+  pinned = λ n h. absurd (cc);
+  rows = λ n r e. absurd (cc);
+  keys = λ n key e. absurd (cc);
+  idles = λ n h. absurd (cc);
+  few = omega arith;
+}
+  where
+    no_refs : 1 ≤ 0 → ⊥
+    no_refs le = absurd (omega arith)

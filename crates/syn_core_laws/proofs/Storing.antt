@@ -232,7 +232,7 @@ gate_no_free (Alias a) h e = absurd (cc)
 
 module _ (c : Core) (id : ℕ) (v : View) (s : IsSound c) (at : get_elem? c.seats id ≡ some v) (small : v.number < 64) where
   -- a known key is the word
-  key_is : (m k : ℕ) → known_key v m ≡ Some k → get_or c.keys m 0 ≡ k
+  pub key_is : (m k : ℕ) → known_key v m ≡ Some k → get_or c.keys m 0 ≡ k
   key_is m k e = go (nat_eq m 0) refl e
     where
       go : (b : Bool) → nat_eq m 0 ≡ b → (if b then Some 0 else look m v.keys) ≡ Some k → get_or c.keys m 0 ≡ k

@@ -25,6 +25,8 @@ pub record IsShown (nodes : ℕ) (v : View) : Type 0 where
   pub no_circle : HasNoCircle nodes v
   -- no known row refers to a node that is known as free
   pub used : (n m : ℕ) → 1 ≤ refs_known m (known_row v n) → known_row v m ≢ Some Free
+  -- nor is a pinned node known as free
+  pub pinned : (n : ℕ) → has n v.pins ≡ true → known_row v n ≢ Some Free
   -- known rows are of held nodes, known keys of held or pinned ones
   pub rows : (n : ℕ) (r : Row) → known_row v n ≡ Some r → (n < nodes) × (has n v.held ≡ true)
   pub keys : (n key : ℕ) → look n v.keys ≡ Some key → is_mine v n ≡ true

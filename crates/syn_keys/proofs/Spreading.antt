@@ -7,13 +7,9 @@ use Rattle.syn_rows.specs.declared.Row.{Row}
 use Rattle.syn_rows.specs.declared.Row.TheVariants.{Free, Source, And, Alias}
 use Rattle.syn_rows.specs.Rows.{node_of, row_at, AllRefs, Rises}
 use Rattle.syn_rows.specs.Levels.{row_level, level_in, levels_of}
-use Rattle.syn_rows.proofs.Folds.{length-fold, one_levels_is}
-use Rattle.syn_shapes.specs.Graphs.{is_gate, IsHashed}
-use Rattle.syn_graph.proofs.Orders.{hashed_in_order}
+use Rattle.syn_hashed.specs.Hashed.{is_gate, IsHashed}
+use Rattle.syn_hashed.proofs.LevelLaws.{length-levels, level_step}
 use Rattle.syn_keys.specs.Keys.{key_of_level, spread_of}
-
-level_step : (count : ℕ) (rows : List Row) → IsHashed count rows → (n : ℕ) → level_in (levels_of rows) n ≡ row_level (level_in (levels_of rows)) n (row_at rows n)
-level_step count rows h n = (one_levels_is rows (hashed_in_order count rows h)).0 n
 
 mapped_at : (levels : List ℕ) (n : ℕ) → get_or (map key_of_level levels) n 0 ≡ key_of_level (level_in levels n)
 mapped_at [] n = refl
@@ -57,4 +53,4 @@ keys_rise count rows h n = go (row_at rows n) refl
     go (Alias a) e = absurd (no_alias count rows n a h e)
 
 pub spread_length : (rows : List Row) → length (spread_of rows) ≡ length rows
-spread_length rows = omega (arith, length-map (levels_of rows) key_of_level, length-fold row_level 0 [] rows)
+spread_length rows = omega (arith, length-map (levels_of rows) key_of_level, length-levels rows)

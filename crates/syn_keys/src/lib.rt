@@ -60,19 +60,3 @@ pub fn between(low: u64, need: u32, high: u64) -> Option<u64>
 pub fn worked_keys()
     ensures { Worked }
 {}
-
-#[cfg(test)]
-mod tests {
-    use super::*;
-
-    #[test]
-    fn finds_room_between_keys(rt: HostRuntime) {
-        for (low, need, high, step) in [
-            (0, 2, 8589934592, Some(2863311530)),
-            (5, 2, 7, None),
-            (5, 2, 8, Some(1)),
-        ] {
-            assert_eq!(rt; between(low, need, high), step);
-        }
-    }
-}

@@ -12,10 +12,11 @@ use Rattle.syn_rows.specs.Packing.{word_of, Packs}
 use Rattle.syn_rows.specs.Rows.{row_at, node_of, AllRefs}
 use Rattle.syn_rows.specs.References.{refs, refs_by_rows, refs_by_literals, sum_below, times}
 use Rattle.syn_netlist.specs.Lists.{Frame, sources}
-use Rattle.syn_shapes.specs.Graphs.{is_gate, IsHashed, IsGraph}
+use Rattle.syn_hashed.specs.Hashed.{is_gate, IsHashed}
+use Rattle.syn_shapes.specs.Graphs.{IsGraph}
 use Rattle.syn_netlist.specs.Frames.{frame_in}
 use Rattle.syn_graph.specs.declared.Graph.{Graph}
-use Rattle.syn_graph.proofs.Orders.{hashed_in_order}
+use Rattle.syn_hashed.proofs.Orders.{hashed_in_order}
 use Rattle.syn_core_laws.specs.declared.View.{View}
 use Rattle.syn_core_laws.specs.Cores.{Core, all_pins}
 use Rattle.syn_core_laws.specs.Openings.{AllThere, IsStart, empty_view, opening_of}

@@ -1,6 +1,5 @@
 -- A seat that has all numbers and holds and pins nothing closes the table with the rows of a sound core.
-use Rattle.std.proofs.Common.{◌≡◌, ◌≢◌, ◌↔◌, Bool, ◌^◌, ℕ, zero, suc, ◌+◌, ◌*◌, ◌<◌, ◌≤◌, All, List, [], ◌∷◌, length, get_or, refl, sym, ap, ap₂, ◌∙◌, subst, arith, inl, inr, pos, ◌+ℤ◌, ℤ}
-use Rattle.std.proofs.lemmas.Bool.{cases_lt}
+use Rattle.std.proofs.Common.{◌≡◌, ◌≢◌, ◌↔◌, Bool, ◌^◌, ℕ, zero, suc, ◌+◌, ◌*◌, ◌<◌, ◌≤◌, All, List, [], ◌∷◌, length, get_or, refl, sym, ap, ap₂, ◌∙◌, subst, arith, pos, ◌+ℤ◌, ℤ}
 use Rattle.std.proofs.lemmas.Int.{ints}
 use mathlib.Core.Option.{some, some-injective, some-ne-none}
 use lib.ListN.{get_elem?}
@@ -20,12 +19,11 @@ use Rattle.syn_core_laws.specs.Sound.{Agree, IsSound}
 use Rattle.syn_core_laws.proofs.Counting.{hits_same}
 use Rattle.syn_table.specs.declared.Known.{Known}
 use Rattle.syn_table.specs.declared.Opening.{Opening}
-use Rattle.syn_table.specs.Numbers.{all_numbers}
 use Rattle.syn_table.specs.Laying.{IsLaid}
 use Rattle.syn_table.specs.Openings.{opened_rows, opened_literals}
-use Rattle.syn_table.specs.Rule.{views_of, HasOwnNumber, IsTied, IsTable, IsCore}
+use Rattle.syn_table.specs.Rule.{views_of, IsTable, IsCore}
 use Rattle.syn_table.specs.Closing.{IsClosing, ReadsBack}
-use Rattle.syn_table.proofs.Numbering.{lengths_of_two, all_counted}
+use Rattle.syn_table.proofs.Numbering.{others_spent}
 
 -- ---- the rows are those of the words
 same_rows : (xs ys : List Row) → length xs ≡ length ys → ((n : ℕ) → n < length xs → row_at xs n ≡ row_at ys n) → xs ≡ ys
@@ -38,19 +36,7 @@ pub rows_read : (words : List ℕ) (c : Core) (rows : List Row) → RowsPack →
 rows_read words c rows pack laid sound few size back =
     same_rows rows c.rows size (λ n lt. back n lt (row_at c.rows n) (pack c n sound few) (sym (laid.rows n (omega (arith, lt, size)))))
 
--- ---- other seats are spent, and their differences are 0
-others_spent : (c : Core) (seats : List Known) (id j : ℕ) (k x : Known) → ((j : ℕ) (x : Known) → get_elem? seats j ≡ some x → IsTied c x) → length (all_numbers seats) ≡ 64 → get_elem? seats id ≡ some k → length k.numbers ≡ 64
-    → j ≢ id → get_elem? seats j ≡ some x → x.core ≡ empty_view 64
-others_spent c seats id j k x tied all at full ne there = elim (cases_lt x.core.number 64) [
-  | inl lt ↦ absurd (
-      let own : HasOwnNumber x = (tied j x there).own lt in
-      let one = ap (λ (ns : List ℕ). length ns) own in
-      let two = lengths_of_two seats j id x k ne there at in
-      omega (arith, one, two, all, full)
-      )
-  | inr ge ↦ ((tied j x there).spent ge).1
-]
-
+-- ---- other seats' differences are 0
 no_difference : (seats : List Known) → ((j : ℕ) (x : Known) → get_elem? seats j ≡ some x → x.core ≡ empty_view 64) → differences (views_of seats) ≡ pos 0
 no_difference [] spent = refl
 no_difference (x ∷ xs) spent =
@@ -108,8 +94,7 @@ closing_core opening literals c some_valuation s opened observed size = record {
 pub closing_is : (opening : Opening) (words : List ℕ) (seats : List Known) (c : Core) (id : ℕ) (k : Known) → SomeValuation → IsTable opening words seats c → get_elem? seats id ≡ some k → length k.numbers ≡ 64
     → IsClosing (opened_rows opening) (opened_literals opening) k.core.difference c.rows c.observed
 closing_is opening words seats c id k some_valuation t at full =
-    let all : length (all_numbers seats) ≡ 64 = all_counted 64 (all_numbers seats) t.once t.below in
-    let alone : differences c.seats ≡ k.core.difference = ap differences t.views ∙ one_difference seats id k at (λ j x ne there. others_spent c seats id j k x t.tied all at full ne there) in
+    let alone : differences c.seats ≡ k.core.difference = ap differences t.views ∙ one_difference seats id k at (λ j x ne there. others_spent opening words seats c id j k x t at full ne there) in
     let size : length c.rows ≡ length (opened_rows opening) = t.nodes ∙ ap (λ (rows : List Row). length rows) t.opened in
     subst (λ (d : ℤ). IsClosing (opened_rows opening) (opened_literals opening) d c.rows c.observed) alone (closing_core (opened_rows opening) (opened_literals opening) c some_valuation t.sound t.opened t.observed size)
 

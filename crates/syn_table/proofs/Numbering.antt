@@ -6,7 +6,11 @@ use lib.ListN.{get_elem?}
 use Rattle.syn_rows.specs.References.{hits, times, sum_below}
 use Rattle.syn_core_laws.proofs.Counting.{hits_same, hits_other, times_append}
 use Rattle.syn_table.specs.declared.Known.{Known}
+use Rattle.syn_table.specs.declared.Opening.{Opening}
 use Rattle.syn_table.specs.Numbers.{all_numbers}
+use Rattle.syn_table.specs.Rule.{HasOwnNumber, IsTable}
+use Rattle.syn_core_laws.specs.Cores.{Core}
+use Rattle.syn_core_laws.specs.Openings.{empty_view}
 
 -- ---- all numbers after a change of one seat, and with one seat more
 pub numbers_set : (n : ℕ) (seats : List Known) (id : ℕ) (k w : Known) → get_elem? seats id ≡ some k → times n (all_numbers (set seats id w)) + times n k.numbers ≡ times n (all_numbers seats) + times n w.numbers
@@ -107,3 +111,17 @@ few_below (suc k) f one = omega (arith, few_below k f (λ n lt. one n (omega ari
 -- a list that has each number below k once, and no other number, has k of them
 pub all_counted : (k : ℕ) (xs : List ℕ) → ((n : ℕ) → n < k → times n xs ≡ 1) → ((n : ℕ) → k ≤ n → times n xs ≡ 0) → length xs ≡ k
 all_counted k xs once none = counted_below k xs none ∙ few_below k (λ n. times n xs) once
+
+-- where one seat has all numbers, each other one is spent
+pub others_spent : (opening : Opening) (words : List ℕ) (seats : List Known) (c : Core) (id j : ℕ) (k x : Known) → IsTable opening words seats c → get_elem? seats id ≡ some k → length k.numbers ≡ 64
+    → j ≢ id → get_elem? seats j ≡ some x → x.core ≡ empty_view 64
+others_spent opening words seats c id j k x t at full ne there = elim (cases_lt x.core.number 64) [
+  | inl lt ↦ absurd (
+      let all : length (all_numbers seats) ≡ 64 = all_counted 64 (all_numbers seats) t.once t.below in
+      let own : HasOwnNumber x = (t.tied j x there).own lt in
+      let one = ap (λ (ns : List ℕ). length ns) own in
+      let two = lengths_of_two seats j id x k ne there at in
+      omega (arith, one, two, all, full)
+      )
+  | inr ge ↦ ((t.tied j x there).spent ge).1
+]

@@ -12,6 +12,8 @@ use Rattle.syn_core_laws.specs.Events.{May, event_node, after}
 use Rattle.syn_core_laws.specs.Sound.{IsSound}
 use Rattle.syn_core_laws.proofs.Laws.{events_keep_sound}
 use Rattle.syn_core_laws.proofs.Within.{nodes_are_there}
+use Rattle.syn_core_laws.proofs.Showing.{seats_are_shown}
+use Rattle.syn_core_laws.specs.Shown.{IsShown}
 use Rattle.syn_table.specs.declared.Known.{Known}
 use Rattle.syn_table.specs.declared.Opening.{Opening}
 use Rattle.syn_table.specs.Numbers.{all_numbers}
@@ -115,4 +117,5 @@ is_active o words seats c id k t at small = record {
   number = small;
   own = (t.tied id k at).own small;
   within = λ n h. let lt : n < length c.rows = nodes_are_there c id k.core n t.sound (view_at o words seats c id k t at) h in omega (arith, nodes_known o words seats c id k t at small);
+  shown = subst (λ m. IsShown m k.core) (sym (nodes_known o words seats c id k t at small)) (seats_are_shown c id k.core t.sound (view_at o words seats c id k t at));
 }

@@ -12,6 +12,7 @@ use Rattle.syn_core_laws.specs.Openings.{empty_view}
 use Rattle.syn_core_laws.specs.Splits.{split_off}
 use Rattle.syn_core_laws.proofs.Counting.{hits_same}
 use Rattle.syn_core_laws.proofs.Splitting.{splits_keep_sound}
+use Rattle.syn_core_laws.proofs.Showing.{empty_shown}
 use Rattle.syn_table.specs.declared.Known.{Known}
 use Rattle.syn_table.specs.declared.Opening.{Opening}
 use Rattle.syn_table.specs.Numbers.{all_numbers}
@@ -139,13 +140,14 @@ last_small x [] h = h 0 0 (omega arith)
 last_small x (y ∷ more) h = last_small y more (λ k d lt. h (suc k) d (omega arith))
 
 pub left_active : (k : Known) → IsActive k → 2 ≤ length k.numbers → IsActive (without_last k)
-left_active k a two = let more = own_and_more k a.own two in record { number = a.number; own = own_from (without_last k) (all_but_last (more.0 ∷ more.1)) (ap all_but_last more.2); within = a.within }
+left_active k a two = let more = own_and_more k a.own two in record { number = a.number; own = own_from (without_last k) (all_but_last (more.0 ∷ more.1)) (ap all_but_last more.2); within = a.within; shown = a.shown }
 
 pub new_active : (k : Known) → IsActive k → AreNumbers k.numbers → IsActive (split_from k)
 new_active k a numbers = record {
   number = subst (λ (ns : List ℕ). last_of ns < 64) (sym a.own) (last_small k.core.number (drop 1 k.numbers) (subst (All (λ n. n < 64)) a.own numbers.small));
   own = refl;
   within = λ n h. absurd (nothing n h);
+  shown = empty_shown (length k.opening) (last_of k.numbers);
 }
   where
     nothing : (n : ℕ) → (has n [] ≡ true) ⊎ MayPin (empty_view (last_of k.numbers)) n → ⊥

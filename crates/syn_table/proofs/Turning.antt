@@ -1,8 +1,8 @@
 -- Each step on a word is one event, which the rule allows.
 use Rattle.std.proofs.Common.{◌≡◌, ◌≢◌, ◌⊎◌, ℕ, suc, ◌+◌, ◌-◌, ◌*◌, ◌%◌, ◌^◌, ◌<◌, ◌≤◌, true, false, if◌then◌else◌, nat_eq, IsTrue, ◌↔◌, List, length, set, get_or, refl, sym, ap, ◌∙◌, subst, arith, inl, inr}
 use Rattle.std.proofs.lemmas.List.{set-get_or}
-use Rattle.std.proofs.lemmas.Bool.{eq-eqb, eqb-true, ne_eqb}
-use mathlib.Core.Option.{some, none}
+use Rattle.std.proofs.lemmas.Bool.{cases_eq, eq-eqb, eqb-true, ne_eqb}
+use mathlib.Core.Option.{some, none, some-injective}
 use lib.ListN.{get_elem?}
 use prog.Atomic.{either}
 use Rattle.atomic_table.specs.Table.{State, Me, Act, step, stepped, carried_after, keeps, Valid, Allows}
@@ -21,29 +21,51 @@ use Rattle.syn_core_laws.proofs.Counting.{hits_same, times_has, times_less}
 use Rattle.syn_core_laws.proofs.Listing.{or_cases}
 use Rattle.syn_core_laws.proofs.Pinning.{pins_count}
 use Rattle.syn_core_laws.proofs.Within.{counts_fit, nodes_are_there, rows_pack}
+use Rattle.syn_core_laws.proofs.Showing.{counts_cover_seats}
+use Rattle.syn_core_laws.specs.Openings.{empty_view}
 use Rattle.syn_table.specs.declared.Known.{Known}
 use Rattle.syn_table.specs.declared.Opening.{Opening}
 use Rattle.syn_table.specs.Laying.{IsLaid, node_at}
 use Rattle.syn_table.specs.Rule.{IsTable, IsCore, IsActive}
-use Rattle.syn_table.specs.Steps.{with_view, Becomes, IsSoleCount, IsAlone, TellsClaim, TellsRelease, TellsRow, TellsPin, TellsUnpin, TellsCount, TellsKey}
+use Rattle.syn_table.specs.Steps.{with_view, Becomes, IsSoleCount, CoversOwn, IsAlone, TellsClaim, TellsRelease, TellsRow, TellsPin, TellsUnpin, TellsCount, TellsKey}
 use Rattle.syn_table.proofs.Wording.{laid_claim, laid_count, laid_same, claim_node, row_node, count_node, key_node}
+use Rattle.syn_table.proofs.Listed.{seat_of_view}
+use Rattle.syn_table.proofs.Numbering.{others_spent}
 use Rattle.syn_table.proofs.Ruling.{seat_there, stepped_on, view_at, nodes_known, is_active}
 
 -- what a step owes where word i becomes x: a new view of the seat under which the rule holds, and which tells T
-abbrev Goes : Opening → State ℕ Known → ℕ → Me ℕ Known → ℕ → ℕ → (Me ℕ Known → Type 0) → Type 0
+abbrev pub Goes : Opening → State ℕ Known → ℕ → Me ℕ Known → ℕ → ℕ → (Me ℕ Known → Type 0) → Type 0
 Goes o s id me i x T = (w : Known) × (a : Act ℕ) × Valid s.homes me.1 a × IsCore o (stepped s i x id me.1 w a) × T (w, carried_after me.1 a)
 
-goes : (o : Opening) (s : State ℕ Known) (id : ℕ) (me : Me ℕ Known) (i x : ℕ) (T : Me ℕ Known → Type 0) (v : View) (c : Core)
+pub goes : (o : Opening) (s : State ℕ Known) (id : ℕ) (me : Me ℕ Known) (i x : ℕ) (T : Me ℕ Known → Type 0) (v : View) (c : Core)
     → IsTable o (set s.words i x) (set s.views id (with_view me.0 v)) c → T (with_view me.0 v, me.1) → Goes o s id me i x T
 goes o s id me i x T v c table told = (with_view me.0 v, keeps, tt, (c, table), told)
 
 -- the seat has the view v, which may be written in another way
-becomes : (o : Opening) (words : List ℕ) (seats : List Known) (c : Core) (id : ℕ) (me : Me ℕ Known) (v w : View)
+pub becomes : (o : Opening) (words : List ℕ) (seats : List Known) (c : Core) (id : ℕ) (me : Me ℕ Known) (v w : View)
     → get_elem? seats id ≡ some me.0 → v.number < 64 → IsTable o words (set seats id (with_view me.0 v)) c → v ≡ w → Becomes me w (with_view me.0 v, me.1)
 becomes o words seats c id me v w at small t same =
     subst (λ u. Becomes me u (with_view me.0 v, me.1)) same (refl, is_active o words (set seats id (with_view me.0 v)) c id (with_view me.0 v) t (seat_there seats id me.0 (with_view me.0 v) at) small)
 
 -- ---- claim, or failed claim
+-- where one seat has all numbers, each claim is its own
+all_free : (o : Opening) (words : List ℕ) (seats : List Known) (c : Core) (id : ℕ) (k : Known) (n : ℕ) → IsTable o words seats c → get_elem? seats id ≡ some k → length k.numbers ≡ 64
+    → has n k.core.held ≡ false → get_or c.claims n 0 ≢ 0 → ⊥
+all_free o words seats c id k n t at full free ne =
+    let holder = t.sound.claimant n ne in
+    let seat = seat_of_view seats holder.0 holder.1 (ap (λ (vs : List View). get_elem? vs holder.0) (sym t.views) ∙ holder.2) in
+    let held : has n seat.0.core.held ≡ true = subst (λ (v : View). has n v.held ≡ true) (sym seat.2) holder.3 in
+    elim (cases_eq holder.0 id) [
+      | inl same ↦
+          let mine : seat.0 ≡ k = some-injective seat.0 k (sym seat.1 ∙ (ap (get_elem? seats) same ∙ at)) in
+          let both : has n k.core.held ≡ true = subst (λ (x : Known). has n x.core.held ≡ true) mine held in
+          absurd (cc)
+      | inr other ↦
+          let spent : seat.0.core ≡ empty_view 64 = others_spent o words seats c id holder.0 k seat.0 t at full other seat.1 in
+          let none : has n seat.0.core.held ≡ false = ap (λ (v : View). has n v.held) spent in
+          absurd (cc)
+    ]
+
 claim_won : (o : Opening) (slots id : ℕ) (me : Me ℕ Known) (n x : ℕ) (s : State ℕ Known) → IsActive me.0 → x ≡ suc me.0.core.number → n < length me.0.opening → has n me.0.core.held ≡ false
     → IsCore o s → get_elem? s.views id ≡ some me.0 → get_or s.words (1 + 4 * n) 0 ≡ 0
     → Goes o s id me (1 + 4 * n) x (TellsClaim (step slots (1 + 4 * n) 0 x none) me (get_or s.words (1 + 4 * n) 0))
@@ -58,9 +80,11 @@ claim_won o slots id me n x s active is inside free core at e =
     let table : IsTable o (set s.words (1 + 4 * n) x) (set s.views id (with_view me.0 (claimed v n))) next =
     stepped_on o s.words (set s.words (1 + 4 * n) x) s.views c id me.0 (Kind.Claim n) (claimed v n) t at active.number there (sym word ∙ e, free) refl
     (subst (λ y. IsLaid (set s.words (1 + 4 * n) y) next) (sym is) (laid_claim s.words c n (suc v.number) (set c.seats id (claimed v n)) t.laid there t.sound.claims_count)) refl refl refl refl in
-    goes o s id me (1 + 4 * n) x (TellsClaim (step slots (1 + 4 * n) 0 x none) me found) (claimed v n) next table
-    (becomes o (set s.words (1 + 4 * n) x) s.views next id me (claimed v n) _ at active.number table
-    (ap (λ b. if b then claimed v n else missed v n) (sym (eq-eqb found 0 e)) ∙ ap (λ m. if nat_eq found 0 then claimed v m else missed v m) (sym (claim_node n))))
+    goes o s id me (1 + 4 * n) x (TellsClaim (step slots (1 + 4 * n) 0 x none) me found) (claimed v n) next table (
+      (λ full. e),
+      becomes o (set s.words (1 + 4 * n) x) s.views next id me (claimed v n) _ at active.number table
+          (ap (λ b. if b then claimed v n else missed v n) (sym (eq-eqb found 0 e)) ∙ ap (λ m. if nat_eq found 0 then claimed v m else missed v m) (sym (claim_node n))),
+    )
 
 claim_lost : (o : Opening) (slots id : ℕ) (me : Me ℕ Known) (n x : ℕ) (s : State ℕ Known) → IsActive me.0 → n < length me.0.opening → has n me.0.core.held ≡ false
     → IsCore o s → get_elem? s.views id ≡ some me.0 → get_or s.words (1 + 4 * n) 0 ≢ 0
@@ -76,9 +100,11 @@ claim_lost o slots id me n x s active inside free core at ne =
     let table : IsTable o (set s.words (1 + 4 * n) found) (set s.views id (with_view me.0 (missed v n))) next =
     stepped_on o s.words (set s.words (1 + 4 * n) found) s.views c id me.0 (Kind.ClaimFailed n) (missed v n) t at active.number there ((λ e. ne (word ∙ e)), free) refl
     (subst (λ l. IsLaid l next) (sym (set-get_or s.words (1 + 4 * n) 0)) (laid_same s.words c (set c.seats id (missed v n)) t.laid)) refl refl refl refl in
-    goes o s id me (1 + 4 * n) found (TellsClaim (step slots (1 + 4 * n) 0 x none) me found) (missed v n) next table
-    (becomes o (set s.words (1 + 4 * n) found) s.views next id me (missed v n) _ at active.number table
-    (ap (λ b. if b then claimed v n else missed v n) (sym (ne_eqb found 0 ne)) ∙ ap (λ m. if nat_eq found 0 then claimed v m else missed v m) (sym (claim_node n))))
+    goes o s id me (1 + 4 * n) found (TellsClaim (step slots (1 + 4 * n) 0 x none) me found) (missed v n) next table (
+      (λ full. absurd (all_free o s.words s.views c id me.0 n t at full free (λ z. ne (word ∙ z)))),
+      becomes o (set s.words (1 + 4 * n) found) s.views next id me (missed v n) _ at active.number table
+          (ap (λ b. if b then claimed v n else missed v n) (sym (ne_eqb found 0 ne)) ∙ ap (λ m. if nat_eq found 0 then claimed v m else missed v m) (sym (claim_node n))),
+    )
 
 claims_turn : (o : Opening) (slots id : ℕ) (me : Me ℕ Known) (n x : ℕ) → IsActive me.0 → x ≡ suc me.0.core.number → n < length me.0.opening → has n me.0.core.held ≡ false
     → Allows (IsCore o) slots id me (1 + 4 * n) (λ k. either (nat_eq k 0) x k) (TellsClaim (step slots (1 + 4 * n) 0 x none) me)
@@ -141,6 +167,7 @@ counts_turn o slots id me n active held s core homes at fits =
     (subst (λ l. IsLaid l next) (sym (set-get_or s.words (3 + 4 * n) 0)) (laid_same s.words c (set c.seats id loaded) t.laid)) refl refl refl refl in
     goes o s id me (3 + 4 * n) found (TellsCount (step slots (3 + 4 * n) 0 0 none) me found) loaded next table (
       omega (arith, counts_fit c n t.sound t.small),
+      subst (λ m. CoversOwn me.0 m found) (sym (count_node n)) (subst (λ k. own_refs k v n + own_pins v n ≤ found) (sym nodes) (omega (arith, counts_cover_seats c id v n t.sound (view_at o s.words s.views c id me.0 t at)))),
       becomes o (set s.words (3 + 4 * n) found) s.views next id me loaded _ at active.number table
           (ap (λ z. count_loaded z v n count) (sym nodes) ∙ (ap (λ m. count_loaded (length me.0.opening) v m count) (sym (count_node n)) ∙ ap (count_loaded (length me.0.opening) v (node_at (3 + 4 * n))) (sym word))),
     )

@@ -13,6 +13,7 @@ use Rattle.syn_core_laws.specs.Events.{MayPin}
 use Rattle.syn_core_laws.specs.Openings.{empty_view}
 use Rattle.syn_core_laws.specs.Bounds.{IsSmall}
 use Rattle.syn_core_laws.specs.Sound.{IsSound}
+use Rattle.syn_core_laws.specs.Shown.{IsShown}
 use Rattle.syn_table.specs.declared.Known.{Known}
 use Rattle.syn_table.specs.declared.Opening.{Opening}
 use Rattle.syn_table.specs.Openings.{opened_rows, opened_literals}
@@ -64,8 +65,9 @@ first_seat rows observed = record { core = empty_view 0; numbers = numbers_below
 abbrev pub first_known : Opening → Known
 first_known opening = first_seat (opened_rows opening) (opened_literals opening)
 
--- what a seat that isn't spent shows by itself: it has a number, and what it holds or may pin is a node of the opening
+-- what a seat that isn't spent shows by itself: it has a number, what it holds or may pin is a node of the opening, and its view is one of a sound core's
 pub record IsActive (k : Known) : Type 0 where
   pub number : k.core.number < 64
   pub own : HasOwnNumber k
   pub within : (n : ℕ) → (has n k.core.held ≡ true) ⊎ MayPin k.core n → n < length k.opening
+  pub shown : IsShown (length k.opening) k.core

@@ -8,6 +8,7 @@ ghost use Rattle.syn_table.specs.Closing.{IsClosing, IsLast, ReadsBack};
 ghost use Rattle.syn_table.specs.Openings.{with_spare};
 ghost use Rattle.syn_table.specs.Seating.{IsOf, graph_of, known_of, spare_of, view_of};
 
+use crate::words::row_word;
 use crate::{Seat, Shared};
 use atomic_table::Closed;
 use std::alloc::{AllocError, Global};
@@ -42,7 +43,7 @@ fn read_rows(closed: &Closed<u8, Global>, nodes: u32, rows: &mut Vec<Row>)
     ensures rows { ReadsBack (slots_items closed.now.words) rows.new.items }
 {
     for node in 0..nodes {
-        let word = closed.word(2 + 4 * node as usize);
+        let word = closed.word(row_word(node));
         rows.push_reserved(row_or_free(word));
     }
 }

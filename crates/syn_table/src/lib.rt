@@ -10,6 +10,8 @@ mod plays;
 mod seats;
 mod starting;
 mod steps;
+mod stores;
+mod words;
 
 use arrayvec::ArrayVec;
 use atomic_table::{Table, TableRule};

@@ -1,6 +1,6 @@
 //! What each step tells its seat.
 
-ghost use Rattle.syn_table.specs.Steps.{TellsClaim, TellsRelease, TellsRow, TellsPin, TellsUnpin, TellsCount, TellsKey};
+ghost use Rattle.syn_table.specs.Steps.{TellsClaim, TellsRelease, TellsRow, TellsPin, TellsUnpin, TellsCount, TellsKey, TellsKeySet, TellsMade, TellsRedefined, TellsFreed};
 
 use crate::Known;
 use atomic_table::Play;
@@ -45,4 +45,28 @@ pub(crate) struct LoadsKey;
 
 impl Play<u8, Known> for LoadsKey {
     ghost then = { TellsKey };
+}
+
+pub(crate) struct SetsKey;
+
+impl Play<u8, Known> for SetsKey {
+    ghost then = { TellsKeySet };
+}
+
+pub(crate) struct MakesRow;
+
+impl Play<u8, Known> for MakesRow {
+    ghost then = { TellsMade };
+}
+
+pub(crate) struct RedefinesRow;
+
+impl Play<u8, Known> for RedefinesRow {
+    ghost then = { TellsRedefined };
+}
+
+pub(crate) struct FreesRow;
+
+impl Play<u8, Known> for FreesRow {
+    ghost then = { TellsFreed };
 }

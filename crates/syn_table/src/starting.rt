@@ -91,7 +91,7 @@ fn words_of(
     requires { (n : ℕ) → Packs (row_at rows.now n) }
     ensures { IfOk result (λ w. AreWords w.items nodes rows.now counts.now keys.now) }
 {
-    let mut words = Vec::new(alloc);
+    let mut words = Vec::with_capacity(alloc, 1 + 4 * nodes as usize)?;
     words.push(0)?;
     for node in 0..nodes {
         let place = node as usize;

@@ -1,56 +1,23 @@
 //! The steps of a seat, each one event on one word. No lock is taken and nobody waits.
 
-ghost use Rattle.std.specs.Prelude.{◌≡◌, ◌≢◌, ◌⊎◌, ℕ, suc, ◌+◌, ◌*◌, ◌==◌, ◌^◌, ◌<◌, true, false, if◌then◌else◌, IsTrue, ◌↔◌, length};
+ghost use Rattle.std.specs.Prelude.{◌≡◌, ◌≢◌, ◌⊎◌, ℕ, suc, ◌+◌, ◌*◌, ◌==◌, ◌^◌, ◌<◌, ◌≤◌, true, false, if◌then◌else◌, IsTrue, ◌↔◌, length};
 ghost use Rattle.syn_rows.specs.declared.Row.{Row};
 ghost use Rattle.syn_rows.specs.Packing.{word_of, Packs};
 ghost use Rattle.syn_core_laws.specs.Events.{MayPin};
 ghost use Rattle.syn_core_laws.specs.Lists.{has};
-ghost use Rattle.syn_core_laws.specs.Views.{is_mine, claimed, missed, released, row_loaded, pinned, count_loaded, key_loaded};
+ghost use Rattle.syn_core_laws.specs.Views.{is_mine, own_refs, own_pins, claimed, missed, released, row_loaded, pinned, count_loaded, key_loaded};
+ghost use Rattle.syn_core_laws.specs.Shown.{IsShown};
 ghost use Rattle.syn_table.specs.Seating.{IsOf, known_of, nodes_of, view_of};
 ghost use Rattle.syn_table.specs.Steps.{with_view, IsAlone, Unpins};
 
 use crate::plays::{Claims, LoadsCount, LoadsKey, LoadsRow, Pins, Releases, TakesPinBack};
+use crate::words::{claim_word, count_word, key_word, row_in, row_word};
 use crate::{Seat, Shared};
 use syn_rows::Row;
 
-// Where the words of a node lie.
-fn claim_word(node: u32) -> usize
-    ensures { result ≡ 1 + 4 * node }
-{
-    1 + 4 * node as usize
-}
-
-fn row_word(node: u32) -> usize
-    ensures { result ≡ 2 + 4 * node }
-{
-    2 + 4 * node as usize
-}
-
-fn count_word(node: u32) -> usize
-    ensures { result ≡ 3 + 4 * node }
-{
-    3 + 4 * node as usize
-}
-
-fn key_word(node: u32) -> usize
-    ensures { result ≡ 4 + 4 * node }
-{
-    4 + 4 * node as usize
-}
-
-// The row whose word this is.
-fn row_in(word: u64) -> Row
-    requires { (r : Row) × Packs r × (word_of r ≡ word) }
-    ensures { (r : Row) → Packs r → word_of r ≡ word → result ≡ r }
-{
-    match Row::unpack(word) {
-        Some(row) => row,
-        None => unreachable!(),
-    }
-}
-
 impl Seat {
     // The claim of a node that this seat holds: its own number plus 1.
+    #[inline]
     fn mark(&self) -> u64
         ensures { result ≡ suc (view_of self.now).number }
     {
@@ -60,24 +27,29 @@ impl Seat {
 
 impl Shared {
     /// The number of nodes, spare ones included.
+    #[inline]
     pub fn nodes(&self) -> u32
         ensures { result ≡ nodes_of self.now }
     {
         self.nodes
     }
 
-    /// What a seat holds or may pin is a node of its table, and the seat has a number. A law: it makes no step.
+    /// What a seat shows by itself: it has a number, what it holds or may pin is a node of its table, and its known rows,
+    /// keys, pins and zero list are those of a seat of a sound core. A law: it makes no step.
+    #[inline]
     pub fn seats_reach_nodes(&self, seat: &Seat)
         requires { IsOf seat.now self.now }
         ensures reach { (n : ℕ) → (has n (view_of seat.now).held ≡ true) ⊎ MayPin (view_of seat.now) n → n < nodes_of self.now }
         ensures opening { length (known_of seat.now).opening ≡ nodes_of self.now }
         ensures number { (view_of seat.now).number < 64 }
+        ensures shown { IsShown (nodes_of self.now) (view_of seat.now) }
     {
         let _nodes = self.nodes;
         let _numbers = seat.numbers.as_slice();
     }
 
     /// A look at the node's row and count, without a claim: each may be of another moment, and neither tells anything.
+    #[inline]
     pub fn peek(&self, node: u32) -> (Row, u32)
         requires { node < nodes_of self.now }
     {
@@ -90,13 +62,15 @@ impl Shared {
     }
 
     /// Tries to claim the node. False comes only where another seat was found to hold it, and the seat's misses then
-    /// grow by the node.
+    /// grow by the node; it doesn't come to a seat that has all numbers.
+    #[inline]
     pub fn claim(&self, seat: &mut Seat, node: u32) -> bool
         requires table { IsOf seat.old self.now }
         requires node { node < nodes_of self.now }
         requires free { has node (view_of seat.old).held ≡ false }
         ensures table { IsOf seat.new self.now }
         ensures known { known_of seat.new ≡ with_view (known_of seat.old) (if result then claimed (view_of seat.old) node else missed (view_of seat.old) node) }
+        ensures alone { length (known_of seat.old).numbers ≡ 64 → result ≡ true }
     {
         let mark = seat.mark();
         let found = self
@@ -107,6 +81,7 @@ impl Shared {
     }
 
     /// Lets a node go that the seat holds and that isn't on its zero list.
+    #[inline]
     pub fn release(&self, seat: &mut Seat, node: u32)
         requires table { IsOf seat.old self.now }
         requires held { has node (view_of seat.old).held ≡ true }
@@ -120,6 +95,7 @@ impl Shared {
     }
 
     /// Loads the row of a held node.
+    #[inline]
     pub fn row_of(&self, seat: &mut Seat, node: u32) -> Row
         requires table { IsOf seat.old self.now }
         requires held { has node (view_of seat.old).held ≡ true }
@@ -134,6 +110,7 @@ impl Shared {
     }
 
     /// Adds a reference of the seat's own to a node that it may pin, while it has fewer than 512 pins.
+    #[inline]
     pub fn pin(&self, seat: &mut Seat, node: u32)
         requires table { IsOf seat.old self.now }
         requires may { MayPin (view_of seat.old) node }
@@ -149,6 +126,7 @@ impl Shared {
 
     /// Takes a pin back. True means that no reference to the node is left: a node that the seat knows as an AND or an
     /// alias is then on its zero list.
+    #[inline]
     pub fn unpin(&self, seat: &mut Seat, node: u32) -> bool
         requires table { IsOf seat.old self.now }
         requires pinned { has node (view_of seat.old).pins ≡ true }
@@ -164,11 +142,13 @@ impl Shared {
     }
 
     /// Loads the count of a held node: how often rows, observed literals and pins refer to it.
+    #[inline]
     pub fn refs_of(&self, seat: &mut Seat, node: u32) -> u32
         requires table { IsOf seat.old self.now }
         requires held { has node (view_of seat.old).held ≡ true }
         ensures table { IsOf seat.new self.now }
         ensures known { known_of seat.new ≡ with_view (known_of seat.old) (count_loaded (nodes_of self.now) (view_of seat.old) node result) }
+        ensures own { own_refs (nodes_of self.now) (view_of seat.old) node + own_pins (view_of seat.old) node ≤ result }
     {
         let word = self
             .table
@@ -178,6 +158,7 @@ impl Shared {
     }
 
     /// Loads the key of a node that the seat holds or has pinned.
+    #[inline]
     pub fn key_of(&self, seat: &mut Seat, node: u32) -> u64
         requires table { IsOf seat.old self.now }
         requires mine { is_mine (view_of seat.old) node ≡ true }

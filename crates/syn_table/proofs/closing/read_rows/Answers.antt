@@ -1,4 +1,5 @@
-use Rattle.std.proofs.Common.{List, ◌∷◌, [], length, sym, ap, subst, arith, length-append}
+use Rattle.std.proofs.Common.{List, ◌∷◌, [], length, sym, ap, ◌∙◌, subst, arith, length-append}
+use lib.ListN.{get_elem?}
 use Rattle.std.specs.Mem.Slots.{slots_items}
 use Rattle.syn_rows.specs.declared.Row.{Row}
 use Rattle.syn_table.specs.Closing.{ReadsBack}
@@ -14,5 +15,5 @@ loop-node-preserved c =
       count = omega (arith, ap (λ (rs : List Row). length rs) items, length-append c.loop-node.rows.items (c.row_or_free.result ∷ []), i.count);
       len = omega (arith, c.push_reserved.ensures.len, i.len);
       room = omega (arith, c.push_reserved.ensures.capacity, i.room);
-      back = subst (ReadsBack words) (sym items) (reads_more words c.loop-node.rows.items c.row_or_free.result c.loop-node.node c.word-word.result i.count i.back c.word-word.ensures c.row_or_free.ensures);
+      back = subst (ReadsBack words) (sym items) (reads_more words c.loop-node.rows.items c.row_or_free.result c.loop-node.node c.word-word.result i.count i.back (ap (get_elem? words) (sym c.row_word.ensures) ∙ c.word-word.ensures) c.row_or_free.ensures);
     }
