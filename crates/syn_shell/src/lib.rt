@@ -1,13 +1,13 @@
 //! The shell: what reads, shows and writes netlists.
 #![tactic(auto)]
 
+mod announcing;
 mod laws;
 mod line_mode;
 mod lines;
 mod refusal;
 mod scripts;
 mod session;
-mod telling;
 mod usage;
 mod whole_run;
 

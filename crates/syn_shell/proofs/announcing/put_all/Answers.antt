@@ -1,15 +1,16 @@
 use Rattle.std.proofs.Common.{ℕ, ◌+◌, List, [], drop, get_or, map, subst, Ok}
 use Rattle.std.proofs.lemmas.Result.{err_from_is_err_and}
 use Rattle.syn_shell.specs.Lines.{joined}
-use Rattle.syn_shell.specs.Outside.{Screen, screen, Took}
+use Rattle.syn_io.specs.Outside.{Screen}
+use Rattle.syn_shell.specs.Outside.{Took}
 use Rattle.syn_shell.proofs.Putting.{puts_next, puts_first, puts_same, left_next, left_none}
 use Rattle.syn_shell.proofs.Taking.{took_nothing}
-use Rattle.syn_shell.proofs.telling.put_all.Goals as goal
+use Rattle.syn_shell.proofs.announcing.put_all.Goals as goal
 
 pub returns-in_err-put : goal.returns-in_err-put
 returns-in_err-put g c =
-    let now : Screen = screen (g.O.Sink.told c.loop-piece.out) (g.O.Sink.faults c.loop-piece.out) in
-    let after : Screen = screen (g.O.Sink.told c.put.new.out) (g.O.Sink.faults c.put.new.out) in
+    let now : Screen = g.O.Sink.screen c.loop-piece.out in
+    let after : Screen = g.O.Sink.screen c.put.new.out in
     let p = err_from_is_err_and c.from_residual.result c.from_residual.ensures.1 in
     let i : ℕ = c.loop-piece.piece-index in
     c.loop-piece.invariant c.from_residual.result after
@@ -19,8 +20,8 @@ returns-in_err-put g c =
 
 pub loop-piece-preserved : goal.loop-piece-preserved
 loop-piece-preserved g c = λ r u rest.
-    let now : Screen = screen (g.O.Sink.told c.loop-piece.out) (g.O.Sink.faults c.loop-piece.out) in
-    let after : Screen = screen (g.O.Sink.told c.put.new.out) (g.O.Sink.faults c.put.new.out) in
+    let now : Screen = g.O.Sink.screen c.loop-piece.out in
+    let after : Screen = g.O.Sink.screen c.put.new.out in
     let i : ℕ = c.loop-piece.piece-index in
     c.loop-piece.invariant r u
     (puts_same r _ (joined (map (λ piece. piece.now) (drop i c.args.pieces.now))) now u
@@ -29,6 +30,6 @@ loop-piece-preserved g c = λ r u rest.
 
 pub returns : goal.returns
 returns g c =
-    let now : Screen = screen (g.O.Sink.told c.loop-piece.out) (g.O.Sink.faults c.loop-piece.out) in
+    let now : Screen = g.O.Sink.screen c.loop-piece.out in
     c.loop-piece.invariant (Ok tt) now
     (subst (λ (l : List ℕ). Took l now now) (left_none (λ piece. piece.now) c.args.pieces.now c.loop-piece.piece-index c.loop-piece-test.false) (took_nothing now))

@@ -1,15 +1,16 @@
 use Rattle.std.proofs.Common.{ℕ, ◌+◌, List, ◌++◌, codes, drop, get_or, ◌∙◌, subst, Ok}
 use Rattle.std.specs.List.{flat_map}
 use Rattle.std.proofs.lemmas.Result.{err_from_is_err_and}
-use Rattle.syn_shell.specs.Outside.{Screen, screen, Took, TookPart}
+use Rattle.syn_io.specs.Outside.{Screen}
+use Rattle.syn_shell.specs.Outside.{Took, TookPart}
 use Rattle.syn_shell.proofs.Putting.{puts_next, puts_first, puts_same, more_next, more_none, spaced}
 use Rattle.syn_shell.proofs.Taking.{took_nothing}
-use Rattle.syn_shell.proofs.telling.put_names.Goals as goal
+use Rattle.syn_shell.proofs.announcing.put_names.Goals as goal
 
 pub returns-in_err-put_all : goal.returns-in_err-put_all
 returns-in_err-put_all g c =
-    let now : Screen = screen (g.O.Sink.told c.loop-name.out) (g.O.Sink.faults c.loop-name.out) in
-    let after : Screen = screen (g.O.Sink.told c.put_all.new.out) (g.O.Sink.faults c.put_all.new.out) in
+    let now : Screen = g.O.Sink.screen c.loop-name.out in
+    let after : Screen = g.O.Sink.screen c.put_all.new.out in
     let p = err_from_is_err_and c.from_residual.result c.from_residual.ensures.1 in
     let i : ℕ = c.loop-name.name-index in
     let item : List ℕ = c.name-item.result in
@@ -21,8 +22,8 @@ returns-in_err-put_all g c =
 
 pub loop-name-preserved : goal.loop-name-preserved
 loop-name-preserved g c = λ r u rest.
-    let now : Screen = screen (g.O.Sink.told c.loop-name.out) (g.O.Sink.faults c.loop-name.out) in
-    let after : Screen = screen (g.O.Sink.told c.put_all.new.out) (g.O.Sink.faults c.put_all.new.out) in
+    let now : Screen = g.O.Sink.screen c.loop-name.out in
+    let after : Screen = g.O.Sink.screen c.put_all.new.out in
     let i : ℕ = c.loop-name.name-index in
     let item : List ℕ = c.name-item.result in
     c.loop-name.invariant r u
@@ -33,6 +34,6 @@ loop-name-preserved g c = λ r u rest.
 
 pub returns : goal.returns
 returns g c =
-    let now : Screen = screen (g.O.Sink.told c.loop-name.out) (g.O.Sink.faults c.loop-name.out) in
+    let now : Screen = g.O.Sink.screen c.loop-name.out in
     c.loop-name.invariant (Ok tt) now
     (subst (λ (l : List ℕ). Took l now now) (more_none (λ (name : List ℕ). codes " " ++ name) c.args.names.now c.loop-name.name-index c.loop-name-test.false) (took_nothing now))

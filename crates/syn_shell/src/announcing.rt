@@ -2,9 +2,9 @@
 
 ghost use Rattle.std.specs.Prelude.{◌≡◌, ◌++◌, ◌∷◌, [], codes, decimal, flat_map, map};
 ghost use Rattle.syn_shell.specs.Lines.{at_line, at_place, file_status, file_text, joined, refusal_line, refusal_status, refusal_text, script_text};
-ghost use Rattle.syn_shell.specs.Outside.{Puts, screen};
+ghost use Rattle.syn_shell.specs.Outside.{Puts};
 ghost use Rattle.syn_shell.specs.Scripts.{Refused};
-ghost use Rattle.syn_shell.specs.Stopping.{status_in, TellsAs};
+ghost use Rattle.syn_shell.specs.Stopping.{status_in, AnnouncesAs};
 
 use crate::refusal::Refusal;
 use itoa::Buffer;
@@ -15,32 +15,32 @@ use syn_words::ScriptFault;
 
 /// What became of the line of a refusal: it was put whole, or the sink failed. Each has the refusal's status.
 #[derive(Clone, Copy, Debug, PartialEq, Eq)]
-pub(crate) enum Telling {
+pub(crate) enum Announcement {
     Whole(u8),
     Cut(u8),
 }
 
-impl Telling {
+impl Announcement {
     /// The status of the refusal.
     pub(crate) fn status(self) -> u8
         ensures { result ≡ status_in self }
     {
         match self {
-            Telling::Whole(status) | Telling::Cut(status) => status,
+            Announcement::Whole(status) | Announcement::Cut(status) => status,
         }
     }
 }
 
 // Puts one piece.
 fn put<O: Sink>(out: &mut O, piece: &[u8]) -> Result<(), SinkFailed>
-    ensures { Puts result piece.now (screen (O.told out.old) (O.faults out.old)) (screen (O.told out.new) (O.faults out.new)) }
+    ensures { Puts result piece.now (O.screen out.old) (O.screen out.new) }
 {
     out.put(piece)
 }
 
 // Puts pieces, one after the other.
 fn put_all<O: Sink>(out: &mut O, pieces: &[&[u8]]) -> Result<(), SinkFailed>
-    ensures { Puts result (joined (map (λ piece. piece.now) pieces.now)) (screen (O.told out.old) (O.faults out.old)) (screen (O.told out.new) (O.faults out.new)) }
+    ensures { Puts result (joined (map (λ piece. piece.now) pieces.now)) (O.screen out.old) (O.screen out.new) }
 {
     for piece in pieces {
         put(out, piece)?;
@@ -50,7 +50,7 @@ fn put_all<O: Sink>(out: &mut O, pieces: &[&[u8]]) -> Result<(), SinkFailed>
 
 // Puts each name after one blank.
 fn put_names<O: Sink>(out: &mut O, names: &[Word]) -> Result<(), SinkFailed>
-    ensures { Puts result (flat_map (λ name. codes " " ++ name) names.now) (screen (O.told out.old) (O.faults out.old)) (screen (O.told out.new) (O.faults out.new)) }
+    ensures { Puts result (flat_map (λ name. codes " " ++ name) names.now) (O.screen out.old) (O.screen out.new) }
 {
     for name in names {
         put_all(out, &[b" ", name.as_slice()])?;
@@ -60,7 +60,7 @@ fn put_names<O: Sink>(out: &mut O, names: &[Word]) -> Result<(), SinkFailed>
 
 // Puts the names of a circle.
 fn put_cycle<O: Sink>(out: &mut O, names: &[Word]) -> Result<(), SinkFailed>
-    ensures { Puts result (codes "cycle" ++ flat_map (λ name. codes " " ++ name) names.now) (screen (O.told out.old) (O.faults out.old)) (screen (O.told out.new) (O.faults out.new)) }
+    ensures { Puts result (codes "cycle" ++ flat_map (λ name. codes " " ++ name) names.now) (O.screen out.old) (O.screen out.new) }
 {
     put(out, b"cycle")?;
     put_names(out, names)
@@ -73,7 +73,7 @@ fn put_number<O: Sink>(
     number: u64,
     after: &[u8],
 ) -> Result<(), SinkFailed>
-    ensures { Puts result (joined (before.now ∷ decimal number ∷ after.now ∷ [])) (screen (O.told out.old) (O.faults out.old)) (screen (O.told out.new) (O.faults out.new)) }
+    ensures { Puts result (joined (before.now ∷ decimal number ∷ after.now ∷ [])) (O.screen out.old) (O.screen out.new) }
 {
     let mut buffer = Buffer::new();
     put_all(out, &[before, buffer.format(number).as_bytes(), after])
@@ -81,7 +81,7 @@ fn put_number<O: Sink>(
 
 // Puts what is wrong at a place of a script.
 fn put_at_place<O: Sink>(out: &mut O, at: u32, what: &[u8]) -> Result<(), SinkFailed>
-    ensures { Puts result (at_place at what.now) (screen (O.told out.old) (O.faults out.old)) (screen (O.told out.new) (O.faults out.new)) }
+    ensures { Puts result (at_place at what.now) (O.screen out.old) (O.screen out.new) }
 {
     let mut buffer = Buffer::new();
     put_all(
@@ -92,7 +92,7 @@ fn put_at_place<O: Sink>(out: &mut O, at: u32, what: &[u8]) -> Result<(), SinkFa
 
 // Puts what is wrong in a line of a file.
 fn put_at_line<O: Sink>(out: &mut O, line: u32, what: &[u8]) -> Result<(), SinkFailed>
-    ensures { Puts result (at_line line what.now) (screen (O.told out.old) (O.faults out.old)) (screen (O.told out.new) (O.faults out.new)) }
+    ensures { Puts result (at_line line what.now) (O.screen out.old) (O.screen out.new) }
 {
     let mut buffer = Buffer::new();
     put_all(
@@ -103,7 +103,7 @@ fn put_at_line<O: Sink>(out: &mut O, line: u32, what: &[u8]) -> Result<(), SinkF
 
 // Puts the name that a line of a file defines once more.
 fn put_defined_twice<O: Sink>(out: &mut O, line: u32, name: &[u8]) -> Result<(), SinkFailed>
-    ensures { Puts result (joined (codes "line " ∷ decimal line ∷ codes ": " ∷ name.now ∷ codes " defined twice" ∷ [])) (screen (O.told out.old) (O.faults out.old)) (screen (O.told out.new) (O.faults out.new)) }
+    ensures { Puts result (joined (codes "line " ∷ decimal line ∷ codes ": " ∷ name.now ∷ codes " defined twice" ∷ [])) (O.screen out.old) (O.screen out.new) }
 {
     let mut buffer = Buffer::new();
     put_all(
@@ -120,7 +120,7 @@ fn put_defined_twice<O: Sink>(out: &mut O, line: u32, name: &[u8]) -> Result<(),
 
 // Puts what a fault of a script says.
 fn put_script_fault<O: Sink>(out: &mut O, fault: &ScriptFault) -> Result<(), SinkFailed>
-    ensures { Puts result (script_text fault.now) (screen (O.told out.old) (O.faults out.old)) (screen (O.told out.new) (O.faults out.new)) }
+    ensures { Puts result (script_text fault.now) (O.screen out.old) (O.screen out.new) }
 {
     match fault {
         ScriptFault::BadByte(at) => put_at_place(out, *at, b"bad byte"),
@@ -135,7 +135,7 @@ fn put_script_fault<O: Sink>(out: &mut O, fault: &ScriptFault) -> Result<(), Sin
 
 // Puts what a fault of a file says.
 fn put_file_fault<O: Sink>(out: &mut O, fault: &ReadFault) -> Result<(), SinkFailed>
-    ensures { Puts result (file_text fault.now) (screen (O.told out.old) (O.faults out.old)) (screen (O.told out.new) (O.faults out.new)) }
+    ensures { Puts result (file_text fault.now) (O.screen out.old) (O.screen out.new) }
 {
     match fault {
         ReadFault::BadByte(at) => put_number(out, b"byte ", *at as u64, b": bad byte"),
@@ -161,7 +161,7 @@ fn put_file_fault<O: Sink>(out: &mut O, fault: &ReadFault) -> Result<(), SinkFai
 
 // Puts what a refusal says.
 fn put_text<O: Sink>(out: &mut O, refusal: &Refusal, name: &[u8]) -> Result<(), SinkFailed>
-    ensures { Puts result (refusal_text refusal.now name.now) (screen (O.told out.old) (O.faults out.old)) (screen (O.told out.new) (O.faults out.new)) }
+    ensures { Puts result (refusal_text refusal.now name.now) (O.screen out.old) (O.screen out.new) }
 {
     match refusal {
         Refusal::Words => put(out, b"command line"),
@@ -181,7 +181,7 @@ fn put_text<O: Sink>(out: &mut O, refusal: &Refusal, name: &[u8]) -> Result<(), 
 
 // Puts the line of a refusal.
 fn put_refusal<O: Sink>(out: &mut O, refusal: &Refusal, name: &[u8]) -> Result<(), SinkFailed>
-    ensures { Puts result (refusal_line refusal.now name.now) (screen (O.told out.old) (O.faults out.old)) (screen (O.told out.new) (O.faults out.new)) }
+    ensures { Puts result (refusal_line refusal.now name.now) (O.screen out.old) (O.screen out.new) }
 {
     put(out, b"refused: ")?;
     put_text(out, refusal, name)?;
@@ -216,15 +216,15 @@ fn status_of(refusal: &Refusal) -> u8
 
 /// Puts the line of a refusal, but for a sink that failed, which has none. The name is that of the file that the
 /// refused command names.
-pub(crate) fn tell<O: Sink>(out: &mut O, refusal: &Refusal, name: &[u8]) -> Telling
-    ensures { TellsAs result (record { cause = refusal.now; name = name.now }) (screen (O.told out.old) (O.faults out.old)) (screen (O.told out.new) (O.faults out.new)) }
+pub(crate) fn announce<O: Sink>(out: &mut O, refusal: &Refusal, name: &[u8]) -> Announcement
+    ensures { AnnouncesAs result (record { cause = refusal.now; name = name.now }) (O.screen out.old) (O.screen out.new) }
 {
     let status = status_of(refusal);
     if let Refusal::SinkFailed = refusal {
-        return Telling::Cut(status);
+        return Announcement::Cut(status);
     }
     match put_refusal(out, refusal, name) {
-        Ok(()) => Telling::Whole(status),
-        Err(_) => Telling::Cut(status),
+        Ok(()) => Announcement::Whole(status),
+        Err(_) => Announcement::Cut(status),
     }
 }
