@@ -8,9 +8,9 @@ use Rattle.syn_shell.specs.declared.announcing.Announcement.TheVariants.{Whole, 
 use Rattle.syn_io.specs.Outside.{Disk, Screen, Input}
 use Rattle.syn_shell.specs.Outside.{State, state}
 use Rattle.syn_shell.specs.Scripts.{Refused, nameless}
-use Rattle.syn_shell.specs.Usage.{Usage, OneScript, EachLine, usage_of, WordsRefused}
+use Rattle.syn_shell.specs.Usage.{Usage, OneScript, EachLine, script_usage, usage_of, WordsRefused}
 use Rattle.syn_shell.specs.Runs.{Ran, RunsNothing, RunsUsage, RunsWords, status_of}
-use Rattle.syn_shell.specs.Stopping.{status_in, Leaves, RanLines, AnnouncesAs}
+use Rattle.syn_shell.specs.Stopping.{status_in, status_left, Leaves, RanLines, RanOne, AnnouncesAs}
 use Rattle.syn_shell.proofs.Counting.{words_counted}
 use Rattle.syn_shell.proofs.Hearing.{nothing_run, nothing_status}
 
@@ -45,11 +45,6 @@ pub ran_nothing : (words : List (List ℕ)) (cause : Refusal) (t : Announcement)
 ran_nothing words cause t d s s' i status h tells is =
     ran_by words None (nameless cause ∷ []) d d s s' i i status (words_refused words cause (state None d s) (state None d s') i (nameless cause ∷ []) h (nothing_run t cause None d s s' tells)) (is ∙ nothing_status t cause s s' tells)
 
--- the status that a script left
-abbrev pub status_left : Option Announcement → ℕ
-status_left None = 0
-status_left (Some t) = status_in t
-
 -- words with a script
 pub ran_script : (words : List (List ℕ)) (text : List ℕ) (left : Option Announcement) (m : Option Network) (d d' : Disk) (s s' : Screen) (i : Input) (status : ℕ) → usage_of words ≡ OneScript text
     → Leaves left text (state None d s) (state m d' s') → status ≡ status_left left → Ran words d s i d' s' i status
@@ -66,7 +61,11 @@ ran_lines words d d' s s' i i' status usage (m, (lines, refusals, runs, is)) =
     ran_by words m refusals d d' s s' i i' status (inl (subst (λ (u : Usage). RunsUsage u (state None d s) i refusals (state m d' s') i') (sym usage) (lines, runs))) is
 
 -- words with a script that was run
-pub ran_left : (words : List (List ℕ)) (script text : List ℕ) (left : Option Announcement) (n m : Option Network) (d d' : Disk) (s s' : Screen) (i : Input) (status : ℕ)
-    → usage_of words ≡ OneScript script → text ≡ script → n ≡ None → Leaves left text (state n d s) (state m d' s') → status ≡ status_left left → Ran words d s i d' s' i status
-ran_left words script text left n m d d' s s' i status usage text_is none leaves is =
-    ran_script words text left m d d' s s' i status (usage ∙ ap OneScript (sym text_is)) (subst (λ (o : Option Network). Leaves left text (state o d s) (state m d' s')) none leaves) is
+pub ran_one : (words : List (List ℕ)) (script text : List ℕ) (d d' : Disk) (s s' : Screen) (i : Input) (status : ℕ) → usage_of words ≡ OneScript script → text ≡ script → RanOne status text d s d' s' → Ran words d s i d' s' i status
+ran_one words script text d d' s s' i status usage text_is (left, m, leaves, is) = ran_script words text left m d d' s s' i status (usage ∙ ap OneScript (sym text_is)) leaves is
+
+-- a script that was run from no network
+pub left_from_none : (result left : Option Announcement) (text : List ℕ) (n m : Option Network) (d d' : Disk) (s s' : Screen) (status : ℕ) → n ≡ None → result ≡ left → status ≡ status_left left
+    → Leaves result text (state n d s) (state m d' s') → RanOne status text d s d' s'
+left_from_none result left text n m d d' s s' status none is status_is leaves =
+    (left, m, subst (λ (o : Option Network). Leaves left text (state o d s) (state m d' s')) none (subst (λ (r : Option Announcement). Leaves r text (state n d s) (state m d' s')) is leaves), status_is)

@@ -10,8 +10,9 @@ use Rattle.syn_shell.specs.declared.announcing.Announcement.{Announcement}
 use Rattle.syn_shell.specs.declared.announcing.Announcement.TheVariants.{Whole, Cut}
 use Rattle.syn_shell.specs.declared.line_mode.Turn.{Turn}
 use Rattle.syn_shell.specs.declared.line_mode.Turn.TheVariants as turn
-use Rattle.syn_io.specs.Outside.{Screen, Input}
-use Rattle.syn_shell.specs.Outside.{State, Took, GaveLine, GaveNone, script_limit}
+use Rattle.syn_io.specs.Outside.{Disk, Screen, Input}
+use Rattle.syn_shell.specs.Outside.{State, state, Took, GaveLine, GaveNone, script_limit}
+use Rattle.syn_shell.specs.Networks.{Network}
 use Rattle.syn_shell.specs.Lines.{refusal_line, refusal_status}
 use Rattle.syn_shell.specs.Scripts.{Refused, RunsScript, ScriptRefused, Announced, SinkGaveUp, TookLess}
 use Rattle.syn_shell.specs.LineMode.{GoesOn, LineRefused, RunsLines, listed, most_lines}
@@ -27,7 +28,7 @@ abbrev pub Parsed : List ℕ → Result (Vec Command Global) Refusal → Type 0
 Parsed text (Ok commands) = (length text ≤ script_limit) × IsScript text commands.items
 Parsed text (Err cause) = ScriptRefused text cause
 
--- the status of a refusal whose line was told
+-- the status of a refusal that was announced
 abbrev pub status_in : Announcement → ℕ
 status_in (Whole status) = status
 status_in (Cut status) = status
@@ -35,8 +36,7 @@ status_in (Cut status) = status
 -- What became of the line of a refusal, and the refusal's status.
 abbrev pub AnnouncesAs : Announcement → Refused → Screen → Screen → Type 0
 AnnouncesAs (Whole status) refused before after = (status ≡ refusal_status refused.cause) × (refused.cause ≢ SinkFailed) × Took (refusal_line refused.cause refused.name) before after
-AnnouncesAs (Cut status) refused before after =
-    (status ≡ refusal_status refused.cause) × TookLess refused before after
+AnnouncesAs (Cut status) refused before after = (status ≡ refusal_status refused.cause) × TookLess refused before after
 
 -- The same between states.
 abbrev pub IsAnnounced : Announcement → Refused → State → State → Type 0
@@ -47,6 +47,15 @@ IsAnnounced (Cut status) refused before after = (status ≡ refusal_status refus
 abbrev pub Leaves : Option Announcement → List ℕ → State → State → Type 0
 Leaves None text before after = RunsScript text before None after
 Leaves (Some telling) text before after = (refused : Refused) × (done : State) × RunsScript text before (Some refused) done × IsAnnounced telling refused done after
+
+-- the status that a script left: that of its refusal, 0 where nothing was refused
+abbrev pub status_left : Option Announcement → ℕ
+status_left None = 0
+status_left (Some announcement) = status_in announcement
+
+-- One script was run from no network, with this status.
+abbrev pub RanOne : ℕ → List ℕ → Disk → Screen → Disk → Screen → Type 0
+RanOne status text d s d' s' = (left : Option Announcement) × (m : Option Network) × Leaves left text (state None d s) (state m d' s') × (status ≡ status_left left)
 
 -- What a call for the next line gave.
 abbrev pub Gave : Result (Option (Vec ℕ Global)) Refusal → Input → Input → Type 0

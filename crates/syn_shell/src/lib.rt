@@ -2,13 +2,13 @@
 #![tactic(auto)]
 
 mod announcing;
+mod arguments;
 mod laws;
 mod line_mode;
 mod lines;
 mod refusal;
 mod scripts;
 mod session;
-mod usage;
 mod whole_run;
 
 pub use laws::few_lines;

@@ -1,6 +1,6 @@
 //! Line mode: each line is a script, and the run goes on behind a refusal.
 
-ghost use Rattle.std.specs.Prelude.{◌≡◌, None, Option};
+ghost use Rattle.std.specs.Prelude.{◌≡◌, ◌≤◌, None, Option};
 ghost use Rattle.syn_io.specs.Outside.{Disk};
 ghost use Rattle.syn_shell.specs.Networks.{Network};
 ghost use Rattle.syn_shell.specs.LineMode.{most_lines};
@@ -80,14 +80,16 @@ fn last_turn<L: Lines, O: Sink>(alloc: Global, lines: &mut L, out: &mut O) -> u8
 /// Runs the lines, each as a script, and gives the status of the first refusal, 0 where nothing was refused.
 pub(crate) fn run_lines<F: Files, L: Lines, O: Sink>(
     alloc: Global,
+    workers: u8,
     files: &mut F,
     lines: &mut L,
     out: &mut O,
 ) -> u8
+    requires { (1 ≤ workers) × (workers ≤ 16) }
     ensures { (m : Option Network) × RanLines result 0 (state None (F.disk files.old) (O.screen out.old)) (L.input lines.old)
         (state m (F.disk files.new) (O.screen out.new)) (L.input lines.new) }
 {
-    let mut session = Session::new();
+    let mut session = Session::new(workers);
     let mut status: u8 = 0;
     for _taken in 0..MOST_LINES {
         match take_turn(alloc, &mut session, files, lines, out) {

@@ -27,19 +27,22 @@ use syn_words::Command;
 const FILE_LIMIT: u64 = 16_777_216;
 
 /// What is kept from command to command: the network, as a graph. Contracts see the netlist that it is written as, with
-/// the mark that it is no net of LUTs.
+/// the mark that it is no net of LUTs. The number of workers changes nothing that they see.
 #[derive(Debug, Drop)]
 pub struct Session {
     network: Option<Graph>,
+    workers: u8,
 }
 
 impl Model for Session {
-    ghost use Rattle.std.specs.Prelude.{Option};
+    ghost use Rattle.std.specs.Prelude.{◌≤◌, Option};
     ghost use Rattle.syn_shell.specs.Networks.{Network, network_in};
 
     ghost Value = { Option Network };
 
     ghost view = { λ session. network_in session.network };
+
+    ghost invariant = { λ session. (1 ≤ session.workers) × (session.workers ≤ 16) };
 }
 
 // The bytes of a file.
@@ -154,11 +157,15 @@ fn remake(alloc: Global, command: &Command, graph: Graph) -> Result<Graph, (Grap
 }
 
 impl Session {
-    /// No network yet.
-    pub fn new() -> Session
+    /// No network yet; and so many workers, 1 to 16, for each command that names no number of them.
+    pub fn new(workers: u8) -> Session
+        requires { (1 ≤ workers) × (workers ≤ 16) }
         ensures { result ≡ None }
     {
-        Session { network: None }
+        Session {
+            network: None,
+            workers,
+        }
     }
 
     // Makes the network anew.
