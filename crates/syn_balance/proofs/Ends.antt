@@ -10,10 +10,10 @@ use Rattle.syn_rows.specs.declared.Row.{Row}
 use Rattle.syn_rows.specs.Rows.{node_of}
 use Rattle.syn_rows.specs.Values.{given_by}
 use Rattle.syn_shapes.specs.Graphs.{IsHashed, lit_at}
-use Rattle.syn_strash.specs.Growing.{value_by}
-use Rattle.syn_strash.specs.Visiting.{visited, with_sign, literal_of, FirstsOf, IsRebuilt}
-use Rattle.syn_strash.proofs.Rising.{source_value}
-use Rattle.syn_strash.proofs.LevelLaws.{source_level}
+use Rattle.syn_hashed.specs.Growing.{value_by}
+use Rattle.syn_hashed.specs.Visiting.{visited, with_sign, literal_of, FirstsOf, IsRebuilt}
+use Rattle.syn_hashed.proofs.Rising.{source_value}
+use Rattle.syn_hashed.proofs.LevelLaws.{source_level}
 use Rattle.syn_balance.specs.Roots.{HasRoots}
 use Rattle.syn_balance.specs.Leaves.{StandFor, plain, joins_of}
 use Rattle.syn_balance.specs.Balancing.{IsBalancing}

@@ -15,9 +15,9 @@ use Rattle.syn_rows.specs.declared.Row.{Row}
 use Rattle.syn_rows.specs.Rows.{node_of}
 use Rattle.syn_rows.specs.Levels.{level_in, levels_of}
 use Rattle.syn_shapes.specs.Graphs.{IsHashed}
-use Rattle.syn_strash.specs.Growing.{Extends, IsAnd, IsJoin, value_by, level_by}
-use Rattle.syn_strash.proofs.Rising.{extends_longer, extends_itself}
-use Rattle.syn_strash.proofs.LevelLaws.{level_kept, join_level}
+use Rattle.syn_hashed.specs.Growing.{Extends, IsAnd, IsJoin, value_by, level_by}
+use Rattle.syn_hashed.proofs.Rising.{extends_longer, extends_itself}
+use Rattle.syn_hashed.proofs.LevelLaws.{level_kept, join_level}
 use Rattle.syn_balance.specs.Leaves.{weight}
 use Rattle.syn_balance.specs.Joining.{IsJoining}
 use Rattle.syn_balance.specs.Heaps.{AreLeaves, leaf, leaf_order, literal_in, level_of}

@@ -7,8 +7,8 @@ use Rattle.syn_netlist.specs.Numbers.{word_at}
 use Rattle.syn_shapes.specs.GraphShape.{place}
 use Rattle.syn_shapes.specs.Graphs.{IsGraph, source_lit}
 use Rattle.syn_shapes.proofs.Spelled.{place_lt}
-use Rattle.syn_strash.specs.Compacting.{IsCompaction}
-use Rattle.syn_strash.specs.Visiting.{IsRebuilt}
+use Rattle.syn_hashed.specs.Compacting.{IsCompaction}
+use Rattle.syn_hashed.specs.Visiting.{IsRebuilt}
 
 new_graph : (frame : Frame) (rows new_rows : List Row) (lits new_lits : List Lit) → IsGraph frame rows lits → IsCompaction (length (sources frame)) rows lits new_rows new_lits → IsGraph frame new_rows new_lits
 new_graph frame rows new_rows lits new_lits g c = record {

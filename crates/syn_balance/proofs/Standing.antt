@@ -12,10 +12,10 @@ use Rattle.syn_rows.specs.Rows.{node_of, row_at}
 use Rattle.syn_rows.specs.Values.{value_in, values_of}
 use Rattle.syn_rows.specs.Levels.{level_in, levels_of}
 use Rattle.syn_shapes.specs.Graphs.{IsHashed}
-use Rattle.syn_strash.specs.Growing.{Extends, value_by, level_by}
-use Rattle.syn_strash.proofs.Rising.{extends_longer, literal_kept, gate_value}
-use Rattle.syn_strash.proofs.Joining.{plain_value, not_value}
-use Rattle.syn_strash.proofs.LevelLaws.{level_kept, gate_level}
+use Rattle.syn_hashed.specs.Growing.{Extends, value_by, level_by}
+use Rattle.syn_hashed.proofs.Rising.{extends_longer, literal_kept, gate_value}
+use Rattle.syn_hashed.proofs.Joining.{plain_value, not_value}
+use Rattle.syn_hashed.proofs.LevelLaws.{level_kept, gate_level}
 use Rattle.syn_balance.specs.Leaves.{weight, StandFor, plain}
 use Rattle.syn_balance.proofs.Powers.{power_rises, power_double, below_by_power}
 

@@ -9,8 +9,8 @@ use Rattle.syn_rows.specs.declared.Row.{Row}
 use Rattle.syn_rows.specs.declared.Row.TheVariants.{And}
 use Rattle.syn_rows.specs.Rows.{node_of, row_at}
 use Rattle.syn_rows.specs.References.{hits, refs}
-use Rattle.syn_strash.specs.Growing.{Extends}
-use Rattle.syn_strash.specs.Visiting.{visited, with_sign, literal_of}
+use Rattle.syn_hashed.specs.Growing.{Extends}
+use Rattle.syn_hashed.specs.Visiting.{visited, with_sign, literal_of}
 use Rattle.syn_balance.specs.Roots.{mark_at, refs_before, HasRoots}
 use Rattle.syn_balance.specs.Leaves.{StandFor, plain, waiting_at, leaves_where, leaves_of, left_where, left_by, joins_of}
 use Rattle.syn_balance.specs.Balancing.{IsBalancing}

@@ -2,7 +2,7 @@
 use Rattle.std.specs.Prelude.{◌≡◌, ℕ, ◌<◌, ◌≤◌, Bool, List, length}
 use Rattle.syn_rows.specs.Values.{rows_function}
 use Rattle.syn_shapes.specs.Graphs.{lit_at}
-use Rattle.syn_strash.specs.Growing.{level_by}
+use Rattle.syn_hashed.specs.Growing.{level_by}
 use Rattle.syn_graph.specs.declared.Graph.{Graph}
 
 -- The new graph has the old one's frame and its function; it has no more ANDs, and no observed literal lies higher.

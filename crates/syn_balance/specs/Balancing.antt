@@ -3,7 +3,7 @@ use Rattle.std.specs.Prelude.{◌≡◌, ℕ, ◌+◌, ◌<◌, ◌≤◌, ◌�
 use Rattle.std.specs.List.{sum_by}
 use Rattle.syn_rows.specs.declared.Lit.{Lit}
 use Rattle.syn_rows.specs.declared.Row.{Row}
-use Rattle.syn_strash.specs.Visiting.{visited}
+use Rattle.syn_hashed.specs.Visiting.{visited}
 use Rattle.syn_balance.specs.Roots.{mark_at, refs_before}
 use Rattle.syn_balance.specs.Leaves.{StandFor, plain, waiting_at, joins_of}
 

@@ -7,7 +7,7 @@ use Rattle.syn_rows.specs.declared.Lit.{Lit}
 use Rattle.syn_rows.specs.declared.Row.{Row}
 use Rattle.syn_rows.specs.Rows.{node_of}
 use Rattle.syn_rows.specs.Levels.{level_in}
-use Rattle.syn_strash.specs.Growing.{level_by}
+use Rattle.syn_hashed.specs.Growing.{level_by}
 
 -- a literal with its level, by a list of levels
 abbrev pub leaf : List ℕ → Lit → Reverse (ℕ × Lit)

@@ -4,7 +4,7 @@ use Rattle.std.specs.List.{list_all, sum_by}
 use Rattle.syn_rows.specs.declared.Lit.{Lit}
 use Rattle.syn_rows.specs.declared.Row.{Row}
 use Rattle.syn_rows.specs.Rows.{node_of}
-use Rattle.syn_strash.specs.Growing.{Extends, value_by}
+use Rattle.syn_hashed.specs.Growing.{Extends, value_by}
 use Rattle.syn_balance.specs.Leaves.{weight}
 
 -- Leaves of some rows became leaves of grown ones: their AND has the same value, they fit wherever the old ones did, and each one less has cost at most one row.

@@ -4,8 +4,8 @@ use Rattle.std.specs.List.{list_all, sum_by}
 use Rattle.syn_rows.specs.declared.Lit.{Lit}
 use Rattle.syn_rows.specs.declared.Row.{Row}
 use Rattle.syn_rows.specs.Rows.{node_of}
-use Rattle.syn_strash.specs.Growing.{value_by, level_by}
-use Rattle.syn_strash.specs.Visiting.{literal_of}
+use Rattle.syn_hashed.specs.Growing.{value_by, level_by}
+use Rattle.syn_hashed.specs.Visiting.{literal_of}
 
 -- the weight of a literal: 2 to the power of its level
 abbrev pub weight : List Row → Lit → ℕ

@@ -5,7 +5,7 @@ ghost use Rattle.syn_rows.specs.declared.Lit.{Lit};
 ghost use Rattle.syn_rows.specs.Levels.{levels_of};
 ghost use Rattle.syn_rows.specs.Rows.{in_order_from, node_of};
 ghost use Rattle.syn_shapes.specs.Graphs.{IsHashed};
-ghost use Rattle.syn_strash.specs.Visiting.{first_literal, FirstsOf, IsRebuilt, literal_of};
+ghost use Rattle.syn_hashed.specs.Visiting.{first_literal, FirstsOf, IsRebuilt, literal_of};
 ghost use Rattle.syn_balance.specs.Balancing.{IsBalancing};
 ghost use Rattle.syn_balance.specs.Leaves.{leaves_of, left_by, TakesBoth, waiting_at};
 ghost use Rattle.syn_balance.specs.Roots.{HasRoots};

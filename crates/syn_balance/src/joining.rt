@@ -8,7 +8,7 @@ ghost use Rattle.syn_rows.specs.Rows.{node_of, row_at};
 ghost use Rattle.syn_balance.specs.Heaps.{AreLeaves, leaf, leaf_order, literal_in, level_of};
 ghost use Rattle.syn_balance.specs.Joining.{IsJoining};
 ghost use Rattle.syn_balance.specs.Leaves.{weight};
-ghost use Rattle.syn_strash.specs.Growing.{Extends, IsAnd, IsJoin, level_by, value_by};
+ghost use Rattle.syn_hashed.specs.Growing.{Extends, IsAnd, IsJoin, level_by, value_by};
 
 use std::alloc::{AllocError, Global};
 use std::cmp::Reverse;

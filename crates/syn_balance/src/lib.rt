@@ -2,7 +2,7 @@
 #![tactic(auto)]
 
 ghost use Rattle.std.specs.Prelude.{◌≡◌, IfErr, IfOk};
-ghost use Rattle.syn_strash.specs.Compacting.{IsCompaction};
+ghost use Rattle.syn_hashed.specs.Compacting.{IsCompaction};
 ghost use Rattle.syn_balance.specs.Balanced.{IsBalanced};
 
 mod balancing;

@@ -1,5 +1,5 @@
 -- Names that are copied one after the other.
-use Rattle.std.proofs.Common.{◌≡◌, ℕ, zero, suc, ◌+◌, ◌<◌, not, Bool, true, false, List, [], ◌∷◌, ◌++◌, length, take, bytes_eq, sym, ap, ◌∙◌, subst, refl, arith}
+use Rattle.std.proofs.Common.{◌≡◌, ℕ, zero, suc, ◌+◌, ◌<◌, not, true, false, List, [], ◌∷◌, ◌++◌, length, take, bytes_eq, sym, ap, ◌∙◌, subst, refl, arith}
 use Rattle.std.proofs.lemmas.Bool.{and_parts, or_from, both_ways, false_from_ne_true, cond-false}
 use Rattle.std.proofs.lemmas.List.{take_more}
 use Rattle.syn_netlist.specs.Numbers.{word_at, with_word}

@@ -1,16 +1,16 @@
 -- Every AND of a graph counts, and references of rows and literals.
-use Rattle.std.proofs.Common.{if◌then◌else◌, ◌≡◌, ℕ, zero, suc, ◌+◌, ◌-◌, ◌*◌, ◌<◌, ◌≤◌, ◌&&◌, Bool, true, false, List, [], ◌∷◌, length, get_or, drop, nat_eq, refl, sym, ap, ◌∙◌, subst, arith, inl, inr}
-use Rattle.std.proofs.lemmas.Bool.{cases_lt, cases_Bool, cond-true, cond-false, and_from}
+use Rattle.std.proofs.Common.{if◌then◌else◌, ◌≡◌, ℕ, zero, suc, ◌+◌, ◌-◌, ◌*◌, ◌<◌, ◌≤◌, ◌&&◌, Bool, true, false, List, [], ◌∷◌, length, get_or, drop, nat_eq, refl, sym, ap, ◌∙◌, arith, inl, inr}
+use Rattle.std.proofs.lemmas.Bool.{cases_lt, cases_Bool, and_from}
 use Rattle.std.proofs.lemmas.List.{drop_more}
 use Rattle.syn_rows.specs.declared.Lit.{Lit}
 use Rattle.syn_rows.specs.declared.Row.{Row}
 use Rattle.syn_rows.specs.declared.Row.TheVariants.{Free, Source, And, Alias}
-use Rattle.syn_rows.specs.Rows.{node_of, row_at, AllRefs, InOrder}
-use Rattle.syn_rows.specs.Reach.{IsReachedSet, is_and, ands_from, ands_in, Ands, HasAnds}
-use Rattle.syn_rows.specs.References.{hits, times, refs, sum_below, refs_by_rows, refs_by_literals}
+use Rattle.syn_rows.specs.Rows.{node_of, row_at, InOrder}
+use Rattle.syn_rows.specs.Reach.{IsReachedSet, is_and, ands_from, Ands, HasAnds}
+use Rattle.syn_rows.specs.References.{hits, refs, sum_below, refs_by_literals}
 use Rattle.syn_netlist.specs.Lists.{Frame, sources}
-use Rattle.syn_shapes.specs.Graphs.{is_gate, IsHashed, IsGraph}
-use Rattle.syn_graph.proofs.Orders.{hashed_in_order}
+use Rattle.syn_shapes.specs.Graphs.{is_gate, IsGraph}
+use Rattle.syn_hashed.proofs.Orders.{hashed_in_order}
 
 -- rows of which those from `front` on are ANDs of the set, and those before are none
 all_counted : (set : ℕ → Bool) (front n : ℕ) (rows : List Row) → front ≤ n + length rows → ((j : ℕ) → j < length rows → n + j < front → is_and (row_at rows j) ≡ false)

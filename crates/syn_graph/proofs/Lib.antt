@@ -2,4 +2,3 @@ mod Copying
 mod Counting
 mod Framing
 pub mod Observing
-pub mod Orders

@@ -1,5 +1,5 @@
 -- There are no more observed signals than names.
-use Rattle.std.proofs.Common.{◌≡◌, ℕ, ◌≤◌, true, false, List, [], ◌∷◌, length, map, flat_map, bytes_eq, ap, ◌++◌, ◌∙◌, nat_lt, refl, subst, arith}
+use Rattle.std.proofs.Common.{◌≡◌, ℕ, ◌≤◌, true, false, List, [], ◌∷◌, length, flat_map, bytes_eq, ap, ◌++◌, ◌∙◌, nat_lt, refl, subst, arith}
 use Rattle.std.proofs.lemmas.Bool.{and_parts, or_from, both_ways, false_from_ne_true, true_from_ne_false, ltb-true}
 use Rattle.std.proofs.lemmas.List.{length-map}
 use Rattle.syn_netlist.specs.declared.frames.Frame as code

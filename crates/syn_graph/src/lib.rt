@@ -2,6 +2,7 @@
 #![tactic(auto)]
 
 ghost use Rattle.std.specs.Prelude.{◌≡◌, ℕ, ◌+◌, ◌<◌, ◌^◌, length, slice_index_or, IfOk};
+ghost use Rattle.syn_rows.specs.declared.TheConstants.{NODE_LIMIT};
 ghost use Rattle.syn_rows.specs.Levels.{levels_of};
 ghost use Rattle.syn_rows.specs.Reach.{Ands};
 ghost use Rattle.syn_rows.specs.References.{refs_by_literals, refs_by_rows};
@@ -33,11 +34,46 @@ pub struct Graph {
     pub observed: Items<Lit>,
     pub ghost source_count_is: { source_count ≡ length (sources (frame_in frame)) },
     pub ghost graph: { IsGraph (frame_in frame) rows observed },
-    pub ghost few: { length rows < 2 ^ 29 },
+    pub ghost few: { length rows < NODE_LIMIT },
     pub ghost few_names: { length frame.names < 2 ^ 31 },
 }
 
 impl Graph {
+    /// The graph of these rows and observed literals over a frame with so many sources.
+    pub fn over(frame: Frame, source_count: u32, rows: Vec<Row>, observed: Vec<Lit>) -> Graph
+        requires sources { source_count ≡ length (sources (frame_in frame)) }
+        requires graph { IsGraph (frame_in frame) rows.items observed.items }
+        requires few { length rows.items < NODE_LIMIT }
+        requires names { length frame.names < 2 ^ 31 }
+        ensures frame { result.frame ≡ frame }
+        ensures rows { result.rows ≡ rows.items }
+        ensures observed { result.observed ≡ observed.items }
+    {
+        Graph {
+            frame,
+            source_count,
+            rows: Items::of(rows),
+            observed: Items::of(observed),
+        }
+    }
+
+    /// The graph of other rows and observed literals over the same frame, which is moved.
+    pub fn with_rows(self, rows: Vec<Row>, observed: Vec<Lit>) -> Graph
+        requires graph { IsGraph (frame_in self.frame) rows.items observed.items }
+        requires few { length rows.items < NODE_LIMIT }
+        ensures frame { result.frame ≡ self.frame }
+        ensures rows { result.rows ≡ rows.items }
+        ensures observed { result.observed ≡ observed.items }
+    {
+        let Graph {
+            frame,
+            source_count,
+            rows: _,
+            observed: _,
+        } = self;
+        Graph::over(frame, source_count, rows, observed)
+    }
+
     /// The number of ANDs.
     pub fn count(&self) -> u32
         ensures rows { result + (self.now.source_count + 1) ≡ length self.now.rows }

@@ -7,7 +7,7 @@ use Rattle.syn_netlist.specs.Lists.{Frame, sources, observed}
 use Rattle.syn_shapes.specs.GraphShape.{place}
 use Rattle.syn_shapes.specs.Graphs.{IsGraph, source_lit}
 use Rattle.syn_graph.specs.Graphs.{HasOwnSources}
-use Rattle.syn_strash.specs.Compacting.{IsCompacted, IsCompaction}
+use Rattle.syn_hashed.specs.Compacting.{IsCompacted, IsCompaction}
 use Rattle.syn_shapes.proofs.Spelled.{place_lt}
 
 -- the literals of observed sources are those of nodes that stay

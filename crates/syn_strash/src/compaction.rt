@@ -1,197 +1,22 @@
-//! Compaction: rows in the order in which the observed literals visit them, without those that they don't reach.
+//! Compaction: the graph of the rows that observed literals reach.
 
-ghost use Rattle.std.specs.Prelude.{◌++◌, if◌then◌else◌, OnOk, ◌≡◌, ℕ, ◌+◌, ◌*◌, ◌^◌, ◌<◌, ◌≤◌, ◌||◌, nat_lt, All, IfOk, length, map, true, vec_len, List, [], ◌∷◌, slice_index};
-ghost use Rattle.syn_rows.specs.declared.Lit.{Lit};
-ghost use Rattle.syn_rows.specs.declared.Row.{Row};
-ghost use Rattle.syn_rows.specs.Rows.{AllRefs, node_of, in_order_from};
+ghost use Rattle.std.specs.Prelude.{◌≡◌, ℕ, ◌+◌, ◌^◌, ◌<◌, ◌≤◌, IfErr, IfOk, length};
+ghost use Rattle.syn_rows.specs.declared.TheConstants.{NODE_LIMIT};
+ghost use Rattle.syn_rows.specs.Rows.{node_of};
 ghost use Rattle.syn_rows.specs.Levels.{HasLevels};
-ghost use Rattle.syn_rows.specs.Values.{value_in};
-ghost use Rattle.syn_rows.specs.Reach.{Ands, IsReachedSet};
+ghost use Rattle.syn_rows.specs.Reach.{Ands};
+ghost use Rattle.syn_hashed.specs.Hashed.{lit_at};
+ghost use Rattle.syn_hashed.specs.Growing.{level_by};
+ghost use Rattle.syn_hashed.specs.Compacting.{CanCompact, SameValues};
 ghost use Rattle.syn_netlist.specs.Frames.{frame_in};
 ghost use Rattle.syn_netlist.specs.Lists.{observed, sources};
 ghost use Rattle.syn_graph.specs.Graphs.{HasOwnSources};
-ghost use Rattle.syn_shapes.specs.Graphs.{IsHashed, lit_at};
-ghost use Rattle.syn_strash.specs.Growing.{level_by};
-ghost use Rattle.syn_strash.specs.Compacting.{CanCompact, HasValuation, IsCompacted, IsCompaction, is_kept, IsPlaces, kept_below, kept_lits, kept_rows, moved_lit, moved_row, SameValues};
 
-use crate::visit::in_visiting_order;
 use std::alloc::{AllocError, Global};
 use syn_graph::{Graph, copy_frame};
-use syn_netlist::{Frame, Items};
+use syn_hashed::compact_rows;
+use syn_netlist::Frame;
 use syn_rows::{Lit, Row};
-
-/// Rows with the literals of the observed signals.
-#[derive(Debug, Drop)]
-pub struct Rows {
-    pub rows: Vec<Row>,
-    pub observed: Vec<Lit>,
-}
-
-// The literal of a node that moves, by a list of the places that nodes move to.
-fn moved_lit(places: &[u32], lit: Lit) -> Lit
-    requires there { node_of lit < length places.now }
-    requires small { All (λ place. place < 2 ^ 31) places.now }
-    ensures { (place : ℕ → ℕ) → IsPlaces places.now place → result ≡ moved_lit place lit }
-{
-    Lit::of(places[lit.node() as usize], lit.complemented())
-}
-
-fn moved_row(places: &[u32], row: Row) -> Row
-    requires there { AllRefs (λ m. m < length places.now) row }
-    requires small { All (λ place. place < 2 ^ 31) places.now }
-    ensures { (place : ℕ → ℕ) → IsPlaces places.now place → result ≡ moved_row place row }
-{
-    match row {
-        Row::Free => Row::Free,
-        Row::Source => Row::Source,
-        Row::And(a, b) => Row::And(moved_lit(places, a), moved_lit(places, b)),
-        Row::Alias(a) => Row::Alias(moved_lit(places, a)),
-    }
-}
-
-// Where each node moves to: how many nodes before it are kept.
-fn places_of(alloc: Global, count: u32, marks: &[bool]) -> Result<Vec<u32>, AllocError>
-    requires { length marks.now < 2 ^ 31 }
-    ensures count { IfOk result (λ v. length v.items ≡ length marks.now) }
-    ensures small { IfOk result (λ v. All (λ place. place < 2 ^ 31) v.items) }
-    ensures places { IfOk result (λ v. IsPlaces v.items (kept_below (is_kept count (value_in marks.now)))) }
-{
-    let mut places = Vec::new(alloc);
-    let mut next: u32 = 0;
-    for (n, mark) in marks.iter().enumerate() {
-        places.push(next)?;
-        if is_kept(count, n, *mark) {
-            next += 1;
-        }
-    }
-    Ok(places)
-}
-
-fn is_kept(count: u32, n: usize, mark: bool) -> bool
-    ensures { result ≡ (nat_lt n (count + 1) || mark) }
-{
-    n <= count as usize || mark
-}
-
-// The kept rows, moved.
-fn kept_rows(
-    alloc: Global,
-    count: u32,
-    rows: &[Row],
-    marks: &[bool],
-    places: &[u32],
-) -> Result<Vec<Row>, AllocError>
-    requires order { in_order_from 0 rows.now ≡ true }
-    requires marks { length marks.now ≡ length rows.now }
-    requires count { length places.now ≡ length rows.now }
-    requires small { All (λ place. place < 2 ^ 31) places.now }
-    requires places { IsPlaces places.now (kept_below (is_kept count (value_in marks.now))) }
-    ensures { IfOk result (λ v. v.items ≡ kept_rows (is_kept count (value_in marks.now)) rows.now) }
-{
-    let mut kept = Vec::new(alloc);
-    for (n, row) in rows.iter().enumerate() {
-        push_kept(&mut kept, is_kept(count, n, marks[n]), *row, places)?;
-    }
-    Ok(kept)
-}
-
-// Adds a row, moved, where it is kept.
-fn push_kept(kept: &mut Vec<Row>, keep: bool, row: Row, places: &[u32]) -> Result<(), AllocError>
-    requires there { AllRefs (λ m. m < length places.now) row }
-    requires small { All (λ place. place < 2 ^ 31) places.now }
-    ensures { (place : ℕ → ℕ) → IsPlaces places.now place → OnOk result (kept.new.items ≡ kept.old.items ++ (if keep then moved_row place row ∷ [] else [])) }
-{
-    if keep {
-        kept.push(moved_row(places, row))?;
-    }
-    Ok(())
-}
-
-// The literals, moved.
-fn moved_lits(alloc: Global, lits: &[Lit], places: &[u32]) -> Result<Vec<Lit>, AllocError>
-    requires there { All (λ l. node_of l < length places.now) lits.now }
-    requires small { All (λ place. place < 2 ^ 31) places.now }
-    ensures { (place : ℕ → ℕ) → IsPlaces places.now place → IfOk result (λ v. v.items ≡ map (moved_lit place) lits.now) }
-{
-    let mut moved = Vec::new(alloc);
-    for lit in lits {
-        moved.push(moved_lit(places, *lit))?;
-    }
-    Ok(moved)
-}
-
-// Drops the rows that the literals don't reach; the others move down in their order.
-fn drop_unreached(
-    alloc: Global,
-    count: u32,
-    rows: &[Row],
-    observed: &[Lit],
-) -> Result<Rows, AllocError>
-    requires hashed { IsHashed count rows.now }
-    requires within { All (λ l. node_of l < length rows.now) observed.now }
-    requires few { length rows.now < 2 ^ 31 }
-    ensures { IfOk result (λ r. IsCompaction count rows.now observed.now r.rows.items r.observed.items) }
-{
-    let marks = syn_rows::reached(alloc, rows, observed)?;
-    let places = places_of(alloc, count, marks.as_slice())?;
-    let kept = kept_rows(alloc, count, rows, marks.as_slice(), places.as_slice())?;
-    let moved = moved_lits(alloc, observed, places.as_slice())?;
-    syn_rows::one_valuation();
-    Ok(Rows {
-        rows: kept,
-        observed: moved,
-    })
-}
-
-/// The rows that the observed literals reach, in the order in which these visit them: each node after its first and then
-/// its second fan-in, aliases followed, no pair of literals twice. The only error is want of memory.
-pub fn compact_rows(
-    alloc: Global,
-    source_count: u32,
-    rows: &[Row],
-    observed: &[Lit],
-) -> Result<Rows, AllocError>
-    requires can { CanCompact source_count rows.now observed.now }
-    requires few { length rows.now < 2 ^ 29 }
-    ensures { IfOk result (λ r. IsCompacted source_count rows.now observed.now r.rows.items r.observed.items) }
-{
-    let ordered = in_visiting_order(alloc, source_count, rows, observed)?;
-    let kept = drop_unreached(
-        alloc,
-        source_count,
-        ordered.rows.as_slice(),
-        ordered.observed.as_slice(),
-    )?;
-    Ok(kept)
-}
-
-/// The same of hashed rows.
-pub fn compact_hashed(
-    alloc: Global,
-    source_count: u32,
-    rows: &[Row],
-    observed: &[Lit],
-) -> Result<Rows, AllocError>
-    requires hashed { IsHashed source_count rows.now }
-    requires within { All (λ l. node_of l < length rows.now) observed.now }
-    requires few { length rows.now < 2 ^ 29 }
-    ensures compact { IfOk result (λ r. IsCompaction source_count rows.now observed.now r.rows.items r.observed.items) }
-    ensures ands { IfOk result (λ r. (k : ℕ) → Ands rows.now observed.now k → length r.rows.items ≤ source_count + 1 + k) }
-{
-    let kept = compact_rows(alloc, source_count, rows, observed)?;
-    syn_rows::one_valuation();
-    Ok(kept)
-}
-
-/// Rows that can be compacted have a valuation for all given values of the sources.
-pub fn has_valuation()
-    ensures { (count : ℕ) (rows : List Row) (lits : List Lit) → CanCompact count rows lits → HasValuation count rows }
-{}
-
-/// Rows that can be compacted have levels.
-pub fn has_level()
-    ensures { (count : ℕ) (rows : List Row) (lits : List Lit) → CanCompact count rows lits → (level : ℕ → ℕ) × HasLevels rows level }
-{}
 
 /// The graph of the rows that the observed literals reach, one for each observed signal of the frame, in their order. The
 /// rows may stand in any order, with aliases, free rows and rows that nothing reaches among them. The only error is want
@@ -205,7 +30,7 @@ pub fn compact(
     requires can { CanCompact (length (sources (frame_in frame.now))) rows.now lits.now }
     requires count { length lits.now ≡ length (observed (frame_in frame.now)) }
     requires own { HasOwnSources (frame_in frame.now) lits.now }
-    requires few { length rows.now < 2 ^ 29 }
+    requires few { length rows.now < NODE_LIMIT }
     requires names { length frame.now.names < 2 ^ 31 }
     ensures frame { IfOk result (λ g. frame_in g.frame ≡ frame_in frame.now) }
     ensures names { IfOk result (λ g. g.frame.names ≡ frame.now.names) }
@@ -216,49 +41,37 @@ pub fn compact(
     let source_count = count_sources(alloc, frame)?;
     let kept = compact_rows(alloc, source_count, rows, lits)?;
     let copied = copy_frame(alloc, frame)?;
-    Ok(Graph {
-        frame: copied,
-        source_count,
-        rows: Items::of(kept.rows),
-        observed: Items::of(kept.observed),
-    })
+    Ok(Graph::over(copied, source_count, kept.rows, kept.observed))
+}
+
+/// The same over the frame of a graph, which is moved. Refused, the graph comes back.
+pub fn compact_graph(
+    alloc: Global,
+    graph: Graph,
+    rows: &[Row],
+    lits: &[Lit],
+) -> Result<Graph, (Graph, AllocError)>
+    requires can { CanCompact graph.source_count rows.now lits.now }
+    requires count { length lits.now ≡ length (observed (frame_in graph.frame)) }
+    requires own { HasOwnSources (frame_in graph.frame) lits.now }
+    requires few { length rows.now < NODE_LIMIT }
+    ensures frame { IfOk result (λ g. g.frame ≡ graph.frame) }
+    ensures values { IfOk result (λ g. SameValues graph.source_count rows.now lits.now g.rows g.observed) }
+    ensures fewer { IfOk result (λ g. (k : ℕ) → Ands rows.now lits.now k → length g.rows ≤ graph.source_count + 1 + k) }
+    ensures levels { IfOk result (λ g. (level : ℕ → ℕ) → HasLevels rows.now level → (i : ℕ) → i < length lits.now → level_by g.rows (lit_at g.observed i) ≤ level (node_of (lit_at lits.now i))) }
+    ensures refused { IfErr result (λ e. e.0 ≡ graph) }
+{
+    match compact_rows(alloc, graph.source_count, rows, lits) {
+        Ok(kept) => Ok(graph.with_rows(kept.rows, kept.observed)),
+        Err(error) => Err((graph, error)),
+    }
 }
 
 // The number of the frame's sources.
-fn count_sources(alloc: Global, frame: &Frame) -> Result<u32, AllocError>
-    requires { length (sources (frame_in frame.now)) < 2 ^ 29 }
+pub fn count_sources(alloc: Global, frame: &Frame) -> Result<u32, AllocError>
+    requires { length (sources (frame_in frame.now)) < NODE_LIMIT }
     ensures { IfOk result (λ n. n ≡ length (sources (frame_in frame.now))) }
 {
     let numbers = frame.sources(alloc)?;
     Ok(numbers.len() as u32)
-}
-
-#[cfg(test)]
-mod tests {
-    use super::*;
-
-    // Three sources. Node 4 is the AND of node 5 and the third source, node 5 the complement of node 6, node 6 the AND of the
-    // first two sources; node 7 is free, and nothing reaches node 8.
-    #[test]
-    fn compacts_rows_in_any_order(rt: HostRuntime) -> Result<(), AllocError> {
-        let rows = [
-            Row::Source,
-            Row::Source,
-            Row::Source,
-            Row::Source,
-            Row::And(Lit(10), Lit(6)),
-            Row::Alias(Lit(13)),
-            Row::And(Lit(2), Lit(4)),
-            Row::Free,
-            Row::And(Lit(2), Lit(12)),
-        ];
-        let kept = compact_rows(rt.alloc(), 3, &rows, &[Lit(9), Lit(2)])?;
-        let first = Row::And(Lit(2), Lit(4));
-        let second = Row::And(Lit(6), Lit(9));
-        let source = Row::Source;
-        let want = [source, source, source, source, first, second];
-        assert_eq!(rt; kept.rows.as_slice(), want.as_slice());
-        assert_eq!(rt; kept.observed.as_slice(), [Lit(11), Lit(2)].as_slice());
-        Ok(())
-    }
 }

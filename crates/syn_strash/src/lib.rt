@@ -1,10 +1,10 @@
-//! Structural hashing: rows in which no pair of literals stands twice, and compaction.
+//! Structural hashing of graphs: rows over a frame become a graph.
 #![tactic(auto)]
 
 mod compaction;
 mod finishing;
-mod strash;
-mod visit;
+mod framed;
 
-pub use compaction::{Rows, compact, compact_hashed, compact_rows, has_level, has_valuation};
-pub use strash::{FALSE, Hashed, TRUE};
+pub use compaction::{compact, compact_graph};
+pub use finishing::finish;
+pub use framed::Hashed;

@@ -2,9 +2,9 @@ use Rattle.std.proofs.Common.{◌≡◌, List, true, sym, subst, subst₂}
 use Rattle.syn_rows.specs.declared.Lit.{Lit}
 use Rattle.syn_rows.specs.declared.Row.{Row}
 use Rattle.syn_rows.specs.Rows.{in_order_from}
-use Rattle.syn_strash.specs.Compacting.{IsCompaction}
-use Rattle.syn_strash.specs.Visiting.{IsRebuilt}
-use Rattle.syn_strash.proofs.Dropped.{hashed_order}
+use Rattle.syn_hashed.specs.Compacting.{IsCompaction}
+use Rattle.syn_hashed.specs.Visiting.{IsRebuilt}
+use Rattle.syn_hashed.proofs.Dropped.{hashed_order}
 use Rattle.syn_balance.proofs.NewGraphs.{remade_compaction}
 use Rattle.syn_balance.proofs.balanced.Goals as goal
 

@@ -4,7 +4,7 @@ use Rattle.syn_rows.specs.declared.Lit.{Lit}
 use Rattle.syn_rows.specs.declared.Row.{Row}
 use Rattle.syn_rows.specs.Values.{rows_function}
 use Rattle.syn_shapes.specs.Graphs.{IsGraph, lit_at}
-use Rattle.syn_strash.specs.Growing.{level_by}
+use Rattle.syn_hashed.specs.Growing.{level_by}
 use Rattle.syn_balance.proofs.NewGraphs.{graph_of_rows}
 use Rattle.syn_balance.proofs.with_rows.Goals as goal
 

@@ -1,5 +1,5 @@
 use Rattle.std.proofs.Common.{◌≡◌, map, take, Some}
-use Rattle.syn_strash.specs.Visiting.{literal_of}
+use Rattle.syn_hashed.specs.Visiting.{literal_of}
 use Rattle.syn_balance.proofs.balancing.literals_of.Given as goal
 
 abbrev pub invariant-loop-lit : goal.invariant-loop-lit

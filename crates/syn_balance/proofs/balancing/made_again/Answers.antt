@@ -4,7 +4,7 @@ use Rattle.syn_rows.specs.declared.Lit.{Lit}
 use Rattle.syn_rows.specs.declared.Row.{Row}
 use Rattle.syn_rows.specs.Levels.{levels_of}
 use Rattle.syn_shapes.specs.Graphs.{IsHashed}
-use Rattle.syn_strash.specs.Visiting.{FirstsOf, IsRebuilt, literal_of}
+use Rattle.syn_hashed.specs.Visiting.{FirstsOf, IsRebuilt, literal_of}
 use Rattle.syn_balance.specs.Roots.{HasRoots}
 use Rattle.syn_balance.specs.Balancing.{IsBalancing}
 use Rattle.syn_balance.proofs.Ends.{begins, all_stand, made_again}

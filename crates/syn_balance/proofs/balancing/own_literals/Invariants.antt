@@ -1,6 +1,6 @@
 use Rattle.std.proofs.Common.{◌≡◌, ℕ, ◌+◌, ◌<◌, min, length}
 use Rattle.std.specs.List.{sum_by}
-use Rattle.syn_strash.specs.Visiting.{first_literal, unvisited, visited}
+use Rattle.syn_hashed.specs.Visiting.{first_literal, unvisited, visited}
 use Rattle.syn_balance.proofs.balancing.own_literals.Given as goal
 
 abbrev pub invariant-loop-node : goal.invariant-loop-node

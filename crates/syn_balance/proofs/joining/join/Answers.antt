@@ -5,7 +5,7 @@ use Rattle.std.specs.BinaryHeap.{heap_items}
 use Rattle.std.specs.declared.cmp.Reverse.{Reverse}
 use Rattle.syn_rows.specs.declared.Lit.{Lit}
 use Rattle.syn_rows.specs.Levels.{levels_of}
-use Rattle.syn_strash.proofs.LevelLaws.{length-levels}
+use Rattle.syn_hashed.proofs.LevelLaws.{length-levels}
 use Rattle.syn_balance.specs.Heaps.{leaf}
 use Rattle.syn_balance.proofs.Joins.{heap_begins}
 use Rattle.syn_balance.proofs.joining.join.Goals as goal

@@ -4,7 +4,7 @@ use Rattle.std.specs.declared.cmp.Reverse.{Reverse}
 use Rattle.syn_rows.specs.declared.Lit.{Lit}
 use Rattle.syn_shapes.specs.Graphs.{IsHashed}
 use Rattle.syn_balance.proofs.LevelLists.{level_found}
-use Rattle.syn_strash.proofs.LevelLaws.{length-levels}
+use Rattle.syn_hashed.proofs.LevelLaws.{length-levels}
 use Rattle.syn_balance.proofs.Joins.{AreLeast, least_two, more_leaves, least_joined}
 use Rattle.syn_balance.proofs.joining.join_least.Goals as goal
 

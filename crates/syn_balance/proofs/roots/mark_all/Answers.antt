@@ -1,7 +1,7 @@
 use Rattle.std.proofs.Common.{◌≡◌, ◌+◌, ℕ, suc, length, refl, subst, arith}
 use Rattle.syn_rows.specs.Rows.{row_at}
 use Rattle.syn_rows.specs.References.{refs}
-use Rattle.syn_strash.proofs.Dropped.{refs_there}
+use Rattle.syn_hashed.proofs.Dropped.{refs_there}
 use Rattle.syn_balance.specs.Roots.{AreRead, IsCounted}
 use Rattle.syn_balance.proofs.Marking.{row_read, roots_done}
 use Rattle.syn_balance.proofs.roots.mark_all.Goals as goal

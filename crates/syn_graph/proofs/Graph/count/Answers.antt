@@ -1,4 +1,4 @@
-use Rattle.std.proofs.Common.{◌≡◌, ◌+◌, length, ap, arith}
+use Rattle.std.proofs.Common.{length, ap, arith}
 use Rattle.syn_netlist.specs.Frames.{frame_in}
 use Rattle.syn_graph.proofs.Counting.{graph_ands}
 use Rattle.syn_graph.proofs.Graph.count.Goals as goal

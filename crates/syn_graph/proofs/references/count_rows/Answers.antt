@@ -1,4 +1,4 @@
-use Rattle.std.proofs.Common.{◌<◌, ◌+◌, ◌*◌, ◌≤◌, get_or, length, arith}
+use Rattle.std.proofs.Common.{arith}
 use Rattle.syn_graph.proofs.Counting.{rows_few}
 use Rattle.syn_graph.proofs.references.count_rows.Goals as goal
 

@@ -1,0 +1,14 @@
+mod Bucketing
+mod Pushing
+pub mod Orders
+pub mod Rising
+pub mod Joining
+pub mod Looking
+pub mod LevelLaws
+mod Turns
+mod Visits
+mod Walked
+mod Counted
+mod Kept
+pub mod Dropped
+pub mod Compacted

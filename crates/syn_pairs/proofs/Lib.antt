@@ -1,2 +1,0 @@
-mod Bucketing
-mod Pushing

@@ -1,5 +1,0 @@
-use Rattle.syn_strash.proofs.Compacted.{has_level_is}
-use Rattle.syn_strash.proofs.compaction.has_level.Goals as goal
-
-pub returns : goal.returns
-returns c = has_level_is

@@ -1,4 +1,0 @@
-pub mod Growing
-pub mod Compacting
-pub mod Visiting
-pub mod Walking
