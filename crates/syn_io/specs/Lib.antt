@@ -5,3 +5,4 @@ pub mod MemFiles
 pub mod MemLines
 pub mod MemSink
 pub mod RealLines
+pub mod RealFiles

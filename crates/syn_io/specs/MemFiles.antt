@@ -1,5 +1,6 @@
 -- What files in memory hold.
-use Rattle.std.specs.Prelude.{ℕ, List}
+use Rattle.std.specs.Prelude.{ℕ, List, Some}
+use Rattle.syn_io.specs.Outside.{Disk}
 use Rattle.syn_io.specs.NamedFiles.{all_named}
 use Rattle.syn_io.specs.declared.calls.Calls.{Calls}
 use Rattle.syn_io.specs.declared.mem_files.MemFiles.{MemFiles}
@@ -19,3 +20,7 @@ put_calls held = held.puts
 -- How often a call has failed.
 abbrev pub file_faults : MemFiles → ℕ
 file_faults held = held.faults
+
+-- They tell the files.
+abbrev pub disk_of : MemFiles → Disk
+disk_of held = record { told = Some (files_in held); faults = file_faults held }

@@ -1,5 +1,6 @@
 -- What a sink in memory holds.
-use Rattle.std.specs.Prelude.{ℕ, List}
+use Rattle.std.specs.Prelude.{ℕ, List, Some}
+use Rattle.syn_io.specs.Outside.{Screen}
 use Rattle.syn_io.specs.declared.calls.Calls.{Calls}
 use Rattle.syn_io.specs.declared.mem_sink.MemSink.{MemSink}
 
@@ -18,3 +19,7 @@ sink_calls held = held.calls
 -- How often a call has failed.
 abbrev pub sink_faults : MemSink → ℕ
 sink_faults held = held.faults
+
+-- It tells the bytes taken.
+abbrev pub screen_of : MemSink → Screen
+screen_of held = record { told = Some (bytes_taken held); faults = sink_faults held }

@@ -2,6 +2,21 @@
 use Rattle.std.specs.Prelude.{◌≡◌, ℕ, ◌+◌, ◌-◌, ◌^◌, ◌≤◌, min, not, is_some, ◌&&◌, ◌==◌, Bool, true, if◌then◌else◌, List, [], ◌∷◌, ◌++◌, filter, Option, None, Some, bytes_eq}
 use Rattle.std.specs.List.{before_first, after_first}
 
+-- Files: their names with their bytes where that is told, and how often a call has failed.
+pub record Disk : Type 0 where
+  pub told : Option (List (List ℕ × List ℕ))
+  pub faults : ℕ
+
+-- Lines: the bytes that are left where that is told, and how often a call has failed.
+pub record Input : Type 0 where
+  pub told : Option (List ℕ)
+  pub faults : ℕ
+
+-- A sink: the bytes that it took where that is told, and how often a call has failed.
+pub record Screen : Type 0 where
+  pub told : Option (List ℕ)
+  pub faults : ℕ
+
 -- A count rose in a call. One that stands at the end of its 64 bits counts as risen.
 abbrev pub Rose : ℕ → ℕ → Type 0
 Rose before now = min (before + 1) (2 ^ 64 - 1) ≤ now

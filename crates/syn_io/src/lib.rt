@@ -5,8 +5,8 @@
 //! an answer `Failed` comes only where the count rose in the call, told or not.
 #![tactic(auto)]
 
-ghost use Rattle.std.specs.Prelude.{◌≡◌, ℕ, ◌<◌, ◌≤◌, ◌++◌, length, List, Option, None, Some, IfOk, IfSome, IsErrOf, IsSomeAnd, OnErr, OnOk, option_map, true};
-ghost use Rattle.syn_io.specs.Outside.{after_line, file_at, GrewByPart, has_distinct_names, next_line, Rose, without_file};
+ghost use Rattle.std.specs.Prelude.{◌≡◌, ◌<◌, ◌≤◌, ◌++◌, length, None, Some, IfOk, IfSome, IsErrOf, IsSomeAnd, OnErr, OnOk, option_map, true};
+ghost use Rattle.syn_io.specs.Outside.{after_line, Disk, file_at, GrewByPart, has_distinct_names, Input, next_line, Rose, Screen, without_file};
 
 use std::alloc::{AllocError, AllocFailed, Global};
 
@@ -61,68 +61,59 @@ pub struct SinkFailed;
 
 /// Files by name.
 pub trait Files {
-    /// The names, which are distinct, each with its bytes; `None` where nothing is told.
-    ghost told: { Self → Option (List (List ℕ × List ℕ)) };
-
-    /// How often a call has failed.
-    ghost faults: { Self → ℕ };
+    /// The names, which are distinct, each with its bytes, where that is told, and how often a call has failed.
+    ghost disk: { Self → Disk };
 
     /// The bytes of the file of that name, where it has at most `limit`. A missing name is a fault.
     fn get(&mut self, alloc: Global, name: &str, limit: u64) -> Result<Vec<u8>, GetFault>
-        ensures bytes { IfOk result (λ bytes. IfSome (told self.old) (λ files. file_at name.now files ≡ Some bytes.items)) }
+        ensures bytes { IfOk result (λ bytes. IfSome (disk self.old).told (λ files. file_at name.now files ≡ Some bytes.items)) }
         ensures within { IfOk result (λ bytes. length bytes.items ≤ limit) }
         ensures too_long { IsErrOf result GetFault.TooLong →
-            IfSome (told self.old) (λ files. IsSomeAnd (file_at name.now files) (λ bytes. limit < length bytes)) }
-        ensures failed { IsErrOf result GetFault.Failed → Rose (faults self.old) (faults self.new) }
-        ensures unchanged { told self.new ≡ told self.old }
-        ensures later { faults self.old ≤ faults self.new };
+            IfSome (disk self.old).told (λ files. IsSomeAnd (file_at name.now files) (λ bytes. limit < length bytes)) }
+        ensures failed { IsErrOf result GetFault.Failed → Rose (disk self.old).faults (disk self.new).faults }
+        ensures unchanged { (disk self.new).told ≡ (disk self.old).told }
+        ensures later { (disk self.old).faults ≤ (disk self.new).faults };
 
     /// Makes the file of that name have these bytes. After a refusal the named file alone is untold.
     fn put(&mut self, alloc: Global, name: &str, bytes: &[u8]) -> Result<(), PutFault>
-        ensures bytes { OnOk result (IfSome (told self.new) (λ files. file_at name.now files ≡ Some bytes.now)) }
-        ensures others { IfSome (told self.old) (λ before. IsSomeAnd (told self.new)
+        ensures bytes { OnOk result (IfSome (disk self.new).told (λ files. file_at name.now files ≡ Some bytes.now)) }
+        ensures others { IfSome (disk self.old).told (λ before. IsSomeAnd (disk self.new).told
             (λ after. without_file name.now after ≡ without_file name.now before)) }
-        ensures failed { IsErrOf result PutFault.Failed → Rose (faults self.old) (faults self.new) }
-        ensures later { faults self.old ≤ faults self.new };
+        ensures failed { IsErrOf result PutFault.Failed → Rose (disk self.old).faults (disk self.new).faults }
+        ensures later { (disk self.old).faults ≤ (disk self.new).faults };
 
     /// No name is told twice.
-    ghost distinct: { (files : Self) → IfSome (told files) (λ list. has_distinct_names list ≡ true) };
+    ghost distinct: { (files : Self) → IfSome (disk files).told (λ list. has_distinct_names list ≡ true) };
 }
 
 /// Bytes that are taken line by line.
 pub trait Lines {
-    /// The bytes that are left; `None` where nothing is told.
-    ghost told: { Self → Option (List ℕ) };
-
-    /// How often a call has failed.
-    ghost faults: { Self → ℕ };
+    /// The bytes that are left, where that is told, and how often a call has failed.
+    ghost input: { Self → Input };
 
     /// The next line without its line feed, where it has at most `limit` bytes; `None` where nothing is
     /// left. After a refusal it is untold what is left.
     fn next(&mut self, alloc: Global, limit: u64) -> Result<Option<Vec<u8>>, LineFault>
-        ensures line { IfOk result (λ line. IfSome (told self.old) (λ left. option_map (λ bytes. bytes.items) line ≡ next_line left)) }
-        ensures left { OnOk result (IfSome (told self.old) (λ left. told self.new ≡ Some (after_line left))) }
+        ensures line { IfOk result (λ line. IfSome (input self.old).told (λ left. option_map (λ bytes. bytes.items) line ≡ next_line left)) }
+        ensures left { OnOk result (IfSome (input self.old).told (λ left. (input self.new).told ≡ Some (after_line left))) }
         ensures within { IfOk result (λ line. IfSome line (λ bytes. length bytes.items ≤ limit)) }
         ensures too_long { IsErrOf result LineFault.TooLong →
-            IfSome (told self.old) (λ left. IsSomeAnd (next_line left) (λ line. limit < length line)) }
-        ensures failed { IsErrOf result LineFault.Failed → Rose (faults self.old) (faults self.new) }
-        ensures later { faults self.old ≤ faults self.new };
+            IfSome (input self.old).told (λ left. IsSomeAnd (next_line left) (λ line. limit < length line)) }
+        ensures failed { IsErrOf result LineFault.Failed → Rose (input self.old).faults (input self.new).faults }
+        ensures later { (input self.old).faults ≤ (input self.new).faults };
 }
 
 /// Takes bytes, piece by piece.
 pub trait Sink {
-    /// The bytes taken so far; `None` where nothing is told.
-    ghost told: { Self → Option (List ℕ) };
-
-    /// How often a call has failed.
-    ghost faults: { Self → ℕ };
+    /// The bytes taken so far, where that is told, and how often a call has failed.
+    ghost screen: { Self → Screen };
 
     /// Takes the whole piece, or fails after a part of it. It takes no memory.
     fn put(&mut self, piece: &[u8]) -> Result<(), SinkFailed>
-        ensures taken { OnOk result (IfSome (told self.old) (λ before. told self.new ≡ Some (before ++ piece.now))) }
-        ensures part { OnErr result (IfSome (told self.old) (λ before. IsSomeAnd (told self.new) (GrewByPart before piece.now))) }
-        ensures failed { OnErr result (Rose (faults self.old) (faults self.new)) }
-        ensures later { faults self.old ≤ faults self.new };
+        ensures taken { OnOk result (IfSome (screen self.old).told (λ before. (screen self.new).told ≡ Some (before ++ piece.now))) }
+        ensures part { OnErr result (IfSome (screen self.old).told (λ before. IsSomeAnd (screen self.new).told (GrewByPart before piece.now))) }
+        ensures failed { OnErr result (Rose (screen self.old).faults (screen self.new).faults) }
+        ensures later { (screen self.old).faults ≤ (screen self.new).faults };
 }
 
 impl From<AllocError> for GetFault {
@@ -164,6 +155,3 @@ impl From<AllocError> for LineFault {
         LineFault::NoMemory
     }
 }
-
-#[cfg(test)]
-mod tests;

@@ -117,12 +117,10 @@ impl MemFiles {
 }
 
 impl Files for MemFiles {
-    ghost use Rattle.syn_io.specs.MemFiles.{file_faults, files_in, get_calls, put_calls};
+    ghost use Rattle.syn_io.specs.MemFiles.{disk_of, file_faults, files_in, get_calls, put_calls};
     ghost use Rattle.syn_io.specs.Calls.{after_call, next_fails};
 
-    ghost told = { λ files. Some (files_in files) };
-
-    ghost faults = { file_faults };
+    ghost disk = { disk_of };
 
     ghost distinct = { λ files. files.distinct };
 

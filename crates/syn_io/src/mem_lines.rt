@@ -55,12 +55,10 @@ impl MemLines {
 }
 
 impl Lines for MemLines {
-    ghost use Rattle.syn_io.specs.MemLines.{bytes_left, line_calls, line_faults};
+    ghost use Rattle.syn_io.specs.MemLines.{bytes_left, input_of, line_calls, line_faults};
     ghost use Rattle.syn_io.specs.Calls.{after_call, next_fails};
 
-    ghost told = { λ lines. Some (bytes_left lines) };
-
-    ghost faults = { line_faults };
+    ghost input = { input_of };
 
     fn next(&mut self, alloc: Global, limit: u64) -> Result<Option<Vec<u8>>, LineFault>
         ensures line { IfOk result (λ line. option_map (λ bytes. bytes.items) line ≡ next_line (bytes_left self.old)) }

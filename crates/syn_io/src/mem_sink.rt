@@ -45,12 +45,10 @@ impl MemSink {
 }
 
 impl Sink for MemSink {
-    ghost use Rattle.syn_io.specs.MemSink.{bytes_taken, room_of, sink_calls, sink_faults};
+    ghost use Rattle.syn_io.specs.MemSink.{bytes_taken, room_of, screen_of, sink_calls, sink_faults};
     ghost use Rattle.syn_io.specs.Calls.{after_call, next_fails};
 
-    ghost told = { λ sink. Some (bytes_taken sink) };
-
-    ghost faults = { sink_faults };
+    ghost screen = { screen_of };
 
     fn put(&mut self, piece: &[u8]) -> Result<(), SinkFailed>
         ensures taken { OnOk result (bytes_taken self.new ≡ bytes_taken self.old ++ piece.now) }

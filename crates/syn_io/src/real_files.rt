@@ -1,5 +1,6 @@
 //! The system's files.
-ghost use Rattle.std.specs.Prelude.{◌≡◌, ◌≤◌, IfOk, length, None};
+ghost use Rattle.std.specs.Prelude.{◌≡◌, ◌≤◌, IfOk, length};
+ghost use Rattle.syn_io.specs.RealFiles.{untold_disk};
 
 use crate::pieces::{PIECE, buffer_of, read_within, write_whole};
 use crate::{Files, GetFault, PutFault, SinkFailed};
@@ -17,7 +18,7 @@ pub struct RealFiles<'a, R> {
 impl<'a, R: HostFiles> RealFiles<'a, R> {
     /// No call has failed yet.
     pub fn new(rt: &'a R) -> RealFiles<'a, R>
-        ensures { ⟦<RealFiles<'a, R> as Files>⟧.faults result ≡ 0 }
+        ensures { (⟦<RealFiles<'a, R> as Files>⟧.disk result).faults ≡ 0 }
     {
         RealFiles { rt, faults: 0 }
     }
@@ -41,9 +42,7 @@ impl<'a, R: HostFiles> RealFiles<'a, R> {
 }
 
 impl<'a, R: HostFiles> Files for RealFiles<'a, R> {
-    ghost told = { λ _. None };
-
-    ghost faults = { λ files. files.faults };
+    ghost disk = { λ files. untold_disk files.faults };
 
     ghost distinct = { λ _. tt };
 

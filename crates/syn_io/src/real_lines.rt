@@ -32,7 +32,7 @@ impl<R: Read> RealLines<R> {
     where
         R: Drop,
         ensures told { IfOk result (λ lines. IfSome (R.remaining reader) (λ left. known_left R.remaining lines ≡ Some left)) }
-        ensures faults { IfOk result (λ lines. ⟦<RealLines<R> as Lines>⟧.faults lines ≡ 0) }
+        ensures faults { IfOk result (λ lines. (⟦<RealLines<R> as Lines>⟧.input lines).faults ≡ 0) }
     {
         Ok(RealLines {
             reader,
@@ -110,11 +110,9 @@ impl<R: Read> RealLines<R> {
 }
 
 impl<R: Read> Lines for RealLines<R> {
-    ghost use Rattle.syn_io.specs.RealLines.{known_left};
+    ghost use Rattle.syn_io.specs.RealLines.{input_over, known_left};
 
-    ghost told = { known_left R.remaining };
-
-    ghost faults = { λ lines. lines.faults };
+    ghost input = { input_over R.remaining };
 
     fn next(&mut self, alloc: Global, limit: u64) -> Result<Option<Vec<u8>>, LineFault> {
         let answer = self.take_line(alloc, limit);

@@ -1,5 +1,6 @@
 //! Standard output as a sink.
-ghost use Rattle.std.specs.Prelude.{◌≡◌, None};
+ghost use Rattle.std.specs.Prelude.{◌≡◌};
+ghost use Rattle.syn_io.specs.RealFiles.{untold_screen};
 
 use crate::pieces::write_whole;
 use crate::{Sink, SinkFailed};
@@ -15,16 +16,14 @@ pub struct RealSink<'a, R> {
 impl<'a, R: Print> RealSink<'a, R> {
     /// No call has failed yet.
     pub fn new(rt: &'a R) -> RealSink<'a, R>
-        ensures { ⟦<RealSink<'a, R> as Sink>⟧.faults result ≡ 0 }
+        ensures { (⟦<RealSink<'a, R> as Sink>⟧.screen result).faults ≡ 0 }
     {
         RealSink { rt, faults: 0 }
     }
 }
 
 impl<'a, R: Print> Sink for RealSink<'a, R> {
-    ghost told = { λ _. None };
-
-    ghost faults = { λ sink. sink.faults };
+    ghost screen = { λ sink. untold_screen sink.faults };
 
     fn put(&mut self, piece: &[u8]) -> Result<(), SinkFailed> {
         let answer = write_whole(&mut io::writer(self.rt), piece);

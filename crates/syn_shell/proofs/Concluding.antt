@@ -1,12 +1,12 @@
 -- What follows of a run: a status of 0 or of 7, and how many lines are run.
 use Rattle.std.proofs.Common.{◌≡◌, ℕ, ◌+◌, ◌-◌, ◌^◌, ◌<◌, ◌≤◌, nat_eq, nat_lt, List, [], ◌∷◌, length, sym, ap, ◌∙◌, arith, inl, inr}
 use Rattle.std.proofs.lemmas.Bool.{both_ways, cases_Bool, eq-eqb, ltb-true, ltb-false}
-use Rattle.syn_io.specs.Outside.{Rose}
+use Rattle.syn_io.specs.Outside.{Rose, Disk, Screen, Input}
 use Rattle.syn_reader.specs.declared.ReadFault.{ReadFault}
 use Rattle.syn_reader.specs.declared.ReadFault.TheVariants as file
 use Rattle.syn_shell.specs.declared.refusal.Refusal.{Refusal}
 use Rattle.syn_shell.specs.declared.refusal.Refusal.TheVariants.{Read, GetFailed, PutFailed, LineFailed, SinkFailed}
-use Rattle.syn_shell.specs.Outside.{Disk, Screen, Input, State}
+use Rattle.syn_shell.specs.Outside.{State}
 use Rattle.syn_shell.specs.Lines.{file_status, refusal_status}
 use Rattle.syn_shell.specs.Scripts.{Refused}
 use Rattle.syn_shell.specs.LineMode.{RunsLines, most_lines}

@@ -1,14 +1,13 @@
 -- Refusals of the files, of the lines and of the sink, and their counts of faults.
-use Rattle.std.proofs.Common.{◌≡◌, ◌⊎◌, ℕ, ◌+◌, ◌-◌, ◌^◌, ◌<◌, ◌≤◌, Bool, List, [], ◌∷◌, ◌++◌, refl, sym, ap, subst, arith, inl, inr, Option, None, Some, Ok, Err}
-use Rattle.syn_io.specs.Outside.{Rose}
-use Rattle.syn_netlist.specs.Lists.{Netlist}
+use Rattle.std.proofs.Common.{◌≡◌, ◌⊎◌, ℕ, ◌+◌, ◌-◌, ◌^◌, ◌<◌, ◌≤◌, Bool, List, [], ◌∷◌, ◌++◌, refl, sym, ap, subst, arith, inl, inr, Option, None, Some}
+use Rattle.syn_io.specs.Outside.{Rose, Disk, Screen, Input}
+use Rattle.syn_shell.specs.Networks.{Network}
 use Rattle.syn_words.specs.declared.Command.{Command}
-use Rattle.syn_words.specs.declared.Command.TheVariants as commands
 use Rattle.syn_shell.specs.declared.refusal.Refusal.{Refusal}
 use Rattle.syn_shell.specs.declared.refusal.Refusal.TheVariants.{Words, Script, Read, FileTooLong, LineTooLong, NoNetwork, GetFailed, PutFailed, LineFailed, SinkFailed, NoMemory}
-use Rattle.syn_shell.specs.Outside.{Disk, Screen, Input, State}
-use Rattle.syn_shell.specs.Steps.{ReadRefused, RemakingRefused, SessionStep, StatsRefused, WriteRefused}
-use Rattle.syn_shell.specs.Scripts.{Refused, RunsCommands, RunsScript, ScriptRefused, SinkGaveUp, Told, nameless}
+use Rattle.syn_shell.specs.Outside.{State}
+use Rattle.syn_shell.specs.Steps.{Accepted, Denied, Kind, Reading, Printing, Writing, Making, kind_of, ReadRefused, MakingRefused, PrintRefused, WriteRefused}
+use Rattle.syn_shell.specs.Scripts.{Refused, RunsCommands, RunsScript, ScriptRefused, SinkGaveUp, Announced, nameless}
 use Rattle.syn_shell.specs.LineMode.{EndsBySink, GoesOn, LineRefused, NoFurther, RunsLines, listed}
 use Rattle.syn_shell.specs.Usage.{Usage, OneScript, EachLine, Faulty, usage_of}
 use Rattle.syn_shell.specs.Runs.{RunsUsage, RunsWords}
@@ -56,38 +55,36 @@ read_counted file name FileTooLong d d' s s' why le e = record { files = covers_
 read_counted file name NoMemory d d' s s' why le e = record { files = covers_none d.faults d'.faults le; sink = sink_same s s' e; lines = refl }
 read_counted file name other d d' s s' why le e = absurd why
 
-stats_counted : (m : Option Netlist) (name : List ℕ) (cause : Refusal) (d d' : Disk) (s s' : Screen) → StatsRefused m s s' cause → d' ≡ d → Counted (record { cause = cause; name = name } ∷ []) d s d' s'
-stats_counted m name NoNetwork d d' s s' (none, same) e = record { files = disk_same d d' e; sink = sink_same s s' same; lines = refl }
-stats_counted m name SinkFailed d d' s s' (net, line, is, text, part) e = record { files = disk_same d d' e; sink = covers_one s.faults s'.faults part.later part.failed; lines = refl }
-stats_counted m name NoMemory d d' s s' same e = record { files = disk_same d d' e; sink = sink_same s s' same; lines = refl }
-stats_counted m name other d d' s s' why e = absurd why
+print_counted : (m : Option Network) (name : List ℕ) (cause : Refusal) (d d' : Disk) (s s' : Screen) → PrintRefused m s s' cause → d' ≡ d → Counted (record { cause = cause; name = name } ∷ []) d s d' s'
+print_counted m name NoNetwork d d' s s' (none, same) e = record { files = disk_same d d' e; sink = sink_same s s' same; lines = refl }
+print_counted m name SinkFailed d d' s s' (net, line, is, text, part) e = record { files = disk_same d d' e; sink = covers_one s.faults s'.faults part.later part.failed; lines = refl }
+print_counted m name NoMemory d d' s s' same e = record { files = disk_same d d' e; sink = sink_same s s' same; lines = refl }
+print_counted m name other d d' s s' why e = absurd why
 
-write_counted : (m : Option Netlist) (file name : List ℕ) (cause : Refusal) (d d' : Disk) (s s' : Screen) → WriteRefused m file d d' cause → s' ≡ s → Counted (record { cause = cause; name = name } ∷ []) d s d' s'
+write_counted : (m : Option Network) (file name : List ℕ) (cause : Refusal) (d d' : Disk) (s s' : Screen) → WriteRefused m file d d' cause → s' ≡ s → Counted (record { cause = cause; name = name } ∷ []) d s d' s'
 write_counted m file name NoNetwork d d' s s' (none, same) e = record { files = disk_same d d' same; sink = sink_same s s' e; lines = refl }
 write_counted m file name PutFailed d d' s s' (some, rose, others) e = record { files = covers_one d.faults d'.faults others.later rose; sink = sink_same s s' e; lines = refl }
 write_counted m file name NoMemory d d' s s' others e = record { files = covers_none d.faults d'.faults others.later; sink = sink_same s s' e; lines = refl }
 write_counted m file name other d d' s s' why e = absurd why
 
-remaking_counted : (m : Option Netlist) (name : List ℕ) (cause : Refusal) (d d' : Disk) (s s' : Screen) → RemakingRefused m cause → d' ≡ d → s' ≡ s → Counted (record { cause = cause; name = name } ∷ []) d s d' s'
-remaking_counted m name NoNetwork d d' s s' why e f = record { files = disk_same d d' e; sink = sink_same s s' f; lines = refl }
-remaking_counted m name NoMemory d d' s s' why e f = record { files = disk_same d d' e; sink = sink_same s s' f; lines = refl }
-remaking_counted m name other d d' s s' why e f = absurd why
+making_counted : (m : Option Network) (name : List ℕ) (cause : Refusal) (d d' : Disk) (s s' : Screen) → MakingRefused m cause → d' ≡ d → s' ≡ s → Counted (record { cause = cause; name = name } ∷ []) d s d' s'
+making_counted m name NoNetwork d d' s s' why e f = record { files = disk_same d d' e; sink = sink_same s s' f; lines = refl }
+making_counted m name NoMemory d d' s s' why e f = record { files = disk_same d d' e; sink = sink_same s s' f; lines = refl }
+making_counted m name other d d' s s' why e f = absurd why
 
--- a command that is refused, and one that is accepted
+-- a command that is refused, and one that is accepted, by its kind
 
-refused_counted : (c : Command) (name : List ℕ) (cause : Refusal) (m m' : Option Netlist) (d d' : Disk) (s s' : Screen) → SessionStep c m d s (Err cause) m' d' s' → Counted (record { cause = cause; name = name } ∷ []) d s d' s'
-refused_counted (commands.Read file) name cause m m' d d' s s' (same, why, stand, e) = read_counted file name cause d d' s s' why stand.later e
-refused_counted commands.Stats name cause m m' d d' s s' (same, e, why) = stats_counted m name cause d d' s s' why e
-refused_counted (commands.Write file) name cause m m' d d' s s' (same, why, e) = write_counted m file name cause d d' s s' why e
-refused_counted commands.Strash name cause m m' d d' s s' (same, why, e, f) = remaking_counted m name cause d d' s s' why e f
-refused_counted commands.Balance name cause m m' d d' s s' (same, why, e, f) = remaking_counted m name cause d d' s s' why e f
+refused_counted : (kind : Kind) (name : List ℕ) (cause : Refusal) (before after : State) → Denied kind before cause after → Counted (record { cause = cause; name = name } ∷ []) before.files before.sink after.files after.sink
+refused_counted (Reading file) name cause before after (stays, why, stand, e) = read_counted file name cause before.files after.files before.sink after.sink why stand.later e
+refused_counted Printing name cause before after (stays, why, e) = print_counted before.network name cause before.files after.files before.sink after.sink why e
+refused_counted (Writing file) name cause before after (stays, why, e) = write_counted before.network file name cause before.files after.files before.sink after.sink why e
+refused_counted Making name cause before after (stays, why, e, f) = making_counted before.network name cause before.files after.files before.sink after.sink why e f
 
-accepted_counted : (c : Command) (m m' : Option Netlist) (d d' : Disk) (s s' : Screen) → SessionStep c m d s (Ok tt) m' d' s' → Counted [] d s d' s'
-accepted_counted (commands.Read file) m m' d d' s s' (net, is, read, stand, e) = record { files = covers_none d.faults d'.faults stand.later; sink = sink_same s s' e; lines = refl }
-accepted_counted commands.Stats m m' d d' s s' (net, line, some, same, e, text, took) = record { files = disk_same d d' e; sink = covers_none s.faults s'.faults took.later; lines = refl }
-accepted_counted (commands.Write file) m m' d d' s s' (net, some, same, bytes, others, e) = record { files = covers_none d.faults d'.faults others.later; sink = sink_same s s' e; lines = refl }
-accepted_counted commands.Strash m m' d d' s s' (old, net, some, is, remade, e, f) = record { files = disk_same d d' e; sink = sink_same s s' f; lines = refl }
-accepted_counted commands.Balance m m' d d' s s' (balances, e, f) = record { files = disk_same d d' e; sink = sink_same s s' f; lines = refl }
+accepted_counted : (kind : Kind) (c : Command) (before after : State) → Accepted kind c before after → Counted [] before.files before.sink after.files after.sink
+accepted_counted (Reading file) c before after (net, is, read, stand, e) = record { files = covers_none before.files.faults after.files.faults stand.later; sink = sink_same before.sink after.sink e; lines = refl }
+accepted_counted Printing c before after (net, line, some, stays, e, text, took) = record { files = disk_same before.files after.files e; sink = covers_none before.sink.faults after.sink.faults took.later; lines = refl }
+accepted_counted (Writing file) c before after (net, some, stays, bytes, others, e) = record { files = covers_none before.files.faults after.files.faults others.later; sink = sink_same before.sink after.sink e; lines = refl }
+accepted_counted Making c before after (made, e, f) = record { files = disk_same before.files after.files e; sink = sink_same before.sink after.sink f; lines = refl }
 
 -- parts one after the other
 
@@ -108,9 +105,9 @@ commands_counted : (cs : List Command) (before after : State) (outcome : Option 
 commands_counted [] before after outcome (none, same) = subst (λ (o : Option Refused). CountedIn (listed o) before after) (sym none) (state_counted before after same)
 commands_counted (c ∷ cs) before after outcome (inl (between, step, more)) =
     counted_both [] (listed outcome) before.files between.files after.files before.sink between.sink after.sink
-    (accepted_counted c before.network between.network before.files between.files before.sink between.sink step) (commands_counted cs between after outcome more)
+    (accepted_counted (kind_of c) c before between step) (commands_counted cs between after outcome more)
 commands_counted (c ∷ cs) before after outcome (inr (cause, is, step)) =
-    subst (λ (o : Option Refused). CountedIn (listed o) before after) (sym is) (refused_counted c _ cause before.network after.network before.files after.files before.sink after.sink step)
+    subst (λ (o : Option Refused). CountedIn (listed o) before after) (sym is) (refused_counted (kind_of c) _ cause before after step)
 
 nothing_counted : (refused : Refused) (before after : State) → how_many is_of_files (refused ∷ []) ≡ 0 → how_many is_of_sink (refused ∷ []) ≡ 0 → how_many is_of_lines (refused ∷ []) ≡ 0 → CountedIn [] before after → CountedIn (refused ∷ []) before after
 nothing_counted refused before after f s l h = record {
@@ -129,17 +126,17 @@ script_counted : (text : List ℕ) (before after : State) (outcome : Option Refu
 script_counted text before after outcome (inl (cause, why, (is, same))) = subst (λ (o : Option Refused). CountedIn (listed o) before after) (sym is) (unrun_counted text cause before after why same)
 script_counted text before after outcome (inr (cs, short, script, runs)) = commands_counted cs before after outcome runs
 
-told_counted : (refused : Refused) (before after : State) → Told refused before after → CountedIn [] before after
+told_counted : (refused : Refused) (before after : State) → Announced refused before after → CountedIn [] before after
 told_counted refused before after h = record { files = disk_same before.files after.files h.only.files; sink = covers_none before.sink.faults after.sink.faults h.line.later; lines = refl }
 
 gave_up_counted : (refused : Refused) (before after : State) → SinkGaveUp refused before after → CountedIn [] before after
 gave_up_counted refused before after h = record {
   files = disk_same before.files after.files h.only.files;
-  sink = elim (h.failed) [ inl same ↦ sink_same before.sink after.sink same.1 | inr part ↦ covers_none before.sink.faults after.sink.faults part.later ];
+  sink = elim (h.failed) [ inl same ↦ sink_same before.sink after.sink same.1 | inr part ↦ covers_none before.sink.faults after.sink.faults part.1.later ];
   lines = refl;
 }
 
-telling_counted : (refused : Refused) (before after : State) → Told refused before after ⊎ SinkGaveUp refused before after → CountedIn [] before after
+telling_counted : (refused : Refused) (before after : State) → Announced refused before after ⊎ SinkGaveUp refused before after → CountedIn [] before after
 telling_counted refused before after (inl told) = told_counted refused before after told
 telling_counted refused before after (inr gave_up) = gave_up_counted refused before after gave_up
 

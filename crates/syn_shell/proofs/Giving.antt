@@ -1,7 +1,8 @@
 -- What a call for the next line gave, by its answer.
 use Rattle.std.proofs.Common.{◌≡◌, ℕ, subst, Option, None, Some, Result, Ok, Vec, Global}
 use Rattle.syn_shell.specs.declared.refusal.Refusal.{Refusal}
-use Rattle.syn_shell.specs.Outside.{Input, GaveLine, GaveNone}
+use Rattle.syn_io.specs.Outside.{Input}
+use Rattle.syn_shell.specs.Outside.{GaveLine, GaveNone}
 use Rattle.syn_shell.specs.Stopping.{Gave}
 
 pub gave_line : (r : Result (Option (Vec ℕ Global)) Refusal) (line : Vec ℕ Global) (i j : Input) → r ≡ Ok (Some line) → Gave r i j → GaveLine line.items i j

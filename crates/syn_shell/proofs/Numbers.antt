@@ -11,7 +11,7 @@ use Rattle.syn_netlist.specs.Lists.{Frame, Netlist, sources}
 use Rattle.syn_shapes.specs.GraphShape.{GraphCountsAnds, and_tables, rows_of, observed_of}
 use Rattle.syn_shapes.specs.Graphs.{IsGraph}
 use Rattle.syn_shapes.specs.Spelling.{NetworkOfGraph, NetworkSpells, network}
-use Rattle.syn_shell.specs.Lines.{greatest, depth_of, numbers_text, IsNumbersLine}
+use Rattle.syn_shell.specs.Lines.{greatest, greatest_level, numbers_text, IsNumbersLine}
 
 pub numbers_line_is : NetworkOfGraph → GraphCountsAnds → (frame : Frame) (rows : List Row) (lits : List Lit) (ands depth : ℕ) (line : List ℕ) → distinct frame.clocks ≡ true → distinct (sources frame) ≡ true
     → IsGraph frame rows lits → ands ≡ length rows - length (sources frame) - 1 → depth ≡ greatest (map (λ l. level_in (levels_of rows) (node_of l)) lits) → line ≡ numbers_text frame ands depth
@@ -31,5 +31,5 @@ numbers_line_is spells counts frame rows lits ands depth line clocks once graph 
     count : length (and_tables m) ≡ ands
     count = omega (arith, spelled.ands, length-drop (length (sources frame) + 1) rows)
 
-    same_depth : depth_of m ≡ greatest (map (λ l. level_in (levels_of rows) (node_of l)) lits)
+    same_depth : greatest_level m ≡ greatest (map (λ l. level_in (levels_of rows) (node_of l)) lits)
     same_depth = ap₂ (λ (rs : List Row) (ls : List Lit). greatest (map (λ l. level_in (levels_of rs) (node_of l)) ls)) spelled.same_rows spelled.same_lits

@@ -4,7 +4,8 @@ use Rattle.std.specs.List.{flat_map}
 use Rattle.std.proofs.lemmas.List.{append-nil, drop_more, drop_all}
 use Rattle.syn_io.specs.declared.SinkFailed.{SinkFailed}
 use Rattle.syn_shell.specs.Lines.{joined}
-use Rattle.syn_shell.specs.Outside.{Screen, Took, TookPart, Puts}
+use Rattle.syn_io.specs.Outside.{Screen}
+use Rattle.syn_shell.specs.Outside.{Took, TookPart, Puts}
 use Rattle.syn_shell.proofs.Taking.{took_both, took_part, took_less}
 
 -- a text was taken, and the rest is put

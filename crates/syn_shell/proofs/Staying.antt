@@ -12,6 +12,7 @@ use Rattle.syn_shapes.specs.GraphShape.{GraphHasFunction, rows_of, observed_of}
 use Rattle.syn_shapes.specs.Graphs.{IsGraph, lit_at}
 use Rattle.syn_shapes.specs.Spelling.{NetworkOfGraph, NetworkSpells, network}
 use Rattle.syn_strash.specs.Growing.{level_by}
+use Rattle.syn_shell.specs.Networks.{graph_network}
 use Rattle.syn_shell.specs.Steps.{IsBalanced, level_at}
 
 has_same_function : (m : Netlist) (F G : List Bool → List Bool) → ((bits : List Bool) → G bits ≡ F bits) → HasFunction m G → HasFunction m F
@@ -20,12 +21,13 @@ has_same_function m F G same h = record { total = h.total; value = λ v c. h.val
 -- rows and literals of the same function, no more of them, and no observed one higher
 rebalanced_in : NetworkOfGraph → GraphHasFunction → SameFromFunction → (frame : Frame) (rows new_rows : List Row) (lits new_lits : List Lit) → distinct frame.clocks ≡ true → distinct (sources frame) ≡ true
     → IsGraph frame rows lits → IsGraph frame new_rows new_lits → ((bits : List Bool) → rows_function new_rows new_lits bits ≡ rows_function rows lits bits) → length new_rows ≤ length rows
-    → ((i : ℕ) → i < length lits → level_by new_rows (lit_at new_lits i) ≤ level_by rows (lit_at lits i)) → IsBalanced (network frame rows lits) (network frame new_rows new_lits)
+    → ((i : ℕ) → i < length lits → level_by new_rows (lit_at new_lits i) ≤ level_by rows (lit_at lits i)) → IsBalanced (graph_network (network frame rows lits)) (graph_network (network frame new_rows new_lits))
 rebalanced_in spells has_function same_meaning frame rows new_rows lits new_lits clocks once graph new_graph same fewer levels = record {
   remade = record {
     same = same_meaning old new (rows_function rows lits) refl (has_same_function old (rows_function rows lits) (rows_function (rows_of old) (observed_of old)) old_equal (has_function old s.shape s.ordered).1)
         (has_same_function new (rows_function rows lits) (rows_function (rows_of new) (observed_of new)) new_equal (has_function new t.shape t.ordered).1);
     ordered = t.ordered;
+    graph = refl;
     shape = t.shape;
     fewer = omega (arith, s.ands, t.ands, length-drop (length (sources frame) + 1) rows, length-drop (length (sources frame) + 1) new_rows, fewer);
   };
@@ -57,13 +59,13 @@ rebalanced_in spells has_function same_meaning frame rows new_rows lits new_lits
 -- the same, of a frame that is known to be the same
 pub rebalanced : NetworkOfGraph → GraphHasFunction → SameFromFunction → (frame new_frame : Frame) (rows new_rows : List Row) (lits new_lits : List Lit) → new_frame ≡ frame → distinct frame.clocks ≡ true → distinct (sources frame) ≡ true
     → IsGraph frame rows lits → IsGraph new_frame new_rows new_lits → ((bits : List Bool) → rows_function new_rows new_lits bits ≡ rows_function rows lits bits) → length new_rows ≤ length rows
-    → ((i : ℕ) → i < length lits → level_by new_rows (lit_at new_lits i) ≤ level_by rows (lit_at lits i)) → IsBalanced (network frame rows lits) (network new_frame new_rows new_lits)
+    → ((i : ℕ) → i < length lits → level_by new_rows (lit_at new_lits i) ≤ level_by rows (lit_at lits i)) → IsBalanced (graph_network (network frame rows lits)) (graph_network (network new_frame new_rows new_lits))
 rebalanced spells has_function same_meaning frame new_frame rows new_rows lits new_lits same_frame clocks once graph new_graph same fewer levels =
-    subst (λ (f : Frame). IsGraph f new_rows new_lits → IsBalanced (network frame rows lits) (network f new_rows new_lits)) (sym same_frame)
+    subst (λ (f : Frame). IsGraph f new_rows new_lits → IsBalanced (graph_network (network frame rows lits)) (graph_network (network f new_rows new_lits))) (sym same_frame)
     (λ g. rebalanced_in spells has_function same_meaning frame rows new_rows lits new_lits clocks once graph g same fewer levels) new_graph
 
 -- a graph's netlist is what these commands may make of itself
 pub stays_balanced : NetworkOfGraph → GraphHasFunction → SameFromFunction → (frame : Frame) (rows : List Row) (lits : List Lit) → distinct frame.clocks ≡ true → distinct (sources frame) ≡ true → IsGraph frame rows lits
-    → IsBalanced (network frame rows lits) (network frame rows lits)
+    → IsBalanced (graph_network (network frame rows lits)) (graph_network (network frame rows lits))
 stays_balanced spells has_function same_meaning frame rows lits clocks once graph =
     rebalanced_in spells has_function same_meaning frame rows rows lits lits clocks once graph graph (λ bits. refl) (omega arith) (λ i lt. omega arith)

@@ -2,8 +2,8 @@
 use Rattle.std.proofs.Common.{◌≡◌, ℕ, List, [], ◌++◌, sym, ap, ◌∙◌, subst, arith, Option, None, Some, IfSome}
 use Rattle.std.specs.Option.{IsSomeAnd}
 use Rattle.std.proofs.lemmas.List.{append_assoc, append-nil}
-use Rattle.syn_io.specs.Outside.{GrewByPart}
-use Rattle.syn_shell.specs.Outside.{Screen, Took, TookPart}
+use Rattle.syn_io.specs.Outside.{GrewByPart, Screen}
+use Rattle.syn_shell.specs.Outside.{Took, TookPart}
 
 -- as facts on the optional contents alone
 

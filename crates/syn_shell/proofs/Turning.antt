@@ -5,17 +5,18 @@ use Rattle.syn_reader.specs.declared.ReadFault.{ReadFault}
 use Rattle.syn_reader.specs.declared.ReadFault.TheVariants as file
 use Rattle.syn_shell.specs.declared.refusal.Refusal.{Refusal}
 use Rattle.syn_shell.specs.declared.refusal.Refusal.TheVariants.{Words, Script, Read, FileTooLong, LineTooLong, TooManyLines, NoNetwork, GetFailed, PutFailed, LineFailed, SinkFailed, NoMemory}
-use Rattle.syn_netlist.specs.Lists.{Netlist}
-use Rattle.syn_shell.specs.declared.telling.Telling.{Telling}
-use Rattle.syn_shell.specs.declared.telling.Telling.TheVariants.{Whole, Cut}
+use Rattle.syn_shell.specs.Networks.{Network}
+use Rattle.syn_shell.specs.declared.announcing.Announcement.{Announcement}
+use Rattle.syn_shell.specs.declared.announcing.Announcement.TheVariants.{Whole, Cut}
 use Rattle.syn_shell.specs.declared.line_mode.Turn.{Turn}
 use Rattle.syn_shell.specs.declared.line_mode.Turn.TheVariants as turn
-use Rattle.syn_shell.specs.Outside.{Disk, Screen, Input, State, state, GaveLine, GaveNone}
+use Rattle.syn_io.specs.Outside.{Disk, Screen, Input}
+use Rattle.syn_shell.specs.Outside.{State, state, GaveLine, GaveNone}
 use Rattle.syn_shell.specs.Lines.{file_status, refusal_status}
 use Rattle.syn_shell.specs.Scripts.{Refused, nameless, RunsScript}
 use Rattle.syn_shell.specs.LineMode.{GoesOn, LineRefused, NoFurther, RunsLines, listed, most_lines}
 use Rattle.syn_shell.specs.Runs.{status_of}
-use Rattle.syn_shell.specs.Stopping.{first_status, status_in, Leaves, RanLines, TellsAs, Turned}
+use Rattle.syn_shell.specs.Stopping.{first_status, status_in, Leaves, RanLines, AnnouncesAs, Turned}
 use Rattle.syn_shell.proofs.Hearing.{nothing_run, nothing_status}
 
 -- no refusal has the status of an accepted run
@@ -88,32 +89,32 @@ pub none_left : (status taken : ℕ) (st : State) (i i' : Input) → status ≡ 
 none_left status taken st i i' is gave = ([], [], inl (gave, refl, refl), is)
 
 -- no further line is run, and that is told
-pub none_run : (status taken : ℕ) (t : Telling) (cause : Refusal) (m : Option Netlist) (d : Disk) (s s' : Screen) (i i' : Input) → status ≡ status_in t → NoFurther taken i i' cause → TellsAs t (nameless cause) s s'
+pub none_run : (status taken : ℕ) (t : Announcement) (cause : Refusal) (m : Option Network) (d : Disk) (s s' : Screen) (i i' : Input) → status ≡ status_in t → NoFurther taken i i' cause → AnnouncesAs t (nameless cause) s s'
     → RanLines status taken (state m d s) i (state m d s') i'
 none_run status taken t cause m d s s' i i' is why tells = ([], nameless cause ∷ [], inr (cause, why, refl, (nothing_run t cause m d s s' tells).1), is ∙ nothing_status t cause s s' tells)
 
 pub turned_none : (st : State) (i i' : Input) → GaveNone i i' → Turned (turn.Ends 0) st i st i'
 turned_none st i i' gave = ([], [], λ taken lt. inl (gave, refl, refl), refl)
 
-pub turned_refused : (status : ℕ) (t : Telling) (cause : Refusal) (m : Option Netlist) (d : Disk) (s s' : Screen) (i i' : Input) → status ≡ status_in t → LineRefused i i' cause → TellsAs t (nameless cause) s s'
+pub turned_refused : (status : ℕ) (t : Announcement) (cause : Refusal) (m : Option Network) (d : Disk) (s s' : Screen) (i i' : Input) → status ≡ status_in t → LineRefused i i' cause → AnnouncesAs t (nameless cause) s s'
     → Turned (turn.Ends status) (state m d s) i (state m d s') i'
 turned_refused status t cause m d s s' i i' is why tells = ([], nameless cause ∷ [], λ taken lt. inr (cause, inl why, refl, (nothing_run t cause m d s s' tells).1), is ∙ nothing_status t cause s s' tells)
 
 -- a turn by what its script left
-abbrev pub turn_of : Option Telling → Turn
+abbrev pub turn_of : Option Announcement → Turn
 turn_of None = turn.GoesOn 0
 turn_of (Some (Whole status)) = turn.GoesOn status
 turn_of (Some (Cut status)) = turn.Ends status
 
-pub turned_by : (left : Option Telling) (line : List ℕ) (st st' : State) (i j : Input) → GaveLine line i j → Leaves left line st st' → Turned (turn_of left) st i st' j
+pub turned_by : (left : Option Announcement) (line : List ℕ) (st st' : State) (i j : Input) → GaveLine line i j → Leaves left line st st' → Turned (turn_of left) st i st' j
 turned_by None line st st' i j gave runs = (line, None, st', gave, runs, refl, refl)
 turned_by (Some (Whole status)) line st st' i j gave (refused, done, runs, told) = (line, Some refused, done, gave, runs, told.1, told.0)
 turned_by (Some (Cut status)) line st st' i j gave (refused, done, runs, told) = (line ∷ [], refused ∷ [], λ taken lt. (j, Some refused, done, lt, gave, runs, inr (told.1, refl, refl, refl)), told.0)
 
 -- the lines begin with no network
-pub begins : (lines : List (List ℕ)) (more : List Refused) (m : Option Netlist) (d : Disk) (s : Screen) (after : State) (i i' : Input) → m ≡ None → RunsLines lines 0 (state m d s) i more after i'
+pub begins : (lines : List (List ℕ)) (more : List Refused) (m : Option Network) (d : Disk) (s : Screen) (after : State) (i i' : Input) → m ≡ None → RunsLines lines 0 (state m d s) i more after i'
     → RanLines (first_status 0 (status_of more)) 0 (state None d s) i after i'
-begins lines more m d s after i i' is runs = (lines, more, subst (λ (n : Option Netlist). RunsLines lines 0 (state n d s) i more after i') is runs, refl)
+begins lines more m d s after i i' is runs = (lines, more, subst (λ (n : Option Network). RunsLines lines 0 (state n d s) i more after i') is runs, refl)
 
 -- the status at an end
 pub at_end : (result status next : ℕ) (refusals : List Refused) (before after : State) (i i' : Input) → next ≡ status_of refusals → result ≡ first_status status next

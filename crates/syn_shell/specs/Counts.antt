@@ -1,9 +1,8 @@
 -- How many refusals of a run are of the files, of the lines and of the sink, beside their counts of faults.
 use Rattle.std.specs.Prelude.{◌⊎◌, ℕ, ◌+◌, ◌-◌, ◌^◌, ◌<◌, ◌≤◌, Bool, true, false, if◌then◌else◌, List, [], ◌∷◌}
-use Rattle.syn_io.specs.Outside.{Rose}
+use Rattle.syn_io.specs.Outside.{Rose, Disk, Screen, Input}
 use Rattle.syn_shell.specs.declared.refusal.Refusal.{Refusal}
 use Rattle.syn_shell.specs.declared.refusal.Refusal.TheVariants.{GetFailed, PutFailed, LineFailed, SinkFailed}
-use Rattle.syn_shell.specs.Outside.{Disk, Screen, Input}
 use Rattle.syn_shell.specs.Scripts.{Refused}
 
 abbrev pub is_of_files : Refusal → Bool

@@ -1,4 +1,4 @@
-pub mod Graphs
+pub mod Networks
 pub mod Outside
 pub mod Lines
 pub mod Steps

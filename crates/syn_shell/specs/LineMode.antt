@@ -1,10 +1,10 @@
 -- Line mode: each line is a script of its own, and the run goes on behind a refusal.
 use Rattle.std.specs.Prelude.{◌≡◌, ◌⊎◌, ℕ, ◌+◌, ◌<◌, ◌≤◌, List, [], ◌∷◌, ◌++◌, length, Option, Some, None}
-use Rattle.syn_io.specs.Outside.{Rose}
+use Rattle.syn_io.specs.Outside.{Rose, Input}
 use Rattle.syn_shell.specs.declared.refusal.Refusal.{Refusal}
 use Rattle.syn_shell.specs.declared.refusal.Refusal.TheVariants.{LineTooLong, TooManyLines, LineFailed, NoMemory}
-use Rattle.syn_shell.specs.Outside.{Input, State, GaveLine, GaveNone, LineIsLong}
-use Rattle.syn_shell.specs.Scripts.{Refused, nameless, RunsScript, Told, SinkGaveUp}
+use Rattle.syn_shell.specs.Outside.{State, GaveLine, GaveNone, LineIsLong}
+use Rattle.syn_shell.specs.Scripts.{Refused, nameless, RunsScript, Announced, SinkGaveUp}
 
 -- the most lines that are run
 abbrev pub most_lines : ℕ
@@ -36,12 +36,12 @@ NoFurther taken before after cause = LineRefused before after cause ⊎ ((cause 
 abbrev pub EndsHere : ℕ → State → Input → List Refused → State → Input → Type 0
 EndsHere taken before i refusals after i' =
     (GaveNone i i' × (refusals ≡ []) × (after ≡ before))
-    ⊎ ((cause : Refusal) × NoFurther taken i i' cause × (refusals ≡ nameless cause ∷ []) × (Told (nameless cause) before after ⊎ SinkGaveUp (nameless cause) before after))
+    ⊎ ((cause : Refusal) × NoFurther taken i i' cause × (refusals ≡ nameless cause ∷ []) × (Announced (nameless cause) before after ⊎ SinkGaveUp (nameless cause) before after))
 
 -- Behind a script the run goes on: nothing was refused, or the line of the refusal was put.
 abbrev pub GoesOn : Option Refused → State → State → Type 0
 GoesOn None before after = after ≡ before
-GoesOn (Some refused) before after = Told refused before after
+GoesOn (Some refused) before after = Announced refused before after
 
 -- Behind a script the run ends: something was refused, and the sink failed.
 abbrev pub EndsBySink : Option Refused → State → State → Type 0

@@ -1,5 +1,5 @@
 -- The lines that are printed: a network's numbers, and refusals.
-use Rattle.std.specs.Prelude.{◌≡◌, ℕ, max, ◌++◌, List, [], ◌∷◌, length, map, flat_map, codes, decimal}
+use Rattle.std.specs.Prelude.{◌≡◌, ℕ, Bool, true, false, max, ◌++◌, List, [], ◌∷◌, length, map, flat_map, codes, decimal}
 use Rattle.syn_rows.specs.Rows.{node_of}
 use Rattle.syn_rows.specs.Reach.{Ands}
 use Rattle.syn_rows.specs.Levels.{level_in, levels_of}
@@ -9,6 +9,7 @@ use Rattle.syn_words.specs.declared.ScriptFault.{ScriptFault}
 use Rattle.syn_words.specs.declared.ScriptFault.TheVariants as script
 use Rattle.syn_reader.specs.declared.ReadFault.{ReadFault}
 use Rattle.syn_reader.specs.declared.ReadFault.TheVariants as file
+use Rattle.syn_shell.specs.Networks.{Network}
 use Rattle.syn_shell.specs.declared.refusal.Refusal.{Refusal}
 use Rattle.syn_shell.specs.declared.refusal.Refusal.TheVariants.{Words, Script, Read, FileTooLong, LineTooLong, TooManyLines, NoNetwork, GetFailed, PutFailed, LineFailed, SinkFailed, NoMemory}
 
@@ -18,8 +19,8 @@ greatest [] = 0
 greatest (n ∷ ns) = max n (greatest ns)
 
 -- the greatest level of an observed node of the rows that a netlist spells
-abbrev pub depth_of : Netlist → ℕ
-depth_of m = greatest (map (λ l. level_in (levels_of (rows_of m)) (node_of l)) (observed_of m))
+abbrev pub greatest_level : Netlist → ℕ
+greatest_level m = greatest (map (λ l. level_in (levels_of (rows_of m)) (node_of l)) (observed_of m))
 
 -- a network's line: its name, how many inputs and outputs, latches and ANDs it has, and its greatest level
 abbrev pub numbers_text : Frame → ℕ → ℕ → List ℕ
@@ -31,7 +32,16 @@ numbers_text frame ands depth =
 pub record IsNumbersLine (m : Netlist) (bytes : List ℕ) : Type 0 where
   pub ands : ℕ
   pub reached : Ands (rows_of m) (observed_of m) ands
-  pub text : bytes ≡ numbers_text m.frame ands (depth_of m)
+  pub text : bytes ≡ numbers_text m.frame ands (greatest_level m)
+
+-- The bytes are the line of a netlist by its mark. No network is mapped yet, and none has such a line.
+abbrev pub LineBy : Bool → Netlist → List ℕ → Type 0
+LineBy false netlist bytes = IsNumbersLine netlist bytes
+LineBy true netlist bytes = ⊥
+
+-- The bytes are the network's line of statistics.
+abbrev pub IsStatsLine : Network → List ℕ → Type 0
+IsStatsLine network bytes = LineBy network.mapped network.netlist bytes
 
 -- pieces of text, one after the other
 abbrev pub joined : List (List ℕ) → List ℕ

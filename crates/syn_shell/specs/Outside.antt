@@ -1,40 +1,16 @@
 -- What files, a sink and lines are before and after a command, and what is done to them.
 use Rattle.std.specs.Prelude.{◌≡◌, ℕ, ◌≤◌, ◌<◌, List, ◌++◌, length, Option, Some, None, IfSome, IsSomeAnd, Result, Ok, Err}
 use Rattle.syn_io.specs.declared.SinkFailed.{SinkFailed}
-use Rattle.syn_io.specs.Outside.{Rose, file_at, without_file, GrewByPart, next_line, after_line}
-use Rattle.syn_netlist.specs.Lists.{Netlist}
-
--- Files: their names with their bytes where that is told, and how often a call has failed.
-pub record Disk : Type 0 where
-  pub told : Option (List (List ℕ × List ℕ))
-  pub faults : ℕ
-
-abbrev pub disk : Option (List (List ℕ × List ℕ)) → ℕ → Disk
-disk told faults = record { told = told; faults = faults }
-
--- A sink: the bytes that it took where that is told, and how often a call has failed.
-pub record Screen : Type 0 where
-  pub told : Option (List ℕ)
-  pub faults : ℕ
-
-abbrev pub screen : Option (List ℕ) → ℕ → Screen
-screen told faults = record { told = told; faults = faults }
-
--- Lines: the bytes that are left where that is told, and how often a call has failed.
-pub record Input : Type 0 where
-  pub told : Option (List ℕ)
-  pub faults : ℕ
-
-abbrev pub input : Option (List ℕ) → ℕ → Input
-input told faults = record { told = told; faults = faults }
+use Rattle.syn_io.specs.Outside.{Disk, Input, Screen, Rose, file_at, without_file, GrewByPart, next_line, after_line}
+use Rattle.syn_shell.specs.Networks.{Network}
 
 -- What commands work on: the session's network, the files and the sink.
 pub record State : Type 0 where
-  pub network : Option Netlist
+  pub network : Option Network
   pub files : Disk
   pub sink : Screen
 
-abbrev pub state : Option Netlist → Disk → Screen → State
+abbrev pub state : Option Network → Disk → Screen → State
 state network files sink = record { network = network; files = files; sink = sink }
 
 -- No file changed.

@@ -1,5 +1,6 @@
 -- A script: its commands one after the other up to the first that is refused, and the line of that refusal.
-use Rattle.std.specs.Prelude.{◌≡◌, ◌≢◌, ◌⊎◌, ℕ, ◌≤◌, ◌<◌, List, [], ◌∷◌, length, Option, Some, None, Result, Ok, Err, ⊤}
+use Rattle.std.specs.Prelude.{◌≡◌, ◌≢◌, ◌⊎◌, ℕ, ◌≤◌, ◌<◌, List, [], ◌∷◌, length, Option, Some, None, Ok, Err, ⊤}
+use Rattle.syn_io.specs.Outside.{Screen}
 use Rattle.syn_words.specs.declared.Command.{Command}
 use Rattle.syn_words.specs.declared.Command.TheVariants as commands
 use Rattle.syn_words.specs.declared.ScriptFault.TheVariants as script
@@ -25,16 +26,12 @@ name_in (commands.Read name) = name
 name_in (commands.Write name) = name
 name_in other = []
 
--- One command, accepted or refused.
-abbrev pub Steps : Command → State → Result (Unit {0}) Refusal → State → Type 0
-Steps command before result after = SessionStep command before.network before.files before.sink result after.network after.files after.sink
-
 -- The commands one after the other, up to the first that is refused.
 abbrev pub RunsCommands : List Command → State → Option Refused → State → Type 0
 RunsCommands [] before outcome after = (outcome ≡ None) × (after ≡ before)
 RunsCommands (c ∷ cs) before outcome after =
-    ((between : State) × Steps c before (Ok tt) between × RunsCommands cs between outcome after)
-    ⊎ ((cause : Refusal) × (outcome ≡ Some (record { cause = cause; name = name_in c })) × Steps c before (Err cause) after)
+    ((between : State) × SessionStep c before (Ok tt) between × RunsCommands cs between outcome after)
+    ⊎ ((cause : Refusal) × (outcome ≡ Some (record { cause = cause; name = name_in c })) × SessionStep c before (Err cause) after)
 
 -- Why a script is refused before any of its commands runs: it is too long, or this is its first fault, or memory was refused.
 abbrev pub ScriptRefused : List ℕ → Refusal → Type 0
@@ -59,12 +56,16 @@ pub record OnlySink (before after : State) : Type 0 where
   pub files : after.files ≡ before.files
 
 -- The line of a refusal was put. A sink that failed has no line.
-pub record Told (refused : Refused) (before after : State) : Type 0 where
+pub record Announced (refused : Refused) (before after : State) : Type 0 where
   pub only : OnlySink before after
   pub line : Took (refusal_line refused.cause refused.name) before.sink after.sink
   pub sink : refused.cause ≢ SinkFailed
 
+-- What a sink that failed took of the line of a refusal: nothing more where it failed in the refused command, and else a first part of it.
+abbrev pub TookLess : Refused → Screen → Screen → Type 0
+TookLess refused before after = ((refused.cause ≡ SinkFailed) × (after ≡ before)) ⊎ ((refused.cause ≢ SinkFailed) × TookPart (refusal_line refused.cause refused.name) before after)
+
 -- The sink failed: in the refused command, or while the line of the refusal was put.
 pub record SinkGaveUp (refused : Refused) (before after : State) : Type 0 where
   pub only : OnlySink before after
-  pub failed : ((refused.cause ≡ SinkFailed) × (after.sink ≡ before.sink)) ⊎ TookPart (refusal_line refused.cause refused.name) before.sink after.sink
+  pub failed : TookLess refused before.sink after.sink

@@ -1,6 +1,6 @@
--- What each command does, accepted or refused: a relation between the network, the files and the sink before and after it.
-use Rattle.std.specs.Prelude.{◌≡◌, ℕ, ◌≤◌, ◌<◌, List, length, Option, Some, None, IfSome, IsSome, IsSomeAnd, Result, Ok, Err, ⊤}
-use Rattle.syn_io.specs.Outside.{Rose, file_at}
+-- What each command does, accepted or refused: a relation between the network, the files and the sink before and after it. There are four kinds of commands: those that read a file, that print, that write a file, and that make the network anew.
+use Rattle.std.specs.Prelude.{◌≡◌, ℕ, ◌≤◌, ◌<◌, Bool, true, false, List, length, Option, Some, None, IfSome, IsSome, IsSomeAnd, Result, Ok, Err, ⊤}
+use Rattle.syn_io.specs.Outside.{Rose, file_at, Disk, Screen}
 use Rattle.syn_rows.specs.Rows.{node_of}
 use Rattle.syn_rows.specs.Levels.{level_in, levels_of}
 use Rattle.syn_netlist.specs.Lists.{Netlist}
@@ -18,8 +18,9 @@ use Rattle.syn_reader.specs.Reading.{Reads}
 use Rattle.syn_build.specs.Building.{IsGraphOf}
 use Rattle.syn_shell.specs.declared.refusal.Refusal.{Refusal}
 use Rattle.syn_shell.specs.declared.refusal.Refusal.TheVariants.{Read, FileTooLong, NoNetwork, GetFailed, PutFailed, SinkFailed, NoMemory}
-use Rattle.syn_shell.specs.Outside.{Disk, Screen, FilesStand, FileIs, OthersStand, Took, TookPart}
-use Rattle.syn_shell.specs.Lines.{IsNumbersLine}
+use Rattle.syn_shell.specs.Outside.{State, FilesStand, FileIs, OthersStand, Took, TookPart}
+use Rattle.syn_shell.specs.Networks.{Network, graph_network}
+use Rattle.syn_shell.specs.Lines.{IsStatsLine}
 
 -- the most bytes of a file that is read
 abbrev pub file_limit : ℕ
@@ -57,58 +58,97 @@ ReadRefused name before after NoMemory = ⊤
 ReadRefused name before after other = ⊥
 
 -- Why a network's line is refused, and what the sink took of it.
-abbrev pub StatsRefused : Option Netlist → Screen → Screen → Refusal → Type 0
-StatsRefused m before after NoNetwork = (m ≡ None) × (after ≡ before)
-StatsRefused m before after SinkFailed = (net : Netlist) × (line : List ℕ) × (m ≡ Some net) × IsNumbersLine net line × TookPart line before after
-StatsRefused m before after NoMemory = after ≡ before
-StatsRefused m before after other = ⊥
+abbrev pub PrintRefused : Option Network → Screen → Screen → Refusal → Type 0
+PrintRefused m before after NoNetwork = (m ≡ None) × (after ≡ before)
+PrintRefused m before after SinkFailed = (net : Network) × (line : List ℕ) × (m ≡ Some net) × IsStatsLine net line × TookPart line before after
+PrintRefused m before after NoMemory = after ≡ before
+PrintRefused m before after other = ⊥
 
 -- Why a write is refused, and what became of the files.
-abbrev pub WriteRefused : Option Netlist → List ℕ → Disk → Disk → Refusal → Type 0
+abbrev pub WriteRefused : Option Network → List ℕ → Disk → Disk → Refusal → Type 0
 WriteRefused m name before after NoNetwork = (m ≡ None) × (after ≡ before)
 WriteRefused m name before after PutFailed = IsSome m × Rose before.faults after.faults × OthersStand name before after
 WriteRefused m name before after NoMemory = OthersStand name before after
 WriteRefused m name before after other = ⊥
 
--- What a command that makes the network anew makes of it: it means the same, reads only earlier signals, has the shape of a graph, and no more ANDs than before.
-pub record IsRemade (old m : Netlist) : Type 0 where
-  pub same : SameMeaning old m
-  pub ordered : Ordered m
-  pub shape : GraphShape m
-  pub fewer : length (and_tables m) ≤ length (and_tables old)
+-- The network has no more ANDs than a network before it, by the mark of that one. No network is mapped yet.
+abbrev pub NoMoreBy : Bool → Netlist → Netlist → Type 0
+NoMoreBy false old new = length (and_tables new) ≤ length (and_tables old)
+NoMoreBy true old new = ⊥
+
+-- What a command that makes the network anew makes of it: it means the same, reads only earlier signals, is a graph, and has no more ANDs than before.
+pub record IsRemade (old new : Network) : Type 0 where
+  pub same : SameMeaning old.netlist new.netlist
+  pub ordered : Ordered new.netlist
+  pub graph : new.mapped ≡ false
+  pub shape : GraphShape new.netlist
+  pub fewer : NoMoreBy old.mapped old.netlist new.netlist
 
 -- the level of the observed signal in place i, by the rows that a netlist spells
 abbrev pub level_at : Netlist → ℕ → ℕ
 level_at m i = level_in (levels_of (rows_of m)) (node_of (lit_at (observed_of m) i))
 
+-- No observed signal has a higher level than in a network before it, by the mark of that one. No network is mapped yet.
+abbrev pub NoHigherBy : Bool → Netlist → Netlist → Type 0
+NoHigherBy false old new = (i : ℕ) → i < length (observed_of new) → level_at new i ≤ level_at old i
+NoHigherBy true old new = ⊥
+
 -- What balancing makes of the network: it is remade, and no observed signal has a higher level than before.
-pub record IsBalanced (old m : Netlist) : Type 0 where
-  pub remade : IsRemade old m
-  pub levels : (i : ℕ) → i < length (observed_of m) → level_at m i ≤ level_at old i
+pub record IsBalanced (old new : Network) : Type 0 where
+  pub remade : IsRemade old new
+  pub levels : NoHigherBy old.mapped old.netlist new.netlist
 
--- There is a network, and balancing makes another of it.
-abbrev pub BalancesTo : Option Netlist → Option Netlist → Type 0
-BalancesTo m m' = (old : Netlist) × (net : Netlist) × (m ≡ Some old) × (m' ≡ Some net) × IsBalanced old net
+-- What a command makes of a network. One that makes none leaves it.
+abbrev pub Makes : Command → Network → Network → Type 0
+Makes commands.Strash old new = IsRemade old new
+Makes commands.Balance old new = IsBalanced old new
+Makes other old new = new ≡ old
 
--- There is a network, and it is what balancing may make of itself.
-abbrev pub StaysBalanced : Option Netlist → Type 0
-StaysBalanced m = (net : Netlist) × (m ≡ Some net) × IsBalanced net net
+-- There is a network, and the command makes another of it.
+abbrev pub Remakes : Command → Option Network → Option Network → Type 0
+Remakes command m m' = (old : Network) × (new : Network) × (m ≡ Some old) × (m' ≡ Some new) × Makes command old new
 
 -- Why such a command is refused.
-abbrev pub RemakingRefused : Option Netlist → Refusal → Type 0
-RemakingRefused m NoNetwork = m ≡ None
-RemakingRefused m NoMemory = ⊤
-RemakingRefused m other = ⊥
+abbrev pub MakingRefused : Option Network → Refusal → Type 0
+MakingRefused m NoNetwork = m ≡ None
+MakingRefused m NoMemory = ⊤
+MakingRefused m other = ⊥
 
--- One command, from the network, the files and the sink before it to those after it. A refused command leaves the network.
-abbrev pub SessionStep : Command → Option Netlist → Disk → Screen → Result (Unit {0}) Refusal → Option Netlist → Disk → Screen → Type 0
-SessionStep (commands.Read name) m d s (Ok done) m' d' s' = (net : Netlist) × (m' ≡ Some net) × IsReadAs name d net × FilesStand d d' × (s' ≡ s)
-SessionStep (commands.Read name) m d s (Err refusal) m' d' s' = (m' ≡ m) × ReadRefused name d d' refusal × FilesStand d d' × (s' ≡ s)
-SessionStep commands.Stats m d s (Ok done) m' d' s' = (net : Netlist) × (line : List ℕ) × (m ≡ Some net) × (m' ≡ m) × (d' ≡ d) × IsNumbersLine net line × Took line s s'
-SessionStep commands.Stats m d s (Err refusal) m' d' s' = (m' ≡ m) × (d' ≡ d) × StatsRefused m s s' refusal
-SessionStep (commands.Write name) m d s (Ok done) m' d' s' = (net : Netlist) × (m ≡ Some net) × (m' ≡ m) × FileIs name d' (printed net) × OthersStand name d d' × (s' ≡ s)
-SessionStep (commands.Write name) m d s (Err refusal) m' d' s' = (m' ≡ m) × WriteRefused m name d d' refusal × (s' ≡ s)
-SessionStep commands.Strash m d s (Ok done) m' d' s' = (old : Netlist) × (net : Netlist) × (m ≡ Some old) × (m' ≡ Some net) × IsRemade old net × (d' ≡ d) × (s' ≡ s)
-SessionStep commands.Strash m d s (Err refusal) m' d' s' = (m' ≡ m) × RemakingRefused m refusal × (d' ≡ d) × (s' ≡ s)
-SessionStep commands.Balance m d s (Ok done) m' d' s' = BalancesTo m m' × (d' ≡ d) × (s' ≡ s)
-SessionStep commands.Balance m d s (Err refusal) m' d' s' = (m' ≡ m) × RemakingRefused m refusal × (d' ≡ d) × (s' ≡ s)
+-- The network stays, whatever becomes of the files and of the sink.
+abbrev pub NetworkStays : State → State → Type 0
+NetworkStays before after = after.network ≡ before.network
+
+-- The kinds of commands: one that reads a file, prints, writes a file, or makes the network anew.
+pub data Kind : Type 0 where
+  Reading : List ℕ → Kind
+  Printing : Kind
+  Writing : List ℕ → Kind
+  Making : Kind
+
+abbrev pub kind_of : Command → Kind
+kind_of (commands.Read name) = Reading name
+kind_of commands.Stats = Printing
+kind_of (commands.Write name) = Writing name
+kind_of other = Making
+
+-- A command that is accepted, by its kind.
+abbrev pub Accepted : Kind → Command → State → State → Type 0
+Accepted (Reading name) command before after =
+    (net : Netlist) × (after.network ≡ Some (graph_network net)) × IsReadAs name before.files net × FilesStand before.files after.files × (after.sink ≡ before.sink)
+Accepted Printing command before after =
+    (net : Network) × (line : List ℕ) × (before.network ≡ Some net) × NetworkStays before after × (after.files ≡ before.files) × IsStatsLine net line × Took line before.sink after.sink
+Accepted (Writing name) command before after =
+    (net : Network) × (before.network ≡ Some net) × NetworkStays before after × FileIs name after.files (printed net.netlist) × OthersStand name before.files after.files × (after.sink ≡ before.sink)
+Accepted Making command before after = Remakes command before.network after.network × (after.files ≡ before.files) × (after.sink ≡ before.sink)
+
+-- A command that is refused, by its kind. It leaves the network.
+abbrev pub Denied : Kind → State → Refusal → State → Type 0
+Denied (Reading name) before cause after = NetworkStays before after × ReadRefused name before.files after.files cause × FilesStand before.files after.files × (after.sink ≡ before.sink)
+Denied Printing before cause after = NetworkStays before after × PrintRefused before.network before.sink after.sink cause × (after.files ≡ before.files)
+Denied (Writing name) before cause after = NetworkStays before after × WriteRefused before.network name before.files after.files cause × (after.sink ≡ before.sink)
+Denied Making before cause after = NetworkStays before after × MakingRefused before.network cause × (after.files ≡ before.files) × (after.sink ≡ before.sink)
+
+-- One command, from the network, the files and the sink before it to those after it.
+abbrev pub SessionStep : Command → State → Result (Unit {0}) Refusal → State → Type 0
+SessionStep command before (Ok done) after = Accepted (kind_of command) command before after
+SessionStep command before (Err cause) after = Denied (kind_of command) before cause after

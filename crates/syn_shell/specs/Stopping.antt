@@ -1,18 +1,20 @@
 -- What the shell's own types tell of a run.
-use Rattle.std.specs.Prelude.{◌≡◌, ◌≢◌, ◌⊎◌, ℕ, ◌≤◌, ◌<◌, ◌==◌, if◌then◌else◌, List, length, Option, Some, None, Result, Ok, Err, Vec}
+use Rattle.std.specs.Prelude.{◌≡◌, ◌≢◌, ℕ, ◌≤◌, ◌<◌, ◌==◌, if◌then◌else◌, List, length, Option, Some, None, Result, Ok, Err, Vec}
 use Rattle.std.specs.Global.{Global}
 use Rattle.syn_words.specs.declared.Command.{Command}
 use Rattle.syn_words.specs.Scripts.{IsScript}
 use Rattle.syn_shell.specs.declared.refusal.Refusal.{Refusal}
 use Rattle.syn_shell.specs.declared.refusal.Refusal.TheVariants.{SinkFailed}
 use Rattle.syn_shell.specs.declared.scripts.Stopped.{Stopped}
-use Rattle.syn_shell.specs.declared.telling.Telling.{Telling}
-use Rattle.syn_shell.specs.declared.telling.Telling.TheVariants.{Whole, Cut}
+use Rattle.syn_shell.specs.declared.announcing.Announcement.{Announcement}
+use Rattle.syn_shell.specs.declared.announcing.Announcement.TheVariants.{Whole, Cut}
 use Rattle.syn_shell.specs.declared.line_mode.Turn.{Turn}
 use Rattle.syn_shell.specs.declared.line_mode.Turn.TheVariants as turn
-use Rattle.syn_shell.specs.Outside.{Screen, Input, State, Took, TookPart, GaveLine, GaveNone, script_limit}
+use Rattle.syn_io.specs.Outside.{Disk, Screen, Input}
+use Rattle.syn_shell.specs.Outside.{State, state, Took, GaveLine, GaveNone, script_limit}
+use Rattle.syn_shell.specs.Networks.{Network}
 use Rattle.syn_shell.specs.Lines.{refusal_line, refusal_status}
-use Rattle.syn_shell.specs.Scripts.{Refused, RunsScript, ScriptRefused, Told, SinkGaveUp}
+use Rattle.syn_shell.specs.Scripts.{Refused, RunsScript, ScriptRefused, Announced, SinkGaveUp, TookLess}
 use Rattle.syn_shell.specs.LineMode.{GoesOn, LineRefused, RunsLines, listed, most_lines}
 use Rattle.syn_shell.specs.Runs.{status_of}
 
@@ -26,26 +28,34 @@ abbrev pub Parsed : List ℕ → Result (Vec Command Global) Refusal → Type 0
 Parsed text (Ok commands) = (length text ≤ script_limit) × IsScript text commands.items
 Parsed text (Err cause) = ScriptRefused text cause
 
--- the status of a refusal whose line was told
-abbrev pub status_in : Telling → ℕ
+-- the status of a refusal that was announced
+abbrev pub status_in : Announcement → ℕ
 status_in (Whole status) = status
 status_in (Cut status) = status
 
 -- What became of the line of a refusal, and the refusal's status.
-abbrev pub TellsAs : Telling → Refused → Screen → Screen → Type 0
-TellsAs (Whole status) refused before after = (status ≡ refusal_status refused.cause) × (refused.cause ≢ SinkFailed) × Took (refusal_line refused.cause refused.name) before after
-TellsAs (Cut status) refused before after =
-    (status ≡ refusal_status refused.cause) × (((refused.cause ≡ SinkFailed) × (after ≡ before)) ⊎ TookPart (refusal_line refused.cause refused.name) before after)
+abbrev pub AnnouncesAs : Announcement → Refused → Screen → Screen → Type 0
+AnnouncesAs (Whole status) refused before after = (status ≡ refusal_status refused.cause) × (refused.cause ≢ SinkFailed) × Took (refusal_line refused.cause refused.name) before after
+AnnouncesAs (Cut status) refused before after = (status ≡ refusal_status refused.cause) × TookLess refused before after
 
 -- The same between states.
-abbrev pub IsTold : Telling → Refused → State → State → Type 0
-IsTold (Whole status) refused before after = (status ≡ refusal_status refused.cause) × Told refused before after
-IsTold (Cut status) refused before after = (status ≡ refusal_status refused.cause) × SinkGaveUp refused before after
+abbrev pub IsAnnounced : Announcement → Refused → State → State → Type 0
+IsAnnounced (Whole status) refused before after = (status ≡ refusal_status refused.cause) × Announced refused before after
+IsAnnounced (Cut status) refused before after = (status ≡ refusal_status refused.cause) × SinkGaveUp refused before after
 
 -- What a script left: nothing was refused, or what became of the line of its refusal.
-abbrev pub Leaves : Option Telling → List ℕ → State → State → Type 0
+abbrev pub Leaves : Option Announcement → List ℕ → State → State → Type 0
 Leaves None text before after = RunsScript text before None after
-Leaves (Some telling) text before after = (refused : Refused) × (done : State) × RunsScript text before (Some refused) done × IsTold telling refused done after
+Leaves (Some telling) text before after = (refused : Refused) × (done : State) × RunsScript text before (Some refused) done × IsAnnounced telling refused done after
+
+-- the status that a script left: that of its refusal, 0 where nothing was refused
+abbrev pub status_left : Option Announcement → ℕ
+status_left None = 0
+status_left (Some announcement) = status_in announcement
+
+-- One script was run from no network, with this status.
+abbrev pub RanOne : ℕ → List ℕ → Disk → Screen → Disk → Screen → Type 0
+RanOne status text d s d' s' = (left : Option Announcement) × (m : Option Network) × Leaves left text (state None d s) (state m d' s') × (status ≡ status_left left)
 
 -- What a call for the next line gave.
 abbrev pub Gave : Result (Option (Vec ℕ Global)) Refusal → Input → Input → Type 0

@@ -1,6 +1,6 @@
--- What is run by what the words of a call mean.
-use Rattle.std.specs.Prelude.{◌≡◌, ℕ, List, [], ◌∷◌, Option, Some, None, ⊤}
-use Rattle.syn_usage.specs.Usage.{refusals, script_in}
+-- What is run by what the words of a call ask for.
+use Rattle.std.specs.Prelude.{◌≡◌, ℕ, List, Option, Some, None, ⊤}
+use Rattle.syn_arguments.specs.Asked.{Asked, asked}
 use Rattle.syn_shell.specs.declared.refusal.Refusal.{Refusal}
 use Rattle.syn_shell.specs.declared.refusal.Refusal.TheVariants.{Words, NoMemory}
 
@@ -10,20 +10,23 @@ pub data Usage : Type 0 where
   EachLine : Usage
   Faulty : Usage
 
--- what is run, by the refusals of the words and their script
-abbrev pub usage_by : {K : Type 0} → List K → Option (List ℕ) → Usage
-usage_by [] (Some script) = OneScript script
-usage_by [] None = EachLine
-usage_by (refusal ∷ more) script = Faulty
+-- what is run where words are taken: their script, and without one the lines
+abbrev pub script_usage : Option (List ℕ) → Usage
+script_usage (Some script) = OneScript script
+script_usage None = EachLine
 
--- Words are faulty where the command refuses them for any cause. Without a script the lines are run.
+-- what is run by what words ask for; they are faulty where they ask for nothing
+abbrev pub usage_by : Option Asked → Usage
+usage_by (Some wanted) = script_usage wanted.script
+usage_by None = Faulty
+
+-- What is run by words. The number of workers is no part of it: they change nothing that is told.
 abbrev pub usage_of : List (List ℕ) → Usage
-usage_of words = usage_by (refusals words) (script_in words)
+usage_of words = usage_by (asked words)
 
 -- What an answer of a script, or of none, says of the words.
 abbrev pub Understood : List (List ℕ) → Option (List ℕ) → Type 0
-Understood words (Some script) = usage_of words ≡ OneScript script
-Understood words None = usage_of words ≡ EachLine
+Understood words script = usage_of words ≡ script_usage script
 
 -- Why words are refused: they are faulty, or memory was refused.
 abbrev pub WordsRefused : List (List ℕ) → Refusal → Type 0

@@ -1,14 +1,14 @@
 //! The shell: what reads, shows and writes netlists.
 #![tactic(auto)]
 
+mod announcing;
+mod arguments;
 mod laws;
 mod line_mode;
 mod lines;
 mod refusal;
 mod scripts;
 mod session;
-mod telling;
-mod usage;
 mod whole_run;
 
 pub use laws::few_lines;

@@ -1,15 +1,16 @@
 //! Line mode: each line is a script, and the run goes on behind a refusal.
 
-ghost use Rattle.std.specs.Prelude.{◌≡◌, ℕ, List, None, Option};
-ghost use Rattle.syn_netlist.specs.Lists.{Netlist};
+ghost use Rattle.std.specs.Prelude.{◌≡◌, ◌≤◌, None, Option};
+ghost use Rattle.syn_io.specs.Outside.{Disk};
+ghost use Rattle.syn_shell.specs.Networks.{Network};
 ghost use Rattle.syn_shell.specs.LineMode.{most_lines};
-ghost use Rattle.syn_shell.specs.Outside.{disk, input, screen, state};
+ghost use Rattle.syn_shell.specs.Outside.{state};
 ghost use Rattle.syn_shell.specs.Stopping.{first_status, Gave, RanLines, Turned};
 
+use crate::announcing::{Announcement, announce};
 use crate::refusal::Refusal;
 use crate::scripts::{SCRIPT_LIMIT, run_script};
 use crate::session::Session;
-use crate::telling::{Telling, tell};
 use std::alloc::Global;
 use syn_io::{Files, LineFault, Lines, Sink};
 
@@ -25,7 +26,7 @@ enum Turn {
 
 // The next line.
 fn next_line<L: Lines>(alloc: Global, lines: &mut L) -> Result<Option<Vec<u8>>, Refusal>
-    ensures { Gave result (input (L.told lines.old) (L.faults lines.old)) (input (L.told lines.new) (L.faults lines.new)) }
+    ensures { Gave result (L.input lines.old) (L.input lines.new) }
 {
     match lines.next(alloc, SCRIPT_LIMIT as u64) {
         Ok(line) => Ok(line),
@@ -50,44 +51,45 @@ fn take_turn<F: Files, L: Lines, O: Sink>(
     lines: &mut L,
     out: &mut O,
 ) -> Turn
-    ensures { Turned result (state session.old (disk (F.told files.old) (F.faults files.old)) (screen (O.told out.old) (O.faults out.old))) (input (L.told lines.old) (L.faults lines.old))
-        (state session.new (disk (F.told files.new) (F.faults files.new)) (screen (O.told out.new) (O.faults out.new))) (input (L.told lines.new) (L.faults lines.new)) }
+    ensures { Turned result (state session.old (F.disk files.old) (O.screen out.old)) (L.input lines.old)
+        (state session.new (F.disk files.new) (O.screen out.new)) (L.input lines.new) }
 {
     let line = match next_line(alloc, lines) {
         Ok(Some(line)) => line,
         Ok(None) => return Turn::Ends(0),
-        Err(cause) => return Turn::Ends(tell(out, &cause, &[]).status()),
+        Err(cause) => return Turn::Ends(announce(out, &cause, &[]).status()),
     };
     match run_script(alloc, session, line.as_slice(), files, out) {
         None => Turn::GoesOn(0),
-        Some(Telling::Whole(status)) => Turn::GoesOn(status),
-        Some(Telling::Cut(status)) => Turn::Ends(status),
+        Some(Announcement::Whole(status)) => Turn::GoesOn(status),
+        Some(Announcement::Cut(status)) => Turn::Ends(status),
     }
 }
 
 // Behind as many lines as are run a further one is refused.
 fn last_turn<L: Lines, O: Sink>(alloc: Global, lines: &mut L, out: &mut O) -> u8
-    ensures each { (m : Option Netlist) (told : Option (List (List ℕ × List ℕ))) (faults : ℕ) → RanLines result most_lines (state m (disk told faults) (screen (O.told out.old) (O.faults out.old))) (input (L.told lines.old) (L.faults lines.old))
-        (state m (disk told faults) (screen (O.told out.new) (O.faults out.new))) (input (L.told lines.new) (L.faults lines.new)) }
+    ensures each { (m : Option Network) (files : Disk) → RanLines result most_lines (state m files (O.screen out.old)) (L.input lines.old) (state m files (O.screen out.new)) (L.input lines.new) }
 {
     match next_line(alloc, lines) {
         Ok(None) => 0,
-        Ok(Some(_)) => tell(out, &Refusal::TooManyLines, &[]).status(),
-        Err(cause) => tell(out, &cause, &[]).status(),
+        Ok(Some(_)) => announce(out, &Refusal::TooManyLines, &[]).status(),
+        Err(cause) => announce(out, &cause, &[]).status(),
     }
 }
 
 /// Runs the lines, each as a script, and gives the status of the first refusal, 0 where nothing was refused.
 pub(crate) fn run_lines<F: Files, L: Lines, O: Sink>(
     alloc: Global,
+    workers: u8,
     files: &mut F,
     lines: &mut L,
     out: &mut O,
 ) -> u8
-    ensures { (m : Option Netlist) × RanLines result 0 (state None (disk (F.told files.old) (F.faults files.old)) (screen (O.told out.old) (O.faults out.old))) (input (L.told lines.old) (L.faults lines.old))
-        (state m (disk (F.told files.new) (F.faults files.new)) (screen (O.told out.new) (O.faults out.new))) (input (L.told lines.new) (L.faults lines.new)) }
+    requires { (1 ≤ workers) × (workers ≤ 16) }
+    ensures { (m : Option Network) × RanLines result 0 (state None (F.disk files.old) (O.screen out.old)) (L.input lines.old)
+        (state m (F.disk files.new) (O.screen out.new)) (L.input lines.new) }
 {
-    let mut session = Session::new();
+    let mut session = Session::new(workers);
     let mut status: u8 = 0;
     for _taken in 0..MOST_LINES {
         match take_turn(alloc, &mut session, files, lines, out) {

@@ -7,9 +7,10 @@ ghost use Rattle.syn_rows.specs.Levels.{level_in, levels_of};
 ghost use Rattle.syn_netlist.specs.Frames.{frame_in};
 ghost use Rattle.syn_netlist.specs.Lists.{Frame};
 ghost use Rattle.syn_graph.specs.Graphs.{network_of};
-ghost use Rattle.syn_shell.specs.Lines.{greatest, IsNumbersLine, numbers_text};
-ghost use Rattle.syn_shell.specs.Outside.{screen, Took};
-ghost use Rattle.syn_shell.specs.Steps.{StatsRefused};
+ghost use Rattle.syn_shell.specs.Lines.{greatest, IsNumbersLine, IsStatsLine, numbers_text};
+ghost use Rattle.syn_shell.specs.Outside.{Took};
+ghost use Rattle.syn_shell.specs.Networks.{graph_network};
+ghost use Rattle.syn_shell.specs.Steps.{PrintRefused};
 
 use crate::refusal::Refusal;
 use itoa::Buffer;
@@ -98,9 +99,8 @@ fn network_line(alloc: Global, graph: &Graph) -> Result<Vec<u8>, AllocError>
 
 /// Prints the network's line.
 pub(crate) fn print_stats<O: Sink>(alloc: Global, graph: &Graph, out: &mut O) -> Result<(), Refusal>
-    ensures printed { OnOk result ((line : List ℕ) × IsNumbersLine (network_of graph.now) line
-        × Took line (screen (O.told out.old) (O.faults out.old)) (screen (O.told out.new) (O.faults out.new))) }
-    ensures refused { IfErr result (StatsRefused (Some (network_of graph.now)) (screen (O.told out.old) (O.faults out.old)) (screen (O.told out.new) (O.faults out.new))) }
+    ensures printed { OnOk result ((line : List ℕ) × IsStatsLine (graph_network (network_of graph.now)) line × Took line (O.screen out.old) (O.screen out.new)) }
+    ensures refused { IfErr result (PrintRefused (Some (graph_network (network_of graph.now))) (O.screen out.old) (O.screen out.new)) }
 {
     let line = network_line(alloc, graph)?;
     match out.put(line.as_slice()) {

@@ -1,13 +1,13 @@
 //! A script: its commands one after the other, up to the first that is refused.
 
-ghost use Rattle.std.specs.Prelude.{◌≡◌, None};
-ghost use Rattle.syn_shell.specs.Outside.{disk, screen, state};
+ghost use Rattle.std.specs.Prelude.{◌≡◌, Err, None, Some};
+ghost use Rattle.syn_shell.specs.Outside.{state};
 ghost use Rattle.syn_shell.specs.Scripts.{name_in, RunsCommands};
 ghost use Rattle.syn_shell.specs.Stopping.{Leaves, outcome_of, Parsed};
 
+use crate::announcing::{Announcement, announce};
 use crate::refusal::Refusal;
 use crate::session::Session;
-use crate::telling::{Telling, tell};
 use std::alloc::Global;
 use syn_io::{Files, Sink};
 use syn_words::{Command, ScriptFault, parse_script};
@@ -29,6 +29,16 @@ fn name_in(command: &Command) -> &[u8]
     match command {
         Command::Read(name) | Command::Write(name) => name.as_str().as_bytes(),
         _ => &[],
+    }
+}
+
+// A command was refused for this cause.
+fn stopped_at(command: &Command, cause: Refusal) -> Stopped<'_>
+    ensures { outcome_of (Err result) ≡ Some (record { cause = cause; name = name_in command.now }) }
+{
+    Stopped {
+        cause,
+        name: name_in(command),
     }
 }
 
@@ -54,18 +64,12 @@ fn run_commands<'a, F: Files, O: Sink>(
     files: &mut F,
     out: &mut O,
 ) -> Result<(), Stopped<'a>>
-    ensures { RunsCommands commands.now (state session.old (disk (F.told files.old) (F.faults files.old)) (screen (O.told out.old) (O.faults out.old)))
-        (outcome_of result) (state session.new (disk (F.told files.new) (F.faults files.new)) (screen (O.told out.new) (O.faults out.new))) }
+    ensures { RunsCommands commands.now (state session.old (F.disk files.old) (O.screen out.old))
+        (outcome_of result) (state session.new (F.disk files.new) (O.screen out.new)) }
 {
     for command in commands {
-        match session.step(alloc, command, files, out) {
-            Ok(()) => {}
-            Err(cause) => {
-                return Err(Stopped {
-                    cause,
-                    name: name_in(command),
-                });
-            }
+        if let Err(cause) = session.step(alloc, command, files, out) {
+            return Err(stopped_at(command, cause));
         }
     }
     Ok(())
@@ -78,16 +82,16 @@ pub(crate) fn run_script<F: Files, O: Sink>(
     text: &[u8],
     files: &mut F,
     out: &mut O,
-) -> Option<Telling>
-    ensures { Leaves result text.now (state session.old (disk (F.told files.old) (F.faults files.old)) (screen (O.told out.old) (O.faults out.old)))
-        (state session.new (disk (F.told files.new) (F.faults files.new)) (screen (O.told out.new) (O.faults out.new))) }
+) -> Option<Announcement>
+    ensures { Leaves result text.now (state session.old (F.disk files.old) (O.screen out.old))
+        (state session.new (F.disk files.new) (O.screen out.new)) }
 {
     let commands = match commands_in(alloc, text) {
         Ok(commands) => commands,
-        Err(cause) => return Some(tell(out, &cause, &[])),
+        Err(cause) => return Some(announce(out, &cause, &[])),
     };
     match run_commands(alloc, session, commands.as_slice(), files, out) {
         Ok(()) => None,
-        Err(stopped) => Some(tell(out, &stopped.cause, stopped.name)),
+        Err(stopped) => Some(announce(out, &stopped.cause, stopped.name)),
     }
 }

@@ -1,16 +1,16 @@
 //! The session: the network, and the commands that make, show and write it.
 
-ghost use Rattle.std.specs.Prelude.{◌≡◌, ◌⊎◌, ℕ, ◌+◌, ◌≤◌, ◌<◌, ◌^◌, List, length, IfOk, IfErr, IfSome, IsErrOf, OnOk, Ok, Err, Some, None, true};
-ghost use Rattle.syn_io.specs.Outside.{file_at, Rose};
+ghost use Rattle.std.specs.Prelude.{◌≡◌, ◌⊎◌, ◌≤◌, ◌<◌, ◌^◌, length, IfOk, IfErr, OnOk, Some, None};
+ghost use Rattle.syn_io.specs.Outside.{Rose};
 ghost use Rattle.syn_netlist.specs.Faults.{IsChecked};
 ghost use Rattle.syn_netlist.specs.Views.{netlist_in};
 ghost use Rattle.syn_reader.specs.Reading.{Reads};
 ghost use Rattle.syn_reader.specs.Limits.{Within};
 ghost use Rattle.syn_shapes.specs.Printed.{printed};
 ghost use Rattle.syn_graph.specs.Graphs.{network_of};
-ghost use Rattle.syn_shell.specs.Graphs.{network_in};
-ghost use Rattle.syn_shell.specs.Outside.{disk, FileIs, FilesStand, OthersStand, screen};
-ghost use Rattle.syn_shell.specs.Steps.{BalancesTo, file_limit, IsBalanced, IsReadAs, ParseRefused, ReadRefused, RemakingRefused, SessionStep, StaysBalanced, WriteRefused};
+ghost use Rattle.syn_shell.specs.Networks.{graph_network};
+ghost use Rattle.syn_shell.specs.Outside.{FileIs, FilesStand, OthersStand, state};
+ghost use Rattle.syn_shell.specs.Steps.{file_limit, IsBalanced, IsReadAs, IsRemade, Makes, MakingRefused, ParseRefused, ReadRefused, Remakes, SessionStep, WriteRefused};
 
 use crate::lines::print_stats;
 use crate::refusal::Refusal;
@@ -26,28 +26,31 @@ use syn_words::Command;
 
 const FILE_LIMIT: u64 = 16_777_216;
 
-/// What is kept from command to command: the network, as a graph. Contracts see the netlist that it is written as.
+/// What is kept from command to command: the network, as a graph. Contracts see the netlist that it is written as, with
+/// the mark that it is no net of LUTs. The number of workers changes nothing that they see.
 #[derive(Debug, Drop)]
 pub struct Session {
     network: Option<Graph>,
+    workers: u8,
 }
 
 impl Model for Session {
-    ghost use Rattle.std.specs.Prelude.{Option};
-    ghost use Rattle.syn_netlist.specs.Lists.{Netlist};
-    ghost use Rattle.syn_shell.specs.Graphs.{network_in};
+    ghost use Rattle.std.specs.Prelude.{◌≤◌, Option};
+    ghost use Rattle.syn_shell.specs.Networks.{Network, network_in};
 
-    ghost Value = { Option Netlist };
+    ghost Value = { Option Network };
 
     ghost view = { λ session. network_in session.network };
+
+    ghost invariant = { λ session. (1 ≤ session.workers) × (session.workers ≤ 16) };
 }
 
 // The bytes of a file.
 fn get<F: Files>(alloc: Global, name: &str, files: &mut F) -> Result<Vec<u8>, Refusal>
-    ensures file { IfOk result (λ bytes. FileIs name.now (disk (F.told files.old) (F.faults files.old)) bytes.items) }
+    ensures file { IfOk result (λ bytes. FileIs name.now (F.disk files.old) bytes.items) }
     ensures short { IfOk result (λ bytes. length bytes.items ≤ file_limit) }
-    ensures refused { IfErr result (ReadRefused name.now (disk (F.told files.old) (F.faults files.old)) (disk (F.told files.new) (F.faults files.new))) }
-    ensures stand { FilesStand (disk (F.told files.old) (F.faults files.old)) (disk (F.told files.new) (F.faults files.new)) }
+    ensures refused { IfErr result (ReadRefused name.now (F.disk files.old) (F.disk files.new)) }
+    ensures stand { FilesStand (F.disk files.old) (F.disk files.new) }
 {
     match files.get(alloc, name, FILE_LIMIT) {
         Ok(bytes) => Ok(bytes),
@@ -75,9 +78,9 @@ fn parse(alloc: Global, bytes: &[u8]) -> Result<Netlist, Refusal>
 
 // The graph of a file's netlist.
 fn read<F: Files>(alloc: Global, name: &str, files: &mut F) -> Result<Graph, Refusal>
-    ensures read { IfOk result (λ graph. IsReadAs name.now (disk (F.told files.old) (F.faults files.old)) (network_of graph)) }
-    ensures refused { IfErr result (ReadRefused name.now (disk (F.told files.old) (F.faults files.old)) (disk (F.told files.new) (F.faults files.new))) }
-    ensures stand { FilesStand (disk (F.told files.old) (F.faults files.old)) (disk (F.told files.new) (F.faults files.new)) }
+    ensures read { IfOk result (λ graph. IsReadAs name.now (F.disk files.old) (network_of graph)) }
+    ensures refused { IfErr result (ReadRefused name.now (F.disk files.old) (F.disk files.new)) }
+    ensures stand { FilesStand (F.disk files.old) (F.disk files.new) }
 {
     let bytes = get(alloc, name, files)?;
     let netlist = parse(alloc, bytes.as_slice())?;
@@ -87,9 +90,9 @@ fn read<F: Files>(alloc: Global, name: &str, files: &mut F) -> Result<Graph, Ref
 
 // Writes bytes to a file.
 fn put<F: Files>(alloc: Global, name: &str, bytes: &[u8], files: &mut F) -> Result<(), Refusal>
-    ensures file { OnOk result (FileIs name.now (disk (F.told files.new) (F.faults files.new)) bytes.now) }
-    ensures refused { IfErr result (λ refusal. (refusal ≡ Refusal.NoMemory) ⊎ ((refusal ≡ Refusal.PutFailed) × Rose (F.faults files.old) (F.faults files.new))) }
-    ensures others { OthersStand name.now (disk (F.told files.old) (F.faults files.old)) (disk (F.told files.new) (F.faults files.new)) }
+    ensures file { OnOk result (FileIs name.now (F.disk files.new) bytes.now) }
+    ensures refused { IfErr result (λ refusal. (refusal ≡ Refusal.NoMemory) ⊎ ((refusal ≡ Refusal.PutFailed) × Rose (F.disk files.old).faults (F.disk files.new).faults)) }
+    ensures others { OthersStand name.now (F.disk files.old) (F.disk files.new) }
 {
     match files.put(alloc, name, bytes) {
         Ok(()) => Ok(()),
@@ -109,78 +112,80 @@ fn printed(alloc: Global, graph: &Graph) -> Result<Vec<u8>, AllocError>
 
 // Writes the netlist of a graph to a file.
 fn write<F: Files>(alloc: Global, graph: &Graph, name: &str, files: &mut F) -> Result<(), Refusal>
-    ensures file { OnOk result (FileIs name.now (disk (F.told files.new) (F.faults files.new)) (printed (network_of graph.now))) }
-    ensures refused { IfErr result (WriteRefused (Some (network_of graph.now)) name.now (disk (F.told files.old) (F.faults files.old)) (disk (F.told files.new) (F.faults files.new))) }
-    ensures others { OthersStand name.now (disk (F.told files.old) (F.faults files.old)) (disk (F.told files.new) (F.faults files.new)) }
+    ensures file { OnOk result (FileIs name.now (F.disk files.new) (printed (network_of graph.now))) }
+    ensures refused { IfErr result (WriteRefused (Some (graph_network (network_of graph.now))) name.now (F.disk files.old) (F.disk files.new)) }
+    ensures others { OthersStand name.now (F.disk files.old) (F.disk files.new) }
 {
     let bytes = printed(alloc, graph)?;
     put(alloc, name, bytes.as_slice(), files)
 }
 
+// A graph, hashed and compacted: it is so already, and stays.
+fn hashed(graph: Graph) -> Graph
+    ensures { IsRemade (graph_network (network_of graph)) (graph_network (network_of result)) }
+{
+    syn_shapes::network_of_graph();
+    syn_shapes::graph_has_function();
+    syn_netlist::same_from_function();
+    graph
+}
+
 // A graph, balanced; refused, the graph as it was.
-fn balanced(alloc: Global, graph: Graph) -> Result<Graph, Graph>
-    ensures balanced { IfOk result (λ new. IsBalanced (network_of graph) (network_of new)) }
-    ensures refused { IfErr result (λ same. network_of same ≡ network_of graph) }
+fn balanced(alloc: Global, graph: Graph) -> Result<Graph, (Graph, Refusal)>
+    ensures balanced { IfOk result (λ new. IsBalanced (graph_network (network_of graph)) (graph_network (network_of new))) }
+    ensures refused { IfErr result (λ back. (network_of back.0 ≡ network_of graph) × (back.1 ≡ Refusal.NoMemory)) }
 {
     syn_shapes::network_of_graph();
     syn_shapes::graph_has_function();
     syn_netlist::same_from_function();
     match syn_balance::balance(alloc, graph) {
         Ok(new) => Ok(new),
-        Err((graph, _)) => Err(graph),
+        Err((graph, _)) => Err((graph, Refusal::NoMemory)),
     }
 }
 
-// A graph is what hashing, compaction and balancing may make of it.
-fn stays(graph: &Graph)
-    ensures { IsBalanced (network_of graph.now) (network_of graph.now) }
+// What a command makes of a graph; refused, the graph as it was. A command that makes none leaves it.
+fn remake(alloc: Global, command: &Command, graph: Graph) -> Result<Graph, (Graph, Refusal)>
+    ensures made { IfOk result (λ new. Makes command.now (graph_network (network_of graph)) (graph_network (network_of new))) }
+    ensures refused { IfErr result (λ back. (network_of back.0 ≡ network_of graph) × (back.1 ≡ Refusal.NoMemory)) }
 {
-    syn_shapes::network_of_graph();
-    syn_shapes::graph_has_function();
-    syn_netlist::same_from_function();
-}
-
-// The refusal of a command that needs a network, or what is left of one that has it: the network stays as it is, since
-// the rows of every graph are hashed and reached.
-fn remake(network: &Option<Graph>) -> Result<(), Refusal>
-    ensures done { OnOk result (StaysBalanced (network_in network.now)) }
-    ensures refused { IfErr result (RemakingRefused (network_in network.now)) }
-{
-    match network {
-        None => Err(Refusal::NoNetwork),
-        Some(graph) => {
-            stays(graph);
-            Ok(())
-        }
+    match command {
+        Command::Strash => Ok(hashed(graph)),
+        Command::Balance => balanced(alloc, graph),
+        Command::Read(_) | Command::Stats | Command::Write(_) => Ok(graph),
     }
 }
 
 impl Session {
-    // Balances the network.
-    fn balance(&mut self, alloc: Global) -> Result<(), Refusal>
-        ensures balanced { OnOk result (BalancesTo self.old self.new) }
-        ensures refused { IfErr result (λ cause. RemakingRefused self.old cause × (self.new ≡ self.old)) }
+    /// No network yet; and so many workers, 1 to 16, for each command that names no number of them.
+    pub fn new(workers: u8) -> Session
+        requires { (1 ≤ workers) × (workers ≤ 16) }
+        ensures { result ≡ None }
+    {
+        Session {
+            network: None,
+            workers,
+        }
+    }
+
+    // Makes the network anew.
+    fn make(&mut self, alloc: Global, command: &Command) -> Result<(), Refusal>
+        ensures made { OnOk result (Remakes command.now self.old self.new) }
+        ensures refused { IfErr result (λ cause. MakingRefused self.old cause × (self.new ≡ self.old)) }
     {
         let Some(graph) = self.network.take() else {
             return Err(Refusal::NoNetwork);
         };
-        match balanced(alloc, graph) {
+        match remake(alloc, command, graph) {
             Ok(new) => {
                 self.network = Some(new);
                 Ok(())
             }
-            Err(same) => {
+            Err((same, cause)) => {
                 self.network = Some(same);
-                Err(Refusal::NoMemory)
+                Err(cause)
             }
         }
-    }
-
-    /// No network yet.
-    pub fn new() -> Session
-        ensures { result ≡ None }
-    {
-        Session { network: None }
     }
 
     /// Does one command. Refused, it leaves the network.
@@ -191,8 +196,7 @@ impl Session {
         files: &mut F,
         out: &mut O,
     ) -> Result<(), Refusal>
-        ensures { SessionStep command.now self.old (disk (F.told files.old) (F.faults files.old)) (screen (O.told out.old) (O.faults out.old))
-            result self.new (disk (F.told files.new) (F.faults files.new)) (screen (O.told out.new) (O.faults out.new)) }
+        ensures { SessionStep command.now (state self.old (F.disk files.old) (O.screen out.old)) result (state self.new (F.disk files.new) (O.screen out.new)) }
     {
         match command {
             Command::Read(name) => {
@@ -208,8 +212,7 @@ impl Session {
                 None => Err(Refusal::NoNetwork),
                 Some(graph) => write(alloc, graph, name.as_str(), files),
             },
-            Command::Strash => remake(&self.network),
-            Command::Balance => self.balance(alloc),
+            Command::Strash | Command::Balance => self.make(alloc, command),
         }
     }
 }

@@ -1,17 +1,35 @@
 //! The run: what the words mean, one script or each line, the status.
 
-ghost use Rattle.std.specs.Prelude.{◌≡◌, map, string_bytes};
-ghost use Rattle.syn_shell.specs.Outside.{disk, input, screen};
+ghost use Rattle.std.specs.Prelude.{◌≡◌, ◌≤◌, map, string_bytes};
+ghost use Rattle.syn_shell.specs.Stopping.{RanOne};
 ghost use Rattle.syn_shell.specs.Counts.{SomeFault};
 ghost use Rattle.syn_shell.specs.Runs.{Ran, RanAccepted};
 
+use crate::announcing::announce;
+use crate::arguments::arguments_in;
 use crate::line_mode::run_lines;
 use crate::scripts::run_script;
 use crate::session::Session;
-use crate::telling::tell;
-use crate::usage::script_in;
 use std::alloc::Global;
 use syn_io::{Files, Lines, Sink};
+
+// Runs one script, and gives the status of its refusal, 0 where nothing was refused.
+fn run_one<F: Files, O: Sink>(
+    alloc: Global,
+    workers: u8,
+    text: &[u8],
+    files: &mut F,
+    out: &mut O,
+) -> u8
+    requires { (1 ≤ workers) × (workers ≤ 16) }
+    ensures { RanOne result text.now (F.disk files.old) (O.screen out.old) (F.disk files.new) (O.screen out.new) }
+{
+    let mut session = Session::new(workers);
+    match run_script(alloc, &mut session, text, files, out) {
+        None => 0,
+        Some(announcement) => announcement.status(),
+    }
+}
 
 // Runs what the words mean.
 fn run_words<F: Files, L: Lines, O: Sink>(
@@ -21,18 +39,16 @@ fn run_words<F: Files, L: Lines, O: Sink>(
     lines: &mut L,
     out: &mut O,
 ) -> u8
-    ensures ran { Ran (map string_bytes words.now) (disk (F.told files.old) (F.faults files.old)) (screen (O.told out.old) (O.faults out.old)) (input (L.told lines.old) (L.faults lines.old))
-        (disk (F.told files.new) (F.faults files.new)) (screen (O.told out.new) (O.faults out.new)) (input (L.told lines.new) (L.faults lines.new)) result }
+    ensures ran { Ran (map string_bytes words.now) (F.disk files.old) (O.screen out.old) (L.input lines.old)
+        (F.disk files.new) (O.screen out.new) (L.input lines.new) result }
 {
-    let script = match script_in(alloc, words) {
-        Ok(Some(script)) => script,
-        Ok(None) => return run_lines(alloc, files, lines, out),
-        Err(cause) => return tell(out, &cause, &[]).status(),
+    let asked = match arguments_in(alloc, words) {
+        Ok(asked) => asked,
+        Err(cause) => return announce(out, &cause, &[]).status(),
     };
-    let mut session = Session::new();
-    match run_script(alloc, &mut session, script.as_bytes(), files, out) {
-        None => 0,
-        Some(telling) => telling.status(),
+    match asked.script {
+        None => run_lines(alloc, asked.workers, files, lines, out),
+        Some(script) => run_one(alloc, asked.workers, script.as_bytes(), files, out),
     }
 }
 
@@ -49,12 +65,12 @@ pub fn run<F: Files, L: Lines, O: Sink>(
     lines: &mut L,
     out: &mut O,
 ) -> u8
-    ensures ran { Ran (map string_bytes words.now) (disk (F.told files.old) (F.faults files.old)) (screen (O.told out.old) (O.faults out.old)) (input (L.told lines.old) (L.faults lines.old))
-        (disk (F.told files.new) (F.faults files.new)) (screen (O.told out.new) (O.faults out.new)) (input (L.told lines.new) (L.faults lines.new)) result }
-    ensures accepted { result ≡ 0 → RanAccepted (map string_bytes words.now) (disk (F.told files.old) (F.faults files.old)) (screen (O.told out.old) (O.faults out.old)) (input (L.told lines.old) (L.faults lines.old))
-        (disk (F.told files.new) (F.faults files.new)) (screen (O.told out.new) (O.faults out.new)) (input (L.told lines.new) (L.faults lines.new)) }
-    ensures failed { result ≡ 7 → SomeFault (disk (F.told files.old) (F.faults files.old)) (screen (O.told out.old) (O.faults out.old)) (input (L.told lines.old) (L.faults lines.old))
-        (disk (F.told files.new) (F.faults files.new)) (screen (O.told out.new) (O.faults out.new)) (input (L.told lines.new) (L.faults lines.new)) }
+    ensures ran { Ran (map string_bytes words.now) (F.disk files.old) (O.screen out.old) (L.input lines.old)
+        (F.disk files.new) (O.screen out.new) (L.input lines.new) result }
+    ensures accepted { result ≡ 0 → RanAccepted (map string_bytes words.now) (F.disk files.old) (O.screen out.old) (L.input lines.old)
+        (F.disk files.new) (O.screen out.new) (L.input lines.new) }
+    ensures failed { result ≡ 7 → SomeFault (F.disk files.old) (O.screen out.old) (L.input lines.old)
+        (F.disk files.new) (O.screen out.new) (L.input lines.new) }
 {
     run_words(alloc, words, files, lines, out)
 }

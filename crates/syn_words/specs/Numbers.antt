@@ -1,5 +1,5 @@
 -- Numbers in scripts: one or more digits, of which leading ones may be zeros.
-use Rattle.std.specs.Prelude.{ℕ, ◌+◌, ◌-◌, ◌*◌, nat_le, nat_lt, ◌&&◌, Bool, if◌then◌else◌, List, [], ◌∷◌, length, Result, Ok, Err}
+use Rattle.std.specs.Prelude.{ℕ, ◌+◌, ◌-◌, ◌*◌, nat_le, nat_lt, ◌&&◌, Bool, if◌then◌else◌, List, [], ◌∷◌, length, Option, Some, None, Result, Ok, Err}
 use Rattle.std.specs.List.{list_all}
 use Rattle.syn_words.specs.declared.words.Word.{Word}
 use Rattle.syn_words.specs.declared.forms.NumberRange.{NumberRange}
@@ -26,6 +26,10 @@ number_of digits = number_after 0 digits
 -- A number lies in a range, whose ends belong to it.
 abbrev pub is_within : NumberRange → ℕ → Bool
 is_within range n = nat_le range.least n && nat_le n range.most
+
+-- The number that a text spells, where it lies in a range.
+abbrev pub number_in : NumberRange → List ℕ → Option ℕ
+number_in range text = if is_number text && is_within range (number_of text) then Some (number_of text) else None
 
 -- What a word says where a number in a range stands: the number, or it is none, or out of the range.
 abbrev pub number_at : NumberRange → Word → Result ℕ ScriptFault

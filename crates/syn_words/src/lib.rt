@@ -22,8 +22,10 @@ mod reading;
 mod table;
 mod words;
 
+pub use forms::NumberRange;
 pub use laws::{either_or, not_both, one_fault, one_script, worked_forms, worked_scripts};
 pub use names::FileName;
+pub use numbers::number_in;
 use std::alloc::{AllocError, AllocFailed, Global};
 use table::push_commands;
 use thiserror::Error;

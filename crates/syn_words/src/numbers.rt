@@ -2,7 +2,7 @@
 
 ghost use Rattle.std.specs.Prelude.{◌≡◌, ◌+◌, ◌-◌, ◌*◌, ◌<◌, ◌≤◌, ◌^◌, true, IfSome, IfNone, SomeIff};
 ghost use Rattle.std.specs.List.{list_all};
-ghost use Rattle.syn_words.specs.Numbers.{is_digit, is_number, is_within, number_at, number_of};
+ghost use Rattle.syn_words.specs.Numbers.{is_digit, is_number, is_within, number_at, number_in, number_of};
 
 use crate::ScriptFault;
 use crate::forms::NumberRange;
@@ -62,6 +62,19 @@ fn is_within(range: NumberRange, number: u64) -> bool
     ensures { result ≡ is_within range number }
 {
     range.least <= number && number <= range.most
+}
+
+/// The number that a text spells in decimal digits without a sign, where it lies in a range.
+pub fn number_in(range: NumberRange, text: &[u8]) -> Option<u64>
+    ensures { result ≡ number_in range text.now }
+{
+    if !is_number(text) {
+        return None;
+    }
+    match number_of(text) {
+        Some(number) if is_within(range, number) => Some(number),
+        _ => None,
+    }
 }
 
 /// The number that a word spells where one in a range stands.

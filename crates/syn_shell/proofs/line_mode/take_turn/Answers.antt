@@ -1,7 +1,8 @@
 use Rattle.std.proofs.Common.{ℕ, List, ap, ◌∙◌, subst, Option, Some, Ok}
-use Rattle.syn_shell.specs.declared.telling.Telling.{Telling}
-use Rattle.syn_shell.specs.declared.telling.Telling.TheVariants.{Cut}
-use Rattle.syn_shell.specs.Outside.{Input, State, input, disk, screen, state}
+use Rattle.syn_shell.specs.declared.announcing.Announcement.{Announcement}
+use Rattle.syn_shell.specs.declared.announcing.Announcement.TheVariants.{Cut}
+use Rattle.syn_io.specs.Outside.{Input}
+use Rattle.syn_shell.specs.Outside.{State, state}
 use Rattle.syn_shell.specs.Stopping.{Leaves}
 use Rattle.syn_shell.proofs.Giving.{gave_line, gave_none}
 use Rattle.syn_shell.proofs.Turning.{turned_none, turned_refused, turned_by}
@@ -9,26 +10,26 @@ use Rattle.syn_shell.proofs.line_mode.take_turn.Goals as goal
 
 pub returns-in-Ok-None : goal.returns-in-Ok-None
 returns-in-Ok-None g c =
-    let i : Input = input (g.L.Lines.told c.args.lines.now) (g.L.Lines.faults c.args.lines.now) in
-    let j : Input = input (g.L.Lines.told c.next_line.new.lines) (g.L.Lines.faults c.next_line.new.lines) in
-    turned_none (state c.args.session.now (disk (g.F.Files.told c.args.files.now) (g.F.Files.faults c.args.files.now)) (screen (g.O.Sink.told c.args.out.now) (g.O.Sink.faults c.args.out.now))) i j
+    let i : Input = g.L.Lines.input c.args.lines.now in
+    let j : Input = g.L.Lines.input c.next_line.new.lines in
+    turned_none (state c.args.session.now (g.F.Files.disk c.args.files.now) (g.O.Sink.screen c.args.out.now)) i j
     (gave_none c.next_line.result i j (c.in-Ok-None.is ∙ ap (λ x. Ok x) c.in-Ok-None.field-0-is) c.next_line.ensures)
 
 pub returns-in-Err : goal.returns-in-Err
 returns-in-Err g c =
-    let i : Input = input (g.L.Lines.told c.args.lines.now) (g.L.Lines.faults c.args.lines.now) in
-    let j : Input = input (g.L.Lines.told c.next_line.new.lines) (g.L.Lines.faults c.next_line.new.lines) in
-    turned_refused c.status.result c.tell.result c.in-Err.cause c.args.session.now (disk (g.F.Files.told c.args.files.now) (g.F.Files.faults c.args.files.now))
-    (screen (g.O.Sink.told c.args.out.now) (g.O.Sink.faults c.args.out.now)) (screen (g.O.Sink.told c.tell.new.out) (g.O.Sink.faults c.tell.new.out)) i j c.status.ensures c.in-Err.ensures c.tell.ensures
+    let i : Input = g.L.Lines.input c.args.lines.now in
+    let j : Input = g.L.Lines.input c.next_line.new.lines in
+    turned_refused c.status.result c.announce.result c.in-Err.cause c.args.session.now (g.F.Files.disk c.args.files.now)
+    (g.O.Sink.screen c.args.out.now) (g.O.Sink.screen c.announce.new.out) i j c.status.ensures c.in-Err.ensures c.announce.ensures
 
 pub returns : goal.returns
 returns g c =
-    let i : Input = input (g.L.Lines.told c.args.lines.now) (g.L.Lines.faults c.args.lines.now) in
-    let j : Input = input (g.L.Lines.told c.next_line.new.lines) (g.L.Lines.faults c.next_line.new.lines) in
-    let before : State = state c.args.session.now (disk (g.F.Files.told c.args.files.now) (g.F.Files.faults c.args.files.now)) (screen (g.O.Sink.told c.args.out.now) (g.O.Sink.faults c.args.out.now)) in
-    let after : State = state c.run_script.new.session (disk (g.F.Files.told c.run_script.new.files) (g.F.Files.faults c.run_script.new.files)) (screen (g.O.Sink.told c.run_script.new.out) (g.O.Sink.faults c.run_script.new.out)) in
+    let i : Input = g.L.Lines.input c.args.lines.now in
+    let j : Input = g.L.Lines.input c.next_line.new.lines in
+    let before : State = state c.args.session.now (g.F.Files.disk c.args.files.now) (g.O.Sink.screen c.args.out.now) in
+    let after : State = state c.run_script.new.session (g.F.Files.disk c.run_script.new.files) (g.O.Sink.screen c.run_script.new.out) in
     let line : List ℕ = c.in-Ok-Some.line.items in
     turned_by (Some (Cut c.in-Some-Cut.status)) line before after i j
     (gave_line c.next_line.result c.in-Ok-Some.line i j (c.in-Ok-Some.is ∙ ap (λ x. Ok x) c.in-Ok-Some.field-0-is) c.next_line.ensures)
     (subst (λ (l : List ℕ). Leaves (Some (Cut c.in-Some-Cut.status)) l before after) c.as_slice.ensures.value
-    (subst (λ (r : Option Telling). Leaves r c.as_slice.result.now before after) (c.in-Some-Cut.is ∙ ap (λ x. Some x) c.in-Some-Cut.field-0-is) c.run_script.ensures))
+    (subst (λ (r : Option Announcement). Leaves r c.as_slice.result.now before after) (c.in-Some-Cut.is ∙ ap (λ x. Some x) c.in-Some-Cut.field-0-is) c.run_script.ensures))

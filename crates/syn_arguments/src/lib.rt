@@ -1,0 +1,108 @@
+//! The command line of the program: `synth [-c SCRIPT] [-w N]`.
+//!
+//! The words are those of a simple command of `clap`, whose meaning `specs/` cites: it says which
+//! words are refused, and which texts the options have. The number of workers is read as the
+//! numbers of scripts are. A further option is a further argument of the command here and a further
+//! rule there.
+#![tactic(auto)]
+
+ghost use Rattle.std.specs.Prelude.{◌≡◌, ◌≤◌, [], map, option_map, string_bytes, IfOk, IfSome, IsErrOf, None, Some};
+ghost use Rattle.syn_arguments.specs.Asked.{arguments_in, asked, refusals, script_in, workers_in, workers_of};
+ghost use Rattle.syn_arguments.specs.Worked.{Worked};
+
+use clap::error::ErrorKind;
+use clap::{Arg, Command};
+use std::alloc::{AllocError, Global};
+use syn_words::{NumberRange, number_in};
+
+/// The most workers.
+pub const MOST_WORKERS: u8 = 16;
+
+/// What the program's words ask for.
+#[derive(Clone, Copy, Debug, PartialEq, Eq)]
+pub struct Arguments<'a> {
+    /// The script, or none where each line of the input is one.
+    pub script: Option<&'a str>,
+    /// The number of workers, 1 to 16, where a command names none.
+    pub workers: u8,
+}
+
+/// Why words ask for nothing.
+#[derive(Clone, Copy, Debug, PartialEq, Eq)]
+pub enum ArgumentsFault {
+    /// The command line is faulty. A call for help is so too.
+    Words,
+    /// Memory was refused.
+    NoMemory,
+}
+
+impl From<AllocError> for ArgumentsFault {
+    ghost use Rattle.std.specs.Prelude.{◌≡◌};
+    ghost use Rattle.syn_arguments.specs.declared.ArgumentsFault.TheVariants.{NoMemory};
+
+    ghost from_gives = { λ _ fault. fault ≡ NoMemory };
+
+    fn from(_: AllocError) -> ArgumentsFault {
+        ArgumentsFault::NoMemory
+    }
+}
+
+// The texts of the options, where they are given: the script, and the number of workers.
+fn texts_of<'a>(
+    alloc: Global,
+    words: &'a [String],
+) -> Result<(Option<&'a str>, Option<&'a str>), ArgumentsFault>
+    ensures accepted { IfOk result (λ _. refusals (map string_bytes words.entry.now) ≡ []) }
+    ensures script { IfOk result (λ texts. option_map (λ text. text.now) texts.0 ≡ script_in (map string_bytes words.entry.now)) }
+    ensures workers { IfOk result (λ texts. option_map (λ text. text.now) texts.1 ≡ workers_in (map string_bytes words.entry.now)) }
+    ensures refused { IsErrOf result ArgumentsFault.Words → asked (map string_bytes words.entry.now) ≡ None }
+{
+    let script = Arg::new(alloc, "script").short('c');
+    let workers = Arg::new(alloc, "workers").short('w');
+    let with_script = Command::new(alloc, "synth").arg(script)?;
+    let command = with_script.arg(workers)?;
+    match command.try_get_matches_from(words) {
+        Ok(matches) => Ok((matches.get_str("script"), matches.get_str("workers"))),
+        Err(error) => match error.kind() {
+            ErrorKind::OutOfMemory => Err(ArgumentsFault::NoMemory),
+            _ => Err(ArgumentsFault::Words),
+        },
+    }
+}
+
+// The number of workers by the text of its option: one where it is absent.
+fn workers_of(text: Option<&str>) -> Option<u8>
+    ensures value { result ≡ workers_of (option_map (λ text. text.now) text.entry) }
+    ensures few { IfSome result (λ workers. (1 ≤ workers) × (workers ≤ 16)) }
+{
+    let Some(text) = text else {
+        return Some(1);
+    };
+    let range = NumberRange {
+        least: 1,
+        most: MOST_WORKERS as u64,
+    };
+    let workers = number_in(range, text.as_bytes())?;
+    Some(workers as u8)
+}
+
+/// What the program's words ask for. The words begin with the program's name.
+///
+/// Refuses with `Words` where the command refuses them, or where the number of workers is none from
+/// 1 to 16. `NoMemory` may come for any words.
+pub fn arguments_of<'a>(alloc: Global, words: &'a [String]) -> Result<Arguments<'a>, ArgumentsFault>
+    ensures asked { IfOk result (λ arguments. asked (map string_bytes words.entry.now) ≡ Some (arguments_in arguments)) }
+    ensures workers { IfOk result (λ arguments. (1 ≤ arguments.workers) × (arguments.workers ≤ 16)) }
+    ensures refused { IsErrOf result ArgumentsFault.Words → asked (map string_bytes words.entry.now) ≡ None }
+{
+    let (script, workers) = texts_of(alloc, words)?;
+    match workers_of(workers) {
+        Some(workers) => Ok(Arguments { script, workers }),
+        None => Err(ArgumentsFault::Words),
+    }
+}
+
+/// The command gives what is wanted of worked words, and refuses others.
+pub fn worked_words()
+    ensures { Worked }
+{}

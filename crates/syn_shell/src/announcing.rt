@@ -1,0 +1,230 @@
+//! The lines of refusals, put in pieces that take no memory, and their statuses.
+
+ghost use Rattle.std.specs.Prelude.{◌≡◌, ◌++◌, ◌∷◌, [], codes, decimal, flat_map, map};
+ghost use Rattle.syn_shell.specs.Lines.{at_line, at_place, file_status, file_text, joined, refusal_line, refusal_status, refusal_text, script_text};
+ghost use Rattle.syn_shell.specs.Outside.{Puts};
+ghost use Rattle.syn_shell.specs.Scripts.{Refused};
+ghost use Rattle.syn_shell.specs.Stopping.{status_in, AnnouncesAs};
+
+use crate::refusal::Refusal;
+use itoa::Buffer;
+use syn_io::{Sink, SinkFailed};
+use syn_netlist::Word;
+use syn_reader::ReadFault;
+use syn_words::ScriptFault;
+
+/// What became of the line of a refusal: it was put whole, or the sink failed. Each has the refusal's status.
+#[derive(Clone, Copy, Debug, PartialEq, Eq)]
+pub(crate) enum Announcement {
+    Whole(u8),
+    Cut(u8),
+}
+
+impl Announcement {
+    /// The status of the refusal.
+    pub(crate) fn status(self) -> u8
+        ensures { result ≡ status_in self }
+    {
+        match self {
+            Announcement::Whole(status) | Announcement::Cut(status) => status,
+        }
+    }
+}
+
+// Puts one piece.
+fn put<O: Sink>(out: &mut O, piece: &[u8]) -> Result<(), SinkFailed>
+    ensures { Puts result piece.now (O.screen out.old) (O.screen out.new) }
+{
+    out.put(piece)
+}
+
+// Puts pieces, one after the other.
+fn put_all<O: Sink>(out: &mut O, pieces: &[&[u8]]) -> Result<(), SinkFailed>
+    ensures { Puts result (joined (map (λ piece. piece.now) pieces.now)) (O.screen out.old) (O.screen out.new) }
+{
+    for piece in pieces {
+        put(out, piece)?;
+    }
+    Ok(())
+}
+
+// Puts each name after one blank.
+fn put_names<O: Sink>(out: &mut O, names: &[Word]) -> Result<(), SinkFailed>
+    ensures { Puts result (flat_map (λ name. codes " " ++ name) names.now) (O.screen out.old) (O.screen out.new) }
+{
+    for name in names {
+        put_all(out, &[b" ", name.as_slice()])?;
+    }
+    Ok(())
+}
+
+// Puts the names of a circle.
+fn put_cycle<O: Sink>(out: &mut O, names: &[Word]) -> Result<(), SinkFailed>
+    ensures { Puts result (codes "cycle" ++ flat_map (λ name. codes " " ++ name) names.now) (O.screen out.old) (O.screen out.new) }
+{
+    put(out, b"cycle")?;
+    put_names(out, names)
+}
+
+// Puts a number between two texts.
+fn put_number<O: Sink>(
+    out: &mut O,
+    before: &[u8],
+    number: u64,
+    after: &[u8],
+) -> Result<(), SinkFailed>
+    ensures { Puts result (joined (before.now ∷ decimal number ∷ after.now ∷ [])) (O.screen out.old) (O.screen out.new) }
+{
+    let mut buffer = Buffer::new();
+    put_all(out, &[before, buffer.format(number).as_bytes(), after])
+}
+
+// Puts what is wrong at a place of a script.
+fn put_at_place<O: Sink>(out: &mut O, at: u32, what: &[u8]) -> Result<(), SinkFailed>
+    ensures { Puts result (at_place at what.now) (O.screen out.old) (O.screen out.new) }
+{
+    let mut buffer = Buffer::new();
+    put_all(
+        out,
+        &[b"script ", buffer.format(at as u64).as_bytes(), b": ", what],
+    )
+}
+
+// Puts what is wrong in a line of a file.
+fn put_at_line<O: Sink>(out: &mut O, line: u32, what: &[u8]) -> Result<(), SinkFailed>
+    ensures { Puts result (at_line line what.now) (O.screen out.old) (O.screen out.new) }
+{
+    let mut buffer = Buffer::new();
+    put_all(
+        out,
+        &[b"line ", buffer.format(line as u64).as_bytes(), b": ", what],
+    )
+}
+
+// Puts the name that a line of a file defines once more.
+fn put_defined_twice<O: Sink>(out: &mut O, line: u32, name: &[u8]) -> Result<(), SinkFailed>
+    ensures { Puts result (joined (codes "line " ∷ decimal line ∷ codes ": " ∷ name.now ∷ codes " defined twice" ∷ [])) (O.screen out.old) (O.screen out.new) }
+{
+    let mut buffer = Buffer::new();
+    put_all(
+        out,
+        &[
+            b"line ",
+            buffer.format(line as u64).as_bytes(),
+            b": ",
+            name,
+            b" defined twice",
+        ],
+    )
+}
+
+// Puts what a fault of a script says.
+fn put_script_fault<O: Sink>(out: &mut O, fault: &ScriptFault) -> Result<(), SinkFailed>
+    ensures { Puts result (script_text fault.now) (O.screen out.old) (O.screen out.new) }
+{
+    match fault {
+        ScriptFault::BadByte(at) => put_at_place(out, *at, b"bad byte"),
+        ScriptFault::UnknownCommand(at) => put_at_place(out, *at, b"unknown command"),
+        ScriptFault::MissingWord(at) => put_at_place(out, *at, b"missing word"),
+        ScriptFault::ExtraWord(at) => put_at_place(out, *at, b"extra word"),
+        ScriptFault::BadNumber(at) => put_at_place(out, *at, b"bad number"),
+        ScriptFault::OutOfRange(at) => put_at_place(out, *at, b"out of range"),
+        ScriptFault::NoMemory => put(out, b"out of memory"),
+    }
+}
+
+// Puts what a fault of a file says.
+fn put_file_fault<O: Sink>(out: &mut O, fault: &ReadFault) -> Result<(), SinkFailed>
+    ensures { Puts result (file_text fault.now) (O.screen out.old) (O.screen out.new) }
+{
+    match fault {
+        ReadFault::BadByte(at) => put_number(out, b"byte ", *at as u64, b": bad byte"),
+        ReadFault::AfterEnd(line) => put_at_line(out, *line, b"after end"),
+        ReadFault::UnknownKeyword(line) => put_at_line(out, *line, b"unknown keyword"),
+        ReadFault::SecondModel(line) => put_at_line(out, *line, b"second model"),
+        ReadFault::NoName(line) => put_at_line(out, *line, b"no name"),
+        ReadFault::ExtraWord(line) => put_at_line(out, *line, b"extra word"),
+        ReadFault::StrayRow(line) => put_at_line(out, *line, b"stray row"),
+        ReadFault::RowShape(line) => put_at_line(out, *line, b"row shape"),
+        ReadFault::MixedRows(line) => put_at_line(out, *line, b"mixed rows"),
+        ReadFault::LatchShape(line) => put_at_line(out, *line, b"latch shape"),
+        ReadFault::LatchType(line) => put_at_line(out, *line, b"latch type"),
+        ReadFault::LatchInit(line) => put_at_line(out, *line, b"latch init"),
+        ReadFault::DefinedTwice(line, name) => put_defined_twice(out, *line, name.as_slice()),
+        ReadFault::Undriven(name) => put_all(out, &[name.as_slice(), b" undriven"]),
+        ReadFault::Cycle(names) => put_cycle(out, names.as_slice()),
+        ReadFault::TooManySources(count) => put_number(out, b"", *count as u64, b" sources"),
+        ReadFault::TooLarge(cost) => put_number(out, b"cost ", *cost, b""),
+        ReadFault::NoMemory => put(out, b"out of memory"),
+    }
+}
+
+// Puts what a refusal says.
+fn put_text<O: Sink>(out: &mut O, refusal: &Refusal, name: &[u8]) -> Result<(), SinkFailed>
+    ensures { Puts result (refusal_text refusal.now name.now) (O.screen out.old) (O.screen out.new) }
+{
+    match refusal {
+        Refusal::Words => put(out, b"command line"),
+        Refusal::Script(fault) => put_script_fault(out, fault),
+        Refusal::Read(fault) => put_file_fault(out, fault),
+        Refusal::FileTooLong => put(out, b"file longer than 16777216 bytes"),
+        Refusal::LineTooLong => put(out, b"line longer than 65536 bytes"),
+        Refusal::TooManyLines => put(out, b"more than 1048576 lines"),
+        Refusal::NoNetwork => put(out, b"no network"),
+        Refusal::GetFailed => put_all(out, &[b"cannot read ", name]),
+        Refusal::PutFailed => put_all(out, &[b"cannot write ", name]),
+        Refusal::LineFailed => put(out, b"cannot read a line"),
+        Refusal::SinkFailed => Ok(()),
+        Refusal::NoMemory => put(out, b"out of memory"),
+    }
+}
+
+// Puts the line of a refusal.
+fn put_refusal<O: Sink>(out: &mut O, refusal: &Refusal, name: &[u8]) -> Result<(), SinkFailed>
+    ensures { Puts result (refusal_line refusal.now name.now) (O.screen out.old) (O.screen out.new) }
+{
+    put(out, b"refused: ")?;
+    put_text(out, refusal, name)?;
+    put(out, b"\n")
+}
+
+// The status of a run where a file's fault is refused first: its two limits have one of their own.
+fn file_status(fault: &ReadFault) -> u8
+    ensures { result ≡ file_status fault.now }
+{
+    match fault {
+        ReadFault::TooManySources(_) | ReadFault::TooLarge(_) => 5,
+        ReadFault::NoMemory => 8,
+        _ => 4,
+    }
+}
+
+// The status of a run where this is refused first.
+fn status_of(refusal: &Refusal) -> u8
+    ensures { result ≡ refusal_status refusal.now }
+{
+    match refusal {
+        Refusal::Words => 2,
+        Refusal::Script(_) => 3,
+        Refusal::Read(fault) => file_status(fault),
+        Refusal::FileTooLong | Refusal::LineTooLong | Refusal::TooManyLines => 5,
+        Refusal::NoNetwork => 6,
+        Refusal::GetFailed | Refusal::PutFailed | Refusal::LineFailed | Refusal::SinkFailed => 7,
+        Refusal::NoMemory => 8,
+    }
+}
+
+/// Puts the line of a refusal, but for a sink that failed, which has none. The name is that of the file that the
+/// refused command names.
+pub(crate) fn announce<O: Sink>(out: &mut O, refusal: &Refusal, name: &[u8]) -> Announcement
+    ensures { AnnouncesAs result (record { cause = refusal.now; name = name.now }) (O.screen out.old) (O.screen out.new) }
+{
+    let status = status_of(refusal);
+    if let Refusal::SinkFailed = refusal {
+        return Announcement::Cut(status);
+    }
+    match put_refusal(out, refusal, name) {
+        Ok(()) => Announcement::Whole(status),
+        Err(_) => Announcement::Cut(status),
+    }
+}
