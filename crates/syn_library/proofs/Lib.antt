@@ -3,3 +3,4 @@ pub mod Values
 pub mod Fits
 pub mod Firsts
 pub mod Owned
+pub mod Found

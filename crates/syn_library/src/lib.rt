@@ -10,12 +10,16 @@ ghost use Rattle.syn_plan.specs.Naming.{built_of};
 ghost use Rattle.syn_library.specs.Library.{NamesOwn};
 ghost use Rattle.syn_library.specs.Fitting.{Computes, fitted_built, fitted_gate, fitted_leaves, fitted_literal, fitted_out};
 
+mod class_plans;
 mod laws;
 mod library;
+mod prepared;
 
 use arrayvec::ArrayVec;
+pub use class_plans::ClassPlans;
 pub use laws::own_within;
 pub use library::plans;
+pub use prepared::Prepared;
 use syn_npn::Transform;
 use syn_plan::{MOST_GATES, PLit, Plan};
 
