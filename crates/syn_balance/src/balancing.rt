@@ -1,6 +1,7 @@
 //! Nodes are balanced one after the other.
 
 ghost use Rattle.std.specs.Prelude.{◌≡◌, ℕ, ◌+◌, ◌++◌, ◌<◌, ◌≤◌, ◌^◌, ◌⊎◌, ◌∷◌, [], All, IfOk, List, IsSome, OnOk, Option, Some, length, map, replicate, set, true};
+ghost use Rattle.syn_rows.specs.declared.TheConstants.{NODE_LIMIT};
 ghost use Rattle.syn_rows.specs.declared.Lit.{Lit};
 ghost use Rattle.syn_rows.specs.Levels.{levels_of};
 ghost use Rattle.syn_rows.specs.Rows.{in_order_from, node_of};
@@ -90,7 +91,7 @@ fn balance_node(
     node: usize,
 ) -> Result<(), AllocError>
     requires hashed { IsHashed hashed.old.source_count rows.now }
-    requires few { length rows.now < 2 ^ 29 }
+    requires few { length rows.now < NODE_LIMIT }
     requires roots { (lits : List Lit) × HasRoots rows.now lits roots.now }
     requires above { hashed.old.source_count < node }
     requires inside { node < length rows.now }
@@ -124,7 +125,7 @@ fn balance_nodes(
     roots: &[bool],
 ) -> Result<(), AllocError>
     requires hashed { IsHashed hashed.old.source_count rows.now }
-    requires few { length rows.now < 2 ^ 29 }
+    requires few { length rows.now < NODE_LIMIT }
     requires roots { (lits : List Lit) × HasRoots rows.now lits roots.now }
     requires levels { levels.old.items ≡ levels_of hashed.old.rows.items }
     requires begun { IsBalancing hashed.old.source_count rows.now roots.now (hashed.old.source_count + 1) literals.old waiting.old hashed.old.rows.items }
@@ -158,7 +159,7 @@ pub fn made_again(
     requires hashed { IsHashed source_count rows.now }
     requires order { in_order_from 0 rows.now ≡ true }
     requires within { All (λ l. node_of l < length rows.now) observed.now }
-    requires few { length rows.now < 2 ^ 29 }
+    requires few { length rows.now < NODE_LIMIT }
     ensures { IfOk result (λ r. IsRebuilt source_count rows.now observed.now r.rows.items r.observed.items) }
 {
     let roots = roots(alloc, rows, observed)?;

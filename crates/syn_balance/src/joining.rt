@@ -3,6 +3,7 @@
 ghost use Rattle.std.specs.Prelude.{◌≡◌, ℕ, ◌+◌, ◌*◌, ◌^◌, ◌<◌, ◌≤◌, All, IfOk, OnOk, List, [], ◌∷◌, length, map, max};
 ghost use Rattle.std.specs.BinaryHeap.{IsHeap, heap_items, heap_len};
 ghost use Rattle.std.specs.List.{list_all, sum_by};
+ghost use Rattle.syn_rows.specs.declared.TheConstants.{NODE_LIMIT};
 ghost use Rattle.syn_rows.specs.Levels.{level_in, levels_of, row_level};
 ghost use Rattle.syn_rows.specs.Rows.{node_of, row_at};
 ghost use Rattle.syn_balance.specs.Heaps.{AreLeaves, leaf, leaf_order, literal_in, level_of};
@@ -21,7 +22,7 @@ fn and(hashed: &mut HashedRows, levels: &mut Vec<u32>, a: Lit, b: Lit) -> Result
     requires levels { levels.old.items ≡ levels_of hashed.old.rows.items }
     requires first { node_of a < length hashed.old.rows.items }
     requires second { node_of b < length hashed.old.rows.items }
-    requires room { length hashed.old.rows.items + 1 < 2 ^ 29 }
+    requires room { length hashed.old.rows.items + 1 < NODE_LIMIT }
     ensures sources { hashed.new.source_count ≡ hashed.old.source_count }
     ensures grows { Extends hashed.old.rows.items hashed.new.rows.items }
     ensures few { length hashed.new.rows.items ≤ length hashed.old.rows.items + 1 }
@@ -49,7 +50,7 @@ fn join_least(
     requires leaves { AreLeaves hashed.old.rows.items (heap_items heap.old) }
     requires order { IsHeap leaf_order (heap_items heap.old) }
     requires two { 2 ≤ heap_len heap.old }
-    requires room { length hashed.old.rows.items + length (heap_items heap.old) ≤ 2 ^ 29 }
+    requires room { length hashed.old.rows.items + length (heap_items heap.old) ≤ NODE_LIMIT }
     ensures sources { hashed.new.source_count ≡ hashed.old.source_count }
     ensures levels { OnOk result (levels.new.items ≡ levels_of hashed.new.rows.items) }
     ensures leaves { OnOk result (AreLeaves hashed.new.rows.items (heap_items heap.new)) }
@@ -95,7 +96,7 @@ pub fn join(
     requires levels { levels.old.items ≡ levels_of hashed.old.rows.items }
     requires some { 0 < length leaves.now }
     requires there { All (λ l. node_of l < length hashed.old.rows.items) leaves.now }
-    requires room { length hashed.old.rows.items + length leaves.now ≤ 2 ^ 29 }
+    requires room { length hashed.old.rows.items + length leaves.now ≤ NODE_LIMIT }
     ensures sources { hashed.new.source_count ≡ hashed.old.source_count }
     ensures levels { OnOk result (levels.new.items ≡ levels_of hashed.new.rows.items) }
     ensures joining { IfOk result (λ l. IsJoining hashed.old.rows.items leaves.now hashed.new.rows.items (l ∷ [])) }

@@ -1,6 +1,7 @@
 //! How often the nodes of a graph are referred to.
 
 ghost use Rattle.std.specs.Prelude.{◌≡◌, ℕ, ◌+◌, ◌*◌, ◌<◌, ◌≤◌, ◌^◌, All, length, slice_index_or, IfOk};
+ghost use Rattle.syn_rows.specs.declared.TheConstants.{NODE_LIMIT};
 ghost use Rattle.syn_rows.specs.declared.Row.{Row};
 ghost use Rattle.syn_rows.specs.Rows.{AllRefs, node_of};
 ghost use Rattle.syn_rows.specs.References.{hits, refs, refs_by_literals, refs_by_rows};
@@ -55,7 +56,7 @@ fn count_row(counts: &mut [u32], row: Row)
 fn count_rows(counts: &mut [u32], rows: &[Row])
     requires there { (n : ℕ) → n < length rows.now → AllRefs (λ m. m < length counts.old) (slice_index_or rows.now n Row.Free) }
     requires none { (m : ℕ) → slice_index_or counts.old m 0 ≡ 0 }
-    requires few { length rows.now < 2 ^ 29 }
+    requires few { length rows.now < NODE_LIMIT }
     ensures refs { (m : ℕ) → slice_index_or counts.new m 0 ≡ refs_by_rows m rows.now }
     ensures few { (m : ℕ) → slice_index_or counts.new m 0 ≤ 2 * length rows.now }
 {
@@ -79,7 +80,7 @@ fn count_literals(counts: &mut [u32], lits: &[Lit])
 pub fn references(alloc: Global, rows: &[Row], lits: &[Lit]) -> Result<Vec<u32>, AllocError>
     requires rows { (n : ℕ) → n < length rows.now → AllRefs (λ m. m < length rows.now) (slice_index_or rows.now n Row.Free) }
     requires lits { All (λ l. node_of l < length rows.now) lits.now }
-    requires few_rows { length rows.now < 2 ^ 29 }
+    requires few_rows { length rows.now < NODE_LIMIT }
     requires few_lits { length lits.now < 2 ^ 31 }
     ensures count { IfOk result (λ v. length v.items ≡ length rows.now) }
     ensures refs { IfOk result (λ v. (m : ℕ) → slice_index_or v.items m 0 ≡ refs_by_rows m rows.now + refs_by_literals m lits.now) }

@@ -1,6 +1,7 @@
 //! Compaction: rows in the order in which the observed literals visit them, without those that they don't reach.
 
 ghost use Rattle.std.specs.Prelude.{◌++◌, if◌then◌else◌, OnOk, ◌≡◌, ℕ, ◌+◌, ◌*◌, ◌^◌, ◌<◌, ◌≤◌, ◌||◌, nat_lt, All, IfOk, length, map, true, vec_len, List, [], ◌∷◌, slice_index};
+ghost use Rattle.syn_rows.specs.declared.TheConstants.{NODE_LIMIT};
 ghost use Rattle.syn_rows.specs.declared.Lit.{Lit};
 ghost use Rattle.syn_rows.specs.declared.Row.{Row};
 ghost use Rattle.syn_rows.specs.Rows.{AllRefs, node_of, in_order_from};
@@ -177,7 +178,7 @@ pub fn compact_rows(
     observed: &[Lit],
 ) -> Result<Rows, AllocError>
     requires can { CanCompact source_count rows.now observed.now }
-    requires few { length rows.now < 2 ^ 29 }
+    requires few { length rows.now < NODE_LIMIT }
     ensures { IfOk result (λ r. IsCompacted source_count rows.now observed.now r.rows.items r.observed.items) }
 {
     let ordered = in_visiting_order(alloc, source_count, rows, observed)?;
@@ -194,7 +195,7 @@ pub fn compact_hashed(
 ) -> Result<Rows, AllocError>
     requires hashed { IsHashed source_count rows.now }
     requires within { All (λ l. node_of l < length rows.now) observed.now }
-    requires few { length rows.now < 2 ^ 29 }
+    requires few { length rows.now < NODE_LIMIT }
     ensures compact { IfOk result (λ r. IsCompaction source_count rows.now observed.now r.rows.items r.observed.items) }
     ensures ands { IfOk result (λ r. (k : ℕ) → Ands rows.now observed.now k → length r.rows.items ≤ source_count + 1 + k) }
 {

@@ -1,6 +1,7 @@
 //! Rows under construction, in which no pair of literals stands twice.
 
 ghost use Rattle.std.specs.Prelude.{◌≡◌, ◌≢◌, ℕ, ◌+◌, ◌*◌, ◌^◌, ◌<◌, ◌≤◌, ◌++◌, ◌∷◌, [], ◌&&◌, ◌⊎◌, Bool, false, true, max, length, replicate, IfNone, IfOk, IfSome, OnErr, OnOk};
+ghost use Rattle.syn_rows.specs.declared.TheConstants.{NODE_LIMIT};
 ghost use Rattle.syn_rows.specs.declared.Row.{Row};
 ghost use Rattle.syn_rows.specs.Rows.{node_of, row_at};
 ghost use Rattle.syn_rows.specs.Values.{lit_value};
@@ -30,7 +31,7 @@ pub struct HashedRows {
 impl HashedRows {
     /// Node 0 and so many sources.
     pub fn new(alloc: Global, source_count: usize) -> Result<HashedRows, AllocError>
-        requires { source_count + 1 < 2 ^ 29 }
+        requires { source_count + 1 < NODE_LIMIT }
         ensures sources { IfOk result (λ h. h.source_count ≡ source_count) }
         ensures rows { IfOk result (λ h. length h.rows.items ≡ source_count + 1) }
     {
@@ -61,7 +62,7 @@ impl HashedRows {
     pub fn and(&mut self, a: Lit, b: Lit) -> Result<Lit, AllocError>
         requires first { node_of a < length self.old.rows.items }
         requires second { node_of b < length self.old.rows.items }
-        requires room { length self.old.rows.items + 1 < 2 ^ 29 }
+        requires room { length self.old.rows.items + 1 < NODE_LIMIT }
         ensures sources { self.new.source_count ≡ self.old.source_count }
         ensures grows { Extends self.old.rows.items self.new.rows.items }
         ensures kept { KeepsValues self.old.rows.items self.new.rows.items }
@@ -85,7 +86,7 @@ impl HashedRows {
     pub fn or(&mut self, a: Lit, b: Lit) -> Result<Lit, AllocError>
         requires first { node_of a < length self.old.rows.items }
         requires second { node_of b < length self.old.rows.items }
-        requires room { length self.old.rows.items + 1 < 2 ^ 29 }
+        requires room { length self.old.rows.items + 1 < NODE_LIMIT }
         ensures sources { self.new.source_count ≡ self.old.source_count }
         ensures grows { Extends self.old.rows.items self.new.rows.items }
         ensures kept { KeepsValues self.old.rows.items self.new.rows.items }
@@ -101,7 +102,7 @@ impl HashedRows {
     // The plain literal of the row of a pair, the smaller literal first, made where it isn't there.
     fn gate(&mut self, first: Lit, second: Lit) -> Result<Lit, AllocError>
         requires gate { is_gate (length self.old.rows.items) (Row.And first second) ≡ true }
-        requires room { length self.old.rows.items + 1 < 2 ^ 29 }
+        requires room { length self.old.rows.items + 1 < NODE_LIMIT }
         ensures sources { self.new.source_count ≡ self.old.source_count }
         ensures grows { Extends self.old.rows.items self.new.rows.items }
         ensures kept { KeepsValues self.old.rows.items self.new.rows.items }
@@ -126,7 +127,7 @@ impl HashedRows {
 
 // Node 0 and the sources.
 fn source_rows(alloc: Global, source_count: usize) -> Result<Vec<Row>, AllocError>
-    requires { source_count + 1 < 2 ^ 29 }
+    requires { source_count + 1 < NODE_LIMIT }
     ensures { IfOk result (λ v. v.items ≡ replicate (source_count + 1) Row.Source) }
 {
     vec![in alloc; Row::Source; source_count + 1]

@@ -1,6 +1,7 @@
 //! The index by which the row of a pair is found.
 
 ghost use Rattle.std.specs.Prelude.{◌≡◌, ◌≢◌, ℕ, ◌+◌, ◌<◌, ◌≤◌, ◌^◌, ◌++◌, ◌∷◌, [], List, length, true, IfNone, IfOk, IfSome, OnErr, OnOk};
+ghost use Rattle.syn_rows.specs.declared.TheConstants.{NODE_LIMIT};
 ghost use Rattle.syn_rows.specs.declared.Row.{Row};
 ghost use Rattle.syn_rows.specs.Rows.{row_at};
 ghost use Rattle.syn_hashed.specs.Hashed.{is_gate, IsHashed};
@@ -47,7 +48,7 @@ impl PairIndex {
         requires gate { is_gate (length rows.old.items) (Row.And first second) ≡ true }
         requires new { (n : ℕ) → row_at rows.old.items n ≢ Row.And first second }
         requires index { IsIndexOf rows.old.items self.old }
-        requires few { length rows.old.items < 2 ^ 29 }
+        requires few { length rows.old.items < NODE_LIMIT }
         ensures ok { OnOk result (rows.new.items ≡ rows.old.items ++ Row.And first second ∷ []) }
         ensures err { OnErr result (rows.new.items ≡ rows.old.items) }
         ensures hashed { (count : ℕ) → IsHashed count rows.old.items → IsHashed count rows.new.items }
@@ -149,7 +150,7 @@ fn index_rows(rows: &[Row], heads: &mut Vec<u32>, next: &mut Vec<u32>)
 // Twice as many buckets as rows.
 fn grow(rows: &[Row], heads: &mut Vec<u32>, next: &mut Vec<u32>) -> Result<(), AllocError>
     requires index { IsIndex (length heads.old.items) rows.now heads.old.items next.old.items }
-    requires few { length rows.now < 2 ^ 29 }
+    requires few { length rows.now < NODE_LIMIT }
     requires buckets { length heads.old.items < 2 ^ 32 }
     ensures index { IsIndex (length heads.new.items) rows.now heads.new.items next.new.items }
     ensures buckets { length heads.new.items < 2 ^ 32 }
@@ -174,7 +175,7 @@ fn lengthen(count: usize, next: &mut Vec<u32>) -> Result<(), AllocError>
 // Makes room for one more row.
 fn make_room(rows: &[Row], heads: &mut Vec<u32>, next: &mut Vec<u32>) -> Result<(), AllocError>
     requires index { IsIndex (length heads.old.items) rows.now heads.old.items next.old.items }
-    requires few { length rows.now < 2 ^ 29 }
+    requires few { length rows.now < NODE_LIMIT }
     requires buckets { length heads.old.items < 2 ^ 32 }
     ensures index { IsIndex (length heads.new.items) rows.now heads.new.items next.new.items }
     ensures buckets { length heads.new.items < 2 ^ 32 }
@@ -198,7 +199,7 @@ fn push_pair(
     requires gate { is_gate (length rows.old.items) (Row.And first second) ≡ true }
     requires new { (n : ℕ) → row_at rows.old.items n ≢ Row.And first second }
     requires index { IsIndex (length heads.old.items) rows.old.items heads.old.items next.old.items }
-    requires few { length rows.old.items < 2 ^ 29 }
+    requires few { length rows.old.items < NODE_LIMIT }
     requires buckets { length heads.old.items < 2 ^ 32 }
     ensures ok { OnOk result (rows.new.items ≡ rows.old.items ++ Row.And first second ∷ []) }
     ensures err { OnErr result (rows.new.items ≡ rows.old.items) }

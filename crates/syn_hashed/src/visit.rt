@@ -2,6 +2,7 @@
 
 ghost use Rattle.std.specs.Prelude.{◌++◌, IsSome, IfNone, ◌≡◌, ◌≢◌, ℕ, ◌+◌, ◌^◌, ◌<◌, ◌≤◌, All, List, Option, Some, None, false, true, length, map, replicate, set, vec_len, IfOk, IfSome, IsNone, OnOk, slice_index_or};
 ghost use Rattle.std.specs.List.{sum_by};
+ghost use Rattle.syn_rows.specs.declared.TheConstants.{NODE_LIMIT};
 ghost use Rattle.syn_rows.specs.Rows.{node_of, row_at};
 ghost use Rattle.syn_rows.specs.Values.{value_in};
 ghost use Rattle.syn_rows.specs.Walk.{unmarked};
@@ -25,7 +26,7 @@ pub fn in_visiting_order(
     observed: &[Lit],
 ) -> Result<Rows, AllocError>
     requires can { CanCompact source_count rows.now observed.now }
-    requires few { length rows.now < 2 ^ 29 }
+    requires few { length rows.now < NODE_LIMIT }
     ensures { IfOk result (λ r. IsMadeAgain source_count rows.now observed.now r.rows.items r.observed.items) }
 {
     let mut hashed = HashedRows::new(alloc, source_count as usize)?;
@@ -56,7 +57,7 @@ fn visit_all(
     requires can { CanCompact hashed.old.source_count rows.now observed.now }
     requires firsts { FirstsOf hashed.old.source_count (length rows.now) literals.old }
     requires size { length hashed.old.rows.items ≡ hashed.old.source_count + 1 }
-    requires room { length rows.now < 2 ^ 29 }
+    requires room { length rows.now < NODE_LIMIT }
     ensures sources { hashed.new.source_count ≡ hashed.old.source_count }
     ensures visit { OnOk result (IsVisit hashed.old.source_count rows.now literals.new hashed.new.rows.items) }
     ensures reached { OnOk result (VisitsReached hashed.old.source_count rows.now observed.now literals.new) }
@@ -152,7 +153,7 @@ fn stand_in(
     node: usize,
 ) -> Result<Option<Lit>, AllocError>
     requires visit { IsVisit hashed.old.source_count rows.now literals.now hashed.old.rows.items }
-    requires room { length hashed.old.rows.items + 1 < 2 ^ 29 }
+    requires room { length hashed.old.rows.items + 1 < NODE_LIMIT }
     requires there { node < length rows.now }
     ensures sources { hashed.new.source_count ≡ hashed.old.source_count }
     ensures made { IfOk result (λ o. IfSome o (λ l. IsMade hashed.old.source_count rows.now node hashed.old.rows.items hashed.new.rows.items l)) }
@@ -180,7 +181,7 @@ fn make(
 ) -> Result<(), AllocError>
     requires visit { IsVisit hashed.old.source_count rows.now literals.old hashed.old.rows.items }
     requires there { node < length rows.now }
-    requires room { length rows.now < 2 ^ 29 }
+    requires room { length rows.now < NODE_LIMIT }
     ensures sources { hashed.new.source_count ≡ hashed.old.source_count }
     ensures visit { OnOk result (IsVisit hashed.old.source_count rows.now literals.new hashed.new.rows.items) }
     ensures stays { OnOk result (StaysVisited literals.old literals.new) }
