@@ -5,6 +5,4 @@
 #![tactic(auto)]
 
 #[cfg(test)]
-mod tables;
-#[cfg(test)]
 mod tests;

@@ -1,6 +1,6 @@
 use Rattle.syn_table.specs.Seating.{IsOf, known_of}
-use Rattle.syn_calls.specs.Tables.{IsResting}
-use Rattle.syn_calls.proofs.tables.take_turns.Given as goal
+use Rattle.test_table.specs.Resting.{IsResting}
+use Rattle.test_table.proofs.turns.take_turns.Given as goal
 
 abbrev pub invariant-loop-round : goal.invariant-loop-round
 invariant-loop-round l = record {

@@ -5,7 +5,7 @@ use Rattle.syn_rows.specs.Rows.{node_of}
 use Rattle.syn_rows.specs.References.{hits, refs}
 use Rattle.syn_core_laws.specs.Events.{MayPin}
 use Rattle.syn_table.specs.declared.Known.{Known}
-use Rattle.syn_calls.proofs.tables.steps_as_worked.Goals as goal
+use Rattle.test_table.proofs.steps.steps_as_worked.Goals as goal
 
 -- the AND of literal 9 refers to node 4
 refers : (a b : Lit) → a.0 ≡ 9 → 1 ≤ refs 4 (And a b)

@@ -1,0 +1,11 @@
+//! Worked lists of events on the core machine.
+//!
+//! Nothing here is for other crates: the tests compare the answers of calls with values worked by hand.
+#![tactic(auto)]
+
+#[cfg(test)]
+mod events;
+#[cfg(test)]
+mod stores;
+#[cfg(test)]
+mod worked;
