@@ -1,5 +1,5 @@
 -- The list of the levels of rows that grow.
-use Rattle.std.proofs.Common.{◌≡◌, ℕ, zero, suc, ◌+◌, ◌<◌, ◌≤◌, List, [], ◌∷◌, ◌++◌, length, get_or, refl, sym, ap, ap₂, ◌∙◌, subst, arith, inl, inr, append-nil, length-append}
+use Rattle.std.proofs.Common.{◌≡◌, ℕ, zero, suc, ◌+◌, ◌<◌, ◌≤◌, All, List, [], ◌∷◌, ◌++◌, length, get_or, refl, sym, ap, ap₂, ◌∙◌, subst, arith, inl, inr, append-nil, length-append}
 use Rattle.std.proofs.lemmas.Bool.{cases_lt}
 use Rattle.std.proofs.lemmas.List.{get_or_past, get_or_push, get_or_default}
 use Rattle.syn_rows.specs.declared.Lit.{Lit}
@@ -34,6 +34,10 @@ low count rows h n = low_below count rows h (suc n) n (omega arith)
 pub low_in : (count : ℕ) (rows : List Row) (levels : List ℕ) → IsHashed count rows → levels ≡ levels_of rows → (n : ℕ) → level_in levels n ≤ n
 low_in count rows levels h e n = subst (λ l. level_in l n ≤ n) (sym e) (low count rows h n)
 
+-- so none lies higher than there are rows
+pub few_in : (count : ℕ) (rows : List Row) (levels : List ℕ) → IsHashed count rows → levels ≡ levels_of rows → All (λ level. level ≤ length levels) levels
+few_in count rows levels h e k d lt = (let at = get_or_default levels k d 0 lt in let small : get_or levels k 0 ≤ k = low_in count rows levels h e k in omega (arith, at, small))
+
 -- rows that grew by no row, or by one
 pub same_levels : (old new : List Row) (levels : List ℕ) → Extends old new → length new ≤ length levels → levels ≡ levels_of old → levels ≡ levels_of new
 same_levels old new levels e few is = go e.more e.is
@@ -48,7 +52,7 @@ at_any (row ∷ rows) zero d e lt = refl
 at_any (row ∷ rows) (suc n) d e lt = at_any rows n d e (omega arith)
 
 pub more_levels : (old new : List Row) (levels : List ℕ) (n level : ℕ) (row : Row) → Extends old new → length new ≤ length old + 1 → levels ≡ levels_of old → n ≡ length levels → n < length new
-    → row ≡ get_or new n row → ((k : ℕ) → level ≡ row_level (level_in levels) k row) → levels ++ level ∷ [] ≡ levels_of new
+    → row ≡ get_or new n row → level ≡ row_level (level_in levels) n row → levels ++ level ∷ [] ≡ levels_of new
 more_levels old new levels n level row e few is at lt found step = go e.more e.is
   where
     size : length levels ≡ length old
@@ -59,7 +63,7 @@ more_levels old new levels n level row e few is at lt found step = go e.more e.i
     go (r ∷ s ∷ more) w = absurd (let a = ap length w in let b = length-append old (r ∷ s ∷ more) in omega (arith, a, b, few))
     go (r ∷ []) w =
         let here : row ≡ r = found ∙ (ap (λ (rows : List Row). get_or rows n row) w ∙ get_or_push old r row n (let z : length old ≡ n = omega (arith, size) in z)) in
-        let value : level ≡ row_level (level_in (levels_of old)) (length (levels_of old)) r = step (length (levels_of old)) ∙ ap₂ (λ (l : List ℕ) (x : Row). row_level (level_in l) (length (levels_of old)) x) is here in
+        let value : level ≡ row_level (level_in (levels_of old)) (length (levels_of old)) r = step ∙ ap (λ (k : ℕ). row_level (level_in levels) k row) (at ∙ ap length is) ∙ ap₂ (λ (l : List ℕ) (x : Row). row_level (level_in l) (length (levels_of old)) x) is here in
         ap₂ (λ (l : List ℕ) (x : ℕ). l ++ x ∷ []) is value ∙ (sym (levels-push old r) ∙ ap levels_of (sym w))
 
 -- a level that was read from the list

@@ -4,7 +4,7 @@ ghost use Rattle.std.specs.Prelude.{◌≡◌, ℕ, ◌+◌, ◌++◌, ◌<◌, 
 ghost use Rattle.syn_rows.specs.declared.Lit.{Lit};
 ghost use Rattle.syn_rows.specs.Levels.{levels_of};
 ghost use Rattle.syn_rows.specs.Rows.{in_order_from, node_of};
-ghost use Rattle.syn_shapes.specs.Graphs.{IsHashed};
+ghost use Rattle.syn_hashed.specs.Hashed.{IsHashed};
 ghost use Rattle.syn_hashed.specs.Visiting.{first_literal, FirstsOf, IsRebuilt, literal_of};
 ghost use Rattle.syn_balance.specs.Balancing.{IsBalancing};
 ghost use Rattle.syn_balance.specs.Leaves.{leaves_of, left_by, TakesBoth, waiting_at};
@@ -14,24 +14,9 @@ use crate::joining::join;
 use crate::roots::roots;
 use std::alloc::{AllocError, Global};
 use std::mem;
+use syn_hashed::{HashedRows, Rows, first_literals, literal_of, literals_of};
 use syn_netlist::Items;
 use syn_rows::{Lit, Row};
-use syn_strash::{Hashed, Rows};
-
-// The literal that stands for an old one, where its node has one.
-fn literal_of(literals: &[Option<Lit>], lit: Lit) -> Option<Lit>
-    ensures { result ≡ literal_of literals.now lit }
-{
-    let node = lit.node() as usize;
-    if node >= literals.len() {
-        return None;
-    }
-    match literals[node] {
-        Some(literal) if lit.complemented() => Some(literal.not()),
-        Some(literal) => Some(literal),
-        None => None,
-    }
-}
 
 // Takes the leaves that wait at a node.
 fn take_waiting(alloc: Global, waiting: &mut [Items<Lit>], node: usize) -> Vec<Lit>
@@ -96,7 +81,7 @@ fn take_both(
 // Balances a node: its leaves are joined where it keeps a node of its own, and wait otherwise.
 fn balance_node(
     alloc: Global,
-    hashed: &mut Hashed,
+    hashed: &mut HashedRows,
     levels: &mut Vec<u32>,
     literals: &mut [Option<Lit>],
     waiting: &mut [Items<Lit>],
@@ -131,7 +116,7 @@ fn balance_node(
 // Balances all nodes that are no sources, in their order.
 fn balance_nodes(
     alloc: Global,
-    hashed: &mut Hashed,
+    hashed: &mut HashedRows,
     levels: &mut Vec<u32>,
     literals: &mut [Option<Lit>],
     waiting: &mut [Items<Lit>],
@@ -152,35 +137,6 @@ fn balance_nodes(
     Ok(())
 }
 
-// The literal of a node before any AND is balanced.
-fn own_literal(source_count: usize, node: u32) -> Option<Lit>
-    requires { node < 2 ^ 31 }
-    ensures { result ≡ first_literal source_count node }
-{
-    if node as usize <= source_count {
-        Some(Lit::of(node, false))
-    } else {
-        None
-    }
-}
-
-// The literals of all nodes before any AND is balanced.
-fn own_literals(
-    alloc: Global,
-    source_count: usize,
-    count: usize,
-) -> Result<Vec<Option<Lit>>, AllocError>
-    requires few { count < 2 ^ 31 }
-    requires sources { source_count < count }
-    ensures { IfOk result (λ literals. FirstsOf source_count count literals.items) }
-{
-    let mut literals = Vec::new(alloc);
-    for node in 0..count {
-        literals.push(own_literal(source_count, node as u32))?;
-    }
-    Ok(literals)
-}
-
 // No leaves at each of so many nodes.
 fn nothing_waiting(alloc: Global, count: usize) -> Result<Vec<Items<Lit>>, AllocError>
     ensures { IfOk result (λ waiting. waiting.items ≡ replicate count []) }
@@ -190,22 +146,6 @@ fn nothing_waiting(alloc: Global, count: usize) -> Result<Vec<Items<Lit>>, Alloc
         waiting.push(Items::of(Vec::new(alloc)))?;
     }
     Ok(waiting)
-}
-
-// The literals that stand for the observed ones.
-fn literals_of(
-    alloc: Global,
-    literals: &[Option<Lit>],
-    observed: &[Lit],
-) -> Result<Vec<Lit>, AllocError>
-    requires { All (λ l. IsSome (literal_of literals.now l)) observed.now }
-    ensures { IfOk result (λ found. map (λ l. Some l) found.items ≡ map (literal_of literals.now) observed.now) }
-{
-    let mut found = Vec::new(alloc);
-    for lit in observed {
-        found.push(literal_of(literals, *lit).unwrap())?;
-    }
-    Ok(found)
 }
 
 /// The rows made again, balanced, and the literals that stand for the observed ones; nothing is dropped yet.
@@ -222,9 +162,9 @@ pub fn made_again(
     ensures { IfOk result (λ r. IsRebuilt source_count rows.now observed.now r.rows.items r.observed.items) }
 {
     let roots = roots(alloc, rows, observed)?;
-    let mut hashed = Hashed::new(alloc, source_count as usize)?;
+    let mut hashed = HashedRows::new(alloc, source_count as usize)?;
     let mut levels = syn_rows::levels(alloc, hashed.rows.as_slice())?;
-    let mut literals = own_literals(alloc, source_count as usize, rows.len())?;
+    let mut literals = first_literals(alloc, source_count as usize, rows.len())?;
     let mut waiting = nothing_waiting(alloc, rows.len())?;
     balance_nodes(
         alloc,

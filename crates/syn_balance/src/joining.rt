@@ -13,35 +13,11 @@ ghost use Rattle.syn_hashed.specs.Growing.{Extends, IsAnd, IsJoin, level_by, val
 use std::alloc::{AllocError, Global};
 use std::cmp::Reverse;
 use std::collections::BinaryHeap;
-use syn_rows::{Lit, Row};
-use syn_strash::Hashed;
-
-// A node's level in a list, 0 past its end.
-fn level_at(levels: &[u32], node: usize) -> u32
-    ensures { result ≡ level_in levels.now node }
-{
-    if node < levels.len() { levels[node] } else { 0 }
-}
-
-// The level that a row gives its node, where no node lies higher than its number.
-fn row_level(levels: &[u32], row: Row) -> u32
-    requires { (n : ℕ) → level_in levels.now n ≤ n }
-    ensures { (n : ℕ) → result ≡ row_level (level_in levels.now) n row }
-{
-    match row {
-        Row::Free => 0,
-        Row::Source => 0,
-        Row::And(a, b) => {
-            let first = level_at(levels, a.node() as usize);
-            let second = level_at(levels, b.node() as usize);
-            first.max(second) + 1
-        }
-        Row::Alias(a) => level_at(levels, a.node() as usize),
-    }
-}
+use syn_hashed::HashedRows;
+use syn_rows::{Lit, row_level};
 
 // The AND of two literals, with the levels of all rows.
-fn and(hashed: &mut Hashed, levels: &mut Vec<u32>, a: Lit, b: Lit) -> Result<Lit, AllocError>
+fn and(hashed: &mut HashedRows, levels: &mut Vec<u32>, a: Lit, b: Lit) -> Result<Lit, AllocError>
     requires levels { levels.old.items ≡ levels_of hashed.old.rows.items }
     requires first { node_of a < length hashed.old.rows.items }
     requires second { node_of b < length hashed.old.rows.items }
@@ -56,7 +32,8 @@ fn and(hashed: &mut Hashed, levels: &mut Vec<u32>, a: Lit, b: Lit) -> Result<Lit
 {
     let literal = hashed.and(a, b)?;
     if levels.len() < hashed.rows.len() {
-        let level = row_level(levels.as_slice(), hashed.rows[levels.len()]);
+        let node = levels.len();
+        let level = row_level(levels.as_slice(), node, hashed.rows[node]);
         levels.push(level)?;
     }
     Ok(literal)
@@ -64,7 +41,7 @@ fn and(hashed: &mut Hashed, levels: &mut Vec<u32>, a: Lit, b: Lit) -> Result<Lit
 
 // Joins the two least leaves of a heap.
 fn join_least(
-    hashed: &mut Hashed,
+    hashed: &mut HashedRows,
     levels: &mut Vec<u32>,
     heap: &mut BinaryHeap<Reverse<(u32, Lit)>>,
 ) -> Result<(), AllocError>
@@ -111,7 +88,7 @@ fn with_levels(
 /// The AND of the leaves: each time the two of least level, and of those of one level the two of least number, become one.
 pub fn join(
     alloc: Global,
-    hashed: &mut Hashed,
+    hashed: &mut HashedRows,
     levels: &mut Vec<u32>,
     leaves: &[Lit],
 ) -> Result<Lit, AllocError>

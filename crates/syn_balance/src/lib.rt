@@ -12,8 +12,7 @@ mod roots;
 use balancing::made_again;
 use std::alloc::{AllocError, Global};
 use syn_graph::Graph;
-use syn_netlist::Items;
-use syn_strash::{Rows, compact_hashed};
+use syn_hashed::{Rows, compact_hashed};
 
 /// The graph balanced (DAG-aware rewriting's balancing, DAC 2006): each AND that is observed, has two or more references or is
 /// named by a complemented literal is the AND of its leaves, which are joined again, each time the two of least level. The frame
@@ -48,17 +47,6 @@ fn with_rows(graph: Graph, rows: Rows) -> Graph
     requires { IsCompaction graph.source_count graph.rows graph.observed rows.rows.items rows.observed.items }
     ensures { IsBalanced graph result }
 {
-    let Graph {
-        frame,
-        source_count,
-        rows: _,
-        observed: _,
-    } = graph;
     let Rows { rows, observed } = rows;
-    Graph {
-        frame,
-        source_count,
-        rows: Items::of(rows),
-        observed: Items::of(observed),
-    }
+    graph.with_rows(rows, observed)
 }

@@ -371,3 +371,17 @@ all_lits_in k (l ∷ ls) h =
 
 pub refs_there : (rows : List Row) (n k : ℕ) (row : Row) → in_order_from 0 rows ≡ true → n < length rows → k ≡ length rows → row ≡ row_at rows n → AllRefs (λ m. m < k) row
 refs_there rows n k row order lt e is = subst (AllRefs (λ m. m < k)) (sym is) (AllRefs-weaker (λ m. m < n) (λ m. m < k) (λ m l. omega arith) (row_at rows n) (in_order_means rows order n))
+
+-- rows that are all reached are compacted already
+pub reached_compaction : (count : ℕ) (rows : List Row) (lits : List Lit) (set : ℕ → Bool) → IsHashed count rows → All (λ l. node_of l < length rows) lits → IsReachedSet rows lits set
+    → ((n : ℕ) → count < n → n < length rows → set n ≡ true) → IsCompaction count rows lits rows lits
+reached_compaction count rows lits set hashed inside reached all = record {
+  hashed = hashed;
+  same_count = refl;
+  within = inside;
+  reached = λ n above lt. reached.least n (all n above lt);
+  fewer = omega arith;
+  same_function = λ bits. refl;
+  levels = λ i lt. omega arith;
+  sources_stay = λ i l lt low at. at;
+}

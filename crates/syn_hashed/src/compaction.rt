@@ -115,27 +115,57 @@ fn moved_lits(alloc: Global, lits: &[Lit], places: &[u32]) -> Result<Vec<Lit>, A
     Ok(moved)
 }
 
-// Drops the rows that the literals don't reach; the others move down in their order.
-fn drop_unreached(
+// Drops the rows that are not marked; the others move down in their order.
+fn drop_unmarked(
     alloc: Global,
     count: u32,
     rows: &[Row],
     observed: &[Lit],
+    marks: &[bool],
 ) -> Result<Rows, AllocError>
     requires hashed { IsHashed count rows.now }
     requires within { All (λ l. node_of l < length rows.now) observed.now }
     requires few { length rows.now < 2 ^ 31 }
+    requires marks { length marks.now ≡ length rows.now }
+    requires reached { IsReachedSet rows.now observed.now (value_in marks.now) }
     ensures { IfOk result (λ r. IsCompaction count rows.now observed.now r.rows.items r.observed.items) }
 {
-    let marks = syn_rows::reached(alloc, rows, observed)?;
-    let places = places_of(alloc, count, marks.as_slice())?;
-    let kept = kept_rows(alloc, count, rows, marks.as_slice(), places.as_slice())?;
+    let places = places_of(alloc, count, marks)?;
+    let kept = kept_rows(alloc, count, rows, marks, places.as_slice())?;
     let moved = moved_lits(alloc, observed, places.as_slice())?;
     syn_rows::one_valuation();
     Ok(Rows {
         rows: kept,
         observed: moved,
     })
+}
+
+// Whether all nodes behind node 0 and the sources are marked.
+fn all_marked(count: u32, marks: &[bool]) -> bool
+    ensures { result ≡ true → (n : ℕ) → count < n → n < length marks.now → value_in marks.now n ≡ true }
+{
+    for n in count as usize + 1..marks.len() {
+        if !marks[n] {
+            return false;
+        }
+    }
+    true
+}
+
+// Drops the rows that the literals don't reach, if there are any.
+fn drop_unreached(alloc: Global, count: u32, all: Rows) -> Result<Rows, AllocError>
+    requires hashed { IsHashed count all.rows.items }
+    requires within { All (λ l. node_of l < length all.rows.items) all.observed.items }
+    requires few { length all.rows.items < 2 ^ 31 }
+    ensures { IfOk result (λ r. IsCompaction count all.rows.items all.observed.items r.rows.items r.observed.items) }
+{
+    let rows = all.rows.as_slice();
+    let observed = all.observed.as_slice();
+    let marks = syn_rows::reached(alloc, rows, observed)?;
+    if all_marked(count, marks.as_slice()) {
+        return Ok(all);
+    }
+    drop_unmarked(alloc, count, rows, observed, marks.as_slice())
 }
 
 /// The rows that the observed literals reach, in the order in which these visit them: each node after its first and then
@@ -151,12 +181,7 @@ pub fn compact_rows(
     ensures { IfOk result (λ r. IsCompacted source_count rows.now observed.now r.rows.items r.observed.items) }
 {
     let ordered = in_visiting_order(alloc, source_count, rows, observed)?;
-    let kept = drop_unreached(
-        alloc,
-        source_count,
-        ordered.rows.as_slice(),
-        ordered.observed.as_slice(),
-    )?;
+    let kept = drop_unreached(alloc, source_count, ordered)?;
     Ok(kept)
 }
 

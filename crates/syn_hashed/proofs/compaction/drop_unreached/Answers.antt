@@ -1,30 +1,25 @@
-use Rattle.std.proofs.Common.{ap, sym, ◌∙◌, subst₂}
-use Rattle.syn_hashed.proofs.Dropped.{hashed_within, hashed_order, all_lits_in, compaction}
-use Rattle.std.proofs.Common.{◌≡◌, ℕ, length, List, Bool}
+use Rattle.std.proofs.Common.{◌≡◌, ◌<◌, ℕ, Bool, true, List, length, sym, ap, subst, subst₂, arith}
+use Rattle.syn_rows.specs.declared.Lit.{Lit}
+use Rattle.syn_rows.specs.declared.Row.{Row}
+use Rattle.syn_rows.specs.Rows.{refs_within, lits_within}
 use Rattle.syn_rows.specs.Values.{value_in}
-use Rattle.syn_hashed.specs.Compacting.{IsCompaction, is_kept, IsPlaces, kept_below, kept_rows}
+use Rattle.syn_rows.specs.Reach.{IsReachedSet}
+use Rattle.syn_hashed.proofs.Dropped.{hashed_within, all_lits_in, reached_compaction}
 use Rattle.syn_hashed.proofs.compaction.drop_unreached.Goals as goal
 
--- src/compact.rt:130:17
 pub reached-requires-clause-rows : goal.reached-requires-clause-rows
-reached-requires-clause-rows c = hashed_within c.args.count c.args.rows.now c.requires.hashed
+reached-requires-clause-rows c = subst (λ (rs : List Row). refs_within rs ≡ true) (sym c.as_slice-rows.ensures.value) (hashed_within c.args.count c.args.all.rows.items c.requires.hashed)
 
--- src/compact.rt:130:17
 pub reached-requires-clause-observed : goal.reached-requires-clause-observed
-reached-requires-clause-observed c = all_lits_in (length c.args.rows.now) c.args.observed.now c.requires.within
+reached-requires-clause-observed c =
+    subst₂ (λ (rs : List Row) (ls : List Lit). lits_within rs ls ≡ true) (sym c.as_slice-rows.ensures.value) (sym c.as_slice-observed.ensures.value) (all_lits_in (length c.args.all.rows.items) c.args.all.observed.items c.requires.within)
 
--- src/compact.rt:132:16
-pub kept_rows-requires-clause-order : goal.kept_rows-requires-clause-order
-kept_rows-requires-clause-order c = hashed_order c.args.count c.args.rows.now c.requires.hashed
-
--- src/compact.rt:119:1
-pub returns : goal.returns
-returns c =
-    let set = value_in c.in_ok-marks.marks.items in
-    let marks : c.as_slice.result.now ≡ c.in_ok-marks.marks.items = c.as_slice.ensures.value in
-    let placed : IsPlaces c.as_slice-4.result.now (kept_below (is_kept c.args.count set)) =
-    subst₂ (λ (p : List ℕ) (m : List Bool). IsPlaces p (kept_below (is_kept c.args.count (value_in m)))) (sym c.as_slice-4.ensures.value) marks c.in_ok-places.ensures.places in
-    subst₂ (IsCompaction c.args.count c.args.rows.now c.args.observed.now)
-    (sym (c.in_ok-kept.ensures ∙ ap (λ (m : List Bool). kept_rows (is_kept c.args.count (value_in m)) c.args.rows.now) c.as_slice-2.ensures.value))
-    (sym (c.in_ok-moved.ensures (kept_below (is_kept c.args.count set)) placed))
-    (compaction c.one_valuation.ensures c.args.count c.args.rows.now c.args.observed.now set c.requires.hashed c.requires.within c.in_ok-marks.ensures.reached)
+pub returns-then-all_marked : goal.returns-then-all_marked
+returns-then-all_marked c =
+    let marks : List Bool = c.in_ok-marks.marks.items in
+    let reached : IsReachedSet c.args.all.rows.items c.args.all.observed.items (value_in marks) =
+    subst₂ (λ (rs : List Row) (ls : List Lit). IsReachedSet rs ls (value_in marks)) c.as_slice-rows.ensures.value c.as_slice-observed.ensures.value c.in_ok-marks.ensures.reached in
+    let all : (n : ℕ) → c.args.count < n → n < length marks → value_in marks n ≡ true =
+    subst (λ (ms : List Bool). (n : ℕ) → c.args.count < n → n < length ms → value_in ms n ≡ true) c.as_slice.ensures.value (c.all_marked.ensures c.if-all_marked.true) in
+    reached_compaction c.args.count c.args.all.rows.items c.args.all.observed.items (value_in marks) c.requires.hashed c.requires.within reached
+    (λ n above lt. all n above (omega (arith, lt, c.in_ok-marks.ensures.length, ap length c.as_slice-rows.ensures.value)))
