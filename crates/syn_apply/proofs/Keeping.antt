@@ -13,12 +13,13 @@ use Rattle.syn_rows.proofs.Reaches.{one_ands_is}
 use Rattle.syn_netlist.specs.Frames.{frame_in}
 use Rattle.syn_netlist.specs.Lists.{sources}
 use Rattle.syn_graph.specs.declared.Graph.{Graph}
-use Rattle.syn_graph.proofs.Orders.{hashed_in_order}
+use Rattle.syn_hashed.proofs.Orders.{hashed_in_order}
 use Rattle.syn_plan.specs.Gates.{literal_value, values_after}
-use Rattle.syn_strash.specs.Compacting.{HasSources, SameValues}
+use Rattle.syn_hashed.specs.Compacting.{HasSources, SameValues}
 use Rattle.syn_gain.specs.Replacements.{Replacement, leaf_values, rows_after_by, SavedBy}
 use Rattle.syn_gain.proofs.Extending.{values_go_on}
 use Rattle.syn_gain.proofs.Owning.{IsBelow, root_there}
+use Rattle.syn_cones.proofs.Swapping.{all_fit_between}
 use Rattle.syn_apply.specs.Sound.{IsSoundBy}
 
 -- in a valuation that fits, the plan has the root's value
@@ -28,7 +29,7 @@ plan_is_root rows r v sound fits =
     let t = sound.truth.0 in
     let xs = map v r.leaves in
     let long : length xs ≡ length r.leaves = length-map r.leaves v in
-    sound.truth.2 xs long ∙ sym (sound.truth.1.values xs long v (λ n path led inner. fits.each n) refl)
+    sound.truth.2 xs long ∙ sym (sound.truth.1.values xs long v (all_fit_between rows r.leaves r.root v fits) refl)
 
 same_lits : (v w : ℕ → Bool) (k : ℕ) → ((n : ℕ) → n < k → w n ≡ v n) → (ls : List Lit) → All (λ l. node_of l < k) ls → map (lit_value w) ls ≡ map (lit_value v) ls
 same_lits v w k same [] h = refl

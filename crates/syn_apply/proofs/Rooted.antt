@@ -1,5 +1,5 @@
 -- The root of a sound proposal on a graph is an AND.
-use Rattle.std.proofs.Common.{◌≡◌, ℕ, ◌<◌, nat_eq, nat_lt, true, false, List, [], ◌∷◌, length, refl, ap, arith, inl, inr}
+use Rattle.std.proofs.Common.{◌≡◌, ℕ, zero, suc, ◌<◌, nat_eq, nat_lt, true, false, List, [], ◌∷◌, length, refl, ap, arith, inl, inr}
 use Rattle.std.proofs.lemmas.Bool.{cases_Bool, cases_lt, and_parts, eqb-true, ltb-true, or_cases}
 use Rattle.std.proofs.lemmas.List.{get_or_past}
 use Rattle.syn_rows.specs.declared.Row.{Row}
@@ -9,9 +9,9 @@ use Rattle.syn_rows.specs.Reach.{is_and}
 use Rattle.syn_rows.specs.Values.{is_open}
 use Rattle.syn_netlist.specs.Frames.{frame_in}
 use Rattle.syn_netlist.specs.Lists.{sources}
-use Rattle.syn_shapes.specs.Graphs.{is_gate}
+use Rattle.syn_hashed.specs.Hashed.{is_gate}
 use Rattle.syn_graph.specs.declared.Graph.{Graph}
-use Rattle.syn_cuts.specs.Cones.{has_node, IsCut}
+use Rattle.syn_cones.specs.Cones.{has_node, is_end, IsCut}
 use Rattle.syn_gain.specs.Leaves.{are_below}
 use Rattle.syn_gain.specs.Replacements.{Replacement}
 use Rattle.syn_gain.proofs.Owning.{IsBelow}
@@ -32,11 +32,15 @@ root_closed : (rows : List Row) (r : Replacement) → IsBelow r → IsCut rows r
 root_closed rows r below cut = elim (cases_Bool (is_open (row_at rows r.root))) [
   | inr closed ↦ closed
   | inl opened ↦
-      elim (or_cases (has_node r.leaves r.root) false (cut [] opened)) [
+      elim (or_cases (has_node r.leaves r.root) false (cut [] (an_end rows r.root below.positive opened))) [
         | inl has ↦ let low : r.root < r.root = below_is r.root r.root r.leaves below.low has in absurd (omega arith)
         | inr none ↦ absurd (cc none)
       ]
 ]
+  where
+    an_end : (rows : List Row) (n : ℕ) → 0 < n → is_open (row_at rows n) ≡ true → is_end rows n ≡ true
+    an_end rows zero positive h = absurd (omega (arith, positive))
+    an_end rows (suc n) positive h = h
 
 gate_and : (n : ℕ) (row : Row) → is_gate n row ≡ true → is_and row ≡ true
 gate_and n Free h = absurd (cc)

@@ -4,7 +4,7 @@ use Rattle.syn_rows.specs.declared.Row.{Row}
 use Rattle.syn_truth.specs.declared.Truth.{Truth}
 use Rattle.syn_truth.specs.Truth.{AtEach, value_of}
 use Rattle.syn_plan.specs.Gates.{literal_value, values_after}
-use Rattle.syn_cuts.specs.Cones.{IsCut, IsTruthOver}
+use Rattle.syn_cones.specs.Cones.{IsCut, IsTruthOver}
 use Rattle.syn_gain.specs.Replacements.{Replacement, leaf_values}
 
 -- its plan has the values of a table over its leaves

@@ -5,6 +5,7 @@ ghost use Rattle.std.specs.Prelude.{◌≡◌, ℤ, pos, ◌+ℤ◌, ◌≤ℤ�
 ghost use Rattle.syn_rows.specs.Rows.{row_at};
 ghost use Rattle.syn_rows.specs.Reach.{is_and};
 ghost use Rattle.syn_rows.specs.Values.{rows_function};
+ghost use Rattle.syn_rows.specs.declared.TheConstants.{NODE_LIMIT};
 ghost use Rattle.syn_netlist.specs.Frames.{frame_in};
 ghost use Rattle.syn_gain.specs.Proposals.{replacement_of};
 ghost use Rattle.syn_gain.specs.Replacements.{SavedBy, rows_after_by};
@@ -13,9 +14,9 @@ ghost use Rattle.syn_apply.specs.Sound.{IsSoundBy};
 use std::alloc::{AllocError, Global};
 use syn_gain::{Candidate, place, replaced_rows};
 use syn_graph::Graph;
-use syn_pairs::PairIndex;
-use syn_rows::Row;
-use syn_strash::compact;
+use syn_hashed::PairIndex;
+use syn_rows::{Lit, Row};
+use syn_strash::{compact, compact_graph};
 
 // The rows of a graph after a proposal.
 fn rows_after(alloc: Global, graph: &Graph, candidate: Candidate) -> Result<Vec<Row>, AllocError>
@@ -31,34 +32,51 @@ fn rows_after(alloc: Global, graph: &Graph, candidate: Candidate) -> Result<Vec<
 /// observed signals, and fewer ANDs by at least what the proposal saves. The only error is want of memory.
 pub fn applied(alloc: Global, graph: &Graph, candidate: Candidate) -> Result<Graph, AllocError>
     requires sound { IsSoundBy graph.now.rows (replacement_of candidate) }
-    requires few { length (rows_after_by graph.now.rows (replacement_of candidate)) < 2 ^ 29 }
+    requires few { length (rows_after_by graph.now.rows (replacement_of candidate)) < NODE_LIMIT }
     ensures frame { IfOk result (λ g. frame_in g.frame ≡ frame_in graph.now.frame) }
     ensures names { IfOk result (λ g. g.frame.names ≡ graph.now.frame.names) }
     ensures values { IfOk result (λ g. (bits : List Bool) → rows_function g.rows g.observed bits ≡ rows_function graph.now.rows graph.now.observed bits) }
     ensures count { IfOk result (λ g. (s : ℤ) → SavedBy graph.now.rows graph.now.observed (replacement_of candidate.entry) s → (pos (length g.rows) +ℤ s) ≤ℤ pos (length graph.now.rows)) }
 {
     let _count = graph.count();
-    let rows = rows_after(alloc, graph, candidate)?;
+    let after = rows_after(alloc, graph, candidate)?;
     let lits = graph.observed.as_slice();
-    compact(alloc, &graph.frame, rows.as_slice(), lits)
+    compact(alloc, &graph.frame, after.as_slice(), lits)
 }
 
-/// The same of a graph that isn't wanted any more. Where memory is refused, it comes back.
+// The rows of a graph after a proposal, and a copy of its observed literals.
+fn moved(
+    alloc: Global,
+    graph: &Graph,
+    candidate: Candidate,
+) -> Result<(Vec<Row>, Vec<Lit>), AllocError>
+    requires { is_and (row_at graph.now.rows candidate.root) ≡ true }
+    ensures rows { IfOk result (λ r. r.0.items ≡ rows_after_by graph.now.rows (replacement_of candidate.entry)) }
+    ensures observed { IfOk result (λ r. r.1.items ≡ graph.now.observed) }
+{
+    let rows = rows_after(alloc, graph, candidate)?;
+    let observed = Vec::from_slice(alloc, graph.observed.as_slice())?;
+    Ok((rows, observed))
+}
+
+/// The same of a graph that isn't wanted any more: its frame is moved. Where memory is refused, the graph comes back.
 pub fn apply(
     alloc: Global,
     graph: Graph,
     candidate: Candidate,
 ) -> Result<Graph, (Graph, AllocError)>
     requires sound { IsSoundBy graph.rows (replacement_of candidate) }
-    requires few { length (rows_after_by graph.rows (replacement_of candidate)) < 2 ^ 29 }
-    ensures frame { IfOk result (λ g. frame_in g.frame ≡ frame_in graph.frame) }
-    ensures names { IfOk result (λ g. g.frame.names ≡ graph.frame.names) }
+    requires few { length (rows_after_by graph.rows (replacement_of candidate)) < NODE_LIMIT }
+    ensures frame { IfOk result (λ g. g.frame ≡ graph.frame) }
     ensures values { IfOk result (λ g. (bits : List Bool) → rows_function g.rows g.observed bits ≡ rows_function graph.rows graph.observed bits) }
     ensures count { IfOk result (λ g. (s : ℤ) → SavedBy graph.rows graph.observed (replacement_of candidate.entry) s → (pos (length g.rows) +ℤ s) ≤ℤ pos (length graph.rows)) }
     ensures refused { IfErr result (λ e. e.0 ≡ graph) }
 {
-    match applied(alloc, &graph, candidate) {
-        Ok(after) => Ok(after),
+    let _count = graph.count();
+    match moved(alloc, &graph, candidate) {
+        Ok((rows, observed)) => {
+            compact_graph(alloc, graph, rows.as_slice(), observed.as_slice())
+        }
         Err(error) => Err((graph, error)),
     }
 }

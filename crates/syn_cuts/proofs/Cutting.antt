@@ -6,14 +6,14 @@ use Rattle.std.proofs.lemmas.List.Elements.{All-nil, All-cons, All-head, All-tai
 use Rattle.syn_rows.specs.declared.Lit.{Lit}
 use Rattle.syn_rows.specs.declared.Row.{Row}
 use Rattle.syn_rows.specs.declared.Row.TheVariants.{Free, Source, And, Alias}
-use Rattle.syn_rows.specs.Rows.{row_at, node_of, refs_of, AllRefs, InOrder}
-use Rattle.syn_rows.specs.Values.{is_open}
+use Rattle.syn_rows.specs.Rows.{row_at, node_of, AllRefs, InOrder}
 use Rattle.syn_rows.proofs.Folds.{IsLocal, fold_step}
 use Rattle.syn_cuts.specs.Cuts.{among, union, comes_before, put, arranged, is_small, unions_with, unions, first_unions, row_cuts, listed_cuts}
-use Rattle.syn_cuts.specs.Cones.{has_node, LeadsToSource, IsCut}
+use Rattle.syn_cones.specs.Cones.{has_node, LeadsToSource, IsCut}
 use Rattle.syn_cuts.specs.Laws.{ListedAreCuts}
 use Rattle.syn_cuts.specs.Lists.{list_at}
-use Rattle.syn_cuts.proofs.Walking.{has_here, has_there, has_one, same_node}
+use Rattle.syn_cones.proofs.Walking.{has_here, has_there, same_node}
+use Rattle.syn_cones.proofs.Swapping.{and_no_end, and_refers}
 
 -- a union has the nodes of both lists
 
@@ -74,13 +74,12 @@ cut_union : (rows : List Row) (cs ds : List ℕ) (a b : Lit) (n : ℕ) → row_a
 cut_union rows cs ds a b n e f g = λ path source. go path source
   where
     go : (path : List ℕ) → LeadsToSource rows n path → list_any (has_node (union cs ds)) (n ∷ path) ≡ true
-    go [] source = absurd (both_ways false refl (sym (ap is_open e) ∙ source))
+    go [] source = absurd (and_no_end rows n a b e source)
     go (m ∷ ms) source =
-        let refers : has_node (node_of a ∷ node_of b ∷ []) m ≡ true = sym (ap (λ r. has_node (refs_of r) m) e) ∙ source.0 in
         or_right (has_node (union cs ds) n) (list_any (has_node (union cs ds)) (m ∷ ms))
-        (elim (or_cases (nat_eq (node_of a) m) (has_node (node_of b ∷ []) m) refers) [
-          | inl s ↦ any_weaker cs (union cs ds) (m ∷ ms) (λ k h. union_left cs ds k h) (subst (IsCut rows cs) (same_node (node_of a) m s) f ms source.1)
-          | inr t ↦ any_weaker ds (union cs ds) (m ∷ ms) (λ k h. union_right cs ds k h) (subst (IsCut rows ds) (has_one (node_of b) m t) g ms source.1)
+        (elim (and_refers rows n m a b e source.0) [
+          | inl s ↦ any_weaker cs (union cs ds) (m ∷ ms) (λ k h. union_left cs ds k h) (subst (IsCut rows cs) s f ms source.1)
+          | inr t ↦ any_weaker ds (union cs ds) (m ∷ ms) (λ k h. union_right cs ds k h) (subst (IsCut rows ds) t g ms source.1)
         ])
 
 cut_alone : (rows : List Row) (n : ℕ) → IsCut rows (n ∷ []) n

@@ -1,11 +1,11 @@
 -- Arranged cuts are in order, and are those that were arranged.
-use Rattle.std.proofs.Common.{◌≡◌, ℕ, zero, suc, ◌<◌, ◌==◌, nat_lt, nat_eq, ◌&&◌, ◌||◌, Bool, true, false, if◌then◌else◌, List, [], ◌∷◌, length, bytes_eq, refl, sym, ap, ap₂, ◌∙◌, subst, inl, inr, ◌⊎◌, arith}
-use Rattle.std.specs.List.{list_any, list_all}
+use Rattle.std.proofs.Common.{◌≡◌, ℕ, nat_lt, nat_eq, ◌&&◌, ◌||◌, Bool, true, false, if◌then◌else◌, List, [], ◌∷◌, length, bytes_eq, refl, sym, ap, ap₂, ◌∙◌, subst, inl, inr, arith}
+use Rattle.std.specs.List.{list_all}
 use Rattle.std.proofs.lemmas.Bool.{and_parts, and_from, or_cases, or_left, or_right, both_ways, ltb-true, lt-ltb, eqb-true, false_from_ne_true, cases_lt}
 use Rattle.std.proofs.lemmas.Slice.Eq.{bytes_eq-Decides}
 use Rattle.syn_cuts.specs.Cuts.{leaves_before, comes_before, put, arranged}
 use Rattle.syn_cuts.specs.Laws.{are_in_order, has_cut, ArrangedInOrder}
-use Rattle.syn_cuts.proofs.Walking.{node_same}
+use Rattle.syn_cones.proofs.Walking.{node_same}
 
 leaves_trans : (a b c : List ℕ) → leaves_before a b ≡ true → leaves_before b c ≡ true → leaves_before a c ≡ true
 leaves_trans [] b c h g = absurd (both_ways false refl h)

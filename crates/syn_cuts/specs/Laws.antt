@@ -4,7 +4,7 @@ use Rattle.std.specs.List.{list_any, list_all}
 use Rattle.syn_rows.specs.declared.Row.{Row}
 use Rattle.syn_rows.specs.Rows.{InOrder}
 use Rattle.syn_cuts.specs.Cuts.{comes_before, arranged, listed_cuts}
-use Rattle.syn_cuts.specs.Cones.{IsCut}
+use Rattle.syn_cones.specs.Cones.{IsCut}
 use Rattle.syn_cuts.specs.Lists.{list_at}
 
 -- Each listed cut of a node is a cut of it.

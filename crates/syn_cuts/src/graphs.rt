@@ -1,12 +1,12 @@
 //! Listed cuts and functions over cuts of the nodes of a graph.
 
 ghost use Rattle.std.specs.Prelude.{◌≡◌, ℕ, ◌<◌, ◌≤◌, All, IfOk, length};
-ghost use Rattle.syn_cuts.specs.Cones.{IsCut, IsTruthOver};
+ghost use Rattle.syn_truth.specs.declared.TheConstants.{MOST_VARS};
+ghost use Rattle.syn_cones.specs.Cones.{IsCut, IsTruthOver};
 ghost use Rattle.syn_cuts.specs.Cuts.{listed_cuts};
 ghost use Rattle.syn_cuts.specs.Lists.{list_at};
 
 use crate::Cut;
-use crate::cones::function_of;
 use crate::levels::listed_rows;
 use crate::lists::CutLists;
 use std::alloc::{AllocError, Global};
@@ -27,7 +27,7 @@ pub fn listed<R: Threads + Sync>(
     k: u8,
     workers: u8,
 ) -> Result<CutLists, AllocError>
-    requires { k ≤ 6 }
+    requires { k ≤ MOST_VARS }
     ensures lists { IfOk result (λ lists. lists ≡ listed_cuts k graph.now.rows) }
     ensures cuts { IfOk result (λ lists. (n : ℕ) → n < length graph.now.rows → All (λ c. IsCut graph.now.rows c n) (list_at lists n)) }
 {
@@ -44,5 +44,5 @@ pub fn function(alloc: Global, graph: &Graph, node: u32, cut: &Cut) -> Result<Tr
     requires cut { IsCut graph.now.rows cut.now.items node }
     ensures { IfOk result (IsTruthOver graph.now.rows cut.now.items node) }
 {
-    function_of(alloc, graph.rows.as_slice(), node, cut.as_slice())
+    syn_cones::function(alloc, graph.rows.as_slice(), node, cut.as_slice())
 }

@@ -1,6 +1,7 @@
 //! The listed cuts of rows, level by level.
 
 ghost use Rattle.std.specs.Prelude.{◌≡◌, ◌+◌, ◌^◌, ◌<◌, ◌≤◌, All, IfOk, OnOk, length};
+ghost use Rattle.syn_truth.specs.declared.TheConstants.{MOST_VARS};
 ghost use Rattle.syn_rows.specs.Rows.{InOrder};
 ghost use Rattle.syn_cuts.specs.Cuts.{listed_cuts};
 ghost use Rattle.syn_cuts.specs.Leaves.{leaves_of};
@@ -22,14 +23,15 @@ const MOST: usize = 16_384;
 // The factor of the level in a key that holds a level and a node.
 const SPAN: u64 = 1 << 32;
 
-// How many nodes a chunk has, of so many nodes for so many workers; few nodes are one chunk.
+// How many nodes a chunk has, of so many nodes for so many workers, so that there are no more chunks than workers; few
+// nodes are one chunk.
 fn chunk_size(nodes: usize, workers: u8) -> usize
     ensures { 0 < result }
 {
     let share = if workers == 0 {
         nodes
     } else {
-        nodes / workers as usize
+        nodes.div_ceil(workers as usize)
     };
     if share < LEAST { LEAST } else { share }
 }
@@ -44,13 +46,13 @@ fn find_parts<R: Threads + Sync>(
     k: usize,
     workers: u8,
 ) -> Result<Vec<Result<Vec<Found>, AllocError>>, AllocError>
-    requires small { k ≤ 6 }
+    requires small { k ≤ MOST_VARS }
     requires order { InOrder rows.now }
     requires lists { AreListed k rows.now lists.now }
     ensures { IfOk result (λ parts. All (λ part. IfOk part (λ v. All (λ f. IsListed k rows.now f.node (leaves_of f.kept.items)) v.items)) parts.items) }
 {
     let work = move |_start: usize, chunk: &[u32]| -> Result<Vec<Found>, AllocError>
-        requires { (k ≤ 6) × InOrder rows.now × AreListed k rows.now lists.now }
+        requires { (k ≤ MOST_VARS) × InOrder rows.now × AreListed k rows.now lists.now }
         ensures { IfOk result (λ v. All (λ f. IsListed k rows.entry.now f.node (leaves_of f.kept.items)) v.items) }
     { find_all(alloc, rows, lists, chunk, k) };
     thread::map_chunks(rt, alloc, nodes, chunk_size(nodes.len(), workers), &work)
@@ -66,7 +68,7 @@ fn set_some<R: Threads + Sync>(
     k: usize,
     workers: u8,
 ) -> Result<(), AllocError>
-    requires small { k ≤ 6 }
+    requires small { k ≤ MOST_VARS }
     requires order { InOrder rows.now }
     requires lists { AreListed k rows.now lists.old }
     ensures { OnOk result (AreListed k rows.now lists.new) }
@@ -100,7 +102,7 @@ fn set_levels<R: Threads + Sync>(
     k: usize,
     workers: u8,
 ) -> Result<(), AllocError>
-    requires small { k ≤ 6 }
+    requires small { k ≤ MOST_VARS }
     requires few { length rows.now + 1 < 2 ^ 32 }
     requires order { InOrder rows.now }
     requires lists { AreListed k rows.now lists.old }
@@ -133,7 +135,7 @@ pub(crate) fn listed_rows<R: Threads + Sync>(
     k: usize,
     workers: u8,
 ) -> Result<CutLists, AllocError>
-    requires small { k ≤ 6 }
+    requires small { k ≤ MOST_VARS }
     requires few { length rows.now + 1 < 2 ^ 32 }
     requires order { InOrder rows.now }
     ensures { IfOk result (λ lists. lists ≡ listed_cuts k rows.now) }

@@ -1,20 +1,17 @@
 //! Listed cuts of the nodes of an and-inverter graph, and functions over cuts.
 #![tactic(auto)]
 
-mod cones;
 mod graphs;
 mod laws;
 mod levels;
 mod listing;
 mod lists;
-#[cfg(test)]
-mod tests;
 mod unions;
 
 use arrayvec::ArrayVec;
 
 /// A cut: its leaves, rising.
-pub type Cut = ArrayVec<u32, 6>;
+pub type Cut = ArrayVec<u32, 8>;
 
 pub use graphs::{function, listed};
 pub use laws::{arranged_in_order, listed_are_cuts, worked_cuts};

@@ -1,6 +1,7 @@
 //! Which cuts are listed, node by node.
 
 ghost use Rattle.std.specs.Prelude.{◌≡◌, ◌≢◌, ℕ, ◌^◌, ◌++◌, ◌∷◌, ◌<◌, ◌≤◌, [], All, IfOk, IfSome, IsTrue, OnOk, length, slice_set};
+ghost use Rattle.syn_truth.specs.declared.TheConstants.{MOST_VARS};
 ghost use Rattle.syn_rows.specs.Rows.{AllRefs, InOrder, row_at};
 ghost use Rattle.syn_cuts.specs.Cuts.{listed_cuts, row_cuts};
 ghost use Rattle.syn_cuts.specs.Leaves.{leaves_of};
@@ -22,7 +23,7 @@ pub struct Found {
 
 // The first unions of the listed cuts of the nodes that a row refers to.
 fn row_unions(lists: &CutLists, row: Row, k: usize) -> ArrayVec<Cut, KEPT>
-    requires small { k ≤ 6 }
+    requires small { k ≤ MOST_VARS }
     requires refs { AllRefs (λ m. m < length lists.now) row }
     ensures { (n : ℕ) → leaves_of result.items ++ (n ∷ []) ∷ [] ≡ row_cuts k (list_at lists.now) n row }
 {
@@ -54,7 +55,7 @@ fn is_ready(lists: &CutLists, row: Row) -> bool
 
 // The listed cuts of a node, where those that it refers to have their lists.
 fn find(rows: &[Row], lists: &CutLists, node: u32, k: usize) -> Option<Found>
-    requires small { k ≤ 6 }
+    requires small { k ≤ MOST_VARS }
     requires order { InOrder rows.now }
     requires lists { AreListed k rows.now lists.now }
     ensures { IfSome result (λ f. IsListed k rows.now f.node (leaves_of f.kept.items)) }
@@ -78,7 +79,7 @@ pub(crate) fn find_all(
     nodes: &[u32],
     k: usize,
 ) -> Result<Vec<Found>, AllocError>
-    requires small { k ≤ 6 }
+    requires small { k ≤ MOST_VARS }
     requires order { InOrder rows.now }
     requires lists { AreListed k rows.now lists.now }
     ensures { IfOk result (λ v. All (λ f. IsListed k rows.now f.node (leaves_of f.kept.items)) v.items) }
@@ -111,7 +112,7 @@ pub(crate) fn set_all(
 
 // Sets the list of a node that has none, where all nodes below have theirs.
 fn fill(rows: &[Row], lists: &mut CutLists, node: u32, k: usize) -> Result<(), AllocError>
-    requires small { k ≤ 6 }
+    requires small { k ≤ MOST_VARS }
     requires order { InOrder rows.now }
     requires node { node < length rows.now }
     requires lists { AreListed k rows.now lists.old }
@@ -128,7 +129,7 @@ fn fill(rows: &[Row], lists: &mut CutLists, node: u32, k: usize) -> Result<(), A
 
 // Sets the lists of the nodes that have none, in order.
 pub(crate) fn sweep(rows: &[Row], lists: &mut CutLists, k: usize) -> Result<(), AllocError>
-    requires small { k ≤ 6 }
+    requires small { k ≤ MOST_VARS }
     requires few { length rows.now < 2 ^ 32 }
     requires order { InOrder rows.now }
     requires lists { AreListed k rows.now lists.old }

@@ -1,6 +1,7 @@
 //! The first unions of two lists of cuts.
 
 ghost use Rattle.std.specs.Prelude.{◌≡◌, ◌+◌, ◌<◌, ◌≤◌, ◌∷◌, [], IfSome, IfNone, length, map, min, take};
+ghost use Rattle.syn_truth.specs.declared.TheConstants.{MOST_VARS};
 ghost use Rattle.std.specs.List.{insert};
 ghost use Rattle.arrayvec.specs.ArrayVec.{array_vec_len};
 ghost use Rattle.syn_cuts.specs.Cuts.{comes_before, leaves_before, put, union, arranged, unions, unions_with, first_unions};
@@ -36,7 +37,7 @@ fn first_node<'a>(left: &'a [u32], right: &'a [u32]) -> Option<(u32, &'a [u32], 
 
 // The union of two cuts, where it has at most k leaves.
 fn union(left: &[u32], right: &[u32], k: usize) -> Option<Cut>
-    requires { k ≤ 6 }
+    requires { k ≤ MOST_VARS }
     ensures some { IfSome result (λ c. (c.items ≡ union left.now right.now) × (length (union left.now right.now) ≤ k)) }
     ensures none { IfNone result (k < length (union left.now right.now)) }
 {
@@ -127,7 +128,7 @@ fn keep(kept: &mut ArrayVec<Cut, KEPT>, cut: Cut)
 
 // Keeps the union of two cuts, where it has at most k leaves.
 fn keep_union(kept: &mut ArrayVec<Cut, KEPT>, left: &[u32], right: &[u32], k: usize)
-    requires small { k ≤ 6 }
+    requires small { k ≤ MOST_VARS }
     requires few { array_vec_len kept.old ≤ 31 }
     ensures few { array_vec_len kept.new ≤ 31 }
     ensures kept { leaves_of kept.new.items ≡ take 31 (arranged (leaves_of kept.old.items) (unions_with k left.now (right.now ∷ []))) }
@@ -140,7 +141,7 @@ fn keep_union(kept: &mut ArrayVec<Cut, KEPT>, left: &[u32], right: &[u32], k: us
 
 // Keeps the unions of a cut with each of others.
 fn keep_unions(kept: &mut ArrayVec<Cut, KEPT>, left: &[u32], others: &[Cut], k: usize)
-    requires small { k ≤ 6 }
+    requires small { k ≤ MOST_VARS }
     requires few { array_vec_len kept.old ≤ 31 }
     ensures few { array_vec_len kept.new ≤ 31 }
     ensures kept { leaves_of kept.new.items ≡ take 31 (arranged (leaves_of kept.old.items) (unions_with k left.now (leaves_of others.now))) }
@@ -152,7 +153,7 @@ fn keep_unions(kept: &mut ArrayVec<Cut, KEPT>, left: &[u32], others: &[Cut], k: 
 
 /// The first 31 unions of a cut of one list with a cut of another that have at most k leaves.
 pub(crate) fn first_unions(left: &[Cut], right: &[Cut], k: usize) -> ArrayVec<Cut, KEPT>
-    requires { k ≤ 6 }
+    requires { k ≤ MOST_VARS }
     ensures { leaves_of result.items ≡ first_unions k (leaves_of left.now) (leaves_of right.now) }
 {
     let mut kept = ArrayVec::new();

@@ -1,7 +1,7 @@
 ghost use Rattle.std.specs.Prelude.{◌≡◌, ℕ, ◌<◌, ◌≤◌, ◌&&◌, All, true, length, IfOk, IfSome};
 ghost use Rattle.syn_rows.specs.Rows.{row_at};
 ghost use Rattle.syn_rows.specs.Reach.{is_and};
-ghost use Rattle.syn_cuts.specs.Cones.{IsCut};
+ghost use Rattle.syn_cones.specs.Cones.{IsCut};
 ghost use Rattle.syn_cuts.specs.Lists.{list_at};
 ghost use Rattle.syn_gain.specs.Leaves.{are_below, gates_within, names_within, rise_above};
 ghost use Rattle.syn_gain.specs.Proposals.{replacement};
@@ -22,22 +22,32 @@ use syn_reader::read;
 use syn_rows::Row;
 
 // f is ab or ac: node 4 is the AND of a and b, node 5 that of a and c, node 6 that of the complements of both.
-const ALONE: &str = ".model m\n.inputs a b c\n.outputs f\n.names a b c f\n11- 1\n1-1 1\n.end\n";
+fn alone(alloc: Global) -> Option<Graph> {
+    let text = ".model m\n.inputs a b c\n.outputs f\n.names a b c f\n11- 1\n1-1 1\n.end\n";
+    let netlist = read(alloc, text.as_bytes()).ok()?;
+    graph_of(alloc, netlist).ok()
+}
 
 // The same rows, with nodes 4 and 5 observed too.
-const SHARED: &str =
-    ".model m\n.inputs a b c\n.outputs f g h\n.names a b g\n11 1\n.names a c h\n11 1\n.names g h f\n1- 1\n-1 1\n.end\n";
+fn shared(alloc: Global) -> Option<Graph> {
+    let text =
+        ".model m\n.inputs a b c\n.outputs f g h\n.names a b g\n11 1\n.names a c h\n11 1\n.names g h f\n1- 1\n-1 1\n.end\n";
+    let netlist = read(alloc, text.as_bytes()).ok()?;
+    graph_of(alloc, netlist).ok()
+}
 
-// The same function and a fourth input: node 8 is the AND of d and of the complement of node 7.
-const GATED: &str =
-    ".model m\n.inputs a b c d\n.outputs g\n.names a b c f\n11- 1\n1-1 1\n.names d f g\n11 1\n.end\n";
+// The same function of a, b and c, and its AND with a fourth input, which is node 8.
+fn gated(alloc: Global) -> Option<Graph> {
+    let text =
+        ".model m\n.inputs a b c d\n.outputs g\n.names a b c f\n11- 1\n1-1 1\n.names d f g\n11 1\n.end\n";
+    let netlist = read(alloc, text.as_bytes()).ok()?;
+    graph_of(alloc, netlist).ok()
+}
 
 // A sum and a carry of three bits, and two ANDs that share some of their cones.
-const ADDER: &str =
-    ".model m\n.inputs a b c d\n.outputs s k e\n.names a b x\n10 1\n01 1\n.names x c s\n10 1\n01 1\n.names a b c k\n11- 1\n1-1 1\n-11 1\n.names x k d e\n11- 1\n1-1 1\n-11 1\n.end\n";
-
-// The graph that a text spells.
-fn graph_from(alloc: Global, text: &str) -> Option<Graph> {
+fn adder(alloc: Global) -> Option<Graph> {
+    let text =
+        ".model m\n.inputs a b c d\n.outputs s k e\n.names a b x\n10 1\n01 1\n.names x c s\n10 1\n01 1\n.names a b c k\n11- 1\n1-1 1\n-11 1\n.names x k d e\n11- 1\n1-1 1\n-11 1\n.end\n";
     let netlist = read(alloc, text.as_bytes()).ok()?;
     graph_of(alloc, netlist).ok()
 }
@@ -58,7 +68,7 @@ fn are_cuts(cuts: &[Cut], wanted: &[&[u32]]) -> bool {
 #[test]
 fn lists_cuts(rt: HostRuntime) -> Result<(), Fail> {
     let alloc = rt.alloc();
-    let Some(graph) = graph_from(alloc, ALONE) else {
+    let Some(graph) = alone(alloc) else {
         panic!(rt; "no graph");
     };
     for workers in 1..17 {
@@ -92,17 +102,17 @@ fn cut_at<'a>(graph: &Graph, lists: &'a CutLists, node: u32, place: usize) -> Op
 #[test]
 fn computes_functions_over_cuts(rt: HostRuntime) -> Result<(), Fail> {
     let alloc = rt.alloc();
-    let Some(graph) = graph_from(alloc, ALONE) else {
+    let Some(graph) = alone(alloc) else {
         panic!(rt; "no graph");
     };
     let lists = listed(&rt, alloc, &graph, 4, 1)?;
-    for (place, vars, bits) in [(0, 2, 0x1), (1, 3, 0x57)] {
+    for (place, vars, bits) in [(0, 2, 0x1111), (1, 3, 0x5757)] {
         let Some(cut) = cut_at(&graph, &lists, 6, place) else {
             panic!(rt; "no cut");
         };
         let truth = function(alloc, &graph, 6, cut)?;
         assert_eq!(rt; truth.vars, vars);
-        assert_eq!(rt; truth.bits, bits);
+        assert_eq!(rt; truth.to_bits(), bits);
     }
     Ok(())
 }
@@ -151,8 +161,8 @@ fn shared_gate() -> Plan
 fn saves_what_dies(rt: HostRuntime) -> Result<(), Fail> {
     let alloc = rt.alloc();
     let plan = shared_gate();
-    for (text, wanted) in [(ALONE, 1), (SHARED, -1)] {
-        let Some(graph) = graph_from(alloc, text) else {
+    for (graph, wanted) in [(alone(alloc), 1), (shared(alloc), -1)] {
+        let Some(graph) = graph else {
             panic!(rt; "no graph");
         };
         let counts = both_counts(alloc, &graph, Candidate::over(6, &[1, 2, 3], &plan))?;
@@ -240,7 +250,7 @@ fn class_plan(
     if truth.vars > 4 {
         return Ok(None);
     }
-    let (class, transform) = canon((truth.widen(4).bits % 65_536) as u16);
+    let (class, transform) = canon(truth.to_bits());
     for plan in plans(class) {
         if plan.leaves == 4 {
             return Ok(Some(fit(&plan, transform)));
@@ -249,38 +259,52 @@ fn class_plan(
     Ok(None)
 }
 
+// What the plan of a class saves in place of a node, from its listed cut at a place, which has so many leaves; none where
+// there is no such cut or proposal.
+fn saved_by_class(
+    alloc: Global,
+    graph: &Graph,
+    lists: &CutLists,
+    node: u32,
+    place: usize,
+    leaves: usize,
+) -> Result<Option<(i64, i64)>, AllocError>
+    requires { (n : ℕ) → n < length graph.now.rows → All (λ c. IsCut graph.now.rows c n) (list_at lists.now n) }
+{
+    let Some(cut) = cut_at(graph, lists, node, place) else {
+        return Ok(None);
+    };
+    let Some(plan) = class_plan(alloc, graph, node, cut)? else {
+        return Ok(None);
+    };
+    match candidate_of(node, cut, &plan) {
+        Some(candidate) if cut.len() == leaves => both_counts(alloc, graph, candidate),
+        _ => Ok(None),
+    }
+}
+
 // From a cut through its function, the class of that and a fitted plan to what the proposal saves.
 #[test]
 fn plans_of_classes_save(rt: HostRuntime) -> Result<(), Fail> {
     let alloc = rt.alloc();
-    for (text, node, place, leaves, wanted) in [
-        (ALONE, 6, 0, 2, 0),
-        (ALONE, 6, 1, 3, 1),
-        (SHARED, 6, 1, 3, -1),
-        (GATED, 8, 2, 4, 1),
+    for (graph, node, place, leaves, wanted) in [
+        (alone(alloc), 6, 0, 2, 0),
+        (alone(alloc), 6, 1, 3, 1),
+        (shared(alloc), 6, 1, 3, -1),
+        (gated(alloc), 8, 2, 4, 1),
     ] {
-        let Some(graph) = graph_from(alloc, text) else {
+        let Some(graph) = graph else {
             panic!(rt; "no graph");
         };
         let lists = listed(&rt, alloc, &graph, 4, 1)?;
-        let Some(cut) = cut_at(&graph, &lists, node, place) else {
-            panic!(rt; "no cut");
-        };
-        assert_eq!(rt; cut.len(), leaves);
-        let Some(plan) = class_plan(alloc, &graph, node, cut)? else {
-            panic!(rt; "no plan");
-        };
-        let Some(candidate) = candidate_of(node, cut, &plan) else {
-            panic!(rt; "a leaf behind the cut");
-        };
-        let counts = both_counts(alloc, &graph, candidate)?;
+        let counts = saved_by_class(alloc, &graph, &lists, node, place, leaves)?;
         assert_eq!(rt; counts, Some((wanted, wanted)));
     }
     Ok(())
 }
 
 // The nodes as the leaves of a proposal; none where there are too many.
-fn leaves_of(nodes: &[u32]) -> Option<ArrayVec<u32, 7>>
+fn leaves_of(nodes: &[u32]) -> Option<ArrayVec<u32, 8>>
     ensures { IfSome result (λ leaves. leaves.items ≡ nodes.now) }
 {
     let mut leaves = ArrayVec::new();
@@ -351,7 +375,7 @@ fn applies(alloc: Global, graph: Graph, proposal: &Proposal) -> Result<bool, All
 #[test]
 fn counts_alike_and_applies(rt: HostRuntime) -> Result<(), Fail> {
     let alloc = rt.alloc();
-    let Some(graph) = graph_from(alloc, ADDER) else {
+    let Some(graph) = adder(alloc) else {
         panic!(rt; "no graph");
     };
     let lists = listed(&rt, alloc, &graph, 4, 1)?;

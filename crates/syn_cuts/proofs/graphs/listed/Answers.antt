@@ -1,7 +1,7 @@
 use Rattle.std.proofs.Common.{◌≡◌, ℕ, ◌<◌, All, length, sym, ap, ◌∙◌, subst}
 use Rattle.std.proofs.lemmas.Result.{IfOk-weaker}
 use Rattle.syn_rows.specs.Rows.{InOrder}
-use Rattle.syn_cuts.specs.Cones.{IsCut}
+use Rattle.syn_cones.specs.Cones.{IsCut}
 use Rattle.syn_cuts.specs.Cuts.{listed_cuts}
 use Rattle.syn_cuts.specs.Lists.{list_at}
 use Rattle.syn_cuts.proofs.Cutting.{listed_are_cuts}

@@ -1,7 +1,7 @@
 use Rattle.std.proofs.Common.{◌≡◌, ℕ, ◌<◌, All, List, length, get_or, sym, ap, ◌∙◌, subst, arith}
 use Rattle.std.proofs.Math.ListN.{get_or-map}
 use Rattle.std.proofs.lemmas.List.{length-map}
-use Rattle.syn_cuts.specs.Cones.{IsCut}
+use Rattle.syn_cones.specs.Cones.{IsCut}
 use Rattle.syn_cuts.specs.Leaves.{leaves, leaves_of}
 use Rattle.test_proposals.proofs.tests.cut_at.Goals as goal
 

@@ -4,7 +4,7 @@ use Rattle.syn_truth.specs.declared.Truth.{Truth}
 use Rattle.syn_truth.specs.Truth.{AtEach, value_of}
 use Rattle.syn_plan.specs.declared.plan.Plan.{Plan}
 use Rattle.syn_plan.specs.Plans.{plan_truth}
-use Rattle.syn_cuts.specs.Cones.{IsCut, IsTruthOver}
+use Rattle.syn_cones.specs.Cones.{IsCut, IsTruthOver}
 use Rattle.syn_gain.specs.declared.proposals.Proposal.{Proposal}
 use Rattle.syn_gain.specs.Proposals.{replacement}
 use Rattle.syn_gain.specs.Replacements.{leaf_values}

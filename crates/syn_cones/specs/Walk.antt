@@ -2,11 +2,9 @@
 use Rattle.std.specs.Prelude.{◌≡◌, ℕ, suc, ◌<◌, nat_lt, ◌==◌, ◌&&◌, if◌then◌else◌, Bool, true, false, List, [], ◌∷◌, ◌++◌, length, slice_index_or}
 use Rattle.std.specs.List.{list_all}
 use Rattle.syn_rows.specs.declared.Row.{Row}
-use Rattle.syn_rows.specs.Rows.{row_at, refs_of}
-use Rattle.syn_rows.specs.Values.{RowFits, is_open}
 use Rattle.syn_truth.specs.declared.Truth.{Truth}
 use Rattle.syn_truth.specs.Truth.{value_of}
-use Rattle.syn_cuts.specs.Cones.{has_node, LeadsTo, IsFunctionOf}
+use Rattle.syn_cones.specs.Cones.{has_node, refs_at, is_end, LeadsTo, FitsAt, IsFunctionOf}
 
 -- a node put in its place among rising nodes, where it isn't there yet
 abbrev pub put_node : ℕ → List ℕ → List ℕ
@@ -20,7 +18,7 @@ put_nodes (n ∷ ns) ms = put_nodes ns (put_node n ms)
 
 -- the nodes that a node's row refers to, none where the node is a leaf
 abbrev pub inner_refs : List Row → List ℕ → ℕ → List ℕ
-inner_refs rows leaves n = if has_node leaves n then [] else refs_of (row_at rows n)
+inner_refs rows leaves n = if has_node leaves n then [] else refs_at rows n
 
 -- each of the second list is in the first
 abbrev pub has_all : List ℕ → List ℕ → Bool
@@ -65,6 +63,6 @@ have_vars vars tables = list_all (λ t. t.vars == vars) tables
 abbrev pub TablesAgree : (ℕ → Bool) → List Bool → List ℕ → List Truth → Type 0
 TablesAgree v xs nodes tables = (i : ℕ) (t : Truth) → i < length nodes → slice_index_or tables i t ≡ t → v (slice_index_or nodes i 0) ≡ value_of t xs
 
--- where the node isn't a leaf, its row isn't open, and the valuation fits it
+-- where the node isn't a leaf, it isn't the end of a path, and its value fits
 abbrev pub FitsInside : List Row → List ℕ → (ℕ → Bool) → ℕ → Type 0
-FitsInside rows leaves v n = has_node leaves n ≡ false → (is_open (row_at rows n) ≡ false) × RowFits v n (row_at rows n)
+FitsInside rows leaves v n = has_node leaves n ≡ false → (is_end rows n ≡ false) × FitsAt rows v n

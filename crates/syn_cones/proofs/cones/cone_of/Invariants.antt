@@ -1,6 +1,6 @@
 use Rattle.std.proofs.Common.{◌≡◌, true}
-use Rattle.syn_cuts.specs.Walk.{IsWalk, rises, top}
-use Rattle.syn_cuts.proofs.cones.cone_of.Given as goal
+use Rattle.syn_cones.specs.Walk.{IsWalk, rises, top}
+use Rattle.syn_cones.proofs.cones.cone_of.Given as goal
 
 abbrev pub invariant-loop-node : goal.invariant-loop-node
 invariant-loop-node l = record {

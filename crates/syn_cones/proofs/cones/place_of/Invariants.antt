@@ -1,6 +1,6 @@
 use Rattle.std.proofs.Common.{◌≡◌, drop}
-use Rattle.syn_cuts.specs.Cones.{has_node}
-use Rattle.syn_cuts.proofs.cones.place_of.Given as goal
+use Rattle.syn_cones.specs.Cones.{has_node}
+use Rattle.syn_cones.proofs.cones.place_of.Given as goal
 
 abbrev pub invariant-loop-i : goal.invariant-loop-i
 invariant-loop-i l = has_node (drop l.i l.nodes) l.node ≡ has_node l.nodes l.node

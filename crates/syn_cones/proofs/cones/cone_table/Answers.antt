@@ -1,8 +1,8 @@
 use Rattle.std.proofs.Common.{length, ap, ◌∙◌, subst, arith}
-use Rattle.syn_cuts.specs.Walk.{IsWalk, inner_refs, has_all}
-use Rattle.syn_cuts.proofs.Walking.{closed_found, found_on, last_led, led_below}
-use Rattle.syn_cuts.proofs.Tabling.{function_from, functions_on, vars_on}
-use Rattle.syn_cuts.proofs.cones.cone_table.Goals as goal
+use Rattle.syn_cones.specs.Walk.{IsWalk, inner_refs, has_all}
+use Rattle.syn_cones.proofs.Walking.{closed_found, found_on, last_led, led_below}
+use Rattle.syn_cones.proofs.Tabling.{function_from, functions_on, vars_on}
+use Rattle.syn_cones.proofs.cones.cone_table.Goals as goal
 
 pub node_table-table-requires-clause-node : goal.node_table-table-requires-clause-node
 node_table-table-requires-clause-node c =
@@ -20,7 +20,7 @@ node_table-table-requires-clause-there c =
     let leaves = c.args.leaves.now in
     let nodes = c.loop-node.nodes.items in
     let walk = subst (λ l. IsWalk rows leaves c.args.root l nodes) c.in-Some.ensures.items c.loop-node.invariant.walk in
-    ap (λ l. has_all l (inner_refs rows leaves c.in-Some.node)) c.deref.ensures.value
+    ap (λ l. has_all l (inner_refs rows leaves c.in-Some.node)) c.as_slice.ensures
     ∙ (closed_found rows leaves c.pop.new.self.items nodes c.in-Some.node walk.closed).1
 
 pub loop-node-preserved : goal.loop-node-preserved
@@ -35,10 +35,10 @@ loop-node-preserved c =
     let t = c.node_table-table.result in
     let walk = subst (λ l. IsWalk rows leaves root l nodes) c.in-Some.ensures.items c.loop-node.invariant.walk in
     let led = last_led rows leaves root front nodes n walk in
-    let values = rw (c.deref.ensures.value, c.deref-in-Some.ensures.value) at c.node_table-table.ensures.values in
+    let values = rw (c.as_slice.ensures, c.as_slice-in-Some.ensures) at c.node_table-table.ensures.values in
     let new = function_from rows leaves root nodes tables n t led.0 c.loop-node.invariant.functions c.requires.cut led.1 c.node_table-table.ensures.vars values in
     record {
-      walk = rw c.in_ok-push.ensures.items (found_on rows leaves root front nodes n walk);
-      functions = rw (c.in_ok-push.ensures.items, c.in_ok-push-2.ensures.items) (functions_on rows leaves root nodes tables n t c.loop-node.invariant.functions new);
-      vars = rw c.in_ok-push-2.ensures.items (vars_on (length leaves) tables t c.loop-node.invariant.vars c.node_table-table.ensures.vars);
+      walk = rw c.in_ok-push.ensures.ok (found_on rows leaves root front nodes n walk);
+      functions = rw (c.in_ok-push.ensures.ok, c.in_ok-push-2.ensures.ok) (functions_on rows leaves root nodes tables n t c.loop-node.invariant.functions new);
+      vars = rw c.in_ok-push-2.ensures.ok (vars_on (length leaves) tables t c.loop-node.invariant.vars c.node_table-table.ensures.vars);
     }

@@ -3,18 +3,16 @@ use Rattle.std.proofs.Common.{◌≡◌, ℕ, ◌<◌, nat_eq, Bool, true, false
 use Rattle.std.proofs.lemmas.Bool.{and_parts, and_from, or_cases, both_ways, false_from_ne_true, cases_lt}
 use Rattle.std.proofs.lemmas.List.{length-append, get_or_append_left, get_or_push}
 use Rattle.syn_rows.specs.declared.Row.{Row}
-use Rattle.syn_rows.specs.Rows.{row_at}
-use Rattle.syn_rows.specs.Values.{is_open}
 use Rattle.syn_truth.specs.declared.Truth.{Truth}
 use Rattle.syn_truth.specs.Truth.{value_of}
-use Rattle.syn_cuts.specs.Cones.{has_node, LeadsTo, IsCut, IsFunctionOf}
-use Rattle.syn_cuts.specs.Walk.{AreFunctions, FitsInside, TablesAgree, have_vars}
-use Rattle.syn_cuts.proofs.Walking.{cut_led, node_same}
+use Rattle.syn_cones.specs.Cones.{has_node, is_end, LeadsTo, IsCut, IsFunctionOf}
+use Rattle.syn_cones.specs.Walk.{AreFunctions, FitsInside, TablesAgree, have_vars}
+use Rattle.syn_cones.proofs.Walking.{cut_led, node_same}
 
--- a node that is led to and isn't a leaf has no open row
-not_open : (rows : List Row) (leaves : List ℕ) (root : ℕ) (path : List ℕ) (n : ℕ) → IsCut rows leaves root → LeadsTo rows leaves root path n → has_node leaves n ≡ false → is_open (row_at rows n) ≡ false
-not_open rows leaves root path n cut led f =
-    false_from_ne_true (is_open (row_at rows n)) (λ h. elim (or_cases (has_node leaves n) false (cut_led rows leaves root path n cut led [] h)) [
+-- a node that is led to and isn't a leaf is no end of a path
+no_end : (rows : List Row) (leaves : List ℕ) (root : ℕ) (path : List ℕ) (n : ℕ) → IsCut rows leaves root → LeadsTo rows leaves root path n → has_node leaves n ≡ false → is_end rows n ≡ false
+no_end rows leaves root path n cut led f =
+    false_from_ne_true (is_end rows n) (λ h. elim (or_cases (has_node leaves n) false (cut_led rows leaves root path n cut led [] h)) [
       | inl t ↦ both_ways (has_node leaves n) f t
       | inr z ↦ both_ways false refl z
     ])
@@ -23,7 +21,7 @@ pub function_from : (rows : List Row) (leaves : List ℕ) (root : ℕ) (nodes : 
     → t.vars ≡ length leaves → ((v : ℕ → Bool) (xs : List Bool) → map v leaves ≡ xs → TablesAgree v xs nodes tables → FitsInside rows leaves v n → v n ≡ value_of t xs) → IsFunctionOf rows leaves root n t
 function_from rows leaves root nodes tables n t path f cut led vars values = record {
   vars = vars;
-  values = λ xs len v fits at. values v xs at (λ i u lt e. (f.each i u lt e).values xs len v fits at) (λ leaf. (not_open rows leaves root path n cut led leaf, fits n path led leaf));
+  values = λ xs len v fits at. values v xs at (λ i u lt e. (f.each i u lt e).values xs len v fits at) (λ leaf. (no_end rows leaves root path n cut led leaf, fits n path led leaf));
 }
 
 pub functions_on : (rows : List Row) (leaves : List ℕ) (root : ℕ) (nodes : List ℕ) (tables : List Truth) (n : ℕ) (t : Truth) → AreFunctions rows leaves root nodes tables → IsFunctionOf rows leaves root n t

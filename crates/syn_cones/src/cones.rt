@@ -4,10 +4,12 @@ ghost use Rattle.std.specs.Prelude.{◌≡◌, ℕ, ◌<◌, ◌≤◌, Bool, Li
 ghost use Rattle.std.specs.List.{insert};
 ghost use Rattle.syn_rows.specs.Rows.{InOrder, node_of, refs_of, row_at};
 ghost use Rattle.syn_rows.specs.Values.{RowFits, is_open, lit_value};
+ghost use Rattle.syn_truth.specs.declared.TheConstants.{MOST_VARS};
 ghost use Rattle.syn_truth.specs.Truth.{value_of};
-ghost use Rattle.syn_cuts.specs.Cones.{IsCut, IsTruthOver, has_node};
-ghost use Rattle.syn_cuts.specs.Walk.{FitsInside, IsWalk, TablesAgree, has_all, have_vars, inner_refs, put_node, put_nodes};
+ghost use Rattle.syn_cones.specs.Cones.{IsCut, IsTruthOver, has_node};
+ghost use Rattle.syn_cones.specs.Walk.{FitsInside, IsWalk, TablesAgree, has_all, have_vars, inner_refs, put_node, put_nodes};
 
+use smallvec::SmallVec;
 use std::alloc::{AllocError, Global};
 use syn_rows::{Lit, Row};
 use syn_truth::Truth;
@@ -42,10 +44,10 @@ fn gap_for(nodes: &[u32], node: u32) -> Option<usize>
 }
 
 // Puts a node in its place among rising nodes, where it isn't there.
-fn put_node(nodes: &mut Vec<u32>, node: u32) -> Result<(), AllocError>
+fn put_node(nodes: &mut SmallVec<u32, 32>, node: u32) -> Result<(), AllocError>
     ensures { OnOk result (nodes.new.items ≡ put_node node nodes.old.items) }
 {
-    match gap_for(nodes, node) {
+    match gap_for(nodes.as_slice(), node) {
         Some(i) => {
             nodes.insert(i, node)?;
             Ok(())
@@ -55,7 +57,7 @@ fn put_node(nodes: &mut Vec<u32>, node: u32) -> Result<(), AllocError>
 }
 
 // Puts the nodes that a row refers to among those that wait.
-fn put_refs(waiting: &mut Vec<u32>, row: Row) -> Result<(), AllocError>
+fn put_refs(waiting: &mut SmallVec<u32, 32>, row: Row) -> Result<(), AllocError>
     ensures { OnOk result (waiting.new.items ≡ put_nodes (refs_of row) waiting.old.items) }
 {
     match row {
@@ -69,24 +71,35 @@ fn put_refs(waiting: &mut Vec<u32>, row: Row) -> Result<(), AllocError>
 }
 
 // Puts the nodes that a node refers to among those that wait, where it isn't a leaf.
-fn visit(rows: &[Row], leaves: &[u32], node: u32, waiting: &mut Vec<u32>) -> Result<(), AllocError>
+fn visit(
+    rows: &[Row],
+    leaves: &[u32],
+    node: u32,
+    waiting: &mut SmallVec<u32, 32>,
+) -> Result<(), AllocError>
     requires { node < length rows.now }
     ensures { OnOk result (waiting.new.items ≡ put_nodes (inner_refs rows.now leaves.now node) waiting.old.items) }
 {
     match place_of(leaves, node) {
         Some(_) => Ok(()),
+        None if node == 0 => Ok(()),
         None => put_refs(waiting, rows[node as usize]),
     }
 }
 
 // The nodes that are led to from the root, each before those that it refers to.
-fn cone_of(alloc: Global, rows: &[Row], leaves: &[u32], root: u32) -> Result<Vec<u32>, AllocError>
+fn cone_of(
+    alloc: Global,
+    rows: &[Row],
+    leaves: &[u32],
+    root: u32,
+) -> Result<SmallVec<u32, 32>, AllocError>
     requires order { InOrder rows.now }
     requires root { root < length rows.now }
     ensures { IfOk result (λ cone. IsWalk rows.now leaves.now root cone.items []) }
 {
-    let mut cone = Vec::new(alloc);
-    let mut waiting = Vec::new(alloc);
+    let mut cone = SmallVec::new(alloc);
+    let mut waiting = SmallVec::new(alloc);
     waiting.push(root)?;
     while let Some(node) = waiting.pop() {
         visit(rows, leaves, node, &mut waiting)?;
@@ -111,7 +124,7 @@ fn lit_table(nodes: &[u32], tables: &[Truth], lit: Lit) -> Truth
 
 // The table that a row gives its node, from those of nodes among which are all that it refers to.
 fn row_table(nodes: &[u32], tables: &[Truth], row: Row, vars: u8) -> Truth
-    requires few { vars ≤ 7 }
+    requires few { vars ≤ MOST_VARS }
     requires count { length tables.now ≡ length nodes.now }
     requires vars { have_vars vars tables.now ≡ true }
     requires there { has_all nodes.now (refs_of row) ≡ true }
@@ -127,7 +140,7 @@ fn row_table(nodes: &[u32], tables: &[Truth], row: Row, vars: u8) -> Truth
 
 // The table of a node over leaves, from those of nodes among which are all that it refers to.
 fn node_table(rows: &[Row], leaves: &[u32], nodes: &[u32], tables: &[Truth], node: u32) -> Truth
-    requires few { length leaves.now ≤ 6 }
+    requires few { length leaves.now ≤ MOST_VARS }
     requires node { node < length rows.now }
     requires count { length tables.now ≡ length nodes.now }
     requires vars { have_vars (length leaves.now) tables.now ≡ true }
@@ -137,6 +150,7 @@ fn node_table(rows: &[Row], leaves: &[u32], nodes: &[u32], tables: &[Truth], nod
 {
     match place_of(leaves, node) {
         Some(i) => Truth::var(leaves.len() as u8, i as u8),
+        None if node == 0 => Truth::constant(leaves.len() as u8, false),
         None => row_table(nodes, tables, rows[node as usize], leaves.len() as u8),
     }
 }
@@ -147,9 +161,9 @@ fn cone_table(
     rows: &[Row],
     leaves: &[u32],
     root: u32,
-    cone: Vec<u32>,
+    cone: SmallVec<u32, 32>,
 ) -> Result<Truth, AllocError>
-    requires few { length leaves.now ≤ 6 }
+    requires few { length leaves.now ≤ MOST_VARS }
     requires order { InOrder rows.now }
     requires root { root < length rows.now }
     requires cut { IsCut rows.now leaves.now root }
@@ -157,27 +171,26 @@ fn cone_table(
     ensures { IfOk result (IsTruthOver rows.now leaves.now root) }
 {
     let mut cone = cone;
-    let mut nodes = Vec::new(alloc);
-    let mut tables = Vec::new(alloc);
+    let mut nodes: SmallVec<u32, 32> = SmallVec::new(alloc);
+    let mut tables: SmallVec<Truth, 16> = SmallVec::new(alloc);
     while let Some(node) = cone.pop() {
-        let table = node_table(rows, leaves, &nodes, &tables, node);
+        let table = node_table(rows, leaves, nodes.as_slice(), tables.as_slice(), node);
         nodes.push(node)?;
         tables.push(table)?;
     }
-    match place_of(&nodes, root) {
+    match place_of(nodes.as_slice(), root) {
         Some(i) => Ok(tables[i]),
         None => Ok(Truth::default()),
     }
 }
 
-/// The function of a node over a cut of it.
-pub(crate) fn function_of(
-    alloc: Global,
-    rows: &[Row],
-    root: u32,
-    leaves: &[u32],
-) -> Result<Truth, AllocError>
-    requires few { length leaves.now ≤ 6 }
+/// The function of a node over a cut of it: variable i is leaf i.
+///
+/// For each choice of values of the leaves its value is that of the node in every valuation that has these at the leaves
+/// and fits the rows between; the rows of leaves aren't looked at. The only error is want of memory, which a small cone
+/// doesn't take.
+pub fn function(alloc: Global, rows: &[Row], root: u32, leaves: &[u32]) -> Result<Truth, AllocError>
+    requires few { length leaves.now ≤ MOST_VARS }
     requires order { InOrder rows.now }
     requires root { root < length rows.now }
     requires cut { IsCut rows.now leaves.now root }

@@ -1,6 +1,6 @@
 use Rattle.std.proofs.Common.{◌≡◌, true, length}
-use Rattle.syn_cuts.specs.Walk.{AreFunctions, IsWalk, have_vars}
-use Rattle.syn_cuts.proofs.cones.cone_table.Given as goal
+use Rattle.syn_cones.specs.Walk.{AreFunctions, IsWalk, have_vars}
+use Rattle.syn_cones.proofs.cones.cone_table.Given as goal
 
 abbrev pub invariant-loop-node : goal.invariant-loop-node
 invariant-loop-node l = record {

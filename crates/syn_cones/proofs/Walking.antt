@@ -1,13 +1,13 @@
 -- The walk from a root down to the leaves of a cut.
-use Rattle.std.proofs.Common.{◌≡◌, ℕ, suc, ◌<◌, ◌≤◌, nat_lt, nat_eq, Bool, true, false, if◌then◌else◌, List, [], ◌∷◌, ◌++◌, refl, sym, subst, inl, inr, ◌⊎◌, arith}
+use Rattle.std.proofs.Common.{◌≡◌, ℕ, zero, suc, ◌<◌, ◌≤◌, nat_lt, nat_eq, Bool, true, false, if◌then◌else◌, List, [], ◌∷◌, ◌++◌, refl, sym, subst, inl, inr, ◌⊎◌, arith}
 use Rattle.std.specs.List.{list_any, list_all}
 use Rattle.std.proofs.lemmas.Bool.{and_parts, and_from, or_cases, or_left, or_right, both_ways, eqb-true, ltb-true, lt-ltb}
 use Rattle.std.proofs.lemmas.Bool.Decides.{nat_tests, eqb_tells}
 use Rattle.syn_rows.specs.declared.Row.{Row}
 use Rattle.syn_rows.specs.declared.Row.TheVariants.{Free, Source, And, Alias}
 use Rattle.syn_rows.specs.Rows.{row_at, refs_of, node_of, AllRefs, InOrder}
-use Rattle.syn_cuts.specs.Cones.{has_node, Refers, LeadsTo, IsCut}
-use Rattle.syn_cuts.specs.Walk.{put_node, put_nodes, inner_refs, has_all, is_closed, rises, top, IsWalk}
+use Rattle.syn_cones.specs.Cones.{has_node, refs_at, Refers, LeadsTo, IsCut}
+use Rattle.syn_cones.specs.Walk.{put_node, put_nodes, inner_refs, has_all, is_closed, rises, top, IsWalk}
 
 pub same_node : (m n : ℕ) → nat_eq m n ≡ true → m ≡ n
 same_node m n e = eqb-true m n e
@@ -162,8 +162,13 @@ cut_led rows leaves root (next ∷ path) n cut led =
       | inr h ↦ h
     ]) led.2
 
+-- a node that refers to another does so by its row
+pub refers_row : (rows : List Row) (n m : ℕ) → Refers rows n m → has_node (refs_of (row_at rows n)) m ≡ true
+refers_row rows zero m r = absurd (both_ways false refl r)
+refers_row rows (suc n) m r = r
+
 refs_less : (rows : List Row) (n m : ℕ) → InOrder rows → Refers rows n m → m < n
-refs_less rows n m order r = go (row_at rows n) (order n) r
+refs_less rows n m order r = go (row_at rows n) (order n) (refers_row rows n m r)
   where
     go : (row : Row) → AllRefs (λ k. k < n) row → has_node (refs_of row) m ≡ true → m < n
     go Free h r = absurd (both_ways false refl r)
@@ -184,7 +189,7 @@ led_below rows leaves root (next ∷ path) n order led =
 inner_less : (rows : List Row) (leaves : List ℕ) (n m : ℕ) → InOrder rows → has_node (inner_refs rows leaves n) m ≡ true → (has_node leaves n ≡ false) × Refers rows n m
 inner_less rows leaves n m order h = go (has_node leaves n) refl h
   where
-    go : (b : Bool) → has_node leaves n ≡ b → has_node (if b then [] else refs_of (row_at rows n)) m ≡ true → (has_node leaves n ≡ false) × Refers rows n m
+    go : (b : Bool) → has_node leaves n ≡ b → has_node (if b then [] else refs_at rows n) m ≡ true → (has_node leaves n ≡ false) × Refers rows n m
     go true e h = absurd (both_ways false refl h)
     go false e h = (e, h)
 

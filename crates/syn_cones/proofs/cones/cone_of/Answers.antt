@@ -1,7 +1,7 @@
 use Rattle.std.proofs.Common.{◌≡◌, ◌++◌, ◌∷◌, [], ap, subst, true, arith}
-use Rattle.syn_cuts.specs.Walk.{IsWalk, rises, top}
-use Rattle.syn_cuts.proofs.Walking.{has_here, has_right, led_below, walk_on, rises_on, top_falls}
-use Rattle.syn_cuts.proofs.cones.cone_of.Goals as goal
+use Rattle.syn_cones.specs.Walk.{IsWalk, rises, top}
+use Rattle.syn_cones.proofs.Walking.{has_here, has_right, led_below, walk_on, rises_on, top_falls}
+use Rattle.syn_cones.proofs.cones.cone_of.Goals as goal
 
 pub visit-requires : goal.visit-requires
 visit-requires c =
@@ -31,7 +31,7 @@ loop-node-preserved c =
     let rows = c.args.rows.now in
     let leaves = c.args.leaves.now in
     record {
-      walk = rw (c.in_ok-push-2.ensures.items, c.in_ok-visit.ensures)
+      walk = rw (c.in_ok-push-2.ensures.ok, c.in_ok-visit.ensures)
           (walk_on rows leaves c.args.root done front n c.requires.order (subst (IsWalk rows leaves c.args.root done) c.in-Some.ensures.items c.loop-node.invariant.walk));
       rising = rw c.in_ok-visit.ensures (rises_on rows leaves front n (subst (λ l. rises l ≡ true) c.in-Some.ensures.items c.loop-node.invariant.rising));
     }
