@@ -1,22 +1,18 @@
 -- From built rows to a graph: what is kept of them is a graph, and the netlist that it is written as means the same.
-use Rattle.std.proofs.Common.{◌≡◌, ◌+◌, ◌<◌, ◌≤◌, Bool, true, List, map, length, refl, ap₂, ◌∙◌, arith}
+use Rattle.std.proofs.Common.{◌≡◌, ◌+◌, ◌≤◌, Bool, true, List, map, length, refl, sym, ap₂, ◌∙◌, arith}
 use Rattle.std.proofs.lemmas.List.{length-drop}
 use Rattle.syn_rows.specs.declared.Lit.{Lit}
 use Rattle.syn_rows.specs.declared.Row.{Row}
 use Rattle.syn_rows.specs.Values.{rows_function}
 use Rattle.syn_netlist.specs.Words.{distinct}
-use Rattle.syn_netlist.specs.Numbers.{word_at}
-use Rattle.syn_netlist.specs.Lists.{Frame, Netlist, sources, observed}
+use Rattle.syn_netlist.specs.Lists.{Netlist, sources}
 use Rattle.syn_netlist.specs.Costs.{cost_of}
 use Rattle.syn_netlist.specs.Values.{HasFunction}
 use Rattle.syn_netlist.specs.Meaning.{SameFromFunction}
-use Rattle.syn_shapes.specs.GraphShape.{GraphHasFunction, rows_of, observed_of, place}
-use Rattle.syn_shapes.specs.Graphs.{IsGraph, source_lit}
+use Rattle.syn_shapes.specs.GraphShape.{GraphHasFunction, rows_of, observed_of}
+use Rattle.syn_shapes.specs.Graphs.{IsGraph}
 use Rattle.syn_shapes.specs.Spelling.{NetworkOfGraph, NetworkSpells, network}
-use Rattle.syn_strash.specs.Compacting.{IsCompaction}
-use Rattle.syn_graph.specs.Graphs.{HasOwnSources}
 use Rattle.syn_build.specs.Building.{IsGraphOf}
-use Rattle.syn_shapes.proofs.Spelled.{place_lt}
 
 has_same_function : (m : Netlist) (F G : List Bool → List Bool) → ((bits : List Bool) → G bits ≡ F bits) → HasFunction m G → HasFunction m F
 has_same_function m F G same h = record { total = h.total; value = λ v c. h.value v c ∙ same (map v (sources m.frame)) }
@@ -40,3 +36,8 @@ graph_of_netlist spells has_function same_meaning n rows new_rows lits new_lits 
 
     equal : (bits : List Bool) → rows_function (rows_of m) (observed_of m) bits ≡ rows_function rows lits bits
     equal bits = ap₂ (λ (rs : List Row) (ls : List Lit). rows_function rs ls bits) s.same_rows s.same_lits ∙ same bits
+
+-- so is its function, by its rows
+pub graph_function : (n : Netlist) (rows new_rows : List Row) (lits new_lits : List Lit) → HasFunction n (rows_function rows lits) → ((bits : List Bool) → rows_function new_rows new_lits bits ≡ rows_function rows lits bits)
+    → HasFunction n (rows_function new_rows new_lits)
+graph_function n rows new_rows lits new_lits function same = has_same_function n (rows_function new_rows new_lits) (rows_function rows lits) (λ bits. sym (same bits)) function

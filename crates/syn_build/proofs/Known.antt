@@ -25,12 +25,12 @@ use Rattle.syn_netlist.proofs.Sets.{same_word, has-append, apart, has_head, has_
 use Rattle.syn_netlist.proofs.Places.{one_number}
 use Rattle.syn_shapes.specs.GraphShape.{place}
 use Rattle.syn_shapes.specs.Graphs.{IsHashed, lit_at, source_lit}
-use Rattle.syn_strash.specs.Growing.{Extends, value_by}
+use Rattle.syn_hashed.specs.Growing.{Extends, value_by}
 use Rattle.syn_build.specs.Covering.{AllThere, IsCover}
 use Rattle.syn_graph.specs.Graphs.{HasOwnSources}
 use Rattle.syn_build.specs.Naming.{in_order, IsNamed}
-use Rattle.syn_strash.proofs.Rising.{literal_kept, source_value}
-use Rattle.syn_strash.proofs.Joining.{plain_value}
+use Rattle.syn_hashed.proofs.Rising.{literal_kept, source_value}
+use Rattle.syn_hashed.proofs.Joining.{plain_value}
 use Rattle.syn_build.proofs.Matching.{there_kept}
 
 -- places of words

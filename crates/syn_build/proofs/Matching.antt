@@ -11,9 +11,9 @@ use Rattle.syn_rows.specs.Values.{lit_value, value_in, values_of}
 use Rattle.syn_netlist.specs.Covers.{fits_bit, matches}
 use Rattle.syn_netlist.specs.Costs.{is_sign}
 use Rattle.syn_shapes.specs.Graphs.{IsHashed}
-use Rattle.syn_strash.specs.Growing.{Extends, value_by, IsOr}
+use Rattle.syn_hashed.specs.Growing.{Extends, value_by, IsOr}
 use Rattle.syn_build.specs.Covering.{AllThere, IsFit, IsMatch, IsOrMatch, IsCover}
-use Rattle.syn_strash.proofs.Rising.{extends_longer, literal_kept, source_value}
+use Rattle.syn_hashed.proofs.Rising.{extends_longer, literal_kept, source_value}
 
 pub zero_value : (count : ℕ) (rows : List Row) → IsHashed count rows → (given : ℕ → Bool) → given 0 ≡ false → value_by given rows (record { 0 = 0 }) ≡ false
 zero_value count rows h given at_0 = source_value count rows h given 0 (omega arith) ∙ at_0

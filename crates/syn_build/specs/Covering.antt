@@ -4,7 +4,7 @@ use Rattle.syn_rows.specs.declared.Lit.{Lit}
 use Rattle.syn_rows.specs.declared.Row.{Row}
 use Rattle.syn_rows.specs.Rows.{node_of}
 use Rattle.syn_netlist.specs.Covers.{cover_value, fits_bit, matches}
-use Rattle.syn_strash.specs.Growing.{value_by}
+use Rattle.syn_hashed.specs.Growing.{value_by}
 
 -- each of the literals is of a row that is there
 abbrev pub AllThere : List Row → List Lit → Type 0

@@ -11,7 +11,7 @@ use Rattle.syn_netlist.specs.Order.{with_tables}
 use Rattle.syn_netlist.specs.Faults.{tables_at}
 use Rattle.syn_shapes.specs.GraphShape.{place}
 use Rattle.syn_shapes.specs.Graphs.{lit_at, source_lit}
-use Rattle.syn_strash.specs.Growing.{value_by}
+use Rattle.syn_hashed.specs.Growing.{value_by}
 use Rattle.syn_build.specs.Covering.{AllThere}
 
 -- the netlist with its tables in the order of these numbers

@@ -4,4 +4,4 @@
 mod network;
 mod tables;
 
-pub use network::graph_of;
+pub use network::{build, build_checked};

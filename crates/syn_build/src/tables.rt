@@ -8,48 +8,34 @@ ghost use Rattle.syn_netlist.specs.Covers.{fits_bit};
 ghost use Rattle.syn_netlist.specs.Costs.{cost_of, is_sign, row_cost};
 ghost use Rattle.syn_netlist.specs.Lists.{observed, sources};
 ghost use Rattle.syn_netlist.specs.Numbers.{all_below, words_at};
-ghost use Rattle.syn_netlist.specs.Faults.{IsChecked, PutsInOrder};
+ghost use Rattle.syn_netlist.specs.Faults.{PutsInOrder};
 ghost use Rattle.syn_netlist.specs.Order.{defined};
 ghost use Rattle.syn_netlist.specs.Values.{HasFunction};
 ghost use Rattle.syn_netlist.specs.Views.{frame_in, netlist_in};
 ghost use Rattle.syn_netlist.specs.Words.{distinct};
 ghost use Rattle.syn_shapes.specs.Graphs.{IsHashed, lit_at, source_lit};
-ghost use Rattle.syn_strash.specs.Growing.{Extends};
+ghost use Rattle.syn_hashed.specs.Growing.{Extends};
 ghost use Rattle.syn_build.specs.Covering.{AllThere, IsCover, IsFit, IsMatch, IsOrMatch};
 ghost use Rattle.syn_graph.specs.Graphs.{HasOwnSources};
 ghost use Rattle.syn_build.specs.Naming.{in_order, IsNamed};
 
 use std::alloc::{AllocError, Global};
-use syn_netlist::{NetFault, Netlist, Table, Word};
-use syn_rows::{Lit, Row};
-use syn_strash::{FALSE, Hashed, TRUE};
+use syn_hashed::HashedRows;
+use syn_netlist::{Netlist, Table, Word};
+use syn_rows::{FALSE, Lit, Row, TRUE};
 
 /// Rows with a literal for each observed signal.
 #[derive(Debug, Drop)]
 pub struct Built {
     /// The rows: node 0, the sources, then ANDs, each made once.
-    pub hashed: Hashed,
+    pub hashed: HashedRows,
     /// The literals of the observed signals, in their order.
     pub observed: Vec<Lit>,
 }
 
-// The numbers of the tables in the order in which they are made: in file order, each after the tables of its inputs in
-// input order.
-fn making_order(alloc: Global, netlist: &Netlist) -> Result<Vec<u32>, AllocError>
-    requires { IsChecked (netlist_in netlist.now) }
-    ensures { IfOk result (λ order. PutsInOrder (netlist_in netlist.now) order.items) }
-{
-    syn_netlist::checked_has_no_fault();
-    match syn_netlist::table_order(netlist, alloc) {
-        Ok(order) => Ok(order),
-        Err(NetFault::NoMemory) => Err(AllocError),
-        Err(_) => unreachable!(),
-    }
-}
-
-/// The rows and observed literals that the tables give, each made after the tables of its inputs.
-pub fn build_tables(alloc: Global, netlist: &Netlist) -> Result<Built, AllocError>
-    requires checked { IsChecked (netlist_in netlist.now) }
+/// The rows and observed literals that the tables give, made in this order.
+pub fn build_tables(alloc: Global, netlist: &Netlist, order: &[u32]) -> Result<Built, AllocError>
+    requires order { PutsInOrder (netlist_in netlist.now) order.now }
     requires room { length (sources (frame_in netlist.now.frame)) + cost_of (netlist_in netlist.now) + 1 < 2 ^ 29 }
     ensures sources { IfOk result (λ b. b.hashed.source_count ≡ length (sources (frame_in netlist.now.frame))) }
     ensures few { IfOk result (λ b. length b.hashed.rows.items ≤ length (sources (frame_in netlist.now.frame)) + 1 + cost_of (netlist_in netlist.now)) }
@@ -60,16 +46,9 @@ pub fn build_tables(alloc: Global, netlist: &Netlist) -> Result<Built, AllocErro
 {
     syn_netlist::ordered_has_one();
     syn_netlist::order_keeps_function();
-    let order = making_order(alloc, netlist)?;
     let sources = netlist.frame.sources(alloc)?;
-    let mut hashed = Hashed::new(alloc, sources.len())?;
-    let literals = named_literals(
-        alloc,
-        netlist,
-        order.as_slice(),
-        &mut hashed,
-        sources.as_slice(),
-    )?;
+    let mut hashed = HashedRows::new(alloc, sources.len())?;
+    let literals = named_literals(alloc, netlist, order, &mut hashed, sources.as_slice())?;
     let signals = netlist.frame.observed(alloc)?;
     let observed = literals_of(alloc, literals.as_slice(), signals.as_slice())?;
     Ok(Built { hashed, observed })
@@ -80,7 +59,7 @@ fn named_literals(
     alloc: Global,
     netlist: &Netlist,
     order: &[u32],
-    hashed: &mut Hashed,
+    hashed: &mut HashedRows,
     numbers: &[u32],
 ) -> Result<Vec<Lit>, AllocError>
     requires order { PutsInOrder (netlist_in netlist.now) order.now }
@@ -153,7 +132,7 @@ fn name_tables(
     alloc: Global,
     netlist: &Netlist,
     order: &[u32],
-    hashed: &mut Hashed,
+    hashed: &mut HashedRows,
     literals: &mut [Lit],
 ) -> Result<(), AllocError>
     requires order { PutsInOrder (netlist_in netlist.now) order.now }
@@ -176,7 +155,7 @@ fn name_tables(
 // A table's literal, from the literals of its inputs.
 fn literal_of(
     alloc: Global,
-    hashed: &mut Hashed,
+    hashed: &mut HashedRows,
     literals: &[Lit],
     table: &Table,
 ) -> Result<Lit, AllocError>
@@ -210,7 +189,7 @@ fn fitting(character: u8, input: Lit) -> Lit
 
 // The AND of a literal and of a character's fit to an input.
 fn and_character(
-    hashed: &mut Hashed,
+    hashed: &mut HashedRows,
     all: Lit,
     character: u8,
     input: Lit,
@@ -228,7 +207,7 @@ fn and_character(
 }
 
 // The AND of the fits of a row's characters, from constant 1, in the order of the inputs.
-fn row_literal(hashed: &mut Hashed, inputs: &[Lit], row: &[u8]) -> Result<Lit, AllocError>
+fn row_literal(hashed: &mut HashedRows, inputs: &[Lit], row: &[u8]) -> Result<Lit, AllocError>
     requires inputs { AllThere hashed.old.rows.items inputs.now }
     requires room { length hashed.old.rows.items + row_cost row.now < 2 ^ 29 }
     ensures sources { hashed.new.source_count ≡ hashed.old.source_count }
@@ -248,7 +227,7 @@ fn row_literal(hashed: &mut Hashed, inputs: &[Lit], row: &[u8]) -> Result<Lit, A
 }
 
 // The OR of a literal and of a row's match.
-fn or_row(hashed: &mut Hashed, any: Lit, inputs: &[Lit], row: &[u8]) -> Result<Lit, AllocError>
+fn or_row(hashed: &mut HashedRows, any: Lit, inputs: &[Lit], row: &[u8]) -> Result<Lit, AllocError>
     requires any { node_of any < length hashed.old.rows.items }
     requires inputs { AllThere hashed.old.rows.items inputs.now }
     requires room { length hashed.old.rows.items + row_cost row.now < 2 ^ 29 }
@@ -264,7 +243,7 @@ fn or_row(hashed: &mut Hashed, any: Lit, inputs: &[Lit], row: &[u8]) -> Result<L
 
 // The OR of the rows' matches, from constant 0, complemented where the rows list the zeros.
 fn table_literal(
-    hashed: &mut Hashed,
+    hashed: &mut HashedRows,
     inputs: &[Lit],
     rows: &[Word],
     on: bool,
@@ -290,35 +269,4 @@ fn signed(literal: Lit, plain: bool) -> Lit
     ensures node { node_of result ≡ node_of literal }
 {
     if plain { literal } else { literal.not() }
-}
-
-#[cfg(test)]
-mod tests {
-    use super::*;
-
-    const INPUTS: [Lit; 2] = [Lit(2), Lit(4)];
-
-    #[test]
-    fn gives_a_nand_one_row(rt: HostRuntime) -> Result<(), AllocError> {
-        let alloc = rt.alloc();
-        let mut hashed = Hashed::new(alloc, 2)?;
-        let both = [Word::of(b"11".to_vec(alloc)?)];
-        assert_eq!(rt; table_literal(&mut hashed, &INPUTS, &both, false)?, Lit(7));
-        assert_eq!(rt; hashed.rows.len(), 4);
-        Ok(())
-    }
-
-    #[test]
-    fn gives_an_exclusive_or_its_values(rt: HostRuntime) -> Result<(), AllocError> {
-        let alloc = rt.alloc();
-        let mut hashed = Hashed::new(alloc, 2)?;
-        let first = Word::of(b"10".to_vec(alloc)?);
-        let second = Word::of(b"01".to_vec(alloc)?);
-        let literal = table_literal(&mut hashed, &INPUTS, &[first, second], true)?;
-        for (a, b) in [(false, false), (false, true), (true, false), (true, true)] {
-            let values = syn_rows::evaluate(alloc, hashed.rows.as_slice(), &[literal], &[a, b])?;
-            assert_eq!(rt; values.as_slice(), [a ^ b].as_slice());
-        }
-        Ok(())
-    }
 }

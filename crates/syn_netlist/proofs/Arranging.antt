@@ -9,7 +9,7 @@ use Rattle.std.proofs.lemmas.List.Sorted.{IsPermutation-refl, IsPermutation-sym,
 use Rattle.std.proofs.lemmas.Map.Keys.{IsDistinct-IsPermutation, IsDistinct-head, IsDistinct-tail, IsDistinct-cons}
 use Rattle.syn_netlist.specs.declared.netlists.Netlist.{Netlist}
 use Rattle.syn_netlist.specs.declared.tables.Table.{Table}
-use Rattle.syn_netlist.specs.Faults.{first_undriven, reads, inputs_of, no_table, tables_at, PutsInOrder}
+use Rattle.syn_netlist.specs.Faults.{first_undriven, reads, inputs_of, no_table, tables_at, PutsInOrder, IsTableOrder, TableOrderPuts, PutIsChecked}
 use Rattle.syn_netlist.specs.Lists as lists
 use Rattle.syn_netlist.specs.Lists.{output_of, sources, latch_reads}
 use Rattle.syn_netlist.specs.Marks.{has_number}
@@ -263,29 +263,45 @@ module _ (n : Netlist) (makers : List (Option ℕ)) (d : distinct n.frame.names 
       below_left [] ys h = refl
       below_left (x ∷ xs) ys h = let (lt, rest) = below_parts (length n.tables) x (xs ++ ys) h in and_from (nat_lt x (length n.tables)) (all_below (length n.tables) xs) (lt-ltb x (length n.tables) lt) (below_left xs ys rest)
 
-  pub puts_in_order : (order : List ℕ) → IsOrder n.tables makers order → PutsInOrder (netlist_in n) order
-  puts_in_order order o = record {
+  -- what the walk gives, in words
+  pub order_is : (order : List ℕ) → IsOrder n.tables makers order → IsTableOrder (netlist_in n) order
+  order_is order o = record {
     driven = driven;
     below = subst (λ k. all_below k order ≡ true) (sym count) o.below;
-    ordered = record {
-      permuted = permuted;
-      ordered = record {
-        once = record {
-          clocks = n.frame.clocks_once;
-          all = distinct_permuted (defined (netlist_in n)) (sources (netlist_in n).frame ++ map output_of (tables_at (netlist_in n) order))
-              (IsPermutation-append_right (sources (netlist_in n).frame) (map output_of (netlist_in n).tables) (map output_of (tables_at (netlist_in n) order)) (IsPermutation-map output_of (netlist_in n).tables (tables_at (netlist_in n) order) permuted)) n.once;
-        };
-        above = ap (λ (l : List (List ℕ)). reads_known l (tables_at (netlist_in n) order)) (sym (append_none (sources (netlist_in n).frame))) ∙ order_known [] order o.below o.made;
-      };
-    };
+    once = o.once;
+    all = λ t lt. o.all t (subst (λ k. t < k) count lt);
+    above = ap (λ (l : List (List ℕ)). reads_known l (tables_at (netlist_in n) order)) (sym (append_none (sources (netlist_in n).frame))) ∙ order_known [] order o.below o.made;
   }
     where
       count : length (netlist_in n).tables ≡ length n.tables
       count = length-map n.tables (table_in the_names)
 
-      permuted : IsPermutation (netlist_in n).tables (tables_at (netlist_in n) order)
-      permuted = permuted_by (netlist_in n).tables no_table order o.once (subst (λ k. all_below k order ≡ true) (sym count) o.below) (λ t lt. o.all t (subst (λ k. t < k) count lt))
-
       append_none : (ws : List (List ℕ)) → ws ++ [] ≡ ws
       append_none [] = refl
       append_none (w ∷ ws) = ap (λ (l : List (List ℕ)). w ∷ l) (append_none ws)
+
+pub table_order_puts : TableOrderPuts
+table_order_puts n order once o = record {
+  driven = o.driven;
+  below = o.below;
+  ordered = record {
+    permuted = permuted;
+    ordered = record {
+      once = record {
+        clocks = once.clocks;
+        all = distinct_permuted (defined n) (sources n.frame ++ map output_of (tables_at n order))
+            (IsPermutation-append_right (sources n.frame) (map output_of n.tables) (map output_of (tables_at n order)) (IsPermutation-map output_of n.tables (tables_at n order) permuted)) once.all;
+      };
+      above = o.above;
+    };
+  };
+}
+  where
+    permuted : IsPermutation n.tables (tables_at n order)
+    permuted = permuted_by n.tables no_table order o.once o.below o.all
+
+pub puts_in_order : (n : Netlist) (order : List ℕ) → IsTableOrder (netlist_in n) order → PutsInOrder (netlist_in n) order
+puts_in_order n order o = table_order_puts (netlist_in n) order (record { clocks = n.frame.clocks_once; all = n.once }) o
+
+pub put_is_checked : PutIsChecked
+put_is_checked n order p = record { driven = p.driven; order = tables_at n order; ordered = p.ordered }

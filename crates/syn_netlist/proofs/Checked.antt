@@ -4,7 +4,7 @@ use Rattle.std.specs.List.{list_any, list_all}
 use Rattle.std.proofs.lemmas.Bool.{and_parts, and_from, cases_Bool, cond-true, cond-false, or_cases, both_ways, false_from_ne_true}
 use Rattle.std.proofs.lemmas.List.Sorted.{Contains-permutation, IsPermutation-sym, IsPermutation-map, list_any-IsPermutation, IsPermutation-append_right}
 use Rattle.syn_netlist.specs.declared.NetFault.TheVariants.{Undriven, Cycle, NoMemory}
-use Rattle.syn_netlist.specs.Faults.{EachReadsAnother, Reads, ReadInTurn, IsCircle, GoesOn, next_in, IsChecked, reads, inputs_of, OrderableReachesNoCircle, AnsweredIsCircle, CheckedHasNoFault, CheckedHasFunction}
+use Rattle.syn_netlist.specs.Faults.{EachReadsAnother, TableReads, ReadInTurn, IsCircle, GoesOn, next_in, IsChecked, reads, inputs_of, OrderableReachesNoCircle, AnsweredIsCircle, CheckedHasNoFault, CheckedHasFunction}
 use Rattle.syn_netlist.specs.Lists.{Table, Netlist, output_of, sources, observed, latch_reads}
 use Rattle.syn_netlist.specs.Order.{defined, reads_known, with_tables, function_of, observes_defined}
 use Rattle.syn_netlist.specs.Words.{has, distinct, without, firsts}
@@ -61,7 +61,7 @@ orderable_reaches_no_circle n order word can (set, reading, there) =
 
 -- the answered circle
 
-next_reads : (all ts : List Table) (set : List ℕ → Bool) (name next : List ℕ) → ((t : Table) → In ts t → In all t) → next_in ts set name ≡ Some next → Reads all name next
+next_reads : (all ts : List Table) (set : List ℕ → Bool) (name next : List ℕ) → ((t : Table) → In ts t → In all t) → next_in ts set name ≡ Some next → TableReads all name next
 next_reads all [] set name next sub h = cc
 next_reads all (t ∷ ts) set name next sub h = elim (cases_Bool (bytes_eq t.output name)) [
   | inl e ↦ (t, from_in all t (sub t (inl refl)), same_word t.output name e, (found_there set t.inputs next (sym (cond-true (bytes_eq t.output name) (find set t.inputs) (next_in ts set name) e) ∙ h)).0)

@@ -16,7 +16,7 @@ use Rattle.syn_netlist.specs.Marks.{has_number}
 use Rattle.syn_netlist.specs.Numbers.{word_at, words_at, all_below}
 use Rattle.syn_netlist.specs.Tables.{table_in}
 use Rattle.syn_netlist.specs.Views.{netlist_in}
-use Rattle.syn_netlist.specs.Walk.{table_output, inputs_at, output_at, distinct_numbers, maker_at, stage_at, is_done, is_finished, maker_among, reads_made, seen_at, Leads, Linked, Begins, AreMakers, IsWalk, Meets, from_number, output_words}
+use Rattle.syn_netlist.specs.Walk.{table_output, inputs_at, output_at, distinct_numbers, maker_at, stage_at, is_done, is_finished, maker_among, reads_made, seen_at, Leads, Linked, Begins, AreMakers, IsOrderWalk, Meets, from_number, output_words}
 use Rattle.syn_netlist.specs.Words.{has, distinct}
 use Rattle.syn_netlist.proofs.Arranging.{word_of_output, words_of_inputs}
 use Rattle.syn_netlist.proofs.CyclicSets.{to_in, in_has, one_table, next_is, cyclic_set}
@@ -147,7 +147,7 @@ table_output_is : (n : Netlist) (t : ℕ) → t < length n.tables → (the_table
 table_output_is n t lt = word_of_output n.tables n.frame.names t lt ∙ sym (out_word n t lt)
 
 module _ (n : Netlist) (makers : List (Option ℕ)) (d : distinct n.frame.names ≡ true) (len : length makers ≡ length n.frame.names) (are : AreMakers n.tables makers)
-    (stages : List Stage) (seen path order : List ℕ) (w : IsWalk n.tables makers stages seen path order) where
+    (stages : List Stage) (seen path order : List ℕ) (w : IsOrderWalk n.tables makers stages seen path order) where
   -- where the maker is u, the name is its output
   made_word : (name u : ℕ) → maker_at makers name ≡ Some u → word_at (outs n) u ≡ word_at n.frame.names name
   made_word name u e = let m = maker_is n.tables makers name u are e in out_word n u m.0 ∙ ap (word_at n.frame.names) m.1

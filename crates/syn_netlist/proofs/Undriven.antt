@@ -4,7 +4,7 @@ use Rattle.std.proofs.lemmas.Bool.{cases_Bool, cond-true, cond-false, not_from_f
 use Rattle.std.proofs.lemmas.List.{map-append}
 use Rattle.syn_netlist.specs.declared.netlists.Netlist.{Netlist}
 use Rattle.syn_netlist.specs.declared.tables.Table.{Table}
-use Rattle.syn_netlist.specs.Faults.{reads, first_undriven, inputs_of}
+use Rattle.syn_netlist.specs.Faults.{reads, first_undefined, first_undriven, inputs_of}
 use Rattle.syn_netlist.specs.Lists.{output_of, sources}
 use Rattle.syn_netlist.specs.Marks.{read_numbers, AreMarks}
 use Rattle.syn_netlist.specs.Numbers.{word_at, words_at, all_below}
@@ -61,13 +61,20 @@ find_words names defined marks d hd len m (n ∷ ns) h =
         cond-true (not (has (words_at names defined) (word_at names n))) (Some (word_at names n)) (find (λ w. not (has (words_at names defined) w)) (words_at names ns)) (not_from_false _ e)
         ∙ ap (λ (o : Option ℕ). option_map (word_at names) o) (sym (cond-true (is_unmarked marks n) (Some n) (find (is_unmarked marks) ns) (not_from_false _ f)))
 
+-- the first of these names that isn't defined, by marks
+pub undefined_is : (n : Netlist) (from : List ℕ) (marks : List Bool) (numbers : List ℕ) → distinct n.frame.names ≡ true → words_at n.frame.names from ≡ sources (netlist_in n).frame → all_below (length n.frame.names) from ≡ true
+    → length marks ≡ length n.frame.names → AreMarks (from ++ map table_output n.tables) marks → all_below (length n.frame.names) numbers ≡ true
+    → first_undefined (netlist_in n) (words_at n.frame.names numbers) ≡ option_map (word_at n.frame.names) (find (is_unmarked marks) numbers)
+undefined_is n from marks numbers d e h len m below =
+    ap (λ (a : List (List ℕ)). find (λ w. not (has a w)) (words_at n.frame.names numbers)) (sym (defined_words n from e))
+    ∙ find_words n.frame.names (from ++ map table_output n.tables) marks d (all_below-append (length n.frame.names) from (map table_output n.tables) h (table_outputs_below (length n.frame.names) n.tables n.tables_below)) len m numbers below
+
 pub undriven_is : (n : Netlist) (from : List ℕ) (marks : List Bool) → distinct n.frame.names ≡ true → words_at n.frame.names from ≡ sources (netlist_in n).frame → all_below (length n.frame.names) from ≡ true
     → length marks ≡ length n.frame.names → AreMarks (from ++ map table_output n.tables) marks → first_undriven (netlist_in n) ≡ option_map (word_at n.frame.names) (find (is_unmarked marks) (all_reads n))
 undriven_is n from marks d e h len m =
-    ap₂ (λ (a b : List (List ℕ)). find (λ w. not (has a w)) b) (sym (defined_words n from e)) (sym (reads_words n))
-    ∙ find_words n.frame.names (from ++ map table_output n.tables) marks d (all_below-append (length n.frame.names) from (map table_output n.tables) h (table_outputs_below (length n.frame.names) n.tables n.tables_below)) len m (all_reads n) (reads_there n)
+    ap (first_undefined (netlist_in n)) (sym (reads_words n)) ∙ undefined_is n from marks (all_reads n) d e h len m (reads_there n)
 
-find_below : (p : ℕ → Bool) (count : ℕ) (numbers : List ℕ) (i : ℕ) → all_below count numbers ≡ true → find p numbers ≡ Some i → i < count
+pub find_below : (p : ℕ → Bool) (count : ℕ) (numbers : List ℕ) (i : ℕ) → all_below count numbers ≡ true → find p numbers ≡ Some i → i < count
 find_below p count [] i h e = cc
 find_below p count (n ∷ ns) i h e =
     let (lt, rest) = below_parts count n ns h in

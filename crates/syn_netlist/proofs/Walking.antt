@@ -13,7 +13,7 @@ use Rattle.syn_netlist.specs.declared.tables.Table.{Table}
 use Rattle.syn_netlist.specs.Marks.{has_number}
 use Rattle.syn_netlist.specs.Numbers.{all_below}
 use Rattle.syn_netlist.specs.Tables.{tables_below}
-use Rattle.syn_netlist.specs.Walk.{AreMakers, table_output, output_at, inputs_at, distinct_numbers, maker_at, stage_at, is_open, is_done, weight, maker_done, is_finished, maker_among, reads_made, seen_at, Leads, Linked, Begins, IsWalk, IsNext, GoOn, Meets, IsOrder}
+use Rattle.syn_netlist.specs.Walk.{AreMakers, table_output, output_at, inputs_at, distinct_numbers, maker_at, stage_at, is_open, is_done, weight, maker_done, is_finished, maker_among, reads_made, seen_at, Leads, Linked, Begins, IsOrderWalk, IsNext, GoOn, Meets, IsOrder}
 use Rattle.syn_netlist.proofs.Marking.{has_number-append}
 use Rattle.syn_netlist.proofs.Places.{below_parts, below_from, all_below-append}
 
@@ -195,8 +195,8 @@ module _ (tables : List Table) (makers : List (Option ℕ)) where
 
   -- the steps
 
-  pub finish : (stages : List Stage) (seen front order : List ℕ) (top : ℕ) → IsWalk tables makers stages seen (front ++ top ∷ []) order → list_all (is_finished makers stages) (inputs_at tables top) ≡ true
-      → IsWalk tables makers (set stages top Done) seen front (order ++ top ∷ [])
+  pub finish : (stages : List Stage) (seen front order : List ℕ) (top : ℕ) → IsOrderWalk tables makers stages seen (front ++ top ∷ []) order → list_all (is_finished makers stages) (inputs_at tables top) ≡ true
+      → IsOrderWalk tables makers (set stages top Done) seen front (order ++ top ∷ [])
   finish stages seen front order top w h = record {
     stages_fit = length-set stages top Done ∙ w.stages_fit;
     seen_fit = w.seen_fit;
@@ -236,8 +236,8 @@ module _ (tables : List Table) (makers : List (Option ℕ)) where
       goes : GoOn stages (set stages top Done)
       goes = GoOn-set stages top Done inside (omega arith)
 
-  pub open_one : (stages : List Stage) (seen path order : List ℕ) (next : ℕ) → IsWalk tables makers stages seen path order → next < length tables → is_open (stage_at stages next) ≡ false → is_done (stage_at stages next) ≡ false
-      → Linked tables makers seen (path ++ next ∷ []) → Begins stages (path ++ next ∷ []) → IsWalk tables makers (set stages next Open) seen (path ++ next ∷ []) order
+  pub open_one : (stages : List Stage) (seen path order : List ℕ) (next : ℕ) → IsOrderWalk tables makers stages seen path order → next < length tables → is_open (stage_at stages next) ≡ false → is_done (stage_at stages next) ≡ false
+      → Linked tables makers seen (path ++ next ∷ []) → Begins stages (path ++ next ∷ []) → IsOrderWalk tables makers (set stages next Open) seen (path ++ next ∷ []) order
   open_one stages seen path order next w below unopened undone linked begins = record {
     stages_fit = length-set stages next Open ∙ w.stages_fit;
     seen_fit = w.seen_fit;
@@ -265,8 +265,8 @@ module _ (tables : List Table) (makers : List (Option ℕ)) where
       goes : GoOn stages (set stages next Open)
       goes = GoOn-set stages next Open inside (let h = waiting_weight (stage_at stages next) unopened undone in omega arith)
 
-  pub look_on : (stages : List Stage) (seen front order : List ℕ) (top at : ℕ) → IsWalk tables makers stages seen (front ++ top ∷ []) order → list_all (is_finished makers stages) (take at (inputs_at tables top)) ≡ true
-      → IsWalk tables makers stages (set seen top at) (front ++ top ∷ []) order
+  pub look_on : (stages : List Stage) (seen front order : List ℕ) (top at : ℕ) → IsOrderWalk tables makers stages seen (front ++ top ∷ []) order → list_all (is_finished makers stages) (take at (inputs_at tables top)) ≡ true
+      → IsOrderWalk tables makers stages (set seen top at) (front ++ top ∷ []) order
   look_on stages seen front order top at w h = record {
     stages_fit = w.stages_fit;
     seen_fit = length-set seen top at ∙ w.seen_fit;
@@ -289,7 +289,7 @@ module _ (tables : List Table) (makers : List (Option ℕ)) where
       inside : top < length seen
       inside = subst (λ n. top < n) (sym w.seen_fit) (below_front (length tables) front top w.path_below).1
 
-  leads_now : (stages : List Stage) (seen front order : List ℕ) (top at next : ℕ) → IsWalk tables makers stages seen (front ++ top ∷ []) order → IsNext makers stages (inputs_at tables top) at next → Leads tables makers (set seen top at) top next
+  leads_now : (stages : List Stage) (seen front order : List ℕ) (top at next : ℕ) → IsOrderWalk tables makers stages seen (front ++ top ∷ []) order → IsNext makers stages (inputs_at tables top) at next → Leads tables makers (set seen top at) top next
   leads_now stages seen front order top at next w n = record {
     inside = subst (λ k. k < length (inputs_at tables top)) (sym here) n.inside;
     made = ap (λ k. maker_at makers (get_or (inputs_at tables top) k 0)) here ∙ n.maker;
@@ -298,15 +298,15 @@ module _ (tables : List Table) (makers : List (Option ℕ)) where
       here : seen_at (set seen top at) top ≡ at
       here = get_or-set_at seen top top at 0 refl (subst (λ n. top < n) (sym w.seen_fit) (below_front (length tables) front top w.path_below).1)
 
-  pub advance : (stages : List Stage) (seen front order : List ℕ) (top at next : ℕ) → IsWalk tables makers stages seen (front ++ top ∷ []) order → IsNext makers stages (inputs_at tables top) at next → next < length tables
-      → is_open (stage_at stages next) ≡ false → IsWalk tables makers (set stages next Open) (set seen top at) ((front ++ top ∷ []) ++ next ∷ []) order
+  pub advance : (stages : List Stage) (seen front order : List ℕ) (top at next : ℕ) → IsOrderWalk tables makers stages seen (front ++ top ∷ []) order → IsNext makers stages (inputs_at tables top) at next → next < length tables
+      → is_open (stage_at stages next) ≡ false → IsOrderWalk tables makers (set stages next Open) (set seen top at) ((front ++ top ∷ []) ++ next ∷ []) order
   advance stages seen front order top at next w n below unopened =
       let on = look_on stages seen front order top at w n.before in
       open_one stages (set seen top at) (front ++ top ∷ []) order next on below unopened n.waits
       (Linked-more (set seen top at) front top next on.linked (leads_now stages seen front order top at next w n))
       (Begins-more stages front top next on.begins)
 
-  pub meet : (stages : List Stage) (seen front order : List ℕ) (top at next : ℕ) → IsWalk tables makers stages seen (front ++ top ∷ []) order → IsNext makers stages (inputs_at tables top) at next → next < length tables
+  pub meet : (stages : List Stage) (seen front order : List ℕ) (top at next : ℕ) → IsOrderWalk tables makers stages seen (front ++ top ∷ []) order → IsNext makers stages (inputs_at tables top) at next → next < length tables
       → is_open (stage_at stages next) ≡ true → Meets tables makers stages (set seen top at) (front ++ top ∷ []) order next
   meet stages seen front order top at next w n below opened = record {
     walk = look_on stages seen front order top at w n.before;
@@ -318,12 +318,12 @@ module _ (tables : List Table) (makers : List (Option ℕ)) where
   }
 
   -- the first table of a path
-  pub begin : (stages : List Stage) (seen order : List ℕ) (root : ℕ) → IsWalk tables makers stages seen [] order → root < length tables → is_done (stage_at stages root) ≡ false
-      → ((k : ℕ) → k < root → is_done (stage_at stages k) ≡ true) → IsWalk tables makers (set stages root Open) seen (root ∷ []) order
+  pub begin : (stages : List Stage) (seen order : List ℕ) (root : ℕ) → IsOrderWalk tables makers stages seen [] order → root < length tables → is_done (stage_at stages root) ≡ false
+      → ((k : ℕ) → k < root → is_done (stage_at stages k) ≡ true) → IsOrderWalk tables makers (set stages root Open) seen (root ∷ []) order
   begin stages seen order root w below undone before = open_one stages seen [] order root w below (w.open_ones root (subst (λ n. root < n) (sym w.stages_fit) below)) undone tt before
 
   -- the last of the path is open, and there
-  pub top_is : (stages : List Stage) (seen front order : List ℕ) (top : ℕ) → IsWalk tables makers stages seen (front ++ top ∷ []) order → (top < length tables) × (is_open (stage_at stages top) ≡ true)
+  pub top_is : (stages : List Stage) (seen front order : List ℕ) (top : ℕ) → IsOrderWalk tables makers stages seen (front ++ top ∷ []) order → (top < length tables) × (is_open (stage_at stages top) ≡ true)
   top_is stages seen front order top w =
       let below = (below_front (length tables) front top w.path_below).1 in
       (below, w.open_ones top (subst (λ n. top < n) (sym w.stages_fit) below) ∙ has_last front top)
@@ -352,7 +352,7 @@ pub GoOn-again : (a b c : List Stage) → GoOn a b → GoOn b c → GoOn a c
 GoOn-again a b c g h k = let x = g k in let y = h k in omega arith
 
 -- what was opened is done once no table is open
-pub done_now : (tables : List Table) (makers : List (Option ℕ)) (old new : List Stage) (seen order : List ℕ) (root : ℕ) → root < length tables → length old ≡ length tables → GoOn (set old root Open) new → IsWalk tables makers new seen [] order
+pub done_now : (tables : List Table) (makers : List (Option ℕ)) (old new : List Stage) (seen order : List ℕ) (root : ℕ) → root < length tables → length old ≡ length tables → GoOn (set old root Open) new → IsOrderWalk tables makers new seen [] order
     → is_done (stage_at new root) ≡ true
 done_now tables makers old new seen order root below fit g w =
     let inside : root < length new = subst (λ n. root < n) (sym w.stages_fit) below in
@@ -375,7 +375,7 @@ still_done old new g root before here k lt = elim (eqb_tells k root) [
 ]
 
 -- all tables are done
-pub ordered_all : (tables : List Table) (makers : List (Option ℕ)) (stages : List Stage) (seen path order : List ℕ) → IsWalk tables makers stages seen path order → ((k : ℕ) → k < length tables → is_done (stage_at stages k) ≡ true) → IsOrder tables makers order
+pub ordered_all : (tables : List Table) (makers : List (Option ℕ)) (stages : List Stage) (seen path order : List ℕ) → IsOrderWalk tables makers stages seen path order → ((k : ℕ) → k < length tables → is_done (stage_at stages k) ≡ true) → IsOrder tables makers order
 ordered_all tables makers stages seen path order w h = record {
   below = w.order_below;
   once = w.order_once;
@@ -384,8 +384,8 @@ ordered_all tables makers stages seen path order w h = record {
 }
 
 -- the walk at its start
-pub IsWalk-start : (tables : List Table) (makers : List (Option ℕ)) (n : ℕ) → length tables ≡ n → IsWalk tables makers (replicate n Waiting) (replicate n 0) [] []
-IsWalk-start tables makers n e = record {
+pub IsOrderWalk-start : (tables : List Table) (makers : List (Option ℕ)) (n : ℕ) → length tables ≡ n → IsOrderWalk tables makers (replicate n Waiting) (replicate n 0) [] []
+IsOrderWalk-start tables makers n e = record {
   stages_fit = length-replicate n Waiting ∙ sym e;
   seen_fit = length-replicate n 0 ∙ sym e;
   open_ones = λ t lt. ap is_open (all_waiting n t);

@@ -6,6 +6,7 @@ use Rattle.syn_netlist.specs.declared.ordering.Stage.TheVariants.{Waiting, Open,
 use Rattle.syn_netlist.specs.declared.ordering.Walked.{Walked}
 use Rattle.syn_netlist.specs.declared.ordering.Walked.TheVariants.{Order, Circle}
 use Rattle.syn_netlist.specs.declared.tables.Table.{Table}
+pub use Rattle.syn_netlist.specs.Marks.{distinct_numbers}
 use Rattle.syn_netlist.specs.Marks.{has_number}
 use Rattle.syn_netlist.specs.Numbers.{word_at, all_below}
 
@@ -24,11 +25,6 @@ inputs_at tables t = slice_index_or (map table_inputs tables) t []
 -- the number of what the table with this number defines
 abbrev pub output_at : List Table → ℕ → ℕ
 output_at tables t = slice_index_or (map table_output tables) t 0
-
--- no number stands twice in the list
-abbrev pub distinct_numbers : List ℕ → Bool
-distinct_numbers [] = true
-distinct_numbers (n ∷ ns) = not (has_number ns n) && distinct_numbers ns
 
 -- the table that makes a name, where one does
 abbrev pub maker_at : List (Option ℕ) → ℕ → Option ℕ
@@ -100,7 +96,7 @@ Begins stages [] = Unit {0}
 Begins stages (t ∷ path) = (k : ℕ) → k < t → is_done (stage_at stages k) ≡ true
 
 -- The state of the walk: the open tables are those of the path, each of which leads to the next; the tables that are done stand in the order, each below those that it reads.
-pub record IsWalk (tables : List Table) (makers : List (Option ℕ)) (stages : List Stage) (seen path order : List ℕ) : Type 0 where
+pub record IsOrderWalk (tables : List Table) (makers : List (Option ℕ)) (stages : List Stage) (seen path order : List ℕ) : Type 0 where
   pub stages_fit : length stages ≡ length tables
   pub seen_fit : length seen ≡ length tables
   pub open_ones : (t : ℕ) → t < length stages → is_open (stage_at stages t) ≡ has_number path t
@@ -127,7 +123,7 @@ GoOn old new = (t : ℕ) → weight (stage_at new t) ≤ weight (stage_at old t)
 
 -- The walk has met a table of its path again: the last of the path leads to it.
 pub record Meets (tables : List Table) (makers : List (Option ℕ)) (stages : List Stage) (seen path order : List ℕ) (back : ℕ) : Type 0 where
-  pub walk : IsWalk tables makers stages seen path order
+  pub walk : IsOrderWalk tables makers stages seen path order
   pub front : List ℕ
   pub last : ℕ
   pub path_is : path ≡ front ++ last ∷ []

@@ -1,7 +1,7 @@
 //! Whether each name that is read is defined, and the tables can be put in order.
 
 ghost use Rattle.std.specs.Prelude.{◌≡◌, ◌<◌, ◌++◌, ◌∷◌, IfErr, IfOk, IfSome, OnOk, None, length, option_map, true, []};
-ghost use Rattle.syn_netlist.specs.Faults.{IsChecked, IsFault, PutsInOrder, first_undriven};
+ghost use Rattle.syn_netlist.specs.Faults.{IsChecked, IsFault, IsTableOrder, PutsInOrder, first_undriven};
 ghost use Rattle.syn_netlist.specs.Numbers.{all_below, word_at};
 ghost use Rattle.syn_netlist.specs.Tables.{tables_below};
 ghost use Rattle.syn_netlist.specs.Views.{netlist_in};
@@ -89,9 +89,10 @@ fn push_word(alloc: Global, words: &mut Vec<Word>, word: &[u8]) -> Result<(), Al
     Ok(())
 }
 
-// The order of the tables of a netlist in which each name that is read is defined.
-fn order_driven(alloc: Global, n: &Netlist) -> Result<Vec<u32>, NetFault>
+/// The order of the tables of a netlist in which each name that is read is defined.
+pub(crate) fn order_driven(alloc: Global, n: &Netlist) -> Result<Vec<u32>, NetFault>
     requires { first_undriven (netlist_in n.now) ≡ None }
+    ensures order { IfOk result (λ v. IsTableOrder (netlist_in n.now) v.items) }
     ensures ok { IfOk result (λ v. PutsInOrder (netlist_in n.now) v.items) }
     ensures fault { IfErr result (IsFault (netlist_in n.now)) }
 {
@@ -108,6 +109,7 @@ fn order_driven(alloc: Global, n: &Netlist) -> Result<Vec<u32>, NetFault>
 
 /// The numbers of all tables in an order in which each reads sources or outputs of tables before it: the tables in turn, each after the tables of its inputs in turn.
 pub fn table_order(n: &Netlist, alloc: Global) -> Result<Vec<u32>, NetFault>
+    ensures order { IfOk result (λ v. IsTableOrder (netlist_in n.now) v.items) }
     ensures ok { IfOk result (λ v. PutsInOrder (netlist_in n.now) v.items) }
     ensures fault { IfErr result (IsFault (netlist_in n.now)) }
 {

@@ -44,7 +44,7 @@ fn any_matches(rows: &[Word], bits: &[bool]) -> bool
 }
 
 /// The value of a cover.
-pub fn value(rows: &[Word], on: bool, bits: &[bool]) -> bool
+pub fn cover_value(rows: &[Word], on: bool, bits: &[bool]) -> bool
     ensures { result ≡ cover_value rows.now on bits.now }
 {
     let any = any_matches(rows, bits);

@@ -8,22 +8,10 @@ ghost use Rattle.syn_netlist.specs.Tables.{tables_below};
 ghost use Rattle.syn_netlist.specs.Walk.{is_unmarked, table_inputs, table_output};
 
 use crate::Latch;
-use crate::signals::{latch_reads, mark, no_marks};
+use crate::marks::{first_unmarked, marks_of};
+use crate::signals::latch_reads;
 use crate::tables::Table;
 use std::alloc::{AllocError, Global};
-
-// The first number that isn't marked.
-fn first_unmarked(marks: &[bool], numbers: &[u32]) -> Option<u32>
-    requires { all_below (length marks.now) numbers.now ≡ true }
-    ensures { result ≡ find (is_unmarked marks.now) numbers.now }
-{
-    for n in numbers {
-        if !marks[*n as usize] {
-            return Some(*n);
-        }
-    }
-    None
-}
 
 // The first input of the tables that isn't marked.
 fn first_unmarked_input(marks: &[bool], tables: &[Table]) -> Option<u32>
@@ -83,7 +71,5 @@ pub(crate) fn defined_marks(
     ensures marks { IfOk result (λ v. AreMarks (sources.items ++ map table_output tables.now) v.items) }
 {
     push_outputs(&mut sources, tables)?;
-    let mut marks = no_marks(alloc, count)?;
-    mark(marks.as_mut_slice(), &sources);
-    Ok(marks)
+    marks_of(alloc, count, &sources)
 }

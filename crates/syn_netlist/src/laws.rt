@@ -1,6 +1,6 @@
 //! Laws of the definitions: each function has an empty body, and its clause is the law.
 
-ghost use Rattle.syn_netlist.specs.Faults.{AnsweredIsCircle, CheckedHasFunction, CheckedHasNoFault, OrderableHasNoCircle, OrderableReachesNoCircle};
+ghost use Rattle.syn_netlist.specs.Faults.{AnsweredIsCircle, CheckedHasFunction, CheckedHasNoFault, OrderableHasNoCircle, OrderableReachesNoCircle, PutIsChecked, TableOrderPuts};
 ghost use Rattle.syn_netlist.specs.Meaning.{FunctionFromSame, OneFunction, SameFromFunction, SameIsSymmetric, SameIsTransitive};
 ghost use Rattle.syn_netlist.specs.Order.{OrderKeepsFunction, OrderableHasFunction, OrderedHasFunction, OrderedHasOne};
 ghost use Rattle.syn_netlist.specs.Worked.{Worked};
@@ -63,6 +63,16 @@ pub fn orderable_reaches_no_circle()
 /// The answered circle is a circle: its names are outputs of tables each of which reads the next.
 pub fn answered_is_circle()
     ensures { AnsweredIsCircle }
+{}
+
+/// Numbers of the tables, each once and below those that it reads, put a netlist's tables in order.
+pub fn table_order_puts()
+    ensures { TableOrderPuts }
+{}
+
+/// Where numbers put the tables in order, the netlist has no fault.
+pub fn put_is_checked()
+    ensures { PutIsChecked }
 {}
 
 /// A netlist without a fault has none but want of memory.

@@ -4,7 +4,7 @@ ghost use Rattle.std.specs.Prelude.{◌≡◌, ◌++◌, ◌+◌, ◌<◌, ◌�
 ghost use Rattle.std.specs.List.{list_all, sum_by};
 ghost use Rattle.syn_netlist.specs.Numbers.{all_below};
 ghost use Rattle.syn_netlist.specs.Tables.{tables_below};
-ghost use Rattle.syn_netlist.specs.Walk.{AreMakers, GoOn, IsNext, IsOrder, IsWalk, Meets, Walks, inputs_at, is_done, is_finished, is_open, maker_at, output_at, seen_at, stage_at, weight};
+ghost use Rattle.syn_netlist.specs.Walk.{AreMakers, GoOn, IsNext, IsOrder, IsOrderWalk, Meets, Walks, inputs_at, is_done, is_finished, is_open, maker_at, output_at, seen_at, stage_at, weight};
 
 use crate::tables::Table;
 use std::alloc::{AllocError, Global};
@@ -121,8 +121,8 @@ fn step(
 ) -> Result<Option<u32>, AllocError>
     requires below { tables_below (length makers.now) tables.now ≡ true }
     requires makers { AreMakers tables.now makers.now }
-    requires walk { IsWalk tables.now makers.now stages.old seen.old (path.old.items ++ top ∷ []) order.old.items }
-    ensures walk { IfOk result (λ r. IfNone r (IsWalk tables.now makers.now stages.new seen.new path.new.items order.new.items)) }
+    requires walk { IsOrderWalk tables.now makers.now stages.old seen.old (path.old.items ++ top ∷ []) order.old.items }
+    ensures walk { IfOk result (λ r. IfNone r (IsOrderWalk tables.now makers.now stages.new seen.new path.new.items order.new.items)) }
     ensures meets { IfOk result (λ r. IfSome r (Meets tables.now makers.now stages.new seen.new path.new.items order.new.items)) }
     ensures goes_on { IfOk result (λ r. IfNone r (GoOn stages.old stages.new)) }
     ensures less { IfOk result (λ r. IfNone r (sum_by weight stages.new < sum_by weight stages.old)) }
@@ -159,8 +159,8 @@ fn walk_on(
 ) -> Result<Option<u32>, AllocError>
     requires below { tables_below (length makers.now) tables.now ≡ true }
     requires makers { AreMakers tables.now makers.now }
-    requires walk { IsWalk tables.now makers.now stages.old seen.old path.old.items order.old.items }
-    ensures walk { IfOk result (λ r. IfNone r (IsWalk tables.now makers.now stages.new seen.new [] order.new.items)) }
+    requires walk { IsOrderWalk tables.now makers.now stages.old seen.old path.old.items order.old.items }
+    ensures walk { IfOk result (λ r. IfNone r (IsOrderWalk tables.now makers.now stages.new seen.new [] order.new.items)) }
     ensures empty { IfOk result (λ r. IfNone r (path.new.items ≡ [])) }
     ensures meets { IfOk result (λ r. IfSome r (Meets tables.now makers.now stages.new seen.new path.new.items order.new.items)) }
     ensures goes_on { IfOk result (λ r. IfNone r (GoOn stages.old stages.new)) }
@@ -187,9 +187,9 @@ fn visit(
     requires makers { AreMakers tables.now makers.now }
     requires root { root < length tables.now }
     requires empty { path.old.items ≡ [] }
-    requires walk { IsWalk tables.now makers.now stages.old seen.old [] order.old.items }
+    requires walk { IsOrderWalk tables.now makers.now stages.old seen.old [] order.old.items }
     requires before { (k : ℕ) → k < root → is_done (stage_at stages.old k) ≡ true }
-    ensures walk { IfOk result (λ r. IfNone r (IsWalk tables.now makers.now stages.new seen.new [] order.new.items)) }
+    ensures walk { IfOk result (λ r. IfNone r (IsOrderWalk tables.now makers.now stages.new seen.new [] order.new.items)) }
     ensures empty { IfOk result (λ r. IfNone r (path.new.items ≡ [])) }
     ensures meets { IfOk result (λ r. IfSome r (Meets tables.now makers.now stages.new seen.new path.new.items order.new.items)) }
     ensures done { IfOk result (λ r. IfNone r ((k : ℕ) → k < root + 1 → is_done (stage_at stages.new k) ≡ true)) }
@@ -215,7 +215,7 @@ fn visit_all(
     requires makers { AreMakers tables.now makers.now }
     requires few { length tables.now < 2 ^ 32 }
     requires empty { path.old.items ≡ [] }
-    requires walk { IsWalk tables.now makers.now stages.old seen.old [] order.old.items }
+    requires walk { IsOrderWalk tables.now makers.now stages.old seen.old [] order.old.items }
     ensures order { IfOk result (λ r. IfNone r (IsOrder tables.now makers.now order.new.items)) }
     ensures meets { IfOk result (λ r. IfSome r (Meets tables.now makers.now stages.new seen.new path.new.items order.new.items)) }
 {

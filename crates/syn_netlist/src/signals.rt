@@ -6,6 +6,7 @@ ghost use Rattle.syn_netlist.specs.Marks.{AreMarks, first_numbers, observed_numb
 ghost use Rattle.syn_netlist.specs.Numbers.{all_below};
 
 use crate::Latch;
+use crate::marks::{marks_of, no_marks};
 use std::alloc::{AllocError, Global};
 
 /// The numbers of the sources: inputs, clocks that are no inputs, latch outputs. All are below the count.
@@ -45,25 +46,6 @@ pub(crate) fn observed_numbers(
     firsts(alloc, count, &all)
 }
 
-/// Marks for so many numbers, none of them set.
-pub(crate) fn no_marks(alloc: Global, count: u32) -> Result<Vec<bool>, AllocError>
-    ensures length { IfOk result (λ v. length v.items ≡ count) }
-    ensures marks { IfOk result (λ v. AreMarks [] v.items) }
-{
-    vec![in alloc; false; count as usize]
-}
-
-/// Marks these numbers alone, in marks of which none is set.
-pub(crate) fn mark(marks: &mut [bool], numbers: &[u32])
-    requires below { all_below (length marks.old) numbers.now ≡ true }
-    requires none { AreMarks [] marks.old }
-    ensures { AreMarks numbers.now marks.new }
-{
-    for n in numbers {
-        marks[*n as usize] = true;
-    }
-}
-
 /// The numbers that are not among the others, in their order. All are below the count.
 fn without(
     alloc: Global,
@@ -75,8 +57,7 @@ fn without(
     requires numbers { all_below count numbers.now ≡ true }
     ensures { IfOk result (λ v. v.items ≡ without_numbers others.now numbers.now) }
 {
-    let mut marks = no_marks(alloc, count)?;
-    mark(marks.as_mut_slice(), others);
+    let marks = marks_of(alloc, count, others)?;
     let marks = marks.as_slice();
     let mut found = Vec::new(alloc);
     for n in numbers {

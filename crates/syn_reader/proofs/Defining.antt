@@ -4,13 +4,12 @@ use Rattle.std.proofs.lemmas.List.{map-append}
 use Rattle.syn_netlist.specs.Words.{has, without}
 use Rattle.syn_netlist.specs.Lists.{Netlist, latch_output, output_of, sources}
 use Rattle.syn_netlist.specs.Order.{defined}
-use Rattle.syn_netlist.proofs.Sets.{has-append}
+use Rattle.syn_netlist.proofs.Sets.{has-append, same_word}
 use Rattle.syn_reader.specs.declared.Kind.{Kind}
 use Rattle.syn_reader.specs.declared.Kind.TheVariants as kinds
 use Rattle.syn_reader.specs.Statements.{Statement}
 use Rattle.syn_reader.specs.Definitions.{Definition, definitions, name_of, names_defined}
 use Rattle.syn_reader.specs.Reading.{Adds, Spell, rows_below}
-use Rattle.syn_reader.proofs.Words.{same_word}
 use Rattle.syn_reader.proofs.Once.{output_is}
 use Rattle.syn_reader.proofs.ReadingPlaces.{latch_defines}
 
@@ -18,7 +17,7 @@ use Rattle.syn_reader.proofs.ReadingPlaces.{latch_defines}
 abbrev pub defines : Netlist → List ℕ → Bool
 defines n w = has n.frame.inputs w || (has n.frame.clocks w || (has (map latch_output n.frame.latches) w || has (map output_of n.tables) w))
 
-has-without : (xs ys : List (List ℕ)) (w : List ℕ) → has (without xs ys) w ≡ (has ys w && not (has xs w))
+pub has-without : (xs ys : List (List ℕ)) (w : List ℕ) → has (without xs ys) w ≡ (has ys w && not (has xs w))
 has-without xs [] w = refl
 has-without xs (y ∷ ys) w = go (has xs y) refl (bytes_eq y w) refl (has-without xs ys w)
   where

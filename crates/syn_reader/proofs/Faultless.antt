@@ -16,7 +16,7 @@ use Rattle.syn_reader.specs.Reading.{rows_below, with_latch, with_table, Reads}
 use Rattle.syn_reader.specs.Limits.{Within, IsNetFault}
 use Rattle.syn_reader.specs.Computed.{is_on, latch_of, init_of, type_of, signal_of, latch, added, netlist_of}
 use Rattle.syn_reader.specs.Laws.{FaultlessSpell, NotBoth}
-use Rattle.syn_reader.proofs.Words.{same_word}
+use Rattle.syn_netlist.proofs.Sets.{same_word}
 use Rattle.syn_reader.proofs.Spelled.{spell_back, one_spelled}
 use Rattle.syn_reader.proofs.Fine.{IsFine, parts_of, rows_fit, init_some}
 

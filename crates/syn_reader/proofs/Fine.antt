@@ -9,7 +9,7 @@ use Rattle.syn_reader.specs.Shapes.{last_word, all_but_last, is_row_of, is_outpu
 use Rattle.syn_reader.specs.LineFaults.{checks, first_found, first_fault_of_lines, after_end, unknown_keyword, second_model, no_name, extra_word, stray_row, table_above, first_row, is_misshaped, is_stray, row_shape, mixed_rows, latch_shape, latch_type, latch_init, defined_twice}
 use Rattle.syn_reader.specs.Reading.{rows_below}
 use Rattle.syn_reader.specs.Computed.{row_part, row_parts, is_on, init_of}
-use Rattle.syn_reader.proofs.Words.{same_word, word_same}
+use Rattle.syn_netlist.proofs.Sets.{same_word, word_same}
 
 pub or_none : {A : Type 0} (a b : Option A) → option_or a b ≡ None → (a ≡ None) × (b ≡ None)
 or_none None b e = (refl, e)

@@ -25,4 +25,4 @@ pub mod Defining
 pub mod ReadingPlaces
 pub mod TextSizes
 pub mod Answering
-pub mod DefinedMarks
+pub mod FewSources

@@ -18,7 +18,7 @@ use Rattle.syn_reader.proofs.Fine.{output_of_row}
 use Rattle.syn_reader.specs.Marking.{by_kind, forbidden_by, also, first_twice}
 use Rattle.syn_reader.specs.Keywords.{fault_where, latch_fault, line_fault}
 use Rattle.syn_reader.specs.Rows.{below_rows, row_fault, rows_fault, is_mixed, output_with}
-use Rattle.syn_reader.proofs.Words.{word_same}
+use Rattle.syn_netlist.proofs.Sets.{word_same}
 
 skip : (b : Bool) (f : Fault) (rest : Option Fault) → b ≡ false → option_or (if b then Some f else None) rest ≡ rest
 skip true f rest e = absurd (both_ways true e refl)

@@ -17,7 +17,8 @@ use Rattle.syn_reader.specs.Reading.{Adds, Spell, Reads, rows_below, first_fault
 use Rattle.syn_reader.specs.Limits.{Within, IsFirstFault, limit}
 use Rattle.syn_netlist.specs.Costs.{cost_of}
 use Rattle.syn_reader.specs.Laws.{EitherOr}
-use Rattle.syn_reader.proofs.Words.{same_word, word_same, last_snoc}
+use Rattle.syn_reader.proofs.Words.{last_snoc}
+use Rattle.syn_netlist.proofs.Sets.{same_word, word_same}
 use Rattle.syn_reader.proofs.Sets.{le_or}
 use Rattle.syn_reader.proofs.Fine.{or_none, parts_of}
 use Rattle.syn_reader.proofs.CircleLaws.{circle_or_none}

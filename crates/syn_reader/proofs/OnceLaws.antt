@@ -3,7 +3,7 @@ use Rattle.std.proofs.Common.{◌≡◌, ◌+◌, ℕ, ◌||◌, not, Bool, true
 use Rattle.std.proofs.lemmas.Bool.{both_ways, false_from_ne_true, and_from, and_parts, or_left, or_right, or_cases, not-true}
 use Rattle.syn_netlist.specs.Words.{has, distinct, without}
 use Rattle.syn_netlist.specs.Lists.{Netlist, output_of, latch_output}
-use Rattle.syn_netlist.proofs.Sets.{has-append}
+use Rattle.syn_netlist.proofs.Sets.{has-append, same_word, word_same}
 use Rattle.syn_reader.specs.declared.Kind.{Kind}
 use Rattle.syn_reader.specs.declared.Kind.TheVariants as kinds
 use Rattle.syn_reader.specs.Statements.{Statement}
@@ -13,7 +13,7 @@ use Rattle.syn_reader.specs.LineFaults.{checks, first_fault_of_lines}
 use Rattle.syn_reader.specs.Reading.{Adds, Spell, rows_below, no_netlist}
 use Rattle.syn_reader.specs.Marking.{by_kind, forbidden_by}
 use Rattle.syn_reader.specs.Gathers.{IsOnce}
-use Rattle.syn_reader.proofs.Words.{same_word, word_same, last_snoc}
+use Rattle.syn_reader.proofs.Words.{last_snoc}
 use Rattle.syn_reader.proofs.Fine.{parts_of}
 
 -- The definitions of names that a netlist has by this kind.

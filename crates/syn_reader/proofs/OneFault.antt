@@ -8,7 +8,7 @@ use Rattle.syn_reader.specs.Faults.{Fault, Cycle, TooManySources, TooLarge}
 use Rattle.syn_reader.specs.Statements.{statements}
 use Rattle.syn_reader.specs.Limits.{IsNetFault}
 use Rattle.syn_reader.specs.Laws.{OneFault}
-use Rattle.syn_reader.proofs.Words.{same_word, word_same}
+use Rattle.syn_netlist.proofs.Sets.{same_word, word_same}
 use Rattle.syn_reader.proofs.Spelled.{one_spelled}
 use Rattle.syn_reader.proofs.Faultless.{found_passes}
 

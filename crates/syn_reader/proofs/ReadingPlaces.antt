@@ -6,14 +6,14 @@ use Rattle.syn_netlist.specs.declared.LatchKind.{LatchKind}
 use Rattle.syn_netlist.specs.Lists.{Latch, Netlist, latch_reads, control_of}
 use Rattle.syn_netlist.specs.Faults as faults
 use Rattle.syn_netlist.specs.Faults.{inputs_of}
-use Rattle.syn_netlist.proofs.Sets.{has-append}
+use Rattle.syn_netlist.proofs.Sets.{has-append, same_word}
 use Rattle.syn_reader.specs.declared.Kind.{Kind}
 use Rattle.syn_reader.specs.declared.Kind.TheVariants as kinds
 use Rattle.syn_reader.specs.Statements.{Statement}
 use Rattle.syn_reader.specs.Shapes.{IsLatch, nil_control, type_and_control, control_name, all_but_last}
 use Rattle.syn_reader.specs.Definitions.{names_defined, names_read, reads}
 use Rattle.syn_reader.specs.Reading.{Adds, Spell, rows_below}
-use Rattle.syn_reader.proofs.Words.{same_word, all_but_snoc}
+use Rattle.syn_reader.proofs.Words.{all_but_snoc}
 
 -- the words of a latch: what it defines and reads
 defines_one : (feed output : List ℕ) (kind : Option (LatchKind × Option (List ℕ))) (words : List (List ℕ)) (more : List (List ℕ)) → words ≡ (feed ∷ output ∷ type_and_control kind) ++ more → names_defined kinds.Latch words ≡ output ∷ []

@@ -5,7 +5,8 @@ use Rattle.std.proofs.lemmas.Bool.{eqb-true, cond-true, and_parts, and_from}
 use Rattle.syn_netlist.specs.Lists.{Table}
 use Rattle.syn_reader.specs.Shapes.{IsTable, is_input_part, row_words, output_word, last_word, all_but_last}
 use Rattle.syn_reader.specs.Computed.{row_part, row_parts, is_on, table_of}
-use Rattle.syn_reader.proofs.Words.{same_word, word_same, chosen, mapped, then_some, all_but_snoc, last_snoc, snoc_back}
+use Rattle.syn_reader.proofs.Words.{chosen, mapped, then_some, all_but_snoc, last_snoc, snoc_back}
+use Rattle.syn_netlist.proofs.Sets.{same_word, word_same}
 
 no_part : (row : List ℕ) → is_input_part 0 row ≡ true → row ≡ []
 no_part [] e = refl

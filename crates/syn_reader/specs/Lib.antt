@@ -17,4 +17,4 @@ pub mod Keywords
 pub mod Rows
 pub mod Gathers
 pub mod LatchWords
-pub mod Driving
+pub mod Checking

@@ -27,7 +27,7 @@ use crate::signals::{Signals, TableLine, copy_word};
 use crate::statements::{Parts, Statements};
 use crate::{Kind, ReadFault};
 use std::alloc::{AllocError, Global};
-use syn_lex::Words;
+use syn_lex::LineWords;
 use syn_netlist::{Frame, Items, Latch, Netlist, Table, Word};
 
 /// What the statements of a text spell.
@@ -121,7 +121,12 @@ impl Gathering {
     }
 
     // The inputs of a line.
-    fn add_inputs(&mut self, alloc: Global, line: u32, words: Words<'_>) -> Result<(), ReadFault>
+    fn add_inputs(
+        &mut self,
+        alloc: Global,
+        line: u32,
+        words: LineWords<'_>,
+    ) -> Result<(), ReadFault>
         requires sound { IsSound self.old }
         requires few { length self.old.signals.names + length words < 2 ^ 32 }
         requires words { all_words words ≡ true }
@@ -135,7 +140,12 @@ impl Gathering {
     }
 
     // The clocks of a line.
-    fn add_clocks(&mut self, alloc: Global, line: u32, words: Words<'_>) -> Result<(), ReadFault>
+    fn add_clocks(
+        &mut self,
+        alloc: Global,
+        line: u32,
+        words: LineWords<'_>,
+    ) -> Result<(), ReadFault>
         requires sound { IsSound self.old }
         requires few { length self.old.signals.names + length words < 2 ^ 32 }
         requires words { all_words words ≡ true }
@@ -149,7 +159,7 @@ impl Gathering {
     }
 
     // The outputs of a line.
-    fn add_outputs(&mut self, alloc: Global, words: Words<'_>) -> Result<(), ReadFault>
+    fn add_outputs(&mut self, alloc: Global, words: LineWords<'_>) -> Result<(), ReadFault>
         requires sound { IsSound self.old }
         requires few { length self.old.signals.names + length words < 2 ^ 32 }
         requires words { all_words words ≡ true }
@@ -164,7 +174,7 @@ impl Gathering {
     }
 
     // The latch of a line.
-    fn add_latch(&mut self, alloc: Global, line: u32, words: Words<'_>) -> Result<(), ReadFault>
+    fn add_latch(&mut self, alloc: Global, line: u32, words: LineWords<'_>) -> Result<(), ReadFault>
         requires sound { IsSound self.old }
         requires few { length self.old.signals.names + length words < 2 ^ 32 }
         requires words { all_words words ≡ true }
@@ -184,7 +194,7 @@ impl Gathering {
         &mut self,
         alloc: Global,
         line: u32,
-        words: Words<'_>,
+        words: LineWords<'_>,
         statements: &mut Statements<'_>,
     ) -> Result<(), ReadFault>
         requires sound { IsSound self.old }
@@ -233,7 +243,7 @@ impl Gathering {
 }
 
 // The name of a `.model` line; or else the fault of its words.
-fn read_model(alloc: Global, line: u32, words: Words<'_>) -> Result<Word, ReadFault>
+fn read_model(alloc: Global, line: u32, words: LineWords<'_>) -> Result<Word, ReadFault>
     requires { all_words words ≡ true }
     ensures name { IfOk result (λ name. map text_of words.entry ≡ name ∷ []) }
     ensures word { IfOk result (λ name. is_word name ≡ true) }

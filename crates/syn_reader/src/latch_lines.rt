@@ -12,7 +12,7 @@ ghost use Rattle.syn_reader.specs.Keywords.{latch_fault};
 ghost use Rattle.syn_reader.specs.LatchWords.{are_words, IsInit, IsKind, control_words, kind_of, latch_of_line, rest_words};
 
 use crate::{Kind, ReadFault};
-use syn_lex::Words;
+use syn_lex::LineWords;
 use syn_netlist::LatchKind;
 
 fn type_of(word: &[u8]) -> Option<LatchKind>
@@ -54,7 +54,7 @@ struct Rest<'a> {
 }
 
 // At most three words as those behind the output.
-fn rest_of<'a>(words: Words<'a>) -> Option<Rest<'a>>
+fn rest_of<'a>(words: LineWords<'a>) -> Option<Rest<'a>>
     requires { all_words words ≡ true }
     ensures some { IfSome result (λ rest. map text_of words.entry ≡ rest_words rest) }
     ensures words { IfSome result (λ rest. are_words (rest_words rest) ≡ true) }
@@ -128,7 +128,7 @@ pub struct LatchLine<'a> {
 }
 
 // The latch of a line with these words; or else the fault of its words.
-pub fn read_latch<'a>(line: u32, words: Words<'a>) -> Result<LatchLine<'a>, ReadFault>
+pub fn read_latch<'a>(line: u32, words: LineWords<'a>) -> Result<LatchLine<'a>, ReadFault>
     requires { all_words words ≡ true }
     ensures latch { IfOk result (λ l. latch_of (map text_of words.entry) ≡ Some (latch_of_line l)) }
     ensures defined { IfOk result (λ l. names_defined Kind.Latch (map text_of words.entry) ≡ l.output.now ∷ []) }

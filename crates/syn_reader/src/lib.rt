@@ -20,7 +20,7 @@ pub use laws::{
     worked_netlists, worked_prefixes, worked_texts,
 };
 pub use limits::LIMIT;
-pub use reading::read;
+pub use reading::{read, read_checked};
 use std::alloc::{AllocError, AllocFailed};
 use syn_netlist::{Items, Word};
 
@@ -111,6 +111,3 @@ impl<T: Drop> From<AllocFailed<T>> for ReadFault {
         ReadFault::NoMemory
     }
 }
-
-#[cfg(test)]
-mod tests;

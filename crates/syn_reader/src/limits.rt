@@ -6,11 +6,11 @@ ghost use Rattle.syn_netlist.specs.Lists.{sources};
 ghost use Rattle.syn_netlist.specs.Views.{netlist_in};
 ghost use Rattle.syn_reader.specs.Causes.{fault_in};
 ghost use Rattle.syn_reader.specs.Limits.{IsNetFault, Within};
-ghost use Rattle.syn_reader.specs.Reading.{NoCircle};
+ghost use Rattle.syn_netlist.specs.Faults.{IsChecked};
 
 use crate::ReadFault;
 use std::alloc::{AllocError, Global};
-use syn_netlist::{Netlist, cost};
+use syn_netlist::{CheckedNetlist, Netlist, cost};
 
 /// The most sources, and the greatest cost, of a netlist that is read.
 pub const LIMIT: u32 = 1_048_576;
@@ -24,19 +24,19 @@ fn source_count(alloc: Global, n: &Netlist) -> Result<u32, AllocError>
     Ok(sources.len() as u32)
 }
 
-/// Whether a netlist whose tables can be put in order is within the limits; else too many sources, or else too great a cost.
-pub(crate) fn check_limits(alloc: Global, n: &Netlist) -> Result<(), ReadFault>
-    requires acyclic { NoCircle (netlist_in n.now) }
-    requires names { length n.now.frame.names < 2 ^ 32 }
-    requires cost { cost_of (netlist_in n.now) < 2 ^ 64 }
-    ensures within { OnOk result (Within (netlist_in n.now)) }
-    ensures fault { IfErr result (λ e. IfSome (fault_in e) (IsNetFault (netlist_in n.now))) }
+/// Whether a checked netlist is within the limits; else too many sources, or else too great a cost.
+pub(crate) fn check_limits(alloc: Global, n: &CheckedNetlist) -> Result<(), ReadFault>
+    requires names { length n.now.netlist.frame.names < 2 ^ 32 }
+    requires cost { cost_of (netlist_in n.now.netlist) < 2 ^ 64 }
+    ensures within { OnOk result (Within (netlist_in n.now.netlist)) }
+    ensures fault { IfErr result (λ e. IfSome (fault_in e) (IsNetFault (netlist_in n.now.netlist))) }
 {
-    let count = source_count(alloc, n)?;
+    n.is_checked();
+    let count = source_count(alloc, &n.netlist)?;
     if count > LIMIT {
         return Err(ReadFault::TooManySources(count));
     }
-    let total = cost(n);
+    let total = cost(&n.netlist);
     if total > LIMIT as u64 {
         return Err(ReadFault::TooLarge(total));
     }

@@ -1,14 +1,12 @@
 //! Reading a text.
 
-ghost use Rattle.std.specs.Prelude.{◌≡◌, ◌^◌, ◌<◌, ◌≤◌, ◌++◌, [], None, Some, true, find, length, map, option_map, IfOk, IfErr, IfSome, OnOk};
-ghost use Rattle.syn_netlist.specs.Faults.{IsChecked, first_undriven};
-ghost use Rattle.syn_netlist.specs.Marks.{AreMarks};
-ghost use Rattle.syn_netlist.specs.Numbers.{all_below, word_at, words_at};
-ghost use Rattle.syn_netlist.specs.Tables.{tables_below};
+ghost use Rattle.std.specs.Prelude.{◌≡◌, ◌^◌, ◌<◌, ◌≤◌, None, length, option_map, true, IfOk, IfErr, IfSome, OnOk, Some};
+ghost use Rattle.syn_netlist.specs.Costs.{cost_of};
+ghost use Rattle.syn_netlist.specs.Faults.{IsChecked, first_undefined, first_undriven};
+ghost use Rattle.syn_netlist.specs.Numbers.{all_below, words_at};
 ghost use Rattle.syn_netlist.specs.Views.{netlist_in};
-ghost use Rattle.syn_netlist.specs.Walk.{is_unmarked, table_output};
 ghost use Rattle.syn_reader.specs.Causes.{NamesFirstFault, fault_in};
-ghost use Rattle.syn_reader.specs.Driving.{MarkDefined, first_undefined};
+ghost use Rattle.syn_reader.specs.Checking.{AreRead, IsGathered, IsGatheredFault};
 ghost use Rattle.syn_reader.specs.Faults.{Undriven};
 ghost use Rattle.syn_reader.specs.Limits.{IsNetFault, Within};
 ghost use Rattle.syn_reader.specs.Reading.{Reads};
@@ -17,62 +15,21 @@ use crate::ReadFault;
 use crate::gathering::{Gathered, gather};
 use crate::limits::check_limits;
 use crate::statements::Statements;
-use std::alloc::{AllocError, Global};
-use syn_netlist::{NetFault, Netlist, Table, Word, check};
+use std::alloc::Global;
+use syn_netlist::{CheckedNetlist, NetFault, Netlist, Word};
 
-// Marks these numbers.
-fn mark(marks: &mut [bool], numbers: &[u32])
-    requires below { all_below (length marks.old) numbers.now ≡ true }
-    requires none { AreMarks [] marks.old }
-    ensures marks { AreMarks numbers.now marks.new }
+// Gathers what the statements of a text spell; or else answers the first disallowed byte, or the first fault of a line.
+fn gather_text(alloc: Global, bytes: &[u8]) -> Result<Gathered, ReadFault>
+    requires { length bytes.now < 2 ^ 32 }
+    ensures gathered { IfOk result (λ g. IsGathered bytes.now (netlist_in g.netlist) (words_at g.netlist.frame.names g.reads)) }
+    ensures below { IfOk result (λ g. all_below (length g.netlist.frame.names) g.reads ≡ true) }
+    ensures names { IfOk result (λ g. length g.netlist.frame.names ≤ length bytes.now) }
+    ensures fault { IfErr result (NamesFirstFault bytes.now) }
 {
-    for n in numbers {
-        marks[*n as usize] = true;
+    match syn_lex::lines(bytes) {
+        Ok(lines) => gather(alloc, Statements::of(lines)),
+        Err(bad) => Err(ReadFault::BadByte(bad.0)),
     }
-}
-
-// Appends the outputs of the tables.
-fn push_outputs(all: &mut Vec<u32>, tables: &[Table]) -> Result<(), AllocError>
-    ensures { OnOk result (all.new.items ≡ all.old.items ++ map table_output tables.now) }
-{
-    for table in tables {
-        all.push(table.output)?;
-    }
-    Ok(())
-}
-
-// Marks of these numbers, all of which are below the count.
-fn marks_of(alloc: Global, count: u32, numbers: &[u32]) -> Result<Vec<bool>, AllocError>
-    requires { all_below count numbers.now ≡ true }
-    ensures length { IfOk result (λ v. length v.items ≡ count) }
-    ensures marks { IfOk result (λ v. AreMarks numbers.now v.items) }
-{
-    let mut marks = vec![in alloc; false; count as usize]?;
-    mark(marks.as_mut_slice(), numbers);
-    Ok(marks)
-}
-
-// Marks of the names that a netlist defines.
-fn defined_marks(alloc: Global, n: &Netlist) -> Result<Vec<bool>, AllocError>
-    ensures length { IfOk result (λ v. length v.items ≡ length n.now.frame.names) }
-    ensures marks { IfOk result (λ v. MarkDefined (netlist_in n.now) n.now.frame.names v.items) }
-{
-    let mut defined = n.frame.sources(alloc)?;
-    push_outputs(&mut defined, n.tables.as_slice())?;
-    marks_of(alloc, n.frame.names.len(), &defined)
-}
-
-// The first number that isn't marked.
-fn first_unmarked(marks: &[bool], numbers: &[u32]) -> Option<u32>
-    requires { all_below (length marks.now) numbers.now ≡ true }
-    ensures { result ≡ find (is_unmarked marks.now) numbers.now }
-{
-    for n in numbers {
-        if !marks[*n as usize] {
-            return Some(*n);
-        }
-    }
-    None
 }
 
 // Whether a netlist defines each of these names; else the first that it doesn't.
@@ -81,8 +38,7 @@ fn check_driven(alloc: Global, n: &Netlist, reads: &[u32]) -> Result<(), ReadFau
     ensures driven { OnOk result (first_undefined (netlist_in n.now) (words_at n.now.frame.names reads.now) ≡ None) }
     ensures fault { IfErr result (λ e. IfSome (fault_in e) (λ f. option_map Undriven (first_undefined (netlist_in n.now) (words_at n.now.frame.names reads.now)) ≡ Some f)) }
 {
-    let marks = defined_marks(alloc, n)?;
-    match first_unmarked(marks.as_slice(), reads) {
+    match n.first_undefined(alloc, reads)? {
         Some(i) => {
             let word = n.frame.names.word(i).to_vec(alloc)?;
             Err(ReadFault::Undriven(Word::of(word)))
@@ -91,18 +47,50 @@ fn check_driven(alloc: Global, n: &Netlist, reads: &[u32]) -> Result<(), ReadFau
     }
 }
 
-// Whether the tables of a netlist that defines all that it reads can be put in order; else the circle.
-fn check_order(alloc: Global, n: &Netlist) -> Result<(), ReadFault>
-    requires { first_undriven (netlist_in n.now) ≡ None }
-    ensures checked { OnOk result (IsChecked (netlist_in n.now)) }
-    ensures fault { IfErr result (λ e. IfSome (fault_in e) (IsNetFault (netlist_in n.now))) }
+// A netlist that defines all that it reads, with the order of its tables; else the circle.
+fn check_order(alloc: Global, n: Netlist) -> Result<CheckedNetlist, ReadFault>
+    requires { first_undriven (netlist_in n) ≡ None }
+    ensures netlist { IfOk result (λ checked. checked.netlist ≡ n) }
+    ensures fault { IfErr result (λ e. IfSome (fault_in e) (IsNetFault (netlist_in n))) }
 {
-    match check(n, alloc) {
-        Ok(()) => Ok(()),
+    match CheckedNetlist::of_driven(n, alloc) {
+        Ok(checked) => Ok(checked),
         Err(NetFault::Undriven(name)) => Err(ReadFault::Undriven(name)),
         Err(NetFault::Cycle(names)) => Err(ReadFault::Cycle(names)),
         Err(NetFault::NoMemory) => Err(ReadFault::NoMemory),
     }
+}
+
+// What was gathered, checked and within the limits; else the first name in the order of the reading places that it
+// doesn't define, or else a circle, too many sources or too great a cost.
+fn check_gathered(alloc: Global, gathered: Gathered) -> Result<CheckedNetlist, ReadFault>
+    requires below { all_below (length gathered.netlist.frame.names) gathered.reads ≡ true }
+    requires read { AreRead (netlist_in gathered.netlist) (words_at gathered.netlist.frame.names gathered.reads) }
+    requires names { length gathered.netlist.frame.names < 2 ^ 32 }
+    requires cost { cost_of (netlist_in gathered.netlist) < 2 ^ 64 }
+    ensures netlist { IfOk result (λ checked. checked.netlist ≡ gathered.netlist) }
+    ensures within { OnOk result (Within (netlist_in gathered.netlist)) }
+    ensures driven { OnOk result (first_undefined (netlist_in gathered.netlist) (words_at gathered.netlist.frame.names gathered.reads) ≡ None) }
+    ensures fault { IfErr result (λ e. IfSome (fault_in e) (IsGatheredFault (netlist_in gathered.netlist) (words_at gathered.netlist.frame.names gathered.reads))) }
+{
+    let Gathered { netlist, reads } = gathered;
+    check_driven(alloc, &netlist, reads.as_slice())?;
+    let checked = check_order(alloc, netlist)?;
+    check_limits(alloc, &checked)?;
+    Ok(checked)
+}
+
+/// Reads the netlist that the bytes of a text spell, with the order of its tables, or names the text's first fault, as
+/// `read` does.
+pub fn read_checked(alloc: Global, bytes: &[u8]) -> Result<CheckedNetlist, ReadFault>
+    requires { length bytes.now < 2 ^ 32 }
+    ensures reads { IfOk result (λ checked. Reads bytes.now (netlist_in checked.netlist)) }
+    ensures within { IfOk result (λ checked. Within (netlist_in checked.netlist)) }
+    ensures names { IfOk result (λ checked. length checked.netlist.frame.names ≤ length bytes.now) }
+    ensures fault { IfErr result (NamesFirstFault bytes.now) }
+{
+    let gathered = gather_text(alloc, bytes)?;
+    check_gathered(alloc, gathered)
 }
 
 /// Reads the netlist that the bytes of a text spell, or names the text's first fault.
@@ -120,13 +108,8 @@ pub fn read(alloc: Global, bytes: &[u8]) -> Result<Netlist, ReadFault>
     ensures names { IfOk result (λ n. length n.frame.names ≤ length bytes.now) }
     ensures fault { IfErr result (NamesFirstFault bytes.now) }
 {
-    let lines = match syn_lex::lines(bytes) {
-        Ok(lines) => lines,
-        Err(bad) => return Err(ReadFault::BadByte(bad.0)),
-    };
-    let Gathered { netlist, reads } = gather(alloc, Statements::of(lines))?;
-    check_driven(alloc, &netlist, reads.as_slice())?;
-    check_order(alloc, &netlist)?;
-    check_limits(alloc, &netlist)?;
+    let checked = read_checked(alloc, bytes)?;
+    checked.is_checked();
+    let CheckedNetlist { netlist, order: _ } = checked;
     Ok(netlist)
 }

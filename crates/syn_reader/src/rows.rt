@@ -12,7 +12,7 @@ ghost use Rattle.syn_reader.specs.Shapes.{is_character, is_input_part, is_row_of
 use crate::statements::{Parts, Statements};
 use crate::{Kind, ReadFault};
 use std::alloc::Global;
-use syn_lex::Words;
+use syn_lex::LineWords;
 use syn_netlist::Word;
 
 fn is_input_part(inputs: usize, word: &[u8]) -> bool
@@ -43,7 +43,7 @@ fn output_in(word: &[u8]) -> Option<bool>
 }
 
 // The input part and the output of a row for so many inputs.
-fn row_in<'a>(inputs: usize, words: Words<'a>) -> Option<(&'a [u8], bool)>
+fn row_in<'a>(inputs: usize, words: LineWords<'a>) -> Option<(&'a [u8], bool)>
     ensures none { IfNone result (row_in inputs (map text_of words.entry) ≡ None) }
     ensures some { IfSome result (λ row. row_in inputs (map text_of words.entry) ≡ Some (row.0.now, row.1)) }
 {
@@ -64,7 +64,11 @@ fn row_in<'a>(inputs: usize, words: Words<'a>) -> Option<(&'a [u8], bool)>
 }
 
 // The row of a table with so many inputs; or else its fault.
-fn read_row<'a>(inputs: usize, line: u32, words: Words<'a>) -> Result<(&'a [u8], bool), ReadFault>
+fn read_row<'a>(
+    inputs: usize,
+    line: u32,
+    words: LineWords<'a>,
+) -> Result<(&'a [u8], bool), ReadFault>
     ensures row { IfOk result (λ row. row_part inputs row.1 (map text_of words.entry) ≡ Some row.0.now) }
     ensures output { IfOk result (λ row. last_word (map text_of words.entry) ≡ output_word row.1) }
     ensures shape { OnOk result (is_row_of inputs (map text_of words.entry) ≡ true) }

@@ -17,7 +17,7 @@ ghost use Rattle.syn_reader.specs.Marking.{Adds, also, first_twice, forbidden, m
 use crate::latch_lines::LatchLine;
 use crate::{Kind, ReadFault};
 use std::alloc::{AllocError, Global};
-use syn_lex::Words;
+use syn_lex::LineWords;
 use syn_netlist::{Latch, LatchKind, Names, Word};
 
 /// Which definitions of a name stand above.
@@ -140,7 +140,7 @@ impl Signals {
     }
 
     // The numbers of words.
-    pub fn add_all(&mut self, alloc: Global, words: Words<'_>) -> Result<Vec<u32>, AllocError>
+    pub fn add_all(&mut self, alloc: Global, words: LineWords<'_>) -> Result<Vec<u32>, AllocError>
         requires marked { length self.old.marks.items ≡ length self.old.names }
         requires few { length self.old.names + length words < 2 ^ 32 }
         requires words { all_words words ≡ true }
@@ -164,7 +164,7 @@ impl Signals {
         alloc: Global,
         line: u32,
         kind: Kind,
-        words: Words<'_>,
+        words: LineWords<'_>,
     ) -> Result<Vec<u32>, ReadFault>
         requires marked { length self.old.marks.items ≡ length self.old.names }
         requires few { length self.old.names + length words < 2 ^ 32 }
@@ -249,7 +249,7 @@ impl Signals {
         &mut self,
         alloc: Global,
         line: u32,
-        words: Words<'_>,
+        words: LineWords<'_>,
     ) -> Result<TableLine, ReadFault>
         requires marked { length self.old.marks.items ≡ length self.old.names }
         requires few { length self.old.names + length words < 2 ^ 32 }

@@ -9,7 +9,7 @@ ghost use Rattle.syn_reader.specs.Parts.{ahead, ahead_words, is_settled, stateme
 
 use crate::Kind;
 use std::marker::Model;
-use syn_lex::{Line, Logical, Words};
+use syn_lex::{Line, LineWords, Logical};
 
 // The kind of a keyword.
 fn kind_of(word: &[u8]) -> Kind
@@ -45,7 +45,7 @@ fn begins_with_dot(word: &[u8]) -> bool
 pub struct Parts<'a> {
     pub line: u32,
     pub kind: Kind,
-    pub words: Words<'a>,
+    pub words: LineWords<'a>,
 }
 
 fn parts_of<'a>(line: &Line<'a>) -> Parts<'a>

@@ -1,15 +1,13 @@
 -- Words and their numbers: sets of names by marks, names that are copied, names that are added.
-use Rattle.std.proofs.Common.{◌≡◌, ℕ, zero, suc, ◌+◌, ◌-◌, ◌<◌, ◌≤◌, if◌then◌else◌, nat_lt, not, Bool, true, false, List, [], ◌∷◌, ◌++◌, length, get_or, take, bytes_eq, refl, sym, ap, ap₂, ◌∙◌, subst, inl, inr, arith}
-use Rattle.std.proofs.lemmas.Bool.{and_parts, or_from, both_ways, false_from_ne_true, ltb-true, cond-false, cases_lt}
-use Rattle.std.proofs.lemmas.List.{length-map, get_or_default, map-append, take_more}
+use Rattle.std.proofs.Common.{◌≡◌, ℕ, ◌+◌, ◌-◌, ◌<◌, ◌≤◌, if◌then◌else◌, Bool, true, false, List, [], ◌∷◌, ◌++◌, length, get_or, refl, sym, ap, ap₂, ◌∙◌, subst, inl, inr, arith}
+use Rattle.std.proofs.lemmas.Bool.{cases_lt}
+use Rattle.std.proofs.lemmas.List.{length-map, get_or_default, map-append}
 use Rattle.syn_netlist.specs.Marks.{AreMarks}
 use Rattle.syn_netlist.specs.Numbers.{word_at, words_at, with_word, all_below, Grows}
 use Rattle.syn_netlist.specs.Words.{has, distinct}
-use Rattle.syn_netlist.proofs.Sets.{same_word, distinct_head}
 use Rattle.syn_netlist.proofs.Growing.{Grows-with_word, words_at-grows, all_below-more, length-grows}
 use Rattle.syn_netlist.proofs.Places.{has_words, all_below-append, below_from}
 use Rattle.syn_shapes.specs.Spelling.{inner_word, free_names, inner_names}
-use Rattle.syn_shapes.proofs.Gates.{has_at}
 use Rattle.syn_shapes.proofs.Inner.{many_free, free_names_more, free_names_found}
 
 -- a mark tells whether the name of its number is in the set

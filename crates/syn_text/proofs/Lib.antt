@@ -9,3 +9,4 @@ pub mod WellFormedNetlists
 mod Finding
 mod Tabling
 mod Whole
+pub mod Shaped

@@ -1,7 +1,7 @@
 -- The whole netlist of a graph, from the numbers of its names.
 use Rattle.std.proofs.Common.{◌≡◌, ℕ, suc, ◌+◌, ◌-◌, ◌^◌, ◌<◌, ◌≤◌, ◌&&◌, nat_le, true, false, List, [], ◌∷◌, ◌++◌, length, map, take, drop, refl, sym, ap, ap₂, ◌∙◌, arith}
-use Rattle.std.specs.List.{list_all, AllByRecursion, flat_map}
-use Rattle.std.proofs.lemmas.Bool.{and_from, both_ways, true_from_ne_false, le-leb}
+use Rattle.std.specs.List.{list_all, AllByRecursion}
+use Rattle.std.proofs.lemmas.Bool.{and_from, both_ways, le-leb}
 use Rattle.std.proofs.lemmas.List.{take_rest, length-map, length-append, length-drop, map-append}
 use Rattle.std.proofs.lemmas.List.Elements.{recursion_from_All}
 use Rattle.syn_rows.specs.declared.Lit.{Lit}
@@ -10,16 +10,15 @@ use Rattle.syn_rows.specs.declared.Row.TheVariants.{And}
 use Rattle.syn_rows.specs.Rows.{node_of}
 use Rattle.syn_netlist.specs.declared.frames.Frame as code
 use Rattle.syn_netlist.specs.Frames.{frame_in}
-use Rattle.syn_netlist.specs.Lists.{Frame, Table, output_of, latch_reads, sources, observed}
+use Rattle.syn_netlist.specs.Lists.{Frame, Table, output_of, sources, observed}
 use Rattle.syn_netlist.specs.Numbers.{word_at, words_at, all_below}
-use Rattle.syn_netlist.specs.Words.{has, distinct}
+use Rattle.syn_netlist.specs.Words.{distinct}
 use Rattle.syn_netlist.proofs.Growing.{words_at-grows, all_below-more, length-grows}
 use Rattle.syn_netlist.proofs.Places.{all_below-append}
 use Rattle.syn_shapes.specs.Graphs.{IsGraph}
 use Rattle.syn_shapes.specs.Spelling.{inner_names, gate_names, gates_of, gate_tables, ends_from, network}
-use Rattle.syn_shapes.proofs.Inner.{no_more, length-inner_names}
+use Rattle.syn_shapes.proofs.Inner.{length-inner_names}
 use Rattle.syn_shapes.proofs.Gates.{AreGates, hashed_gates, gate_parts, first_there, first_below, second_there}
-use Rattle.syn_shapes.proofs.Ends.{firsts_distinct}
 use Rattle.syn_shapes.proofs.Networks.{network_spells}
 use Rattle.syn_text.specs.Numbered.{is_named, is_within, is_named_gate, IsNumbered}
 use Rattle.syn_graph.proofs.Observing.{few_signals}

@@ -9,7 +9,7 @@ use Rattle.syn_netlist.specs.Kept.{nil_word, polarity_fits}
 use Rattle.syn_shapes.specs.Printed.{kind_words, digit}
 use Rattle.syn_reader.specs.Shapes.{IsLatch, IsTable, type_and_control, control_name, nil_control, row_words}
 use Rattle.syn_reader.specs.Reading.{no_netlist, rows_below, Spell}
-use Rattle.syn_reader.proofs.Words.{word_same}
+use Rattle.syn_netlist.proofs.Sets.{word_same}
 use Rattle.syn_text.specs.WellFormed.{latch_fits, table_fits, IsWellFormed}
 use Rattle.syn_text.specs.Written.{latch_words, row_said, from_tables, from_latches, from_clocks, numbered, written}
 use Rattle.syn_text.proofs.WrittenFits.{FitsLatch, FitsTable, latch_parts, table_parts}

@@ -4,8 +4,9 @@ use Rattle.std.specs.List.{list_all}
 use Rattle.syn_netlist.specs.Words.{is_word}
 use Rattle.syn_netlist.specs.Lists.{Latch, Table, Netlist, latch_reads, control_of}
 use Rattle.syn_netlist.specs.Kept.{nil_word, rows_fit, polarity_fits}
-use Rattle.syn_netlist.specs.Order.{DefinedOnce}
+use Rattle.syn_netlist.specs.Order.{DefinedOnce, Ordered}
 use Rattle.syn_netlist.specs.Faults.{IsChecked}
+use Rattle.syn_shapes.specs.GraphShape.{GraphShape}
 use Rattle.syn_shapes.specs.Printed.{printed}
 use Rattle.syn_reader.specs.Reading.{Reads}
 
@@ -36,3 +37,7 @@ pub record IsWellFormed (n : Netlist) : Type 0 where
 -- What a netlist that can be written and has no fault is written as, reads as that netlist.
 abbrev pub PrintedReads : Type 0
 PrintedReads = (n : Netlist) → IsWellFormed n → IsChecked n → Reads (printed n) n
+
+-- An ordered netlist of graph shape has no fault.
+abbrev pub ShapedIsChecked : Type 0
+ShapedIsChecked = (n : Netlist) → GraphShape n → Ordered n → IsChecked n

@@ -1,7 +1,7 @@
 //! Laws on written netlists.
 
 ghost use Rattle.syn_netlist.specs.Views.{netlist_in};
-ghost use Rattle.syn_text.specs.WellFormed.{IsWellFormed, PrintedReads};
+ghost use Rattle.syn_text.specs.WellFormed.{IsWellFormed, PrintedReads, ShapedIsChecked};
 
 use syn_netlist::Netlist;
 
@@ -15,4 +15,9 @@ pub fn well_formed(netlist: &Netlist)
 /// The bytes that a well-formed netlist without a fault is written as read as that netlist.
 pub fn printed_reads()
     ensures { PrintedReads }
+{}
+
+/// An ordered netlist of graph shape has no fault.
+pub fn shaped_is_checked()
+    ensures { ShapedIsChecked }
 {}

@@ -5,6 +5,6 @@ mod laws;
 mod printing;
 mod spelling;
 
-pub use laws::{printed_reads, well_formed};
+pub use laws::{printed_reads, shaped_is_checked, well_formed};
 pub use printing::print;
 pub use spelling::netlist_of;

@@ -10,6 +10,9 @@ ghost use Rattle.syn_netlist.specs.Numbers.{all_below, Grows, word_at, words_at}
 ghost use Rattle.syn_netlist.specs.Tables.{tables_below};
 ghost use Rattle.syn_netlist.specs.Views.{frame_in, netlist_in, table_in};
 ghost use Rattle.syn_netlist.specs.Words.{distinct, has, is_word};
+ghost use Rattle.syn_netlist.specs.Faults.{IsChecked};
+ghost use Rattle.syn_netlist.specs.Order.{Ordered};
+ghost use Rattle.syn_shapes.specs.GraphShape.{GraphShape, observed_of, rows_of};
 ghost use Rattle.syn_shapes.specs.Graphs.{IsGraph};
 ghost use Rattle.syn_graph.specs.Graphs.{network_of};
 ghost use Rattle.syn_shapes.specs.Spelling.{end_table, ends_from, gate_table, gate_tables, inner_names, inner_word, network, sign_of};
@@ -18,7 +21,7 @@ ghost use Rattle.syn_text.specs.Numbered.{IsNumbered, is_named, is_named_gate, i
 use itoa::Buffer;
 use std::alloc::{AllocError, Global};
 use syn_graph::{Graph, copy_names, frame_over};
-use syn_netlist::{Frame, Items, Names, Netlist, Table, Word};
+use syn_netlist::{Frame, Items, Names, Netlist, Table, Word, marks_of};
 use syn_rows::{Lit, Row};
 
 /// Some of the names, by their numbers.
@@ -39,8 +42,7 @@ impl<'a> NameSet<'a> {
         ensures names { IfOk result (λ s. s.names.now ≡ names.now) }
         ensures numbers { IfOk result (λ s. s.numbers.items ≡ numbers.items) }
     {
-        let mut marks = no_marks(alloc, names.len())?;
-        mark(marks.as_mut_slice(), &numbers);
+        let marks = marks_of(alloc, names.len(), &numbers)?;
         Ok(NameSet {
             names,
             numbers,
@@ -64,25 +66,6 @@ impl<'a> NameSet<'a> {
             Some(number) => self.has(number),
             None => false,
         }
-    }
-}
-
-// Marks for so many numbers, none of them set.
-fn no_marks(alloc: Global, count: u32) -> Result<Vec<bool>, AllocError>
-    ensures length { IfOk result (λ v. length v.items ≡ count) }
-    ensures marks { IfOk result (λ v. AreMarks [] v.items) }
-{
-    vec![in alloc; false; count as usize]
-}
-
-// Marks these numbers, in marks of which none is set.
-fn mark(marks: &mut [bool], numbers: &[u32])
-    requires below { all_below (length marks.old) numbers.now ≡ true }
-    requires none { AreMarks [] marks.old }
-    ensures { AreMarks numbers.now marks.new }
-{
-    for n in numbers {
-        marks[*n as usize] = true;
     }
 }
 
@@ -412,6 +395,11 @@ fn tables_of(
 /// frame keep their numbers. The only error is want of memory.
 pub fn netlist_of(alloc: Global, graph: &Graph) -> Result<Netlist, AllocError>
     ensures network { IfOk result (λ n. netlist_in n ≡ network_of graph.now) }
+    ensures ordered { IfOk result (λ n. Ordered (netlist_in n)) }
+    ensures shape { IfOk result (λ n. GraphShape (netlist_in n)) }
+    ensures rows { IfOk result (λ n. rows_of (netlist_in n) ≡ graph.now.rows) }
+    ensures literals { IfOk result (λ n. observed_of (netlist_in n) ≡ graph.now.observed) }
+    ensures checked { IfOk result (λ n. IsChecked (netlist_in n)) }
 {
     let rows = graph.rows.as_slice();
     netlist_over(alloc, &graph.frame, rows, graph.observed.as_slice())

@@ -1,9 +1,9 @@
 use Rattle.std.proofs.Common.{arith, ◌&&◌, ap, ◌∙◌}
 use Rattle.std.proofs.lemmas.Result.{IfOk-weaker}
 use Rattle.syn_rows.specs.Values.{value_in, values_of}
-use Rattle.syn_strash.specs.Growing.{IsAnd, value_by}
+use Rattle.syn_hashed.specs.Growing.{IsAnd, value_by}
 use Rattle.syn_build.specs.Covering.{IsFit}
-use Rattle.syn_strash.proofs.Rising.{source_value}
+use Rattle.syn_hashed.proofs.Rising.{source_value}
 use Rattle.syn_build.proofs.tables.and_character.Goals as goal
 
 pub returns-clause-value : goal.returns-clause-value

@@ -1,13 +1,8 @@
-use Rattle.std.proofs.Common.{◌≡◌, ◌∙◌, List, map, sym, ap, subst}
+use Rattle.std.proofs.Common.{◌≡◌, ◌∙◌, List, map, ap}
 use Rattle.syn_rows.specs.declared.Lit.{Lit}
-use Rattle.syn_rows.specs.declared.Row.{Row}
-use Rattle.syn_rows.specs.Values.{rows_function}
-use Rattle.syn_netlist.specs.Values.{HasFunction}
-use Rattle.syn_netlist.specs.Faults.{PutsInOrder}
 use Rattle.syn_netlist.specs.Order.{defined}
 use Rattle.syn_netlist.specs.Views.{netlist_in}
 use Rattle.syn_shapes.specs.Graphs.{lit_at}
-use Rattle.syn_build.specs.Covering.{AllThere}
 use Rattle.syn_build.specs.Naming.{in_order}
 use Rattle.syn_build.proofs.Known.{observed_function, observed_own, observed_there}
 use Rattle.syn_build.proofs.tables.build_tables.Goals as goal
@@ -15,20 +10,20 @@ use Rattle.syn_build.proofs.tables.build_tables.Goals as goal
 pub returns-clause-within : goal.returns-clause-within
 returns-clause-within c =
     let is : c.in_ok-observed.observed.items ≡ map (lit_at c.in_ok-literals.literals.items) c.in_ok-signals.signals.items =
-    c.in_ok-observed.ensures ∙ ap (λ (ls : List Lit). map (lit_at ls) c.as_slice-4.result.now) c.as_slice-3.ensures.value ∙ ap (map (lit_at c.in_ok-literals.literals.items)) c.as_slice-4.ensures.value in
-    observed_there (in_order (netlist_in c.args.netlist.now) c.as_slice.result.now) c.args.netlist.now.frame.names (defined (in_order (netlist_in c.args.netlist.now) c.as_slice.result.now)) c.in_ok-signals.signals.items c.named_literals.new.hashed.rows.items c.in_ok-literals.literals.items c.in_ok-observed.observed.items
+    c.in_ok-observed.ensures ∙ ap (λ (ls : List Lit). map (lit_at ls) c.as_slice-3.result.now) c.as_slice-2.ensures.value ∙ ap (map (lit_at c.in_ok-literals.literals.items)) c.as_slice-3.ensures.value in
+    observed_there (in_order (netlist_in c.args.netlist.now) c.args.order.now) c.args.netlist.now.frame.names (defined (in_order (netlist_in c.args.netlist.now) c.args.order.now)) c.in_ok-signals.signals.items c.named_literals.new.hashed.rows.items c.in_ok-literals.literals.items c.in_ok-observed.observed.items
     c.in_ok-literals.ensures.named c.in_ok-signals.ensures.below is
 
 pub returns-clause-own : goal.returns-clause-own
 returns-clause-own c =
     let is : c.in_ok-observed.observed.items ≡ map (lit_at c.in_ok-literals.literals.items) c.in_ok-signals.signals.items =
-    c.in_ok-observed.ensures ∙ ap (λ (ls : List Lit). map (lit_at ls) c.as_slice-4.result.now) c.as_slice-3.ensures.value ∙ ap (map (lit_at c.in_ok-literals.literals.items)) c.as_slice-4.ensures.value in
-    observed_own (in_order (netlist_in c.args.netlist.now) c.as_slice.result.now) c.args.netlist.now.frame.names (defined (in_order (netlist_in c.args.netlist.now) c.as_slice.result.now)) c.in_ok-signals.signals.items c.named_literals.new.hashed.rows.items c.in_ok-literals.literals.items c.in_ok-observed.observed.items
+    c.in_ok-observed.ensures ∙ ap (λ (ls : List Lit). map (lit_at ls) c.as_slice-3.result.now) c.as_slice-2.ensures.value ∙ ap (map (lit_at c.in_ok-literals.literals.items)) c.as_slice-3.ensures.value in
+    observed_own (in_order (netlist_in c.args.netlist.now) c.args.order.now) c.args.netlist.now.frame.names (defined (in_order (netlist_in c.args.netlist.now) c.args.order.now)) c.in_ok-signals.signals.items c.named_literals.new.hashed.rows.items c.in_ok-literals.literals.items c.in_ok-observed.observed.items
     c.in_ok-literals.ensures.named c.in_ok-signals.ensures.words c.in_ok-signals.ensures.below is
 
 pub returns-clause-function : goal.returns-clause-function
 returns-clause-function c =
     let is : c.in_ok-observed.observed.items ≡ map (lit_at c.in_ok-literals.literals.items) c.in_ok-signals.signals.items =
-    c.in_ok-observed.ensures ∙ ap (λ (ls : List Lit). map (lit_at ls) c.as_slice-4.result.now) c.as_slice-3.ensures.value ∙ ap (map (lit_at c.in_ok-literals.literals.items)) c.as_slice-4.ensures.value in
-    observed_function (netlist_in c.args.netlist.now) c.as_slice.result.now c.args.netlist.now.frame.names c.in_ok-signals.signals.items c.named_literals.new.hashed.rows.items c.in_ok-literals.literals.items c.in_ok-observed.observed.items
-    c.ordered_has_one.ensures c.order_keeps_function.ensures (subst (PutsInOrder (netlist_in c.args.netlist.now)) (sym c.as_slice.ensures.value) c.in_ok-order.ensures) c.in_ok-literals.ensures.named c.in_ok-signals.ensures.words c.in_ok-signals.ensures.below is
+    c.in_ok-observed.ensures ∙ ap (λ (ls : List Lit). map (lit_at ls) c.as_slice-3.result.now) c.as_slice-2.ensures.value ∙ ap (map (lit_at c.in_ok-literals.literals.items)) c.as_slice-3.ensures.value in
+    observed_function (netlist_in c.args.netlist.now) c.args.order.now c.args.netlist.now.frame.names c.in_ok-signals.signals.items c.named_literals.new.hashed.rows.items c.in_ok-literals.literals.items c.in_ok-observed.observed.items
+    c.ordered_has_one.ensures c.order_keeps_function.ensures c.requires.order c.in_ok-literals.ensures.named c.in_ok-signals.ensures.words c.in_ok-signals.ensures.below is

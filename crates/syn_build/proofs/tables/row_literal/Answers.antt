@@ -1,5 +1,5 @@
 use Rattle.std.proofs.Common.{arith, refl, ◌∙◌}
-use Rattle.syn_strash.proofs.Rising.{extends_itself, extends_through}
+use Rattle.syn_hashed.proofs.Rising.{extends_itself, extends_through}
 use Rattle.syn_build.proofs.Matching.{front_none, front_more, front_short, signs_more}
 use Rattle.syn_build.proofs.tables.row_literal.Goals as goal
 

@@ -1,7 +1,7 @@
 use Rattle.std.proofs.Common.{◌≡◌, ◌+◌, ◌<◌, ◌≤◌, count_by, drop, length}
 use Rattle.syn_rows.specs.Rows.{node_of}
 use Rattle.syn_netlist.specs.Costs.{is_sign}
-use Rattle.syn_strash.specs.Growing.{Extends}
+use Rattle.syn_hashed.specs.Growing.{Extends}
 use Rattle.syn_build.proofs.Matching.{IsFront}
 use Rattle.syn_build.proofs.tables.row_literal.Given as goal
 

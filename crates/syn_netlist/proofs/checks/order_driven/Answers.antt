@@ -1,15 +1,15 @@
-use Rattle.std.proofs.Common.{rules, ◌≡◌, ℕ, ◌<◌, List, true, length, refl, ap₂, ◌∙◌, ap, sym, subst, arith}
+use Rattle.std.proofs.Common.{rules, ◌≡◌, ℕ, ◌<◌, List, true, None, length, refl, ap₂, ◌∙◌, ap, sym, subst, arith}
 use Rattle.syn_netlist.specs.declared.netlists.Netlist.{Netlist}
 use Rattle.syn_netlist.specs.declared.ordering.Walked.{Walked}
 use Rattle.syn_netlist.specs.declared.ordering.Walked.TheVariants.{Order, Circle}
 use Rattle.syn_netlist.specs.declared.tables.Table.{Table}
-use Rattle.syn_netlist.specs.Faults.{AnswersCircle}
+use Rattle.syn_netlist.specs.Faults.{AnswersCircle, IsTableOrder, first_undriven}
 use Rattle.syn_netlist.specs.Numbers.{all_below}
 use Rattle.syn_netlist.specs.Words.{distinct}
 use Rattle.std.specs.Global.{Vec}
 use Rattle.syn_netlist.specs.Views.{netlist_in}
 use Rattle.syn_netlist.specs.Walk.{Walks, from_number, output_words}
-use Rattle.syn_netlist.proofs.Arranging.{puts_in_order}
+use Rattle.syn_netlist.proofs.Arranging.{order_is, puts_in_order}
 use Rattle.syn_netlist.proofs.Circling.{answers_words, from_below}
 use Rattle.syn_netlist.proofs.Counting.{few_tables}
 use Rattle.syn_netlist.proofs.checks.order_driven.Goals as goal
@@ -41,11 +41,21 @@ output_names-requires-clause-numbers c =
     let is : c.path_from.result.now ≡ from_number c.in-Circle.back c.in-Circle.path.items = c.path_from.ensures ∙ ap (λ (l : List ℕ). from_number c.in-Circle.back l) c.deref.ensures.value in
     ap (all_below (length tables)) is ∙ from_below (length tables) c.in-Circle.back c.in-Circle.path.items (path_below c.len.result tables c.in-Circle.path c.in-Circle.back h)
 
+-- what the walk's order is in words
+order_words : (n : Netlist) (count : ℕ) (order : Vec ℕ) → distinct n.frame.names ≡ true → count ≡ length n.frame.names → first_undriven (netlist_in n) ≡ None → Walks n.tables count (Order order) → IsTableOrder (netlist_in n) order.items
+order_words n count order d e driven (makers, len, are, is) = order_is n makers d (len ∙ e) are driven order.items is
+
+pub returns-in-Order-clause-order : goal.returns-in-Order-clause-order
+returns-in-Order-clause-order c =
+    let n = c.args.n.now in
+    order_words n c.len.result c.in-Order.order c.len.ensures.distinct c.len.ensures.value c.requires
+    (walks_at c.len.result c.as_slice-tables.result.now n.tables c.in_ok-order.field-0 (Order c.in-Order.order) c.as_slice-tables.ensures c.in-Order.is c.in_ok-order.ensures)
+
 pub returns-in-Order-clause-ok : goal.returns-in-Order-clause-ok
 returns-in-Order-clause-ok c =
     let n = c.args.n.now in
-    let (makers, len, are, order) = walks_at c.len.result c.as_slice-tables.result.now n.tables c.in_ok-order.field-0 (Order c.in-Order.order) c.as_slice-tables.ensures c.in-Order.is c.in_ok-order.ensures in
-    puts_in_order n makers c.len.ensures.distinct (len ∙ c.len.ensures.value) are c.requires c.in-Order.order.items order
+    puts_in_order n c.in-Order.order.items (order_words n c.len.result c.in-Order.order c.len.ensures.distinct c.len.ensures.value c.requires
+    (walks_at c.len.result c.as_slice-tables.result.now n.tables c.in_ok-order.field-0 (Order c.in-Order.order) c.as_slice-tables.ensures c.in-Order.is c.in_ok-order.ensures))
 
 pub returns-in_ok-circle-in-Circle-clause-fault : goal.returns-in_ok-circle-in-Circle-clause-fault
 returns-in_ok-circle-in-Circle-clause-fault c =

@@ -1,12 +1,11 @@
-use Rattle.std.proofs.Common.{◌≡◌, ◌++◌, map, length, ◌∙◌, ap₂, rules}
+use Rattle.std.proofs.Common.{◌≡◌, ◌++◌, map, ◌∙◌, ap, rules}
 use Rattle.syn_netlist.specs.Numbers.{all_below}
 use Rattle.syn_netlist.specs.Walk.{table_output}
 use Rattle.syn_netlist.proofs.Firsts.{table_outputs_below}
 use Rattle.syn_netlist.proofs.Places.{all_below-append}
 use Rattle.syn_netlist.proofs.driving.defined_marks.Goals as goal
 
-pub mark-requires-clause-below : goal.mark-requires-clause-below
-mark-requires-clause-below c =
-    let count : length c.as_mut_slice.result.now ≡ c.args.count = search rules in
+pub marks_of-requires : goal.marks_of-requires
+marks_of-requires c =
     let all : c.deref.result.now ≡ c.args.sources.items ++ map table_output c.args.tables.now = search rules in
-    ap₂ all_below count all ∙ all_below-append c.args.count c.args.sources.items (map table_output c.args.tables.now) c.requires.sources (table_outputs_below c.args.count c.args.tables.now c.requires.tables)
+    ap (all_below c.args.count) all ∙ all_below-append c.args.count c.args.sources.items (map table_output c.args.tables.now) c.requires.sources (table_outputs_below c.args.count c.args.tables.now c.requires.tables)

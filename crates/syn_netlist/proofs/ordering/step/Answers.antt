@@ -5,7 +5,7 @@ use Rattle.syn_netlist.specs.Numbers.{all_below}
 use Rattle.syn_netlist.specs.declared.ordering.Stage.{Stage}
 use Rattle.syn_netlist.specs.declared.ordering.Stage.TheVariants.{Open, Done}
 use Rattle.syn_netlist.specs.declared.tables.Table.{Table}
-use Rattle.syn_netlist.specs.Walk.{AreMakers, IsWalk, Meets, IsNext, inputs_at, stage_at, is_open, is_finished}
+use Rattle.syn_netlist.specs.Walk.{AreMakers, IsOrderWalk, Meets, IsNext, inputs_at, stage_at, is_open, is_finished}
 use Rattle.syn_netlist.proofs.Walking.{top_is, inputs_below, finish, advance, meet, maker_is, less_weight, open_weight}
 use Rattle.syn_netlist.proofs.ordering.step.Goals as goal
 
@@ -24,7 +24,7 @@ bounds-stages-t c = subst (λ n. c.args.top < n) (sym c.requires.walk.stages_fit
 pub returns-in_ok-push-in-None-clause-walk : goal.returns-in_ok-push-in-None-clause-walk
 returns-in_ok-push-in-None-clause-walk c =
     let finished : list_all (is_finished c.args.makers.now c.args.stages.now) (inputs_at c.args.tables.now c.args.top) ≡ true = ap (list_all (is_finished c.args.makers.now c.args.stages.now)) (sym c.inputs_of-inputs.ensures) ∙ c.in-None.ensures.none in
-    subst (λ (l : List ℕ). IsWalk c.args.tables.now c.args.makers.now (set c.args.stages.now c.args.top Done) c.args.seen.now c.args.path.now.items l) (sym c.in_ok-push-in-None.ensures.items)
+    subst (λ (l : List ℕ). IsOrderWalk c.args.tables.now c.args.makers.now (set c.args.stages.now c.args.top Done) c.args.seen.now c.args.path.now.items l) (sym c.in_ok-push-in-None.ensures.items)
     (finish c.args.tables.now c.args.makers.now c.args.stages.now c.args.seen.now c.args.path.now.items c.args.order.now.items c.args.top c.requires.walk finished)
 
 pub returns-in_ok-push-in-None-clause-less : goal.returns-in_ok-push-in-None-clause-less
@@ -49,6 +49,6 @@ pub returns-in_ok-push-in-Some-2-clause-walk : goal.returns-in_ok-push-in-Some-2
 returns-in_ok-push-in-Some-2-clause-walk c =
     let next = next_is c.args.tables.now c.args.makers.now c.args.stages.now c.inputs_of-inputs.result.now c.args.top c.in-Some.at c.in-Some.next c.requires.makers c.inputs_of-inputs.ensures c.in-Some.ensures.some in
     let unopened : is_open (stage_at c.args.stages.now c.in-Some.next) ≡ false = search rules in
-    subst (λ (l : List ℕ). IsWalk c.args.tables.now c.args.makers.now (set c.args.stages.now c.in-Some.next Open) (set c.args.seen.now c.args.top c.in-Some.at) l c.args.order.now.items)
+    subst (λ (l : List ℕ). IsOrderWalk c.args.tables.now c.args.makers.now (set c.args.stages.now c.in-Some.next Open) (set c.args.seen.now c.args.top c.in-Some.at) l c.args.order.now.items)
     (sym (c.in_ok-push-in-Some-2.ensures.items ∙ ap (λ (l : List ℕ). l ++ c.in-Some.next ∷ []) c.in_ok-push-in-Some.ensures.items))
     (advance c.args.tables.now c.args.makers.now c.args.stages.now c.args.seen.now c.args.path.now.items c.args.order.now.items c.args.top c.in-Some.at c.in-Some.next c.requires.walk next.0 next.1 unopened)

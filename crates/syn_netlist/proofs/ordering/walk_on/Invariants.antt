@@ -1,10 +1,10 @@
 use Rattle.std.specs.List.{sum_by}
-use Rattle.syn_netlist.specs.Walk.{IsWalk, GoOn, weight}
+use Rattle.syn_netlist.specs.Walk.{IsOrderWalk, GoOn, weight}
 use Rattle.syn_netlist.proofs.ordering.walk_on.Given as goal
 
 abbrev pub invariant-loop-top : goal.invariant-loop-top
 invariant-loop-top l = record {
-  walk : IsWalk l.tables l.makers l.stages l.seen l.path.items l.order.items;
+  walk : IsOrderWalk l.tables l.makers l.stages l.seen l.path.items l.order.items;
   goes : GoOn l.initial.stages l.stages;
 }
 

@@ -1,5 +1,5 @@
 use Rattle.std.proofs.Common.{arith}
-use Rattle.syn_reader.proofs.DefinedMarks.{few_sources}
+use Rattle.syn_reader.proofs.FewSources.{few_sources}
 use Rattle.syn_reader.proofs.limits.source_count.Goals as goal
 
 pub overflow_cast-result : goal.overflow_cast-result
