@@ -5,4 +5,6 @@
 #![tactic(auto)]
 
 #[cfg(test)]
+mod graphs;
+#[cfg(test)]
 mod tests;

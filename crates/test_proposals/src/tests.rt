@@ -7,50 +7,18 @@ ghost use Rattle.syn_gain.specs.Leaves.{are_below, gates_within, names_within, r
 ghost use Rattle.syn_gain.specs.Proposals.{replacement};
 ghost use Rattle.syn_apply.specs.Sound.{IsSoundBy};
 
+use crate::graphs::{adder, alone, gated, shared};
 use arrayvec::ArrayVec;
 use std::alloc::{AllocError, Global};
 use std::test::Fail;
 use syn_apply::apply;
-use syn_build::graph_of;
 use syn_cuts::{Cut, CutLists, function, listed};
 use syn_gain::{Candidate, Proposal, Uses, saved, saved_by_sweeps};
 use syn_graph::Graph;
 use syn_library::{fit, plans};
 use syn_npn::canon;
 use syn_plan::{PLit, Plan, factor};
-use syn_reader::read;
-use syn_rows::Row;
-
-// f is ab or ac: node 4 is the AND of a and b, node 5 that of a and c, node 6 that of the complements of both.
-fn alone(alloc: Global) -> Option<Graph> {
-    let text = ".model m\n.inputs a b c\n.outputs f\n.names a b c f\n11- 1\n1-1 1\n.end\n";
-    let netlist = read(alloc, text.as_bytes()).ok()?;
-    graph_of(alloc, netlist).ok()
-}
-
-// The same rows, with nodes 4 and 5 observed too.
-fn shared(alloc: Global) -> Option<Graph> {
-    let text =
-        ".model m\n.inputs a b c\n.outputs f g h\n.names a b g\n11 1\n.names a c h\n11 1\n.names g h f\n1- 1\n-1 1\n.end\n";
-    let netlist = read(alloc, text.as_bytes()).ok()?;
-    graph_of(alloc, netlist).ok()
-}
-
-// The same function of a, b and c, and its AND with a fourth input, which is node 8.
-fn gated(alloc: Global) -> Option<Graph> {
-    let text =
-        ".model m\n.inputs a b c d\n.outputs g\n.names a b c f\n11- 1\n1-1 1\n.names d f g\n11 1\n.end\n";
-    let netlist = read(alloc, text.as_bytes()).ok()?;
-    graph_of(alloc, netlist).ok()
-}
-
-// A sum and a carry of three bits, and two ANDs that share some of their cones.
-fn adder(alloc: Global) -> Option<Graph> {
-    let text =
-        ".model m\n.inputs a b c d\n.outputs s k e\n.names a b x\n10 1\n01 1\n.names x c s\n10 1\n01 1\n.names a b c k\n11- 1\n1-1 1\n-11 1\n.names x k d e\n11- 1\n1-1 1\n-11 1\n.end\n";
-    let netlist = read(alloc, text.as_bytes()).ok()?;
-    graph_of(alloc, netlist).ok()
-}
+use syn_rows::{NODE_LIMIT, Row};
 
 // Whether cuts have these leaves.
 fn are_cuts(cuts: &[Cut], wanted: &[&[u32]]) -> bool {
@@ -358,7 +326,8 @@ fn applies(alloc: Global, graph: Graph, proposal: &Proposal) -> Result<bool, All
     requires { IsSoundBy graph.rows (replacement proposal.now) }
 {
     syn_gain::rows_after_are_few();
-    if graph.rows.as_slice().len() > 1_000 {
+    let gates = proposal.plan.gates.as_slice();
+    if graph.rows.as_slice().len() + gates.len() >= NODE_LIMIT {
         return Ok(false);
     }
     let before = graph.count();

@@ -5,8 +5,8 @@ use Rattle.syn_cones.specs.Cones.{IsCut}
 use Rattle.syn_cuts.specs.Leaves.{leaves, leaves_of}
 use Rattle.test_proposals.proofs.tests.cut_at.Goals as goal
 
-pub returns-at-3 : goal.returns-at-3
-returns-at-3 c =
+pub returns : goal.returns
+returns c =
     let rows = c.args.graph.now.rows in
     let node = c.args.node in
     let cuts = c.of-cuts.result.now in

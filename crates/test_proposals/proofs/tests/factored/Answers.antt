@@ -28,3 +28,11 @@ sound_over rows p node cut t plan all is_cut truth leaves values same_root same_
         ∙ ap (λ k. plan_truth plan (leaf_values k xs)) (leaves ∙ sym width)
         ∙ ap (plan_truth plan) (all xs)
         ∙ values xs width
+
+pub returns : goal.returns
+returns c =
+    let rows = c.args.graph.now.rows in
+    let cut = c.args.cut.now.items in
+    let truth : IsTruthOver rows cut c.args.node c.in_ok-truth.truth = search rules in
+    sound_over rows c.over.result c.args.node cut c.in_ok-truth.truth c.factor.result c.all_leaf_values.ensures c.requires.cut truth c.factor.ensures.leaves c.factor.ensures.truth c.over.ensures.root
+    (c.over.ensures.leaves ∙ c.in-Some.ensures ∙ c.as_slice-2.ensures.value) c.over.ensures.plan
