@@ -1,5 +1,5 @@
 //! Lines of a reader, as standard input.
-ghost use Rattle.std.specs.Prelude.{◌≡◌, ◌+◌, ◌<◌, ◌≤◌, ◌++◌, false, IfErr, IfOk, IfSome, IsErrOf, IsSomeAnd, length, OnOk, option_map, Some, true, vec_len};
+ghost use Rattle.std.specs.Prelude.{◌≡◌, ◌≢◌, ◌+◌, ◌<◌, ◌≤◌, ◌++◌, false, IfErr, IfOk, IfSome, IsErrOf, IsSomeAnd, length, OnOk, option_map, Some, true, vec_len};
 ghost use Rattle.std.specs.Io.KnownBytes.{IsAtEnd, Keeps};
 ghost use Rattle.std.specs.List.{after_first, before_first, position_or_len};
 ghost use Rattle.syn_io.specs.Outside.{after_line, is_line_feed, next_line};
@@ -7,7 +7,7 @@ ghost use Rattle.syn_io.specs.Outside.{after_line, is_line_feed, next_line};
 use crate::mem_lines::line_len;
 use crate::pieces::{PIECE, buffer_of};
 use crate::{LineFault, Lines};
-use std::alloc::{AllocError, Global};
+use std::alloc::Global;
 use std::io::Read;
 
 /// Lines of a reader, which is read in large pieces. They tell what is left where the reader does; standard
@@ -21,39 +21,54 @@ pub struct RealLines<R> {
     faults: u64,
     ghost within: { at ≤ end },
     ghost filled: { end ≤ vec_len buffer },
-    ghost roomy: { 0 < vec_len buffer },
 }
 
 impl<R: Read> RealLines<R> {
     ghost use Rattle.syn_io.specs.RealLines.{known_left, unread};
 
-    /// The lines that the reader gives, as `rt.reader()` those of standard input.
-    pub fn new(alloc: Global, reader: R) -> Result<RealLines<R>, AllocError>
+    /// The lines that the reader gives, as `rt.reader()` those of standard input. It takes no memory: the room for a
+    /// piece is made when a line is first asked for.
+    pub fn new(alloc: Global, reader: R) -> RealLines<R>
     where
         R: Drop,
-        ensures told { IfOk result (λ lines. IfSome (R.remaining reader) (λ left. known_left R.remaining lines ≡ Some left)) }
-        ensures faults { IfOk result (λ lines. (⟦<RealLines<R> as Lines>⟧.input lines).faults ≡ 0) }
+        ensures told { IfSome (R.remaining reader) (λ left. known_left R.remaining result ≡ Some left) }
+        ensures faults { (⟦<RealLines<R> as Lines>⟧.input result).faults ≡ 0 }
     {
-        Ok(RealLines {
+        RealLines {
             reader,
-            buffer: buffer_of(alloc, PIECE)?,
+            buffer: Vec::new(alloc),
             at: 0,
             end: 0,
             faults: 0,
-        })
+        }
+    }
+
+    // Makes the room for a piece, once. Nothing was read before.
+    fn make_room(&mut self, alloc: Global) -> Result<(), LineFault>
+        ensures room { OnOk result (0 < vec_len self.new.buffer) }
+        ensures reader { self.new.reader ≡ self.old.reader }
+        ensures places { (self.new.at ≡ self.old.at) × (self.new.end ≡ self.old.end) }
+        ensures faults { self.new.faults ≡ self.old.faults }
+        ensures refused { IfErr result (λ fault. fault ≡ LineFault.NoMemory) }
+    {
+        if self.buffer.is_empty() {
+            self.buffer = buffer_of(alloc, PIECE)?;
+        }
+        Ok(())
     }
 
     // Reads one more piece where none is left. False at the end.
-    fn fill(&mut self) -> Result<bool, LineFault>
+    fn fill(&mut self, alloc: Global) -> Result<bool, LineFault>
         ensures kept { OnOk result (Keeps (known_left R.remaining self.old) (known_left R.remaining self.new)) }
         ensures end { IfOk result (λ more. more ≡ false → IsAtEnd (known_left R.remaining self.new)) }
         ensures there { IfOk result (λ more. more ≡ true → self.new.at < self.new.end) }
-        ensures failed { IfErr result (λ fault. fault ≡ LineFault.Failed) }
+        ensures refused { IfErr result (λ fault. fault ≢ LineFault.TooLong) }
         ensures faults { self.new.faults ≡ self.old.faults }
     {
         if self.at < self.end {
             return Ok(true);
         }
+        self.make_room(alloc)?;
         let Ok(count) = self.reader.read(self.buffer.as_mut_slice()) else {
             return Err(LineFault::Failed);
         };
@@ -95,7 +110,7 @@ impl<R: Read> RealLines<R> {
     {
         let mut line = Vec::new(alloc);
         for _ in 0..u64::MAX {
-            if !self.fill()? {
+            if !self.fill(alloc)? {
                 if line.is_empty() {
                     return Ok(None);
                 }

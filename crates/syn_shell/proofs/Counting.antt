@@ -83,7 +83,7 @@ refused_counted Making name cause before after (stays, why, e, f) = making_count
 accepted_counted : (kind : Kind) (c : Command) (before after : State) → Accepted kind c before after → Counted [] before.files before.sink after.files after.sink
 accepted_counted (Reading file) c before after (net, is, read, stand, e) = record { files = covers_none before.files.faults after.files.faults stand.later; sink = sink_same before.sink after.sink e; lines = refl }
 accepted_counted Printing c before after (net, line, some, stays, e, text, took) = record { files = disk_same before.files after.files e; sink = covers_none before.sink.faults after.sink.faults took.later; lines = refl }
-accepted_counted (Writing file) c before after (net, some, stays, bytes, others, e) = record { files = covers_none before.files.faults after.files.faults others.later; sink = sink_same before.sink after.sink e; lines = refl }
+accepted_counted (Writing file) c before after (net, some, stays, bytes, reads, others, e) = record { files = covers_none before.files.faults after.files.faults others.later; sink = sink_same before.sink after.sink e; lines = refl }
 accepted_counted Making c before after (made, e, f) = record { files = disk_same before.files after.files e; sink = sink_same before.sink after.sink f; lines = refl }
 
 -- parts one after the other

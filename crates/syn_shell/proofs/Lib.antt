@@ -9,3 +9,4 @@ mod Turning
 mod Wording
 mod Counting
 pub mod Concluding
+mod Completing

@@ -11,7 +11,7 @@ use Rattle.syn_netlist.specs.Meaning.{SameFromFunction}
 use Rattle.syn_shapes.specs.GraphShape.{GraphHasFunction, rows_of, observed_of}
 use Rattle.syn_shapes.specs.Graphs.{IsGraph, lit_at}
 use Rattle.syn_shapes.specs.Spelling.{NetworkOfGraph, NetworkSpells, network}
-use Rattle.syn_strash.specs.Growing.{level_by}
+use Rattle.syn_hashed.specs.Growing.{level_by}
 use Rattle.syn_shell.specs.Networks.{graph_network}
 use Rattle.syn_shell.specs.Steps.{IsBalanced, level_at}
 

@@ -7,4 +7,5 @@ pub mod Scripts
 pub mod LineMode
 pub mod Counts
 pub mod Runs
+pub mod Readiness
 pub mod Stopping

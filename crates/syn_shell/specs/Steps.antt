@@ -131,14 +131,15 @@ kind_of commands.Stats = Printing
 kind_of (commands.Write name) = Writing name
 kind_of other = Making
 
--- A command that is accepted, by its kind.
+-- A command that is accepted, by its kind. What is written reads back as what the network is.
 abbrev pub Accepted : Kind → Command → State → State → Type 0
 Accepted (Reading name) command before after =
     (net : Netlist) × (after.network ≡ Some (graph_network net)) × IsReadAs name before.files net × FilesStand before.files after.files × (after.sink ≡ before.sink)
 Accepted Printing command before after =
     (net : Network) × (line : List ℕ) × (before.network ≡ Some net) × NetworkStays before after × (after.files ≡ before.files) × IsStatsLine net line × Took line before.sink after.sink
 Accepted (Writing name) command before after =
-    (net : Network) × (before.network ≡ Some net) × NetworkStays before after × FileIs name after.files (printed net.netlist) × OthersStand name before.files after.files × (after.sink ≡ before.sink)
+    (net : Network) × (before.network ≡ Some net) × NetworkStays before after × FileIs name after.files (printed net.netlist) × Reads (printed net.netlist) net.netlist
+    × OthersStand name before.files after.files × (after.sink ≡ before.sink)
 Accepted Making command before after = Remakes command before.network after.network × (after.files ≡ before.files) × (after.sink ≡ before.sink)
 
 -- A command that is refused, by its kind. It leaves the network.

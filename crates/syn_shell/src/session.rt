@@ -2,7 +2,6 @@
 
 ghost use Rattle.std.specs.Prelude.{◌≡◌, ◌⊎◌, ◌≤◌, ◌<◌, ◌^◌, length, IfOk, IfErr, OnOk, Some, None};
 ghost use Rattle.syn_io.specs.Outside.{Rose};
-ghost use Rattle.syn_netlist.specs.Faults.{IsChecked};
 ghost use Rattle.syn_netlist.specs.Views.{netlist_in};
 ghost use Rattle.syn_reader.specs.Reading.{Reads};
 ghost use Rattle.syn_reader.specs.Limits.{Within};
@@ -16,10 +15,10 @@ use crate::lines::print_stats;
 use crate::refusal::Refusal;
 use std::alloc::{AllocError, Global};
 use std::marker::Model;
-use syn_build::graph_of;
+use syn_build::build_checked;
 use syn_graph::Graph;
 use syn_io::{Files, GetFault, PutFault, Sink};
-use syn_netlist::Netlist;
+use syn_netlist::CheckedNetlist;
 use syn_reader::ReadFault;
 use syn_text::netlist_of;
 use syn_words::Command;
@@ -60,17 +59,16 @@ fn get<F: Files>(alloc: Global, name: &str, files: &mut F) -> Result<Vec<u8>, Re
     }
 }
 
-// The netlist that bytes spell, or their first fault.
-fn parse(alloc: Global, bytes: &[u8]) -> Result<Netlist, Refusal>
+// The netlist that bytes spell, checked, or their first fault.
+fn parse(alloc: Global, bytes: &[u8]) -> Result<CheckedNetlist, Refusal>
     requires { length bytes.now ≤ file_limit }
-    ensures reads { IfOk result (λ n. Reads bytes.now (netlist_in n)) }
-    ensures within { IfOk result (λ n. Within (netlist_in n)) }
-    ensures checked { IfOk result (λ n. IsChecked (netlist_in n)) }
-    ensures names { IfOk result (λ n. length n.frame.names < 2 ^ 31) }
+    ensures reads { IfOk result (λ checked. Reads bytes.now (netlist_in checked.netlist)) }
+    ensures within { IfOk result (λ checked. Within (netlist_in checked.netlist)) }
+    ensures names { IfOk result (λ checked. length checked.netlist.frame.names < 2 ^ 31) }
     ensures refused { IfErr result (ParseRefused bytes.now) }
 {
-    match syn_reader::read(alloc, bytes) {
-        Ok(netlist) => Ok(netlist),
+    match syn_reader::read_checked(alloc, bytes) {
+        Ok(checked) => Ok(checked),
         Err(ReadFault::NoMemory) => Err(Refusal::NoMemory),
         Err(fault) => Err(Refusal::Read(fault)),
     }
@@ -83,8 +81,8 @@ fn read<F: Files>(alloc: Global, name: &str, files: &mut F) -> Result<Graph, Ref
     ensures stand { FilesStand (F.disk files.old) (F.disk files.new) }
 {
     let bytes = get(alloc, name, files)?;
-    let netlist = parse(alloc, bytes.as_slice())?;
-    let graph = graph_of(alloc, netlist)?;
+    let checked = parse(alloc, bytes.as_slice())?;
+    let graph = build_checked(alloc, checked)?;
     Ok(graph)
 }
 
@@ -103,7 +101,8 @@ fn put<F: Files>(alloc: Global, name: &str, bytes: &[u8], files: &mut F) -> Resu
 
 // The bytes of a graph's netlist.
 fn printed(alloc: Global, graph: &Graph) -> Result<Vec<u8>, AllocError>
-    ensures { IfOk result (λ bytes. bytes.items ≡ printed (network_of graph.now)) }
+    ensures printed { IfOk result (λ bytes. bytes.items ≡ printed (network_of graph.now)) }
+    ensures reads { IfOk result (λ bytes. Reads bytes.items (network_of graph.now)) }
 {
     let netlist = netlist_of(alloc, graph)?;
     let bytes = syn_text::print(alloc, &netlist)?;
@@ -113,6 +112,7 @@ fn printed(alloc: Global, graph: &Graph) -> Result<Vec<u8>, AllocError>
 // Writes the netlist of a graph to a file.
 fn write<F: Files>(alloc: Global, graph: &Graph, name: &str, files: &mut F) -> Result<(), Refusal>
     ensures file { OnOk result (FileIs name.now (F.disk files.new) (printed (network_of graph.now))) }
+    ensures reads { OnOk result (Reads (printed (network_of graph.now)) (network_of graph.now)) }
     ensures refused { IfErr result (WriteRefused (Some (graph_network (network_of graph.now))) name.now (F.disk files.old) (F.disk files.new)) }
     ensures others { OthersStand name.now (F.disk files.old) (F.disk files.new) }
 {

@@ -3,6 +3,7 @@
 ghost use Rattle.std.specs.Prelude.{◌≡◌, ◌≤◌, map, string_bytes};
 ghost use Rattle.syn_shell.specs.Stopping.{RanOne};
 ghost use Rattle.syn_shell.specs.Counts.{SomeFault};
+ghost use Rattle.syn_shell.specs.Readiness.{IsComplete};
 ghost use Rattle.syn_shell.specs.Runs.{Ran, RanAccepted};
 
 use crate::announcing::announce;
@@ -57,7 +58,9 @@ fn run_words<F: Files, L: Lines, O: Sink>(
 ///
 /// A script ends at its first refusal. The run of lines goes on behind it; it ends where no line is left, where none
 /// can be read, where one is too long or one too many, where memory for one is refused, and where the sink fails.
-/// A status of 7 comes only where a call of the files, of the lines or of the sink failed.
+/// A status of 7 comes only where a call of the files, of the lines or of the sink failed. Where the words are well
+/// formed, scripts and lines are within their limits and spell commands, what each command needs is there in the state
+/// in which it is run, and no such call failed, the status is 0, or 8 for want of memory.
 pub fn run<F: Files, L: Lines, O: Sink>(
     alloc: Global,
     words: &[String],
@@ -71,6 +74,8 @@ pub fn run<F: Files, L: Lines, O: Sink>(
         (F.disk files.new) (O.screen out.new) (L.input lines.new) }
     ensures failed { result ≡ 7 → SomeFault (F.disk files.old) (O.screen out.old) (L.input lines.old)
         (F.disk files.new) (O.screen out.new) (L.input lines.new) }
+    ensures complete { IsComplete (map string_bytes words.now) (F.disk files.old) (O.screen out.old) (L.input lines.old) (F.disk files.new) (O.screen out.new) (L.input lines.new) result }
 {
+    syn_reader::not_both();
     run_words(alloc, words, files, lines, out)
 }

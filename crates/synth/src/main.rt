@@ -35,9 +35,7 @@ fn main(rt: HostRuntime) -> ExitCode {
         Ok(words) => words,
         Err(status) => return ExitCode::from(status),
     };
-    let Ok(mut lines) = RealLines::new(alloc, rt.reader()) else {
-        return ExitCode::from(NO_MEMORY);
-    };
+    let mut lines = RealLines::new(alloc, rt.reader());
     let mut files = RealFiles::new(&rt);
     let mut out = RealSink::new(&rt);
     ExitCode::from(syn_shell::run(alloc, words.as_slice(), &mut files, &mut lines, &mut out))

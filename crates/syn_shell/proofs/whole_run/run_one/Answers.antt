@@ -1,8 +1,4 @@
-use Rattle.std.proofs.Common.{refl, ◌∙◌, subst, Option, None, Some}
-use Rattle.syn_shell.specs.declared.announcing.Announcement.{Announcement}
-use Rattle.syn_shell.specs.Networks.{Network}
-use Rattle.syn_shell.specs.Outside.{State, state}
-use Rattle.syn_shell.specs.Stopping.{Leaves}
+use Rattle.std.proofs.Common.{refl, None, Some}
 use Rattle.syn_shell.proofs.Wording.{left_from_none}
 use Rattle.syn_shell.proofs.whole_run.run_one.Goals as goal
 

@@ -33,10 +33,10 @@ fn words_of(alloc: Global, words: &[&str]) -> Result<Vec<String>, Fail> {
     Ok(owned)
 }
 
-/// The file `a` with this text, and no other.
-pub fn file_of(alloc: Global, text: &str) -> Result<MemFiles, AllocError> {
+/// The file `a` with these bytes, and no other.
+pub fn file_of(alloc: Global, bytes: &[u8]) -> Result<MemFiles, AllocError> {
     let mut files = MemFiles::new(alloc);
-    files.add(alloc, "a", text.as_bytes())?;
+    files.add(alloc, "a", bytes)?;
     Ok(files)
 }
 
@@ -51,8 +51,8 @@ pub fn lines_of(alloc: Global, text: &str) -> Result<MemLines, AllocError> {
     Ok(MemLines::new(bytes, Vec::new(alloc)))
 }
 
-/// The status of a run.
-pub fn status(
+// The status of a run.
+fn status(
     alloc: Global,
     words: &[&str],
     files: &mut MemFiles,
@@ -95,15 +95,15 @@ pub fn leaves(
     )
 }
 
-/// Whether a script leaves this where the file `a` has the text.
+/// Whether a script leaves this where the file `a` has the bytes.
 pub fn script_leaves(
     alloc: Global,
     script: &str,
-    text: &str,
+    bytes: &[u8],
     wanted: Outcome,
 ) -> Result<bool, Fail> {
     let words = ["synth", "-c", script];
-    let files = file_of(alloc, text)?;
+    let files = file_of(alloc, bytes)?;
     let lines = lines_of(alloc, "")?;
     let out = sink(alloc)?;
     leaves(alloc, &words, files, lines, out, wanted)

@@ -1,6 +1,6 @@
 //! Inputs at their limits, and one past them.
 
-use crate::harness::{Outcome, leaves, lines_of, sink, status};
+use crate::harness::{Outcome, file_of, leaves, lines_of, sink};
 use std::alloc::{AllocError, Global};
 use std::test::Fail;
 use syn_io::{MemFiles, MemLines, MemSink};
@@ -8,13 +8,6 @@ use syn_io::{MemFiles, MemLines, MemSink};
 // So many times the same byte.
 fn repeated(alloc: Global, byte: u8, count: usize) -> Result<Vec<u8>, AllocError> {
     vec![in alloc; byte; count]
-}
-
-// The file `a` with these bytes.
-fn file_with(alloc: Global, bytes: &[u8]) -> Result<MemFiles, AllocError> {
-    let mut files = MemFiles::new(alloc);
-    files.add(alloc, "a", bytes)?;
-    Ok(files)
 }
 
 #[test]
@@ -31,7 +24,7 @@ fn reads_a_file_up_to_its_limit(rt: HostRuntime) -> Result<(), Fail> {
             written: None,
         };
         let bytes = repeated(alloc, b'\n', count)?;
-        let files = file_with(alloc, bytes.as_slice())?;
+        let files = file_of(alloc, bytes.as_slice())?;
         let lines = lines_of(alloc, "")?;
         let out = sink(alloc)?;
         let words = ["synth", "-c", "read_blif a; ps"];
@@ -67,7 +60,7 @@ fn reads_a_cost_up_to_its_limit(rt: HostRuntime) -> Result<(), Fail> {
             written: None,
         };
         let text = table_of(alloc, 524_288, more)?;
-        let files = file_with(alloc, text.as_slice())?;
+        let files = file_of(alloc, text.as_slice())?;
         let lines = lines_of(alloc, "")?;
         let out = sink(alloc)?;
         let words = ["synth", "-c", "read_blif a; ps"];
@@ -82,15 +75,24 @@ fn reads_a_cost_up_to_its_limit(rt: HostRuntime) -> Result<(), Fail> {
 #[test]
 fn runs_a_script_up_to_its_limit(rt: HostRuntime) -> Result<(), Fail> {
     let alloc = rt.alloc();
-    for (count, wanted) in [(65_536, 0), (65_537, 5)] {
+    let rows = [
+        (65_536, 0, ""),
+        (65_537, 5, "refused: line longer than 65536 bytes\n"),
+    ];
+    for (count, status, printed) in rows {
         let blanks = String::from_utf8(repeated(alloc, b' ', count)?)?;
+        let wanted = Outcome {
+            status,
+            printed,
+            written: None,
+        };
+        let files = MemFiles::new(alloc);
+        let lines = lines_of(alloc, "")?;
+        let out = sink(alloc)?;
         let words = ["synth", "-c", blanks.as_str()];
-        let mut files = MemFiles::new(alloc);
-        let mut lines = lines_of(alloc, "")?;
-        let mut out = sink(alloc)?;
-        assert_eq!(rt;
-            status(alloc, &words, &mut files, &mut lines, &mut out)?,
-            wanted
+        assert!(rt;
+            leaves(alloc, &words, files, lines, out, wanted)?,
+            "{count} blanks"
         );
     }
     Ok(())

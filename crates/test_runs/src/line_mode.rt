@@ -63,7 +63,7 @@ fn gives_the_first_status(rt: HostRuntime) -> Result<(), Fail> {
             printed,
             written: None,
         };
-        let files = file_of(alloc, NAND)?;
+        let files = file_of(alloc, NAND.as_bytes())?;
         let out = sink(alloc)?;
         assert!(rt; lines_leave(alloc, lines, files, out, wanted)?, "{lines}");
     }
@@ -97,7 +97,7 @@ fn ends_where_a_line_fails(rt: HostRuntime) -> Result<(), Fail> {
         printed: "refused: cannot read a line\n",
         written: None,
     };
-    let files = file_of(alloc, NAND)?;
+    let files = file_of(alloc, NAND.as_bytes())?;
     let out = sink(alloc)?;
     assert!(rt; leaves(alloc, &["synth"], files, lines, out, wanted)?);
     Ok(())
@@ -117,7 +117,7 @@ fn ends_where_the_sink_fails(rt: HostRuntime) -> Result<(), Fail> {
             printed,
             written: None,
         };
-        let files = file_of(alloc, NAND)?;
+        let files = file_of(alloc, NAND.as_bytes())?;
         let out = MemSink::new(alloc, room, Vec::new(alloc))?;
         assert!(rt; lines_leave(alloc, lines, files, out, wanted)?, "{lines}");
     }

@@ -1,6 +1,6 @@
 //! Files and a sink that fail.
 
-use crate::harness::{NAND, Outcome, SCRIPT, leaves, lines_of};
+use crate::harness::{NAND, NAND_LINE, Outcome, SCRIPT, file_of, leaves, lines_of};
 use std::test::Fail;
 use syn_io::{MemFiles, MemSink};
 
@@ -36,5 +36,22 @@ fn refuses_where_the_outside_fails(rt: HostRuntime) -> Result<(), Fail> {
             "{printed}"
         );
     }
+    Ok(())
+}
+
+// The second line of statistics is put in one piece: where that call fails, none of it is there.
+#[test]
+fn puts_a_line_of_statistics_in_one_piece(rt: HostRuntime) -> Result<(), Fail> {
+    let alloc = rt.alloc();
+    let files = file_of(alloc, NAND.as_bytes())?;
+    let lines = lines_of(alloc, "")?;
+    let out = MemSink::new(alloc, 999, [2].to_vec(alloc)?)?;
+    let wanted = Outcome {
+        status: 7,
+        printed: NAND_LINE,
+        written: None,
+    };
+    let words = ["synth", "-c", "read_blif a; ps; ps"];
+    assert!(rt; leaves(alloc, &words, files, lines, out, wanted)?);
     Ok(())
 }

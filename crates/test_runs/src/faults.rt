@@ -1,27 +1,24 @@
-//! Texts that are refused, each with its first fault.
+//! Files that are refused, each with its first fault.
 
 use crate::harness::{Outcome, SCRIPT, script_leaves};
 use std::alloc::Global;
 use std::test::Fail;
 
-// Whether a text is refused with this line, and nothing is written.
-fn refuses(alloc: Global, text: &str, printed: &str) -> Result<bool, Fail> {
+// Whether a file of these bytes is refused with this line, and nothing is written.
+fn refuses(alloc: Global, bytes: &[u8], printed: &str) -> Result<bool, Fail> {
     let wanted = Outcome {
         status: 4,
         printed,
         written: None,
     };
-    script_leaves(alloc, SCRIPT, text, wanted)
+    script_leaves(alloc, SCRIPT, bytes, wanted)
 }
 
 #[test]
-fn names_the_first_faulty_line(rt: HostRuntime) -> Result<(), Fail> {
+fn names_the_first_fault(rt: HostRuntime) -> Result<(), Fail> {
+    let byte_128 = b".model m\n\x80";
+    assert!(rt; refuses(rt.alloc(), byte_128, "refused: byte 9: bad byte\n")?);
     let rows = [
-        (
-            "byte 128",
-            ".model m\n\u{80}",
-            "refused: byte 9: bad byte\n",
-        ),
         (
             "backslash in a name",
             ".inputs a \\x\n",
@@ -69,16 +66,6 @@ fn names_the_first_faulty_line(rt: HostRuntime) -> Result<(), Fail> {
             ".model m\n.inputs a \\\n a\n",
             "refused: line 2: a defined twice\n",
         ),
-    ];
-    for (name, text, printed) in rows {
-        assert!(rt; refuses(rt.alloc(), text, printed)?, "{name}");
-    }
-    Ok(())
-}
-
-#[test]
-fn names_the_first_faulty_latch(rt: HostRuntime) -> Result<(), Fail> {
-    let rows = [
         (
             "latch with a word too many",
             ".model m\n.inputs d\n.outputs q\n.clock c\n.latch d q re c 0 1\n.latch d r 0\n",
@@ -104,16 +91,6 @@ fn names_the_first_faulty_latch(rt: HostRuntime) -> Result<(), Fail> {
             ".model m\n.inputs d\n.clock c\n.latch d c 0\n",
             "refused: line 4: c defined twice\n",
         ),
-    ];
-    for (name, text, printed) in rows {
-        assert!(rt; refuses(rt.alloc(), text, printed)?, "{name}");
-    }
-    Ok(())
-}
-
-#[test]
-fn names_undriven_signals_and_circles(rt: HostRuntime) -> Result<(), Fail> {
-    let rows = [
         (
             "undriven input",
             ".model m\n.inputs a\n.outputs y\n.names a b y\n11 1\n.end\n",
@@ -141,7 +118,7 @@ fn names_undriven_signals_and_circles(rt: HostRuntime) -> Result<(), Fail> {
         ),
     ];
     for (name, text, printed) in rows {
-        assert!(rt; refuses(rt.alloc(), text, printed)?, "{name}");
+        assert!(rt; refuses(rt.alloc(), text.as_bytes(), printed)?, "{name}");
     }
     Ok(())
 }

@@ -31,6 +31,20 @@ fn runs_scripts(rt: HostRuntime) -> Result<(), Fail> {
             NAND_LINE,
             Some(NAND_WRITTEN),
         ),
+        (
+            "hashed anew",
+            "read_blif a; strash; ps; write_blif o",
+            0,
+            NAND_LINE,
+            Some(NAND_WRITTEN),
+        ),
+        (
+            "balanced and hashed anew",
+            "read_blif a; balance; st; ps; write_blif o",
+            0,
+            NAND_LINE,
+            Some(NAND_WRITTEN),
+        ),
     ];
     for (name, script, status, printed, written) in rows {
         let wanted = Outcome {
@@ -38,7 +52,10 @@ fn runs_scripts(rt: HostRuntime) -> Result<(), Fail> {
             printed,
             written,
         };
-        assert!(rt; script_leaves(rt.alloc(), script, NAND, wanted)?, "{name}");
+        assert!(rt;
+            script_leaves(rt.alloc(), script, NAND.as_bytes(), wanted)?,
+            "{name}"
+        );
     }
     Ok(())
 }
@@ -95,6 +112,18 @@ fn refuses_scripts(rt: HostRuntime) -> Result<(), Fail> {
             7,
             "refused: cannot read q\n",
         ),
+        (
+            "hashing without a network",
+            "st",
+            6,
+            "refused: no network\n",
+        ),
+        (
+            "balancing without a network",
+            "b; read_blif a",
+            6,
+            "refused: no network\n",
+        ),
     ];
     for (name, script, status, printed) in rows {
         let wanted = Outcome {
@@ -102,29 +131,70 @@ fn refuses_scripts(rt: HostRuntime) -> Result<(), Fail> {
             printed,
             written: None,
         };
-        assert!(rt; script_leaves(rt.alloc(), script, NAND, wanted)?, "{name}");
+        assert!(rt;
+            script_leaves(rt.alloc(), script, NAND.as_bytes(), wanted)?,
+            "{name}"
+        );
     }
     Ok(())
 }
 
 #[test]
-fn refuses_words(rt: HostRuntime) -> Result<(), Fail> {
-    let alloc = rt.alloc();
-    let rows: [&[&str]; 6] = [
-        &["synth", "-c"],
-        &["synth", "-x", "ps"],
-        &["synth", "-c", "ps", "-q"],
-        &["synth", "-c", "ps", "ps"],
-        &["synth", "-w", "0"],
-        &["synth", "-h"],
+fn balances_networks(rt: HostRuntime) -> Result<(), Fail> {
+    let rows = [
+        (
+            "a chain",
+            ".model m\n.inputs a b c d\n.outputs y\n.names a b c d y\n1111 1\n.end\n",
+            "m : i/o = 4/1 lat = 0 and = 3 lev = 3\nm : i/o = 4/1 lat = 0 and = 3 lev = 2\n",
+        ),
+        (
+            "a shared node is kept",
+            ".model m\n.inputs a b c d\n.outputs y z\n.names c d t\n11 1\n.names b t u\n11 1\n.names a u y\n11 1\n.names t z\n1 1\n.end\n",
+            "m : i/o = 4/2 lat = 0 and = 3 lev = 3\nm : i/o = 4/2 lat = 0 and = 3 lev = 2\n",
+        ),
     ];
-    for words in rows {
+    for (name, text, printed) in rows {
         let wanted = Outcome {
-            status: 2,
-            printed: "refused: command line\n",
+            status: 0,
+            printed,
             written: None,
         };
-        let files = file_of(alloc, NAND)?;
+        let script = "read_blif a; ps; b; ps";
+        assert!(rt;
+            script_leaves(rt.alloc(), script, text.as_bytes(), wanted)?,
+            "{name}"
+        );
+    }
+    Ok(())
+}
+
+#[test]
+fn takes_words_or_refuses_them(rt: HostRuntime) -> Result<(), Fail> {
+    let alloc = rt.alloc();
+    let refused = "refused: command line\n";
+    let rows: [(&[&str], u8, &str); 10] = [
+        (
+            &["synth", "-w", "16", "-c", "read_blif a; ps"],
+            0,
+            NAND_LINE,
+        ),
+        (&["synth", "-cread_blif a; ps", "-w04"], 0, NAND_LINE),
+        (&["synth", "-c"], 2, refused),
+        (&["synth", "-x", "ps"], 2, refused),
+        (&["synth", "-c", "ps", "-q"], 2, refused),
+        (&["synth", "-c", "ps", "ps"], 2, refused),
+        (&["synth", "-w", "0"], 2, refused),
+        (&["synth", "-w", "17"], 2, refused),
+        (&["synth", "-w", "+4"], 2, refused),
+        (&["synth", "-h"], 2, refused),
+    ];
+    for (words, status, printed) in rows {
+        let wanted = Outcome {
+            status,
+            printed,
+            written: None,
+        };
+        let files = file_of(alloc, NAND.as_bytes())?;
         let lines = lines_of(alloc, "")?;
         let out = sink(alloc)?;
         assert!(rt;

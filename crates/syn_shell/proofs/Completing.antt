@@ -1,0 +1,188 @@
+-- A run that was ready is refused for want of memory alone, or where a call failed.
+use Rattle.std.proofs.Common.{◌≡◌, ◌⊎◌, ℕ, ◌+◌, ◌<◌, ◌≤◌, List, [], ◌∷◌, ◌++◌, length, refl, sym, ap, ◌∙◌, subst, arith, inl, inr, Option, None, Some, IfSome, IsSome}
+use Rattle.std.specs.Option.{IsSomeAnd}
+use Rattle.syn_io.specs.Outside.{Disk, Input, Screen, file_at, next_line}
+use Rattle.syn_netlist.specs.Lists.{Netlist}
+use Rattle.syn_reader.specs.declared.ReadFault.{ReadFault}
+use Rattle.syn_reader.specs.Causes.{fault_in}
+use Rattle.syn_reader.specs.Faults.{Fault}
+use Rattle.syn_reader.specs.Laws.{NotBoth}
+use Rattle.syn_reader.specs.Limits.{IsFirstFault, Within}
+use Rattle.syn_reader.specs.Reading.{Reads}
+use Rattle.syn_words.specs.declared.Command.{Command}
+use Rattle.syn_words.specs.Scripts.{IsScript}
+use Rattle.syn_words.proofs.Deciding.{script_has_no_fault}
+use Rattle.syn_shell.specs.declared.refusal.Refusal.{Refusal}
+use Rattle.syn_shell.specs.declared.refusal.Refusal.TheVariants.{Words, Script, Read, FileTooLong, LineTooLong, TooManyLines, NoNetwork, GetFailed, PutFailed, LineFailed, SinkFailed, NoMemory}
+use Rattle.syn_shell.specs.Networks.{Network}
+use Rattle.syn_shell.specs.Outside.{State, FileIs, LineIsLong, GaveLine, script_limit}
+use Rattle.syn_shell.specs.Lines.{refusal_status}
+use Rattle.syn_shell.specs.Steps.{Accepted, Denied, IsFaulty, Kind, Reading, Printing, Writing, Making, kind_of, file_limit, MakingRefused, PrintRefused, ReadRefused, WriteRefused}
+use Rattle.syn_shell.specs.Scripts.{Refused, RunsCommands, RunsScript, ScriptRefused, nameless}
+use Rattle.syn_shell.specs.LineMode.{LineRefused, NoFurther, RunsLines, listed, most_lines}
+use Rattle.syn_shell.specs.Usage.{Usage, OneScript, EachLine, Faulty, usage_of}
+use Rattle.syn_shell.specs.Runs.{Ran, RunsUsage, RunsWords, status_of}
+use Rattle.syn_shell.specs.Counts.{SomeFault}
+use Rattle.syn_shell.specs.Readiness.{CommandsReady, IsComplete, IsReadable, LineReady, LinesReady, Needs, ScriptReady, UsageReady, WordsReady}
+use Rattle.syn_shell.proofs.Concluding.{ran_seven}
+
+-- statuses that a ready run may end with, if a call may have failed
+abbrev IsFine : ℕ → Type 0
+IsFine status = (status ≡ 0) ⊎ ((status ≡ 7) ⊎ (status ≡ 8))
+
+failed : IsFine 7
+failed = inr (inl refl)
+
+no_memory : IsFine 8
+no_memory = inr (inr refl)
+
+fine_as : (refusals others : List Refused) → refusals ≡ others → IsFine (status_of others) → IsFine (status_of refusals)
+fine_as refusals others is fine = subst (λ (rs : List Refused). IsFine (status_of rs)) (sym is) fine
+
+-- a file that is readable has no fault and is not too long
+
+no_fault_here : NotBoth → (bytes : List ℕ) (net : Netlist) (fault : Option Fault) → Reads bytes net → Within net → IsSomeAnd fault (IsFirstFault bytes) → ⊥
+no_fault_here not_both bytes net None reads within first = first
+no_fault_here not_both bytes net (Some fault) reads within first = not_both bytes net fault reads within first
+
+readable_at : NotBoth → (found : Option (List ℕ)) (bytes : List ℕ) (fault : Option Fault) → IsSomeAnd found (λ b. (length b ≤ file_limit) × (net : Netlist) × Reads b net × Within net)
+    → found ≡ Some bytes → IsSomeAnd fault (IsFirstFault bytes) → ⊥
+readable_at not_both None bytes fault needs is first = needs
+readable_at not_both (Some b) bytes fault (short, net, reads, within) is first =
+    no_fault_here not_both bytes net fault (subst (λ (x : List ℕ). Reads x net) (same b bytes is) reads) within first
+  where
+    same : (x y : List ℕ) → Some x ≡ Some y → x ≡ y
+    same x y e = cc
+
+not_faulty : NotBoth → (name : List ℕ) (told : Option (List (List ℕ × List ℕ))) (bytes : List ℕ) (fault : Option Fault)
+    → IsSomeAnd told (λ list. IsSomeAnd (file_at name list) (λ b. (length b ≤ file_limit) × (net : Netlist) × Reads b net × Within net))
+    → IfSome told (λ list. file_at name list ≡ Some bytes) → IsSomeAnd fault (IsFirstFault bytes) → ⊥
+not_faulty not_both name None bytes fault needs file first = needs
+not_faulty not_both name (Some list) bytes fault needs file first = readable_at not_both (file_at name list) bytes fault needs file first
+
+short_at : (found : Option (List ℕ)) → IsSomeAnd found (λ b. (length b ≤ file_limit) × (net : Netlist) × Reads b net × Within net) → IsSomeAnd found (λ b. file_limit < length b) → ⊥
+short_at None needs long = needs
+short_at (Some b) (short, net, reads, within) long = absurd (omega (arith, short, long))
+
+not_too_long : (name : List ℕ) (told : Option (List (List ℕ × List ℕ)))
+    → IsSomeAnd told (λ list. IsSomeAnd (file_at name list) (λ b. (length b ≤ file_limit) × (net : Netlist) × Reads b net × Within net))
+    → IfSome told (λ list. IsSomeAnd (file_at name list) (λ b. file_limit < length b)) → ⊥
+not_too_long name None needs long = needs
+not_too_long name (Some list) needs long = short_at (file_at name list) needs long
+
+there_is_one : (m : Option Network) → IsSome m → m ≡ None → ⊥
+there_is_one None some none = cc
+there_is_one (Some net) some none = cc
+
+-- a refused command whose needs are met, by its kind
+
+read_fine : NotBoth → (name : List ℕ) (before after : Disk) (cause : Refusal) → IsReadable name before → ReadRefused name before after cause → IsFine (refusal_status cause)
+read_fine not_both name before after (Read fault) needs why = absurd (not_faulty not_both name before.told why.bytes (fault_in fault) needs why.file why.first)
+read_fine not_both name before after GetFailed needs why = failed
+read_fine not_both name before after FileTooLong needs why = absurd (not_too_long name before.told needs why)
+read_fine not_both name before after NoMemory needs why = no_memory
+read_fine not_both name before after other needs why = absurd why
+
+print_fine : (m : Option Network) (before after : Screen) (cause : Refusal) → IsSome m → PrintRefused m before after cause → IsFine (refusal_status cause)
+print_fine m before after NoNetwork needs why = absurd (there_is_one m needs why.0)
+print_fine m before after SinkFailed needs why = failed
+print_fine m before after NoMemory needs why = no_memory
+print_fine m before after other needs why = absurd why
+
+write_fine : (m : Option Network) (name : List ℕ) (before after : Disk) (cause : Refusal) → IsSome m → WriteRefused m name before after cause → IsFine (refusal_status cause)
+write_fine m name before after NoNetwork needs why = absurd (there_is_one m needs why.0)
+write_fine m name before after PutFailed needs why = failed
+write_fine m name before after NoMemory needs why = no_memory
+write_fine m name before after other needs why = absurd why
+
+making_fine : (m : Option Network) (cause : Refusal) → IsSome m → MakingRefused m cause → IsFine (refusal_status cause)
+making_fine m NoNetwork needs why = absurd (there_is_one m needs why)
+making_fine m NoMemory needs why = no_memory
+making_fine m other needs why = absurd why
+
+denied_fine : NotBoth → (kind : Kind) (before after : State) (cause : Refusal) → Needs kind before → Denied kind before cause after → IsFine (refusal_status cause)
+denied_fine not_both (Reading name) before after cause needs (stays, why, stand, same) = read_fine not_both name before.files after.files cause needs why
+denied_fine not_both Printing before after cause needs (stays, why, same) = print_fine before.network before.sink after.sink cause needs why
+denied_fine not_both (Writing name) before after cause needs (stays, why, same) = write_fine before.network name before.files after.files cause needs why
+denied_fine not_both Making before after cause needs (stays, why, stand, same) = making_fine before.network cause needs why
+
+abbrev OutcomeFine : Option Refused → Type 0
+OutcomeFine outcome = IsFine (status_of (listed outcome))
+
+outcome_as : (outcome other : Option Refused) → outcome ≡ other → OutcomeFine other → OutcomeFine outcome
+outcome_as outcome other is fine = subst OutcomeFine (sym is) fine
+
+commands_fine : NotBoth → (cs : List Command) (before after : State) (outcome : Option Refused) (runs : RunsCommands cs before outcome after) → CommandsReady cs before outcome after runs → OutcomeFine outcome
+commands_fine not_both [] before after outcome (none, same) ready = outcome_as outcome None none (inl refl)
+commands_fine not_both (c ∷ cs) before after outcome (inl (between, step, more)) (needs, ready) = commands_fine not_both cs between after outcome more ready
+commands_fine not_both (c ∷ cs) before after outcome (inr (cause, is, step)) needs = outcome_as outcome _ is (denied_fine not_both (kind_of c) before after cause needs step)
+
+unrun_fine : (text : List ℕ) (cause : Refusal) → (length text ≤ script_limit) × (commands : List Command) × IsScript text commands → ScriptRefused text cause → IsFine (refusal_status cause)
+unrun_fine text LineTooLong (short, commands, script) why = absurd (omega (arith, short, why))
+unrun_fine text (Script fault) (short, commands, script) why = absurd (script_has_no_fault text commands fault script why.1)
+unrun_fine text NoMemory ready why = no_memory
+unrun_fine text other ready why = absurd why
+
+script_fine : NotBoth → (text : List ℕ) (before after : State) (outcome : Option Refused) (runs : RunsScript text before outcome after) → ScriptReady text before outcome after runs → OutcomeFine outcome
+script_fine not_both text before after outcome (inl (cause, why, (is, same))) ready = outcome_as outcome _ is (unrun_fine text cause ready why)
+script_fine not_both text before after outcome (inr (commands, short, script, runs)) ready = commands_fine not_both commands before after outcome runs ready
+
+-- the first status of more refusals behind those of a script
+first_fine : (outcome : Option Refused) (more : List Refused) → OutcomeFine outcome → IsFine (status_of more) → IsFine (status_of (listed outcome ++ more))
+first_fine None more here behind = behind
+first_fine (Some refused) more here behind = here
+
+long_at : (taken : ℕ) (line : Option (List ℕ)) → IfSome line (λ l. (length l ≤ script_limit) × (taken < most_lines)) → IsSomeAnd line (λ l. script_limit < length l) → ⊥
+long_at taken None ready long = long
+long_at taken (Some line) ready long = absurd (omega (arith, ready.0, long))
+
+not_long : (taken : ℕ) (told : Option (List ℕ)) → IsSomeAnd told (λ left. IfSome (next_line left) (λ l. (length l ≤ script_limit) × (taken < most_lines)))
+    → IfSome told (λ left. IsSomeAnd (next_line left) (λ l. script_limit < length l)) → ⊥
+not_long taken None ready long = ready
+not_long taken (Some left) ready long = long_at taken (next_line left) ready long
+
+one_left : (taken : ℕ) (found : Option (List ℕ)) (line : List ℕ) → taken ≡ most_lines → IfSome found (λ l. (length l ≤ script_limit) × (taken < most_lines)) → Some line ≡ found → ⊥
+one_left taken None line all ready is = absurd (cc)
+one_left taken (Some l) line all ready is = absurd (omega (arith, ready.1, all))
+
+not_many : (taken : ℕ) (told : Option (List ℕ)) (line : List ℕ) → taken ≡ most_lines → IsSomeAnd told (λ left. IfSome (next_line left) (λ l. (length l ≤ script_limit) × (taken < most_lines)))
+    → IfSome told (λ left. Some line ≡ next_line left) → ⊥
+not_many taken None line all ready is = ready
+not_many taken (Some left) line all ready is = one_left taken (next_line left) line all ready is
+
+line_fine : (taken : ℕ) (cause : Refusal) (i i' : Input) → LineReady taken i → LineRefused i i' cause → IsFine (refusal_status cause)
+line_fine taken LineFailed i i' ready why = failed
+line_fine taken LineTooLong i i' ready why = absurd (not_long taken i.told ready why.long)
+line_fine taken NoMemory i i' ready why = no_memory
+line_fine taken other i i' ready why = absurd why
+
+further_fine : (taken : ℕ) (cause : Refusal) (i i' : Input) → LineReady taken i → NoFurther taken i i' cause → IsFine (refusal_status cause)
+further_fine taken cause i i' ready (inl why) = line_fine taken cause i i' ready why
+further_fine taken cause i i' ready (inr (is, many)) = absurd (not_many taken i.told many.line many.most ready many.gave.next)
+
+lines_fine : NotBoth → (lines : List (List ℕ)) (taken : ℕ) (before after : State) (refusals : List Refused) (i i' : Input) (runs : RunsLines lines taken before i refusals after i')
+    → LinesReady lines taken before i refusals after i' runs → IsFine (status_of refusals)
+lines_fine not_both [] taken before after refusals i i' (inl (gave, none, same)) ready = fine_as refusals [] none (inl refl)
+lines_fine not_both [] taken before after refusals i i' (inr (cause, why, is, announced)) ready = fine_as refusals (nameless cause ∷ []) is (further_fine taken cause i i' ready why)
+lines_fine not_both (line ∷ lines) taken before after refusals i i' (j, outcome, done, lt, gave, runs, inl (announced, more, on, is, rest)) (here, behind) =
+    fine_as refusals (listed outcome ++ more) is (first_fine outcome more (script_fine not_both line before done outcome runs here) (lines_fine not_both lines (taken + 1) announced after more j i' rest behind))
+lines_fine not_both (line ∷ lines) taken before after refusals i i' (j, outcome, done, lt, gave, runs, inr (ends, is, none, same)) here =
+    fine_as refusals (listed outcome) is (script_fine not_both line before done outcome runs here)
+
+usage_fine : NotBoth → (usage : Usage) (before after : State) (refusals : List Refused) (i i' : Input) (runs : RunsUsage usage before i refusals after i') → UsageReady usage before i refusals after i' runs → IsFine (status_of refusals)
+usage_fine not_both (OneScript text) before after refusals i i' ((outcome, done, runs, is, ends), same) ready = fine_as refusals (listed outcome) is (script_fine not_both text before done outcome runs ready)
+usage_fine not_both EachLine before after refusals i i' (lines, runs) ready = lines_fine not_both lines 0 before after refusals i i' runs ready
+usage_fine not_both Faulty before after refusals i i' runs ready = absurd ready
+
+words_fine : NotBoth → (words : List (List ℕ)) (before after : State) (refusals : List Refused) (i i' : Input) (runs : RunsWords words before i refusals after i') → WordsReady words before i refusals after i' runs → IsFine (status_of refusals)
+words_fine not_both words before after refusals i i' (inl runs) ready = usage_fine not_both (usage_of words) before after refusals i i' runs ready
+words_fine not_both words before after refusals i i' (inr ((is, announced), same)) ready = fine_as refusals (nameless NoMemory ∷ []) is no_memory
+
+pub ran_complete : NotBoth → (words : List (List ℕ)) (d d' : Disk) (s s' : Screen) (i i' : Input) (status : ℕ) → IsComplete words d s i d' s' i' status
+ran_complete not_both words d d' s s' i i' status ran ready stand =
+    go (subst IsFine (sym ran.status_is) (words_fine not_both words _ _ ran.refusals i i' ran.runs ready))
+  where
+    go : IsFine status → (status ≡ 0) ⊎ (status ≡ 8)
+    go (inl none) = inl none
+    go (inr (inl seven)) = absurd (stand (ran_seven words d d' s s' i i' status ran seven))
+    go (inr (inr eight)) = inr eight

@@ -1,0 +1,65 @@
+-- When a run is ready: nothing stands in its way but want of memory and calls that fail. It is a condition on the run itself: what each command needs is there in the state in which the run ran it.
+use Rattle.std.specs.Prelude.{◌≡◌, ◌⊎◌, ℕ, ◌+◌, ◌<◌, ◌≤◌, List, [], ◌∷◌, length, Option, IfSome, IsSome, IsSomeAnd, ⊤}
+use mathlib.Core.Logic.{inl, inr}
+use Rattle.syn_io.specs.Outside.{Disk, Input, Screen, file_at, next_line}
+use Rattle.syn_netlist.specs.Lists.{Netlist}
+use Rattle.syn_reader.specs.Limits.{Within}
+use Rattle.syn_reader.specs.Reading.{Reads}
+use Rattle.syn_words.specs.declared.Command.{Command}
+use Rattle.syn_words.specs.Scripts.{IsScript}
+use Rattle.syn_shell.specs.Outside.{State, script_limit}
+use Rattle.syn_shell.specs.Steps.{Kind, Reading, Printing, Writing, Making, kind_of, file_limit}
+use Rattle.syn_shell.specs.Scripts.{Refused, RunsCommands, RunsScript}
+use Rattle.syn_shell.specs.LineMode.{RunsLines, most_lines}
+use Rattle.syn_shell.specs.Usage.{Usage, OneScript, EachLine, Faulty, usage_of}
+use Rattle.syn_shell.specs.Counts.{SomeFault}
+use Rattle.syn_shell.specs.Runs.{Ran, RunsUsage, RunsWords}
+
+-- The file of that name is told and there; it is short enough, and spells a netlist within the limits.
+abbrev pub IsReadable : List ℕ → Disk → Type 0
+IsReadable name files = IsSomeAnd files.told (λ list. IsSomeAnd (file_at name list) (λ bytes. (length bytes ≤ file_limit) × (net : Netlist) × Reads bytes net × Within net))
+
+-- What a command needs, by its kind: its file, or a network.
+abbrev pub Needs : Kind → State → Type 0
+Needs (Reading name) before = IsReadable name before.files
+Needs Printing before = IsSome before.network
+Needs (Writing name) before = IsSome before.network
+Needs Making before = IsSome before.network
+
+-- What each command that was run needs is there.
+abbrev pub CommandsReady : (commands : List Command) (before : State) (outcome : Option Refused) (after : State) → RunsCommands commands before outcome after → Type 0
+CommandsReady [] before outcome after runs = ⊤
+CommandsReady (c ∷ cs) before outcome after (inl (between, step, more)) = Needs (kind_of c) before × CommandsReady cs between outcome after more
+CommandsReady (c ∷ cs) before outcome after (inr refused) = Needs (kind_of c) before
+
+-- A script is within its limit and spells commands, and what they need is there.
+abbrev pub ScriptReady : (text : List ℕ) (before : State) (outcome : Option Refused) (after : State) → RunsScript text before outcome after → Type 0
+ScriptReady text before outcome after (inl refused) = (length text ≤ script_limit) × (commands : List Command) × IsScript text commands
+ScriptReady text before outcome after (inr (commands, short, script, runs)) = CommandsReady commands before outcome after runs
+
+-- A further line, where one is left, is within its limit, and the lines are within their number. It is told what is left.
+abbrev pub LineReady : ℕ → Input → Type 0
+LineReady taken i = IsSomeAnd i.told (λ left. IfSome (next_line left) (λ line. (length line ≤ script_limit) × (taken < most_lines)))
+
+-- The same of all lines, and each script is ready.
+abbrev pub LinesReady : (lines : List (List ℕ)) (taken : ℕ) (before : State) (i : Input) (refusals : List Refused) (after : State) (i' : Input) → RunsLines lines taken before i refusals after i' → Type 0
+LinesReady [] taken before i refusals after i' runs = LineReady taken i
+LinesReady (line ∷ lines) taken before i refusals after i' (j, outcome, done, lt, gave, runs, inl (announced, more, on, is, rest)) =
+    ScriptReady line before outcome done runs × LinesReady lines (taken + 1) announced j more after i' rest
+LinesReady (line ∷ lines) taken before i refusals after i' (j, outcome, done, lt, gave, runs, inr ends) = ScriptReady line before outcome done runs
+
+-- The words are well formed, and what they ask for is ready.
+abbrev pub UsageReady : (usage : Usage) (before : State) (i : Input) (refusals : List Refused) (after : State) (i' : Input) → RunsUsage usage before i refusals after i' → Type 0
+UsageReady (OneScript text) before i refusals after i' ((outcome, done, runs, is, ends), same) = ScriptReady text before outcome done runs
+UsageReady EachLine before i refusals after i' (lines, runs) = LinesReady lines 0 before i refusals after i' runs
+UsageReady Faulty before i refusals after i' runs = ⊥
+
+-- The same, where memory was not refused before.
+abbrev pub WordsReady : (words : List (List ℕ)) (before : State) (i : Input) (refusals : List Refused) (after : State) (i' : Input) → RunsWords words before i refusals after i' → Type 0
+WordsReady words before i refusals after i' (inl runs) = UsageReady (usage_of words) before i refusals after i' runs
+WordsReady words before i refusals after i' (inr nothing) = ⊤
+
+-- A run that was ready, and in which no call of the files, the lines or the sink failed, ends with 0, or for want of memory with 8.
+abbrev pub IsComplete : List (List ℕ) → Disk → Screen → Input → Disk → Screen → Input → ℕ → Type 0
+IsComplete words d s i d' s' i' status =
+    (ran : Ran words d s i d' s' i' status) → WordsReady words _ i ran.refusals _ i' ran.runs → (SomeFault d s i d' s' i' → ⊥) → (status ≡ 0) ⊎ (status ≡ 8)
