@@ -11,7 +11,7 @@ use Rattle.syn_plan.specs.declared.PLit.{PLit}
 use Rattle.syn_plan.specs.Factoring.{Built, factored, names_once}
 use Rattle.syn_plan.specs.declared.plan.Plan.{Plan}
 use Rattle.syn_npn.proofs.Computed.{every_at}
-use Rattle.syn_library.specs.Fitting.{built_of}
+use Rattle.syn_plan.specs.Naming.{built_of}
 use Rattle.syn_library.specs.Library.{firsts, function_of, orders, plans_of, same_built, same_gate}
 
 -- the first occurrences of a list after those that were seen

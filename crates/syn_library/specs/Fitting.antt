@@ -30,10 +30,6 @@ fitted_gate perm flips gate = (fitted_literal perm flips gate.0, fitted_literal 
 abbrev pub fitted_out : List ℕ → ℕ → Bool → PLit → PLit
 fitted_out perm flips neg out = if neg then complement_of (fitted_literal perm flips out) else fitted_literal perm flips out
 
--- the gates and the output of a plan
-abbrev pub built_of : Plan → Built
-built_of p = record { gates = p.gates.items; out = p.out }
-
 -- gates and an output after fitting
 abbrev pub fitted_built : Transform → Built → Built
 fitted_built t b = record { gates = map (fitted_gate t.perm t.flips) b.gates; out = fitted_out t.perm t.flips t.neg b.out }

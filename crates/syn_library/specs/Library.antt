@@ -1,8 +1,12 @@
 -- The plans of a class.
-use Rattle.std.specs.Prelude.{ℕ, ◌==◌, ◌&&◌, not, Bool, List, [], ◌∷◌, map}
+use Rattle.std.specs.Prelude.{◌≡◌, ℕ, ◌==◌, ◌≤◌, ◌&&◌, not, Bool, List, [], ◌∷◌, map, take}
 use Rattle.std.specs.List.{filter}
 use Rattle.std.specs.Cmp.Lexicographic.{pointwise}
-use Rattle.syn_truth.specs.Truth.{minterm_of}
+use Rattle.syn_truth.specs.declared.Truth.{Truth}
+use Rattle.syn_truth.specs.Truth.{AtEach, minterm_of, value_of}
+use Rattle.syn_truth.specs.Words.{value_in}
+use Rattle.syn_plan.specs.declared.plan.Plan.{Plan}
+use Rattle.syn_plan.specs.Naming.{built_of, IsWithin, NamesNeeded}
 use Rattle.syn_plan.specs.declared.PLit.{PLit}
 use Rattle.syn_plan.specs.Factoring.{Built, factored}
 use Rattle.syn_npn.specs.Images.{value_at}
@@ -30,3 +34,15 @@ function_of bits xs = value_at bits (minterm_of xs)
 -- the distinct plans of a class by the orders, first occurrences
 unfoldable pub plans_of : ℕ → List Built
 plans_of class = firsts (map (λ order. factored 4 order (function_of class)) orders)
+
+-- the plan names only variables on which the function of four variables depends
+abbrev pub NamesOwn : Plan → ℕ → Type 0
+NamesOwn p function = NamesNeeded 4 (function_of function) (built_of p)
+
+-- the number is that of the table widened to four variables
+abbrev pub IsNumberOf : ℕ → Truth → Type 0
+IsNumberOf function f = AtEach 4 (λ xs. value_in function xs ≡ value_of f (take f.vars xs))
+
+-- A plan that names only variables on which the number of a table depends, names no leaf behind the table's variables.
+abbrev pub OwnWithin : Type 0
+OwnWithin = (f : Truth) (function : ℕ) (p : Plan) → f.vars ≤ 4 → IsNumberOf function f → NamesOwn p function → IsWithin f.vars 4 (built_of p)

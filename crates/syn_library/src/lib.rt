@@ -6,12 +6,20 @@ ghost use Rattle.syn_truth.specs.Truth.{AtEach};
 ghost use Rattle.syn_plan.specs.Plans.{plan_truth};
 ghost use Rattle.syn_npn.specs.Images.{differ, inverse};
 ghost use Rattle.syn_npn.specs.Transforms.{IsCanon};
-ghost use Rattle.syn_library.specs.Fitting.{built_of, Computes, fitted_built, fitted_gate, fitted_leaves, fitted_literal, fitted_out};
+ghost use Rattle.syn_plan.specs.Naming.{built_of};
+ghost use Rattle.syn_library.specs.Library.{NamesOwn};
+ghost use Rattle.syn_library.specs.Fitting.{Computes, fitted_built, fitted_gate, fitted_leaves, fitted_literal, fitted_out};
 
+mod class_plans;
+mod laws;
 mod library;
+mod prepared;
 
 use arrayvec::ArrayVec;
+pub use class_plans::ClassPlans;
+pub use laws::own_within;
 pub use library::plans;
+pub use prepared::Prepared;
 use syn_npn::Transform;
 use syn_plan::{MOST_GATES, PLit, Plan};
 
@@ -70,6 +78,7 @@ pub fn fit(plan: &Plan, transform: Transform) -> Plan
     ensures built { built_of result ≡ fitted_built transform (built_of plan.now) }
     ensures truth { AtEach 4 (λ xs. plan_truth result xs ≡ differ transform.neg (plan_truth plan.now (fitted_leaves transform.perm transform.flips xs))) }
     ensures fits { (function class : ℕ) → IsCanon function class transform → Computes plan.now class → Computes result function }
+    ensures names { (function class : ℕ) → IsCanon function class transform → NamesOwn plan.now class → NamesOwn result function }
 {
     Plan {
         leaves: 4,

@@ -3,8 +3,9 @@
 ghost use Rattle.std.specs.Prelude.{◌≡◌, ℕ, ◌+◌, ◌<◌, ◌≤◌, true, ◌++◌, [], ◌∷◌, map, All, if◌then◌else◌};
 ghost use Rattle.std.specs.List.{list_any};
 ghost use Rattle.arrayvec.specs.ArrayVec.{array_vec_len};
-ghost use Rattle.syn_library.specs.Fitting.{built_of, Computes};
-ghost use Rattle.syn_library.specs.Library.{function_of, plans_of, same_built};
+ghost use Rattle.syn_plan.specs.Naming.{built_of};
+ghost use Rattle.syn_library.specs.Fitting.{Computes};
+ghost use Rattle.syn_library.specs.Library.{function_of, NamesOwn, plans_of, same_built};
 ghost use Rattle.syn_plan.specs.Factoring.{factored, names_once};
 
 use arrayvec::ArrayVec;
@@ -49,6 +50,7 @@ fn class_plan(class: u16, order: &[u8]) -> Plan
     ensures built { built_of result ≡ factored 4 order.now (function_of class) }
     ensures leaves { result.leaves ≡ 4 }
     ensures truth { Computes result class }
+    ensures names { NamesOwn result class }
 {
     factor_in(Truth::from_bits(class), order)
 }
@@ -58,6 +60,7 @@ pub fn plans(class: u16) -> ArrayVec<Plan, 4>
     ensures plans { map built_of result.items ≡ plans_of class }
     ensures leaves { All (λ p. p.leaves ≡ 4) result.items }
     ensures truth { All (λ p. Computes p class) result.items }
+    ensures names { All (λ p. NamesOwn p class) result.items }
 {
     let mut plans = ArrayVec::new();
     for order in &ORDERS {

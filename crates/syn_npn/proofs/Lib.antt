@@ -1,6 +1,7 @@
 pub mod Computed
 pub mod Imaging
 pub mod Keys
+pub mod Least
 pub mod Moving
 pub mod Numbers
 pub mod Ordering

@@ -10,10 +10,12 @@ ghost use Rattle.syn_npn.specs.Permutations.{permutation_at};
 mod classes;
 mod laws;
 pub mod plain;
+mod table;
 mod walk;
 
 pub use classes::{canon, image, undo};
 pub use laws::one_canon;
+pub use table::Classes;
 
 /// Turns a function f into its image g: g(x) is f(y), complemented where `neg` is set, where variable i of y is
 /// variable `perm[i]` of x, complemented where bit i of `flips` is set.

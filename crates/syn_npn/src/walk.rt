@@ -27,6 +27,9 @@ const LOWER: [u16; 3] = [0x2222, 0x0c0c, 0x00f0];
 /// The minterms at which variable i is false.
 const PLAIN: [u16; 4] = [0x5555, 0x3333, 0x0f0f, 0x00ff];
 
+/// What the image is multiplied by in a key, which has the transform's place below it.
+pub(crate) const KEY_STEP: u32 = 1024;
+
 /// Keeps the values at the minterms of `kept`, and exchanges those at the minterms of `lower` with those `gap` above.
 #[inline]
 fn moved(table: u16, kept: u16, lower: u16, gap: u8) -> u16
@@ -109,7 +112,7 @@ fn lesser(key: u32, image: u16, place: u32) -> u32
     ensures image { result ≤ image * 1024 + place }
     ensures either { (result ≡ key) ⊎ (result ≡ image * 1024 + place) }
 {
-    key.min(image as u32 * 1024 + place)
+    key.min(image as u32 * KEY_STEP + place)
 }
 
 /// The least one of a key and the keys of the images by the transforms with these flips.

@@ -62,7 +62,7 @@ apart false e = false≢true e
 own_variable : (n x : ℕ) (f : List Bool → Bool) (v : Bool) → depends_on n (cofactor_of f x v) x ≡ false
 own_variable n x f v = independent_from n (cofactor_of f x v) x (λ xs e. ap f (set-set xs x true v ∙ sym (set-set xs x false v)))
 
-other_variable : (n x i : ℕ) (f : List Bool → Bool) (v : Bool) → (x ≡ i → ⊥) → depends_on n f i ≡ false → depends_on n (cofactor_of f x v) i ≡ false
+pub other_variable : (n x i : ℕ) (f : List Bool → Bool) (v : Bool) → (x ≡ i → ⊥) → depends_on n f i ≡ false → depends_on n (cofactor_of f x v) i ≡ false
 other_variable n x i f v ne h =
     independent_from n (cofactor_of f x v) i (λ xs e.
     ap f (set_comm xs i x true v (λ k. ne (sym k)))

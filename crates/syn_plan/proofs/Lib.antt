@@ -5,3 +5,4 @@ pub mod Covered
 pub mod Factored
 pub mod Steps
 pub mod Orders
+pub mod Named

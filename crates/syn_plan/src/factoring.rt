@@ -7,6 +7,7 @@ ghost use Rattle.std.specs.List.{list_all};
 ghost use Rattle.syn_plan.specs.Gates.{index_of};
 ghost use Rattle.syn_plan.specs.Plans.{plan_truth};
 ghost use Rattle.syn_plan.specs.Factoring as spec;
+ghost use Rattle.syn_plan.specs.Naming.{built_of, NamesNeeded};
 
 use crate::{MOST_GATES, MOST_LEAVES, PLit, Plan};
 use syn_truth::Truth;
@@ -196,6 +197,7 @@ pub fn factor_in(f: Truth, order: &[u8]) -> Plan
     ensures out { result.out ≡ (spec.factored f.vars order.now (value_of f)).out }
     ensures truth { AtEach f.vars (λ xs. plan_truth result xs ≡ value_of f xs) }
     ensures few { array_vec_len result.gates ≤ spec.most_gates f.vars }
+    ensures names { NamesNeeded f.vars (value_of f) (built_of result) }
 {
     let mut plan = Plan::new(f.vars);
     let out = build(f, order, &mut plan);
@@ -211,6 +213,7 @@ pub fn factor(f: Truth) -> Plan
     ensures out { result.out ≡ (spec.factored f.vars (spec.falling f.vars) (value_of f)).out }
     ensures truth { AtEach f.vars (λ xs. plan_truth result xs ≡ value_of f xs) }
     ensures few { array_vec_len result.gates ≤ spec.most_gates f.vars }
+    ensures names { NamesNeeded f.vars (value_of f) (built_of result) }
 {
     let order = [7, 6, 5, 4, 3, 2, 1, 0];
     factor_in(f, &order[(MOST_LEAVES - f.vars) as usize..])

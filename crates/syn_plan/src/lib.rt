@@ -10,7 +10,7 @@ ghost use Rattle.std.specs.Prelude.{◌≡◌, ℕ, ◌+◌, ◌*◌, ◌/◌, �
 ghost use Rattle.syn_plan.specs.Gates.{complement_of};
 
 pub use factoring::{Split, factor, factor_in};
-pub use laws::factored_truth;
+pub use laws::{factored_names, factored_truth, needed_within};
 pub use plan::Plan;
 
 /// The most leaves of a plan, as many as a truth table has variables.

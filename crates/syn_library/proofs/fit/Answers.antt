@@ -1,7 +1,9 @@
 use Rattle.syn_library.proofs.Fits.{Computes-fitted, fitted-ordered, fitted-there, plan_truth-fitted}
-use Rattle.std.proofs.Common.{List, ap₂}
+use Rattle.std.proofs.Common.{List, ap, ap₂, ◌∙◌}
 use Rattle.syn_plan.specs.declared.PLit.{PLit}
 use Rattle.syn_plan.specs.Factoring.{Built}
+use Rattle.syn_plan.specs.Naming.{built_of, built_names}
+use Rattle.syn_library.proofs.Owned.{fitted_own}
 use Rattle.syn_library.proofs.fit.Goals as goal
 
 abbrev made : List (PLit × PLit) → PLit → Built
@@ -22,3 +24,8 @@ returns-clause-truth c = plan_truth-fitted c.args.plan.now _ c.args.transform c.
 pub returns-clause-fits : goal.returns-clause-fits
 returns-clause-fits c = λ function class canon computes.
     Computes-fitted function class c.args.transform c.args.plan.now _ canon computes (returns-clause-truth c)
+
+pub returns-clause-names : goal.returns-clause-names
+returns-clause-names c = λ function class canon own i l d.
+    ap (built_names i) (ap₂ made c.fitted_gates.ensures c.fitted_output.ensures)
+    ∙ fitted_own function class c.args.transform (built_of c.args.plan.now) canon own i l d

@@ -1,6 +1,8 @@
 use Rattle.std.proofs.Common.{◌≡◌, true, [], ap, subst, sym, ◌∙◌}
 use Rattle.syn_truth.specs.Truth.{value_of}
-use Rattle.syn_plan.specs.Factoring.{factored, names_once}
+use Rattle.syn_plan.specs.Factoring.{Built, factored, names_once}
+use Rattle.syn_plan.specs.Naming.{NamesNeeded}
+use Rattle.syn_plan.proofs.Named.{factored_needed}
 use Rattle.syn_plan.proofs.Steps.{factored-table}
 use Rattle.syn_library.specs.Library.{function_of}
 use Rattle.syn_library.proofs.Firsts.{built_of-is}
@@ -18,3 +20,8 @@ returns-clause-built c =
 
 pub returns-clause-truth : goal.returns-clause-truth
 returns-clause-truth c = λ xs h. c.factor_in.ensures.truth xs (h ∙ sym c.from_bits.ensures.vars) ∙ c.from_bits.ensures.values xs h
+
+pub returns-clause-names : goal.returns-clause-names
+returns-clause-names c =
+    subst (λ (b : Built). NamesNeeded 4 (function_of c.args.class) b) (sym (returns-clause-built c))
+    (factored_needed 4 c.args.order.now (function_of c.args.class))

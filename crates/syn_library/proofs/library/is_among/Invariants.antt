@@ -1,6 +1,6 @@
 use Rattle.std.proofs.Common.{◌≡◌, drop}
 use Rattle.std.specs.List.{list_any}
-use Rattle.syn_library.specs.Fitting.{built_of}
+use Rattle.syn_plan.specs.Naming.{built_of}
 use Rattle.syn_library.specs.Library.{same_built}
 use Rattle.syn_library.proofs.library.is_among.Given as goal
 

@@ -1,5 +1,7 @@
 use Rattle.std.proofs.Common.{◌≡◌, ◌+◌, ◌∷◌, map, length, ap, sym, ◌∙◌, arith}
-use Rattle.syn_library.specs.Fitting.{built_of, Computes}
+use Rattle.syn_plan.specs.Naming.{built_of}
+use Rattle.syn_library.specs.Fitting.{Computes}
+use Rattle.syn_library.specs.Library.{NamesOwn}
 use Rattle.syn_library.proofs.Firsts.{All-added, firsts_after, firsts_after-added, length-added, still, still-end, still-more, still-start}
 use Rattle.syn_library.proofs.library.plans.Goals as goal
 
@@ -11,6 +13,7 @@ loop-order-init c =
       plans = ap (λ ps. firsts_after (map built_of ps) (still c.args.class 0)) none ∙ still-start c.args.class;
       leaves = λ k d h. absurd (omega (arith, ap length none, h));
       truth = λ k d h. absurd (omega (arith, ap length none, h));
+      names = λ k d h. absurd (omega (arith, ap length none, h));
     }
 
 pub loop-order-preserved : goal.loop-order-preserved
@@ -31,6 +34,7 @@ loop-order-preserved c =
           ∙ keeps.plans;
       leaves = All-added old new plan c.add_new.ensures (λ p. p.leaves ≡ 4) keeps.leaves c.class_plan.ensures.leaves;
       truth = All-added old new plan c.add_new.ensures (λ p. Computes p class) keeps.truth c.class_plan.ensures.truth;
+      names = All-added old new plan c.add_new.ensures (λ p. NamesOwn p class) keeps.names c.class_plan.ensures.names;
     }
 
 pub returns-clause-plans : goal.returns-clause-plans

@@ -1,4 +1,4 @@
-use Rattle.std.proofs.Common.{◌≡◌, ℕ, ◌+◌, ◌≤◌, ◌<◌, true, List, [], ◌∷◌, false, length, subst, sym, ap, ap₂, ◌∙◌, arith}
+use Rattle.std.proofs.Common.{◌≡◌, ℕ, ◌+◌, ◌≤◌, ◌<◌, true, List, [], ◌∷◌, false, length, subst, sym, ap, ap₂, ◌∙◌, arith, ◌||◌}
 use Rattle.syn_truth.specs.declared.Truth.{Truth}
 use Rattle.syn_truth.specs.Truth.{value_of}
 use Rattle.syn_plan.specs.declared.PLit.{PLit}
@@ -7,6 +7,8 @@ use Rattle.syn_plan.specs.Plans.{plan_truth}
 use Rattle.syn_plan.specs.Factoring.{factored, factored_after, most_gates, names_once}
 use Rattle.syn_plan.proofs.Builds.{IsBuilt}
 use Rattle.syn_plan.proofs.Factored.{is_factored}
+use Rattle.syn_plan.specs.Naming.{gates_name, names}
+use Rattle.syn_plan.proofs.Named.{factored_needed}
 use Rattle.syn_plan.proofs.Orders.{order_parts, order_covers, few_gates}
 use Rattle.syn_plan.proofs.factoring.factor_in.Goals as goal
 
@@ -54,3 +56,12 @@ returns-clause-few c =
     let gates : c.build-out.new.plan.gates.items ≡ (factored c.args.f.vars c.args.order.now (value_of c.args.f)).gates =
     c.build-out.ensures.gates ∙ ap (λ gates. (factored_after c.args.f.vars c.args.order.now (value_of c.args.f) gates).gates) c.new-plan.ensures.gates in
     omega (arith, ap length gates, built.few)
+
+pub returns-clause-names : goal.returns-clause-names
+returns-clause-names c = λ i l d.
+    let gates : c.build-out.new.plan.gates.items ≡ (factored c.args.f.vars c.args.order.now (value_of c.args.f)).gates =
+    c.build-out.ensures.gates ∙ ap (λ gates. (factored_after c.args.f.vars c.args.order.now (value_of c.args.f) gates).gates) c.new-plan.ensures.gates in
+    let out : c.build-out.result ≡ (factored c.args.f.vars c.args.order.now (value_of c.args.f)).out =
+    c.build-out.ensures.out ∙ ap (λ gates. (factored_after c.args.f.vars c.args.order.now (value_of c.args.f) gates).out) c.new-plan.ensures.gates in
+    ap₂ (λ gates out. gates_name i gates || names i out) gates out
+    ∙ factored_needed c.args.f.vars c.args.order.now (value_of c.args.f) i l d

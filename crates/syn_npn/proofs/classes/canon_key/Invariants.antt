@@ -1,6 +1,6 @@
 use Rattle.std.proofs.Common.{ℕ, ◌+◌, ◌*◌, ◌<◌, ◌≤◌}
 use Rattle.syn_npn.specs.Permutations.{IsKey, key_at}
-use Rattle.syn_npn.proofs.classes.canon.Given as goal
+use Rattle.syn_npn.proofs.classes.canon_key.Given as goal
 
 abbrev pub invariant-loop-flips : goal.invariant-loop-flips
 invariant-loop-flips l = record {
