@@ -1,8 +1,10 @@
-//! Tests of rows and of rows that are joined and compacted.
+//! Tests of rows, of rows that are joined and compacted, and of graphs that are read from small texts.
 //!
 //! Nothing here is for other crates: answers of calls are compared with values worked by hand.
 #![tactic(auto)]
 
+#[cfg(test)]
+mod graphs;
 #[cfg(test)]
 mod hashing;
 #[cfg(test)]
