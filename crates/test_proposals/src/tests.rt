@@ -11,6 +11,7 @@ use crate::graphs::{adder, alone, gated, shared};
 use arrayvec::ArrayVec;
 use std::alloc::{AllocError, Global};
 use std::test::Fail;
+use std::thread::Threads;
 use syn_apply::apply;
 use syn_cuts::{Cut, CutLists, function, listed};
 use syn_gain::{Candidate, Proposal, Uses, saved, saved_by_sweeps};
@@ -33,6 +34,23 @@ fn are_cuts(cuts: &[Cut], wanted: &[&[u32]]) -> bool {
     true
 }
 
+// Whether the cuts of the cone are those worked by hand.
+fn are_worked(lists: &CutLists) -> bool {
+    let six: [&[u32]; 5] = [&[4, 5], &[1, 2, 3], &[1, 2, 5], &[1, 3, 4], &[6]];
+    lists.len() == 7
+        && are_cuts(lists.of(4), &[&[1, 2], &[4]])
+        && are_cuts(lists.of(5), &[&[1, 3], &[5]])
+        && are_cuts(lists.of(6), &six)
+}
+
+// Whether so many workers list them.
+fn lists_worked<R: Threads + Sync>(rt: &R, alloc: Global, graph: &Graph, workers: u8) -> bool {
+    match listed(rt, alloc, graph, 4, workers) {
+        Ok(lists) => are_worked(&lists),
+        Err(_) => false,
+    }
+}
+
 #[test]
 fn lists_cuts(rt: HostRuntime) -> Result<(), Fail> {
     let alloc = rt.alloc();
@@ -40,14 +58,10 @@ fn lists_cuts(rt: HostRuntime) -> Result<(), Fail> {
         panic!(rt; "no graph");
     };
     for workers in 1..17 {
-        let lists = listed(&rt, alloc, &graph, 4, workers)?;
-        if lists.len() != 7 {
-            panic!(rt; "no list for each node");
-        }
-        assert!(rt; are_cuts(lists.of(4), &[&[1, 2], &[4]]));
-        assert!(rt; are_cuts(lists.of(5), &[&[1, 3], &[5]]));
-        let six: [&[u32]; 5] = [&[4, 5], &[1, 2, 3], &[1, 2, 5], &[1, 3, 4], &[6]];
-        assert!(rt; are_cuts(lists.of(6), &six), "with {workers} workers");
+        assert!(rt;
+            lists_worked(&rt, alloc, &graph, workers),
+            "with {workers} workers"
+        );
     }
     Ok(())
 }
@@ -67,6 +81,27 @@ fn cut_at<'a>(graph: &Graph, lists: &'a CutLists, node: u32, place: usize) -> Op
     Some(&cuts[place])
 }
 
+// Whether the function of node 6 over its listed cut at this place has so many variables, and these bits.
+fn computes(
+    alloc: Global,
+    graph: &Graph,
+    lists: &CutLists,
+    place: usize,
+    vars: u8,
+    bits: u16,
+) -> bool
+    requires small { vars ≤ 4 }
+    requires cuts { (n : ℕ) → n < length graph.now.rows → All (λ c. IsCut graph.now.rows c n) (list_at lists.now n) }
+{
+    let Some(cut) = cut_at(graph, lists, 6, place) else {
+        return false;
+    };
+    match function(alloc, graph, 6, cut) {
+        Ok(truth) => truth.vars == vars && truth.to_bits() == bits,
+        Err(_) => false,
+    }
+}
+
 #[test]
 fn computes_functions_over_cuts(rt: HostRuntime) -> Result<(), Fail> {
     let alloc = rt.alloc();
@@ -74,14 +109,8 @@ fn computes_functions_over_cuts(rt: HostRuntime) -> Result<(), Fail> {
         panic!(rt; "no graph");
     };
     let lists = listed(&rt, alloc, &graph, 4, 1)?;
-    for (place, vars, bits) in [(0, 2, 0x1111), (1, 3, 0x5757)] {
-        let Some(cut) = cut_at(&graph, &lists, 6, place) else {
-            panic!(rt; "no cut");
-        };
-        let truth = function(alloc, &graph, 6, cut)?;
-        assert_eq!(rt; truth.vars, vars);
-        assert_eq!(rt; truth.to_bits(), bits);
-    }
+    assert!(rt; computes(alloc, &graph, &lists, 0, 2, 0x1111));
+    assert!(rt; computes(alloc, &graph, &lists, 1, 3, 0x5757));
     Ok(())
 }
 
@@ -125,18 +154,31 @@ fn shared_gate() -> Plan
     plan
 }
 
-#[test]
-fn saves_what_dies(rt: HostRuntime) -> Result<(), Fail> {
-    let alloc = rt.alloc();
+// Whether both counts say that it saves so much in place of node 6 of a graph.
+fn saves(alloc: Global, graph: &Graph, wanted: i64) -> bool {
     let plan = shared_gate();
-    for (graph, wanted) in [(alone(alloc), 1), (shared(alloc), -1)] {
-        let Some(graph) = graph else {
-            panic!(rt; "no graph");
-        };
-        let counts = both_counts(alloc, &graph, Candidate::over(6, &[1, 2, 3], &plan))?;
-        assert_eq!(rt; counts, Some((wanted, wanted)));
+    match both_counts(alloc, graph, Candidate::over(6, &[1, 2, 3], &plan)) {
+        Ok(counts) => counts == Some((wanted, wanted)),
+        Err(_) => false,
     }
-    Ok(())
+}
+
+#[test]
+fn saves_what_dies(rt: HostRuntime) {
+    let alloc = rt.alloc();
+    let Some(graph) = alone(alloc) else {
+        panic!(rt; "no graph");
+    };
+    assert!(rt; saves(alloc, &graph, 1));
+}
+
+#[test]
+fn saves_no_shared_nodes(rt: HostRuntime) {
+    let alloc = rt.alloc();
+    let Some(graph) = shared(alloc) else {
+        panic!(rt; "no graph");
+    };
+    assert!(rt; saves(alloc, &graph, -1));
 }
 
 // Whether the nodes rise, the first above this one.
@@ -251,24 +293,55 @@ fn saved_by_class(
     }
 }
 
-// From a cut through its function, the class of that and a fitted plan to what the proposal saves.
-#[test]
-fn plans_of_classes_save(rt: HostRuntime) -> Result<(), Fail> {
-    let alloc = rt.alloc();
-    for (graph, node, place, leaves, wanted) in [
-        (alone(alloc), 6, 0, 2, 0),
-        (alone(alloc), 6, 1, 3, 1),
-        (shared(alloc), 6, 1, 3, -1),
-        (gated(alloc), 8, 2, 4, 1),
-    ] {
-        let Some(graph) = graph else {
-            panic!(rt; "no graph");
-        };
-        let lists = listed(&rt, alloc, &graph, 4, 1)?;
-        let counts = saved_by_class(alloc, &graph, &lists, node, place, leaves)?;
-        assert_eq!(rt; counts, Some((wanted, wanted)));
+// Whether both counts say that it saves so much.
+fn class_saves<R: Threads + Sync>(
+    rt: &R,
+    alloc: Global,
+    graph: &Graph,
+    node: u32,
+    place: usize,
+    leaves: usize,
+    wanted: i64,
+) -> bool {
+    let Ok(lists) = listed(rt, alloc, graph, 4, 1) else {
+        return false;
+    };
+    match saved_by_class(alloc, graph, &lists, node, place, leaves) {
+        Ok(counts) => counts == Some((wanted, wanted)),
+        Err(_) => false,
     }
-    Ok(())
+}
+
+// From a cut through its function, the class of that and a fitted plan to what the proposal saves: over two leaves and
+// over three.
+#[test]
+fn plans_of_classes_save(rt: HostRuntime) {
+    let alloc = rt.alloc();
+    let Some(graph) = alone(alloc) else {
+        panic!(rt; "no graph");
+    };
+    assert!(rt; class_saves(&rt, alloc, &graph, 6, 0, 2, 0));
+    assert!(rt; class_saves(&rt, alloc, &graph, 6, 1, 3, 1));
+}
+
+// The same over three leaves, two of whose ANDs are observed.
+#[test]
+fn plans_of_classes_save_no_shared_nodes(rt: HostRuntime) {
+    let alloc = rt.alloc();
+    let Some(graph) = shared(alloc) else {
+        panic!(rt; "no graph");
+    };
+    assert!(rt; class_saves(&rt, alloc, &graph, 6, 1, 3, -1));
+}
+
+// The same over four leaves.
+#[test]
+fn plans_of_classes_save_over_four_leaves(rt: HostRuntime) {
+    let alloc = rt.alloc();
+    let Some(graph) = gated(alloc) else {
+        panic!(rt; "no graph");
+    };
+    assert!(rt; class_saves(&rt, alloc, &graph, 8, 2, 4, 1));
 }
 
 // The nodes as the leaves of a proposal; none where there are too many.
@@ -321,6 +394,96 @@ fn listed_proposal(
     }
 }
 
+// What a node's listed proposal at this place saves by both counts; none where there is no such proposal.
+fn listed_counts(
+    alloc: Global,
+    graph: &Graph,
+    lists: &CutLists,
+    node: u32,
+    place: usize,
+) -> Result<Option<(i64, i64)>, AllocError>
+    requires { (n : ℕ) → n < length graph.now.rows → All (λ c. IsCut graph.now.rows c n) (list_at lists.now n) }
+{
+    match listed_proposal(alloc, graph, lists, node, place)? {
+        Some(proposal) => both_counts(alloc, graph, proposal.borrow()),
+        None => Ok(None),
+    }
+}
+
+// Whether both counts of a node's listed proposals are one number.
+fn node_counts_alike(alloc: Global, graph: &Graph, lists: &CutLists, node: u32) -> bool
+    requires { (n : ℕ) → n < length graph.now.rows → All (λ c. IsCut graph.now.rows c n) (list_at lists.now n) }
+{
+    for place in 0..31 {
+        match listed_counts(alloc, graph, lists, node, place) {
+            Ok(Some((near, swept))) if near != swept => return false,
+            Ok(_) => {}
+            Err(_) => return false,
+        }
+    }
+    true
+}
+
+// Whether they are at each node.
+fn counts_alike(alloc: Global, graph: &Graph, lists: &CutLists) -> bool
+    requires { (n : ℕ) → n < length graph.now.rows → All (λ c. IsCut graph.now.rows c n) (list_at lists.now n) }
+{
+    for node in 0..100 {
+        if !node_counts_alike(alloc, graph, lists, node) {
+            return false;
+        }
+    }
+    true
+}
+
+#[test]
+fn counts_each_proposal_alike(rt: HostRuntime) -> Result<(), Fail> {
+    let alloc = rt.alloc();
+    let Some(graph) = adder(alloc) else {
+        panic!(rt; "no graph");
+    };
+    let lists = listed(&rt, alloc, &graph, 4, 1)?;
+    assert!(rt; counts_alike(alloc, &graph, &lists));
+    Ok(())
+}
+
+// The place of a node's first listed proposal that saves.
+fn saving_place(alloc: Global, graph: &Graph, lists: &CutLists, node: u32) -> Option<usize>
+    requires { (n : ℕ) → n < length graph.now.rows → All (λ c. IsCut graph.now.rows c n) (list_at lists.now n) }
+{
+    for place in 0..31 {
+        match listed_counts(alloc, graph, lists, node, place) {
+            Ok(Some((near, _))) if near > 0 => return Some(place),
+            _ => {}
+        }
+    }
+    None
+}
+
+// The node and the place of the first that saves.
+fn saving_node(alloc: Global, graph: &Graph, lists: &CutLists) -> Option<(u32, usize)>
+    requires { (n : ℕ) → n < length graph.now.rows → All (λ c. IsCut graph.now.rows c n) (list_at lists.now n) }
+{
+    for node in 0..100 {
+        if let Some(place) = saving_place(alloc, graph, lists, node) {
+            return Some((node, place));
+        }
+    }
+    None
+}
+
+// The first listed proposal of a graph that saves.
+fn first_saving<R: Threads + Sync>(rt: &R, alloc: Global, graph: &Graph) -> Option<Proposal>
+    ensures { IfSome result (λ p. IsSoundBy graph.now.rows (replacement p)) }
+{
+    let lists = listed(rt, alloc, graph, 4, 1).ok()?;
+    let (node, place) = saving_node(alloc, graph, &lists)?;
+    match listed_proposal(alloc, graph, &lists, node, place) {
+        Ok(found) => found,
+        Err(_) => None,
+    }
+}
+
 // Whether applying a proposal makes the graph smaller, and changes no value at one choice of inputs.
 fn applies(alloc: Global, graph: Graph, proposal: &Proposal) -> Result<bool, AllocError>
     requires { IsSoundBy graph.rows (replacement proposal.now) }
@@ -340,28 +503,15 @@ fn applies(alloc: Global, graph: Graph, proposal: &Proposal) -> Result<bool, All
     Ok(after.count() < before && kept.as_slice() == values.as_slice())
 }
 
-// Both counts of each node's listed proposals are one number; the first proposal that saves is applied.
 #[test]
-fn counts_alike_and_applies(rt: HostRuntime) -> Result<(), Fail> {
+fn applies_what_saves(rt: HostRuntime) -> Result<(), Fail> {
     let alloc = rt.alloc();
     let Some(graph) = adder(alloc) else {
         panic!(rt; "no graph");
     };
-    let lists = listed(&rt, alloc, &graph, 4, 1)?;
-    for node in 0..100 {
-        for place in 0..31 {
-            let Some(proposal) = listed_proposal(alloc, &graph, &lists, node, place)? else {
-                continue;
-            };
-            let Some((near, swept)) = both_counts(alloc, &graph, proposal.borrow())? else {
-                continue;
-            };
-            assert_eq!(rt; near, swept);
-            if near > 0 {
-                assert!(rt; applies(alloc, graph, &proposal)?);
-                return Ok(());
-            }
-        }
-    }
-    panic!(rt; "nothing saved");
+    let Some(proposal) = first_saving(&rt, alloc, &graph) else {
+        panic!(rt; "nothing saved");
+    };
+    assert!(rt; applies(alloc, graph, &proposal)?);
+    Ok(())
 }
