@@ -1,3 +1,4 @@
+pub mod Leaves
 pub mod Cones
 pub mod Walk
 pub mod Laws

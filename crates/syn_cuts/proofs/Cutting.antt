@@ -97,7 +97,7 @@ module _ (P : List ℕ → Type 0) where
       go false true ih = a
       go false false ih = All-cons P d (put c ds) (All-head P d ds a) ih
 
-  all_arranged : (ds cs : List (List ℕ)) → All P ds → All P cs → All P (arranged ds cs)
+  pub all_arranged : (ds cs : List (List ℕ)) → All P ds → All P cs → All P (arranged ds cs)
   all_arranged ds [] a b = a
   all_arranged ds (c ∷ cs) a b = all_arranged (put c ds) cs (all_put c ds (All-head P c cs b) a) (All-tail P c cs b)
 
@@ -108,7 +108,7 @@ all_unions_with k P Q c ds f a = All-filter (is_small k) Q (map (union c) ds) (e
     each [] a = All-nil Q
     each (d ∷ es) a = All-cons Q (union c d) (map (union c) es) (f d (All-head P d es a)) (each es (All-tail P d es a))
 
-all_unions : (k : ℕ) (P R Q : List ℕ → Type 0) (cs ds : List (List ℕ)) → ((c d : List ℕ) → P c → R d → Q (union c d)) → All P cs → All R ds → All Q (unions k cs ds)
+pub all_unions : (k : ℕ) (P R Q : List ℕ → Type 0) (cs ds : List (List ℕ)) → ((c d : List ℕ) → P c → R d → Q (union c d)) → All P cs → All R ds → All Q (unions k cs ds)
 all_unions k P R Q [] ds f a b = All-nil Q
 all_unions k P R Q (c ∷ cs) ds f a b =
     All-append Q (unions_with k c ds) (unions k cs ds) (all_unions_with k R Q c ds (λ d h. f c d (All-head P c cs a) h) b) (all_unions k P R Q cs ds f (All-tail P c cs a) b)

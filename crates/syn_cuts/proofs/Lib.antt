@@ -4,3 +4,4 @@ pub mod Cutting
 pub mod Filling
 pub mod Ordering
 pub mod Sorting
+pub mod Rising

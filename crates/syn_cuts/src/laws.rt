@@ -1,6 +1,6 @@
 //! Laws of listed cuts, and worked cuts.
 
-ghost use Rattle.syn_cuts.specs.Laws.{ArrangedInOrder, ListedAreCuts};
+ghost use Rattle.syn_cuts.specs.Laws.{ArrangedInOrder, ListedAreCuts, ListedCutsRise};
 ghost use Rattle.syn_cuts.specs.Worked.{Worked};
 
 /// The definition lists the wanted cuts of a worked graph.
@@ -16,4 +16,9 @@ pub fn listed_are_cuts()
 /// Arranged cuts are in order, each once, and are the cuts that were arranged.
 pub fn arranged_in_order()
     ensures { ArrangedInOrder }
+{}
+
+/// Each listed cut of an AND of hashed rows rises, lies below it and has 2 to k leaves, but the last, the node alone.
+pub fn listed_cuts_rise()
+    ensures { ListedCutsRise }
 {}

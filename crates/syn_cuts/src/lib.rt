@@ -14,5 +14,5 @@ use arrayvec::ArrayVec;
 pub type Cut = ArrayVec<u32, 8>;
 
 pub use graphs::{function, listed};
-pub use laws::{arranged_in_order, listed_are_cuts, worked_cuts};
+pub use laws::{arranged_in_order, listed_are_cuts, listed_cuts_rise, worked_cuts};
 pub use lists::CutLists;

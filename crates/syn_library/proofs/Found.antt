@@ -2,7 +2,7 @@
 use Rattle.std.proofs.Common.{◌≡◌, ℕ, ◌+◌, ◌<◌, List, map, length, get_or, refl, sym, ap, ◌∙◌, inl, inr, arith}
 use Rattle.std.proofs.lemmas.Bool.{cases_eq, cases_lt}
 use Rattle.std.proofs.lemmas.List.{get_or-map, get_or_past, get_or_read, length-map}
-use Rattle.syn_npn.specs.Permutations.{canon_key, class_of}
+use Rattle.syn_npn.specs.Keys.{canon_key, class_of}
 use Rattle.syn_npn.proofs.Least.{canon_key-parts}
 use Rattle.syn_library.specs.declared.class_plans.ClassPlans.{ClassPlans}
 use Rattle.syn_library.specs.Prepared.{AreFound, class_found}

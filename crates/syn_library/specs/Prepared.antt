@@ -1,6 +1,6 @@
 -- Lists of plans by class.
 use Rattle.std.specs.Prelude.{◌≡◌, ℕ, ◌<◌, List, map, slice_index_or}
-use Rattle.syn_npn.specs.Permutations.{class_of}
+use Rattle.syn_npn.specs.Keys.{class_of}
 use Rattle.syn_library.specs.declared.class_plans.ClassPlans.{ClassPlans}
 
 -- the class of the list at the place that is noted for a class; 65536 is none

@@ -1,7 +1,7 @@
 //! The classes of all functions with the plans of each class, made once.
 
 ghost use Rattle.std.specs.Prelude.{◌≡◌, ℕ, ◌+◌, ◌<◌, ◌≤◌, length, IfOk, OnOk, IsTrue};
-ghost use Rattle.syn_npn.specs.Permutations.{class_of};
+ghost use Rattle.syn_npn.specs.Keys.{class_of};
 ghost use Rattle.syn_npn.specs.Transforms.{IsCanon};
 ghost use Rattle.syn_library.specs.Prepared.{AreFound, class_found};
 

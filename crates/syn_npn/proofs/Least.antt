@@ -3,7 +3,8 @@ use Rattle.std.proofs.Common.{ℕ, zero, suc, ◌/◌, ◌%◌, ◌^◌, ◌<◌
 use Rattle.std.proofs.lemmas.Bool.{cases_eq, cases_lt}
 use Rattle.std.proofs.lemmas.List.{get_or_read}
 use Rattle.syn_npn.specs.declared.Transform.{Transform}
-use Rattle.syn_npn.specs.Permutations.{IsKey, IsKeyed, canon_key, key_at, least_of, neg_at, perm_at}
+use Rattle.syn_npn.specs.Keys.{IsKeyed, canon_key, least_of}
+use Rattle.syn_npn.specs.Permutations.{IsKey, key_at, neg_at, perm_at}
 use Rattle.syn_npn.specs.Transforms.{IsCanon}
 use Rattle.syn_npn.proofs.Keys.{image-first, image-least, key-parts}
 use Rattle.syn_npn.proofs.Ordering.{IsCanon-from_places}

@@ -9,3 +9,5 @@ pub mod Permuting
 pub mod Steps
 pub mod Undoing
 pub mod Unique
+pub mod Composing
+pub mod Noting

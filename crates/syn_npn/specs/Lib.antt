@@ -1,4 +1,5 @@
 pub mod Images
+pub mod Keys
 pub mod Permutations
 pub mod Transforms
 pub mod Values

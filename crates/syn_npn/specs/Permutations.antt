@@ -1,5 +1,5 @@
 -- The transforms by their places in their order.
-use Rattle.std.specs.Prelude.{◌≡◌, ℕ, zero, suc, min, ◌+◌, ◌*◌, ◌/◌, ◌%◌, ◌<◌, ◌==◌, Bool, List, [], slice_index_or, length}
+use Rattle.std.specs.Prelude.{◌≡◌, ℕ, ◌+◌, ◌*◌, ◌/◌, ◌%◌, ◌<◌, ◌==◌, Bool, List, [], slice_index_or}
 use Rattle.syn_npn.specs.declared.TheConstants.{PERMUTATIONS}
 use Rattle.syn_npn.specs.Values.{image_by}
 
@@ -26,20 +26,3 @@ key_at function place = image_at function place * 1024 + place
 -- the key of a transform's image
 abbrev pub IsKey : ℕ → ℕ → Type 0
 IsKey function key = (place : ℕ) × (place < 768) × (key ≡ key_at function place)
-
--- the least of g 0, .., g n
-unfoldable pub least_of : ℕ → (ℕ → ℕ) → ℕ
-least_of zero g = g 0
-least_of (suc n) g = min (least_of n g) (g (suc n))
-
--- the least key of a function: its class, and below it the place of the first transform that gives the class
-unfoldable pub canon_key : ℕ → ℕ
-canon_key function = least_of 767 (key_at function)
-
--- the least key of each function from 0 on
-abbrev pub IsKeyed : List ℕ → Type 0
-IsKeyed keys = (function : ℕ) → function < length keys → slice_index_or keys function 0 ≡ canon_key function
-
--- the class of a function, its least image
-abbrev pub class_of : ℕ → ℕ
-class_of function = canon_key function / 1024

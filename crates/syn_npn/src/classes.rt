@@ -2,7 +2,7 @@
 
 ghost use Rattle.std.specs.Prelude.{◌≡◌, ℕ, ◌+◌, ◌*◌, ◌/◌, ◌%◌, ◌^◌, ◌<◌, ◌≤◌, List, true, slice_index, slice_index_or, ◌==◌};
 ghost use Rattle.syn_npn.specs.Images.{value_at};
-ghost use Rattle.syn_npn.specs.Permutations.{canon_key};
+ghost use Rattle.syn_npn.specs.Keys.{canon_key};
 ghost use Rattle.syn_npn.specs.Transforms.{image_of, IsCanon};
 ghost use Rattle.syn_npn.specs.Values.{image_value};
 
@@ -24,7 +24,8 @@ pub fn image(transform: Transform, function: u16) -> u16
 
 /// The transform that leads from an image back to the function.
 pub fn undo(transform: Transform) -> Transform
-    ensures { (f : ℕ) → f < 2 ^ 16 → image_of result (image_of transform f) ≡ f }
+    ensures undone { (f : ℕ) → f < 2 ^ 16 → image_of result (image_of transform f) ≡ f }
+    ensures redone { (f : ℕ) → f < 2 ^ 16 → image_of transform (image_of result f) ≡ f }
 {
     let perm = transform.places();
     Transform {

@@ -6,7 +6,7 @@ ghost use Rattle.syn_npn.specs.Transforms.{IsCanon};
 use crate::{Transform, image};
 
 /// The number of transforms.
-const TRANSFORMS: u16 = 768;
+pub(crate) const TRANSFORMS: u16 = 768;
 
 /// The answer of `crate::canon`, which walks the images faster.
 pub fn canon(function: u16) -> (u16, Transform)

@@ -1,15 +1,21 @@
 //! The classes of all functions at once.
 
-ghost use Rattle.std.specs.Prelude.{◌≡◌, ℕ, ◌+◌, ◌<◌, ◌≤◌, length, slice_index_or, IfOk};
-ghost use Rattle.syn_npn.specs.Permutations.{canon_key, class_of, IsKeyed};
+ghost use Rattle.std.specs.Prelude.{◌≡◌, ℕ, ◌+◌, ◌^◌, ◌<◌, ◌≤◌, ◌==◌, if◌then◌else◌, length, replicate, slice_index_or, slice_set, IfOk};
+ghost use Rattle.syn_npn.specs.Keys.{AreNoted, AreSeen, canon_key, class_of, IsKeyed};
+ghost use Rattle.syn_npn.specs.Permutations.{image_at};
 ghost use Rattle.syn_npn.specs.Transforms.{IsCanon};
 
 use crate::Transform;
-use crate::classes::{canon_key, of_key};
+use crate::classes::{image, of_key, undo};
+use crate::plain::TRANSFORMS;
+use crate::walk::KEY_STEP;
 use std::alloc::{AllocError, Global};
 
 /// The number of functions of four variables.
 const FUNCTIONS: u32 = 65536;
+
+/// What stands for a key that is not noted yet, above each key.
+const UNSEEN: u32 = u32::MAX;
 
 /// The class of each function of four variables and the first transform to it, made once.
 #[derive(Debug, Drop)]
@@ -19,15 +25,66 @@ pub struct Classes {
     ghost keyed: { IsKeyed keys.items },
 }
 
-/// The least keys of the first so many functions.
-fn keys_below(alloc: Global, count: u32) -> Result<Vec<u32>, AllocError>
-    requires { count ≤ 65536 }
-    ensures count { IfOk result (λ keys. length keys.items ≡ count) }
+/// The function whose image by the transform at a place is this one.
+fn member(class: u16, place: u16) -> u16
+    requires { place < 768 }
+    ensures image { image_at result place ≡ class }
+    ensures only { (function : ℕ) → function < 2 ^ 16 → image_at function place ≡ class → function ≡ result }
+{
+    image(undo(Transform::at(place)), class)
+}
+
+/// Notes the key of a function unless one is noted.
+fn note(keys: &mut [u32], function: u16, key: u32)
+    requires { length keys.old ≡ 65536 }
+    ensures { keys.new ≡ (if slice_index_or keys.old function 0 == 4294967295 then slice_set keys.old function key else keys.old) }
+{
+    if keys[function as usize] == UNSEEN {
+        keys[function as usize] = key;
+    }
+}
+
+/// Notes the keys of all functions of a class: a transform that comes later finds them noted.
+fn note_class(keys: &mut [u32], class: u16)
+    requires count { length keys.old ≡ 65536 }
+    requires class { class_of class ≡ class }
+    ensures count { length keys.new ≡ 65536 }
+    ensures noted { AreNoted 768 class keys.old keys.new }
+{
+    for place in 0..TRANSFORMS {
+        let key = class as u32 * KEY_STEP + place as u32;
+        note(keys, member(class, place), key);
+    }
+}
+
+/// So many keys, none of them noted.
+fn no_keys(alloc: Global, count: u32) -> Result<Vec<u32>, AllocError>
+    ensures { IfOk result (λ keys. keys.items ≡ replicate count 4294967295) }
+{
+    vec![in alloc; UNSEEN; count as usize]
+}
+
+/// Notes the keys of a class if the number is one: the least of its functions, and not noted yet.
+fn note_new(keys: &mut [u32], number: u16)
+    requires count { length keys.old ≡ 65536 }
+    requires seen { AreSeen number keys.old }
+    ensures count { length keys.new ≡ 65536 }
+    ensures seen { AreSeen (number + 1) keys.new }
+{
+    if keys[number as usize] == UNSEEN {
+        note_class(keys, number);
+    }
+}
+
+/// The least keys of all functions, class by class.
+fn all_keys(alloc: Global, count: u32) -> Result<Vec<u32>, AllocError>
+    requires { count ≡ 65536 }
+    ensures count { IfOk result (λ keys. length keys.items ≡ 65536) }
     ensures keyed { IfOk result (λ keys. IsKeyed keys.items) }
 {
-    let mut keys = Vec::new(alloc);
-    for function in 0..count {
-        keys.push(canon_key(function as u16))?;
+    let mut keys = no_keys(alloc, count)?;
+    for number in 0..count {
+        note_new(keys.as_mut_slice(), number as u16);
     }
     Ok(keys)
 }
@@ -35,7 +92,7 @@ fn keys_below(alloc: Global, count: u32) -> Result<Vec<u32>, AllocError>
 impl Classes {
     /// The classes of all functions. The only error is want of memory.
     pub fn new(alloc: Global) -> Result<Classes, AllocError> {
-        let keys = keys_below(alloc, FUNCTIONS)?;
+        let keys = all_keys(alloc, FUNCTIONS)?;
         Ok(Classes { keys })
     }
 

@@ -1,0 +1,33 @@
+-- One graph in place of another, one after the other.
+use Rattle.std.proofs.Common.{◌≡◌, ℕ, ℤ, pos, ◌+ℤ◌, ◌≤ℤ◌, ◌+◌, ◌≤◌, Bool, List, length, ◌∙◌, arith}
+use Rattle.std.proofs.lemmas.Int.{ints}
+use Rattle.syn_rows.specs.Values.{rows_function}
+use Rattle.syn_netlist.specs.Frames.{frame_in}
+use Rattle.syn_graph.specs.declared.Graph.{Graph}
+use Rattle.syn_gain.specs.Replacements.{Replacement, SavedBy}
+use Rattle.syn_pool.specs.Closing.{SavesSome}
+use Rattle.syn_pool.specs.Following.{Follows}
+
+pub chained : (a b c : Graph) (j k l : ℕ) → l ≤ j + k → Follows a j b → Follows b k c → Follows a l c
+chained a b c j k l le first second = record {
+  frame = second.frame ∙ first.frame;
+  names = second.names ∙ first.names;
+  values = λ bits. second.values bits ∙ first.values bits;
+  count = let x = first.count in let y = second.count in omega arith;
+}
+
+-- a graph after a proposal that saves
+pub applied_follows : (was now : Graph) (r : Replacement) → frame_in now.frame ≡ frame_in was.frame → now.frame.names ≡ was.frame.names
+    → ((bits : List Bool) → rows_function now.rows now.observed bits ≡ rows_function was.rows was.observed bits)
+    → ((s : ℤ) → SavedBy was.rows was.observed r s → (pos (length now.rows) +ℤ s) ≤ℤ pos (length was.rows))
+    → SavesSome was.rows was.observed r → Follows was 1 now
+unfolding SavesSome
+applied_follows was now r frame names values falls some = record {
+  frame = frame;
+  names = names;
+  values = values;
+  count = fewer (length now.rows) (length was.rows) some.0 (falls some.0 some.1) some.2;
+}
+  where
+    fewer : (now was : ℕ) (s : ℤ) → (pos now +ℤ s) ≤ℤ pos was → pos 1 ≤ℤ s → now + 1 ≤ was
+    fewer now was s falls some = omega (arith, ints)

@@ -1,0 +1,6 @@
+pub mod Sound
+pub mod Closing
+pub mod Following
+pub mod Gains
+pub mod Rounds
+pub mod Laws

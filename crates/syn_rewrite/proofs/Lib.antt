@@ -1,0 +1,9 @@
+mod Numbers
+mod Classes
+mod Sound
+mod Parts
+mod Cuts
+mod Fitted
+mod Listed
+mod Rising
+mod Candidates

@@ -1,0 +1,64 @@
+-- The listed cuts of a node but the last, and what is listed for a graph.
+use Rattle.std.proofs.Common.{◌≡◌, ℕ, ◌+◌, ◌-◌, ◌<◌, true, All, List, ◌∷◌, [], ◌++◌, length, get_or, inl, inr, sym, ap, ◌∙◌, subst, arith}
+use Rattle.std.proofs.lemmas.Bool.{cases_lt, leb-true}
+use Rattle.std.proofs.lemmas.List.{get_or_append_left, get_or_push, length_push}
+use Rattle.std.proofs.lemmas.List.Elements.{All-take}
+use Rattle.std.specs.Global.{Vec}
+use Rattle.syn_rows.specs.declared.Row.{Row}
+use Rattle.syn_rows.specs.Rows.{InOrder, row_at}
+use Rattle.syn_rows.specs.Reach.{is_and}
+use Rattle.syn_rows.proofs.Folds.{length-fold}
+use Rattle.syn_cuts.specs.Cuts.{listed_cuts, row_cuts}
+use Rattle.syn_cones.specs.Cones.{IsCut}
+use Rattle.syn_cuts.specs.Lists.{list_at}
+use Rattle.syn_cuts.proofs.Cutting.{listed_are_cuts}
+use Rattle.syn_netlist.specs.Frames.{frame_in}
+use Rattle.syn_netlist.specs.Lists.{sources}
+use Rattle.syn_graph.specs.declared.Graph.{Graph}
+use Rattle.syn_hashed.proofs.Orders.{hashed_in_order}
+use Rattle.syn_gain.proofs.Owning.{and_inside}
+use Rattle.syn_rewrite.proofs.Rising.{RisesBelow, listed_below, no_constants}
+use Rattle.syn_rewrite.specs.Prepared.{AreFunctionsOver, AreLeavesOf, HaveFunctions, cuts_of}
+
+-- the functions of one node more
+pub more_listed : (rows : List Row) (before : List (Vec ℕ)) (one : Vec ℕ) (last : ℕ) → length before ≡ last → HaveFunctions rows before
+    → (is_and (row_at rows last) ≡ true → AreFunctionsOver rows last (cuts_of rows last) one.items) → HaveFunctions rows (before ++ one ∷ [])
+more_listed rows before one last count have here node d lt gate = elim (cases_lt node (length before)) [
+  | inl low ↦ subst (λ (v : Vec ℕ). AreFunctionsOver rows node (cuts_of rows node) v.items) (sym (get_or_append_left before (one ∷ []) d node low)) (have node d low gate)
+  | inr high ↦
+      let same : last ≡ node = let long = length_push before one in omega arith in
+      let found : AreFunctionsOver rows last (cuts_of rows last) one.items = here (subst (λ k. is_and (row_at rows k) ≡ true) (sym same) gate) in
+      subst (λ (v : Vec ℕ). AreFunctionsOver rows node (cuts_of rows node) v.items) (sym (get_or_push before one d node (count ∙ same)))
+      (subst (λ k. AreFunctionsOver rows k (cuts_of rows k) one.items) same found)
+]
+
+-- as many lists as nodes
+pub listed_count : (rows : List Row) → length (listed_cuts 4 rows) ≡ length rows
+listed_count rows = omega (arith, length-fold (row_cuts 4) [] [] rows)
+
+pub within_lists : (lists : List (List (List ℕ))) (rows : List Row) (node : ℕ) → lists ≡ listed_cuts 4 rows → node < length rows → node < length lists
+within_lists lists rows node is lt = omega (arith, ap length is, listed_count rows)
+
+-- the cuts of an AND but the last are at most four nodes that rise below it, and cuts of it
+pub listed_leaves : (graph : Graph) (node : ℕ) → is_and (row_at graph.rows node) ≡ true → All (AreLeavesOf graph.rows node) (cuts_of graph.rows node)
+listed_leaves graph node gate k d lt =
+    let rise = rising k d lt in
+    record { cut = cuts k d lt; rise = rise.0.0; below = rise.0.1; few = leb-true (length (get_or (cuts_of graph.rows node) k d)) 4 rise.1 }
+  where
+    count : ℕ
+    count = length (sources (frame_in graph.frame))
+
+    order : InOrder graph.rows
+    order = hashed_in_order count graph.rows graph.graph.hashed
+
+    inside : node < length graph.rows
+    inside = (and_inside count graph.rows graph.graph.hashed node gate).1
+
+    rising : All (RisesBelow 4 node) (cuts_of graph.rows node)
+    rising = listed_below 4 graph.rows order (no_constants count graph.rows graph.graph.hashed) node inside gate
+
+    all : List (List ℕ)
+    all = list_at (listed_cuts 4 graph.rows) node
+
+    cuts : All (λ c. IsCut graph.rows c node) (cuts_of graph.rows node)
+    cuts = All-take (λ c. IsCut graph.rows c node) (length all - 1) all (listed_are_cuts 4 graph.rows order node inside)

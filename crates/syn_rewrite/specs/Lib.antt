@@ -1,0 +1,5 @@
+pub mod Functions
+pub mod Classes
+pub mod Rewriting
+pub mod Laws
+pub mod Prepared

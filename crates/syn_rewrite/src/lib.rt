@@ -1,0 +1,14 @@
+//! Rewriting: each node's cuts of at most four leaves, each cut's class, each of the class's plans.
+#![tactic(auto)]
+
+mod functions;
+mod laws;
+mod plans;
+mod prepared;
+mod proposing;
+mod rewriting;
+
+pub use laws::{class_of_function, function_of_table};
+pub use prepared::Prepared;
+pub use proposing::CutPlans;
+pub use rewriting::rewrite;

@@ -1,0 +1,90 @@
+//! What is listed once for a graph.
+
+ghost use Rattle.std.specs.Prelude.{◌≡◌, ◌-◌, ◌<◌, ◌≤◌, true, All, List, IfOk, length};
+ghost use Rattle.syn_rows.specs.declared.Row.{Row};
+ghost use Rattle.syn_rows.specs.Rows.{row_at};
+ghost use Rattle.syn_rows.specs.Reach.{is_and};
+ghost use Rattle.syn_cuts.specs.Cuts.{listed_cuts};
+ghost use Rattle.syn_cuts.specs.Leaves.{leaves_of};
+ghost use Rattle.syn_rewrite.specs.Prepared.{AreFunctionsOver, HaveFunctions, IsPreparedFor, cuts_of};
+ghost use Rattle.syn_rewrite.specs.Rewriting.{all_but_last};
+
+use crate::functions::functions_over;
+use std::alloc::{AllocError, Global};
+use std::thread::Threads;
+use syn_cuts::{Cut, CutLists, listed};
+use syn_graph::Graph;
+use syn_rows::Row;
+
+/// The most leaves of a cut that is looked at.
+const MOST_LEAVES: u8 = 4;
+
+/// The listed cuts of each node, and the functions of each AND over those that are looked at.
+#[derive(Drop)]
+pub struct Prepared {
+    /// The listed cuts of at most four leaves.
+    pub cuts: CutLists,
+    /// The functions of an AND over its listed cuts but the last, in order.
+    pub functions: Vec<Vec<u16>>,
+}
+
+// All but the last.
+fn but_last(cuts: &[Cut]) -> &[Cut]
+    ensures { leaves_of result.now ≡ all_but_last (leaves_of cuts.now) }
+{
+    let (first, _) = cuts.split_at(cuts.len().saturating_sub(1));
+    first
+}
+
+/// The cuts of a node that are looked at: the listed ones but the last.
+pub(crate) fn cuts_of(cuts: &CutLists, node: u32) -> &[Cut]
+    requires { node < length cuts.now }
+    ensures { (rows : List Row) → cuts.now ≡ listed_cuts 4 rows → leaves_of result.now ≡ cuts_of rows node }
+{
+    but_last(cuts.of(node))
+}
+
+// The functions of a node over its cuts; none where it is no AND.
+fn functions_at(
+    alloc: Global,
+    graph: &Graph,
+    cuts: &CutLists,
+    node: u32,
+) -> Result<Vec<u16>, AllocError>
+    requires node { node < length graph.now.rows }
+    requires cuts { cuts.now ≡ listed_cuts 4 graph.now.rows }
+    ensures { IfOk result (λ v. is_and (row_at graph.now.rows node) ≡ true → AreFunctionsOver graph.now.rows node (cuts_of graph.now.rows node) v.items) }
+{
+    match graph.rows.as_slice()[node as usize] {
+        Row::And(_, _) => functions_over(alloc, graph, node, cuts_of(cuts, node)),
+        _ => Ok(Vec::new(alloc)),
+    }
+}
+
+// The functions of each AND over its cuts.
+fn all_functions(alloc: Global, graph: &Graph, cuts: &CutLists) -> Result<Vec<Vec<u16>>, AllocError>
+    requires { cuts.now ≡ listed_cuts 4 graph.now.rows }
+    ensures count { IfOk result (λ v. length v.items ≡ length graph.now.rows) }
+    ensures functions { IfOk result (λ v. HaveFunctions graph.now.rows v.items) }
+{
+    let _count = graph.count();
+    let mut functions = Vec::new(alloc);
+    for node in 0..graph.rows.as_slice().len() as u32 {
+        functions.push(functions_at(alloc, graph, cuts, node)?)?;
+    }
+    Ok(functions)
+}
+
+/// What is listed for a graph.
+pub(crate) fn prepare<R: Threads + Sync>(
+    rt: &R,
+    alloc: Global,
+    graph: &Graph,
+    workers: u8,
+) -> Result<Prepared, AllocError>
+    ensures { IfOk result (λ lists. IsPreparedFor lists graph.now.rows) }
+{
+    let cuts = listed(rt, alloc, graph, MOST_LEAVES, workers)?;
+    let functions = all_functions(alloc, graph, &cuts)?;
+    Ok(Prepared { cuts, functions })
+}

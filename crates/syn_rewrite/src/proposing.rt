@@ -1,0 +1,183 @@
+//! The proposer.
+
+ghost use Rattle.std.specs.Prelude.{◌≡◌, ◌<◌, ◌≤◌, ◌++◌, true, All, List, OnOk, IfNone, IfOk, IfSome, length, map};
+ghost use Rattle.syn_rows.specs.declared.Row.{Row};
+ghost use Rattle.syn_rows.specs.Rows.{row_at};
+ghost use Rattle.syn_rows.specs.Reach.{is_and};
+ghost use Rattle.syn_plan.specs.Naming.{built_of};
+ghost use Rattle.syn_library.specs.Library.{NamesOwn};
+ghost use Rattle.syn_gain.specs.Proposals.{replacement, replacement_of};
+ghost use Rattle.syn_gain.specs.Uses.{IsUsesOf};
+ghost use Rattle.syn_pool.specs.Closing.{IsFirst, SavesNothing};
+ghost use Rattle.syn_pool.specs.Sound.{IsSound};
+ghost use Rattle.syn_rewrite.specs.Functions.{IsFunctionOver};
+ghost use Rattle.syn_rewrite.specs.Prepared.{AreLeavesOf, ArePlansOf, IsPreparedFor};
+ghost use Rattle.syn_rewrite.specs.Rewriting.{cut_proposals, over, rewritings};
+
+use crate::plans::plans_of;
+use crate::prepared::{Prepared, cuts_of, prepare};
+use std::alloc::{AllocError, Global};
+use std::thread::Threads;
+use syn_gain::{Candidate, Proposal, Uses};
+use syn_graph::Graph;
+use syn_library::Prepared as Classes;
+use syn_plan::Plan;
+use syn_pool::{Proposer, owned, saves};
+
+/// Proposes for each AND, cut by cut, the plans of its function over the cut.
+#[derive(Drop)]
+pub struct CutPlans {
+    classes: Classes,
+}
+
+impl CutPlans {
+    /// The proposer, with the plans of all classes. The only error is want of memory.
+    pub fn new(alloc: Global) -> Result<CutPlans, AllocError> {
+        Ok(CutPlans {
+            classes: Classes::new(alloc)?,
+        })
+    }
+}
+
+// A plan of a node's function over leaves, in place of the node.
+fn candidate<'a>(
+    graph: &Graph,
+    node: u32,
+    leaves: &'a [u32],
+    function: u16,
+    plan: &'a Plan,
+) -> Candidate<'a>
+    requires node { is_and (row_at graph.now.rows node) ≡ true }
+    requires leaves { AreLeavesOf graph.now.rows node leaves.now }
+    requires function { IsFunctionOver graph.now.rows leaves.now node function }
+    requires count { plan.now.leaves ≡ 4 }
+    requires names { NamesOwn plan.now function }
+    ensures root { result.root ≡ node }
+    ensures few { length result.leaves.now ≤ 4 }
+    ensures is { replacement_of result ≡ over node leaves.now (built_of plan.now) }
+{
+    Candidate {
+        root: node,
+        leaves,
+        plan,
+    }
+}
+
+// Adds the plans of a node's function over leaves, in order.
+fn push_plans(
+    graph: &Graph,
+    node: u32,
+    leaves: &[u32],
+    function: u16,
+    plans: &[Plan],
+    proposals: &mut Vec<Proposal>,
+) -> Result<(), AllocError>
+    requires node { is_and (row_at graph.now.rows node) ≡ true }
+    requires leaves { AreLeavesOf graph.now.rows node leaves.now }
+    requires function { IsFunctionOver graph.now.rows leaves.now node function }
+    requires plans { ArePlansOf function plans.now }
+    ensures proposals { OnOk result (map replacement proposals.new.items ≡ map replacement proposals.old.items ++ cut_proposals graph.now.rows node leaves.now) }
+    ensures roots { OnOk result (All (λ p. p.root ≡ node) proposals.old.items → All (λ p. p.root ≡ node) proposals.new.items) }
+    ensures sound { OnOk result (All (IsSound graph.now.rows) proposals.old.items → All (IsSound graph.now.rows) proposals.new.items) }
+{
+    for plan in plans {
+        let candidate = candidate(graph, node, leaves, function, plan);
+        proposals.push(owned(candidate))?;
+    }
+    Ok(())
+}
+
+// The first of the plans of a node's function over leaves that saves.
+fn first_over(
+    alloc: Global,
+    graph: &Graph,
+    uses: &Uses,
+    node: u32,
+    leaves: &[u32],
+    function: u16,
+    plans: &[Plan],
+) -> Result<Option<Proposal>, AllocError>
+    requires uses { IsUsesOf uses.now graph.now }
+    requires node { is_and (row_at graph.now.rows node) ≡ true }
+    requires leaves { AreLeavesOf graph.now.rows node leaves.now }
+    requires function { IsFunctionOver graph.now.rows leaves.now node function }
+    requires plans { ArePlansOf function plans.now }
+    ensures first { IfOk result (λ found. IfSome found (λ p. IsFirst graph.now.rows graph.now.observed (cut_proposals graph.now.rows node leaves.now) (replacement p))) }
+    ensures root { IfOk result (λ found. IfSome found (λ p. p.root ≡ node)) }
+    ensures sound { IfOk result (λ found. IfSome found (IsSound graph.now.rows)) }
+    ensures none { IfOk result (λ found. IfNone found (All (SavesNothing graph.now.rows graph.now.observed) (cut_proposals graph.now.rows node leaves.now))) }
+{
+    for plan in plans {
+        let candidate = candidate(graph, node, leaves, function, plan);
+        if saves(alloc, graph, uses, candidate)? {
+            return Ok(Some(owned(candidate)));
+        }
+    }
+    Ok(None)
+}
+
+impl Proposer for CutPlans {
+    type Lists = Prepared;
+
+    ghost proposals = { λ _ rows node. rewritings rows node };
+
+    ghost is_lists_of = { λ _ lists rows. IsPreparedFor lists rows };
+
+    fn prepare<R: Threads + Sync>(
+        &self,
+        rt: &R,
+        alloc: Global,
+        graph: &Graph,
+        workers: u8,
+    ) -> Result<Prepared, AllocError> {
+        prepare(rt, alloc, graph, workers)
+    }
+
+    fn propose(
+        &self,
+        alloc: Global,
+        graph: &Graph,
+        lists: &Prepared,
+        node: u32,
+    ) -> Result<Vec<Proposal>, AllocError> {
+        let cuts = cuts_of(&lists.cuts, node);
+        let functions = &lists.functions[node as usize];
+        let mut proposals = Vec::new(alloc);
+        for (i, cut) in cuts.iter().enumerate() {
+            let function = functions[i];
+            let plans = plans_of(&self.classes, function);
+            let leaves = cut.as_slice();
+            push_plans(
+                graph,
+                node,
+                leaves,
+                function,
+                plans.as_slice(),
+                &mut proposals,
+            )?;
+        }
+        Ok(proposals)
+    }
+
+    fn first_saving(
+        &self,
+        alloc: Global,
+        graph: &Graph,
+        uses: &Uses,
+        lists: &Prepared,
+        node: u32,
+    ) -> Result<Option<Proposal>, AllocError> {
+        let cuts = cuts_of(&lists.cuts, node);
+        let functions = &lists.functions[node as usize];
+        for (i, cut) in cuts.iter().enumerate() {
+            let function = functions[i];
+            let plans = plans_of(&self.classes, function);
+            let leaves = cut.as_slice();
+            let plans = plans.as_slice();
+            if let Some(found) = first_over(alloc, graph, uses, node, leaves, function, plans)? {
+                return Ok(Some(found));
+            }
+        }
+        Ok(None)
+    }
+}
