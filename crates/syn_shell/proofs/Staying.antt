@@ -1,4 +1,4 @@
--- The netlist of a graph that is hashed or balanced anew is what these commands may make of the one before.
+-- The netlist of a graph that is hashed, balanced or rewritten is what these commands may make of the one before.
 use Rattle.std.proofs.Common.{◌≡◌, ℕ, ◌+◌, ◌<◌, ◌≤◌, Bool, true, List, map, length, refl, sym, ap, ap₂, ◌∙◌, subst, arith}
 use Rattle.std.proofs.lemmas.List.{length-drop}
 use Rattle.syn_rows.specs.declared.Lit.{Lit}
@@ -13,29 +13,24 @@ use Rattle.syn_shapes.specs.Graphs.{IsGraph, lit_at}
 use Rattle.syn_shapes.specs.Spelling.{NetworkOfGraph, NetworkSpells, network}
 use Rattle.syn_hashed.specs.Growing.{level_by}
 use Rattle.syn_shell.specs.Networks.{graph_network}
-use Rattle.syn_shell.specs.Steps.{IsBalanced, level_at}
+use Rattle.syn_pool.specs.Closing.{Closed}
+use Rattle.syn_rewrite.specs.Rewriting.{rewritings}
+use Rattle.syn_shell.specs.Steps.{IsBalanced, IsRemade, IsRewritten, level_at}
 
 has_same_function : (m : Netlist) (F G : List Bool → List Bool) → ((bits : List Bool) → G bits ≡ F bits) → HasFunction m G → HasFunction m F
 has_same_function m F G same h = record { total = h.total; value = λ v c. h.value v c ∙ same (map v (sources m.frame)) }
 
--- rows and literals of the same function, no more of them, and no observed one higher
-rebalanced_in : NetworkOfGraph → GraphHasFunction → SameFromFunction → (frame : Frame) (rows new_rows : List Row) (lits new_lits : List Lit) → distinct frame.clocks ≡ true → distinct (sources frame) ≡ true
+-- rows and literals of the same function, and no more of them
+remade_in : NetworkOfGraph → GraphHasFunction → SameFromFunction → (frame : Frame) (rows new_rows : List Row) (lits new_lits : List Lit) → distinct frame.clocks ≡ true → distinct (sources frame) ≡ true
     → IsGraph frame rows lits → IsGraph frame new_rows new_lits → ((bits : List Bool) → rows_function new_rows new_lits bits ≡ rows_function rows lits bits) → length new_rows ≤ length rows
-    → ((i : ℕ) → i < length lits → level_by new_rows (lit_at new_lits i) ≤ level_by rows (lit_at lits i)) → IsBalanced (graph_network (network frame rows lits)) (graph_network (network frame new_rows new_lits))
-rebalanced_in spells has_function same_meaning frame rows new_rows lits new_lits clocks once graph new_graph same fewer levels = record {
-  remade = record {
-    same = same_meaning old new (rows_function rows lits) refl (has_same_function old (rows_function rows lits) (rows_function (rows_of old) (observed_of old)) old_equal (has_function old s.shape s.ordered).1)
-        (has_same_function new (rows_function rows lits) (rows_function (rows_of new) (observed_of new)) new_equal (has_function new t.shape t.ordered).1);
-    ordered = t.ordered;
-    graph = refl;
-    shape = t.shape;
-    fewer = omega (arith, s.ands, t.ands, length-drop (length (sources frame) + 1) rows, length-drop (length (sources frame) + 1) new_rows, fewer);
-  };
-  levels = λ i lt.
-      let inside : i < length lits = omega (arith, lt, ap (λ (ls : List Lit). length ls) t.same_lits, graph.count, new_graph.count) in
-      let was : level_at old i ≡ level_by rows (lit_at lits i) = ap₂ (λ (rs : List Row) (ls : List Lit). level_by rs (lit_at ls i)) s.same_rows s.same_lits in
-      let now : level_at new i ≡ level_by new_rows (lit_at new_lits i) = ap₂ (λ (rs : List Row) (ls : List Lit). level_by rs (lit_at ls i)) t.same_rows t.same_lits in
-      omega (arith, was, now, levels i inside);
+    → IsRemade (graph_network (network frame rows lits)) (graph_network (network frame new_rows new_lits))
+remade_in spells has_function same_meaning frame rows new_rows lits new_lits clocks once graph new_graph same fewer = record {
+  same = same_meaning old new (rows_function rows lits) refl (has_same_function old (rows_function rows lits) (rows_function (rows_of old) (observed_of old)) old_equal (has_function old s.shape s.ordered).1)
+      (has_same_function new (rows_function rows lits) (rows_function (rows_of new) (observed_of new)) new_equal (has_function new t.shape t.ordered).1);
+  ordered = t.ordered;
+  graph = refl;
+  shape = t.shape;
+  fewer = omega (arith, s.ands, t.ands, length-drop (length (sources frame) + 1) rows, length-drop (length (sources frame) + 1) new_rows, fewer);
 }
   where
     old : Netlist
@@ -56,6 +51,31 @@ rebalanced_in spells has_function same_meaning frame rows new_rows lits new_lits
     new_equal : (bits : List Bool) → rows_function (rows_of new) (observed_of new) bits ≡ rows_function rows lits bits
     new_equal bits = ap₂ (λ (rs : List Row) (ls : List Lit). rows_function rs ls bits) t.same_rows t.same_lits ∙ same bits
 
+-- the same, and no observed one higher
+rebalanced_in : NetworkOfGraph → GraphHasFunction → SameFromFunction → (frame : Frame) (rows new_rows : List Row) (lits new_lits : List Lit) → distinct frame.clocks ≡ true → distinct (sources frame) ≡ true
+    → IsGraph frame rows lits → IsGraph frame new_rows new_lits → ((bits : List Bool) → rows_function new_rows new_lits bits ≡ rows_function rows lits bits) → length new_rows ≤ length rows
+    → ((i : ℕ) → i < length lits → level_by new_rows (lit_at new_lits i) ≤ level_by rows (lit_at lits i)) → IsBalanced (graph_network (network frame rows lits)) (graph_network (network frame new_rows new_lits))
+rebalanced_in spells has_function same_meaning frame rows new_rows lits new_lits clocks once graph new_graph same fewer levels = record {
+  remade = remade_in spells has_function same_meaning frame rows new_rows lits new_lits clocks once graph new_graph same fewer;
+  levels = λ i lt.
+      let inside : i < length lits = omega (arith, lt, ap (λ (ls : List Lit). length ls) t.same_lits, graph.count, new_graph.count) in
+      let was : level_at old i ≡ level_by rows (lit_at lits i) = ap₂ (λ (rs : List Row) (ls : List Lit). level_by rs (lit_at ls i)) s.same_rows s.same_lits in
+      let now : level_at new i ≡ level_by new_rows (lit_at new_lits i) = ap₂ (λ (rs : List Row) (ls : List Lit). level_by rs (lit_at ls i)) t.same_rows t.same_lits in
+      omega (arith, was, now, levels i inside);
+}
+  where
+    old : Netlist
+    old = network frame rows lits
+
+    new : Netlist
+    new = network frame new_rows new_lits
+
+    s : NetworkSpells frame rows lits
+    s = spells frame rows lits clocks once graph
+
+    t : NetworkSpells frame new_rows new_lits
+    t = spells frame new_rows new_lits clocks once new_graph
+
 -- the same, of a frame that is known to be the same
 pub rebalanced : NetworkOfGraph → GraphHasFunction → SameFromFunction → (frame new_frame : Frame) (rows new_rows : List Row) (lits new_lits : List Lit) → new_frame ≡ frame → distinct frame.clocks ≡ true → distinct (sources frame) ≡ true
     → IsGraph frame rows lits → IsGraph new_frame new_rows new_lits → ((bits : List Bool) → rows_function new_rows new_lits bits ≡ rows_function rows lits bits) → length new_rows ≤ length rows
@@ -69,3 +89,27 @@ pub stays_balanced : NetworkOfGraph → GraphHasFunction → SameFromFunction �
     → IsBalanced (graph_network (network frame rows lits)) (graph_network (network frame rows lits))
 stays_balanced spells has_function same_meaning frame rows lits clocks once graph =
     rebalanced_in spells has_function same_meaning frame rows rows lits lits clocks once graph graph (λ bits. refl) (omega arith) (λ i lt. omega arith)
+
+-- rows and literals of the same function, no more of them, on which no proposal of rewriting saves
+rewritten_in : NetworkOfGraph → GraphHasFunction → SameFromFunction → (frame : Frame) (rows new_rows : List Row) (lits new_lits : List Lit) → distinct frame.clocks ≡ true → distinct (sources frame) ≡ true
+    → IsGraph frame rows lits → IsGraph frame new_rows new_lits → ((bits : List Bool) → rows_function new_rows new_lits bits ≡ rows_function rows lits bits) → length new_rows ≤ length rows
+    → Closed new_rows new_lits (rewritings new_rows) → IsRewritten (graph_network (network frame rows lits)) (graph_network (network frame new_rows new_lits))
+rewritten_in spells has_function same_meaning frame rows new_rows lits new_lits clocks once graph new_graph same fewer closed = record {
+  remade = remade_in spells has_function same_meaning frame rows new_rows lits new_lits clocks once graph new_graph same fewer;
+  closed = subst (λ (rs : List Row). Closed rs (observed_of new) (rewritings rs)) (sym t.same_rows)
+      (subst (λ (ls : List Lit). Closed new_rows ls (rewritings new_rows)) (sym t.same_lits) closed);
+}
+  where
+    new : Netlist
+    new = network frame new_rows new_lits
+
+    t : NetworkSpells frame new_rows new_lits
+    t = spells frame new_rows new_lits clocks once new_graph
+
+-- the same, of a frame that is known to be the same
+pub rewritten : NetworkOfGraph → GraphHasFunction → SameFromFunction → (frame new_frame : Frame) (rows new_rows : List Row) (lits new_lits : List Lit) → new_frame ≡ frame → distinct frame.clocks ≡ true → distinct (sources frame) ≡ true
+    → IsGraph frame rows lits → IsGraph new_frame new_rows new_lits → ((bits : List Bool) → rows_function new_rows new_lits bits ≡ rows_function rows lits bits) → length new_rows ≤ length rows
+    → Closed new_rows new_lits (rewritings new_rows) → IsRewritten (graph_network (network frame rows lits)) (graph_network (network new_frame new_rows new_lits))
+rewritten spells has_function same_meaning frame new_frame rows new_rows lits new_lits same_frame clocks once graph new_graph same fewer closed =
+    subst (λ (f : Frame). IsGraph f new_rows new_lits → IsRewritten (graph_network (network frame rows lits)) (graph_network (network f new_rows new_lits))) (sym same_frame)
+    (λ g. rewritten_in spells has_function same_meaning frame rows new_rows lits new_lits clocks once graph g same fewer closed) new_graph

@@ -9,6 +9,8 @@ use Rattle.syn_netlist.specs.Order.{Ordered}
 use Rattle.syn_shapes.specs.GraphShape.{GraphShape, and_tables, observed_of, rows_of}
 use Rattle.syn_shapes.specs.Graphs.{lit_at}
 use Rattle.syn_shapes.specs.Printed.{printed}
+use Rattle.syn_pool.specs.Closing.{Closed}
+use Rattle.syn_rewrite.specs.Rewriting.{rewritings}
 use Rattle.syn_words.specs.declared.Command.{Command}
 use Rattle.syn_words.specs.declared.Command.TheVariants as commands
 use Rattle.syn_reader.specs.declared.ReadFault.{ReadFault}
@@ -98,10 +100,16 @@ pub record IsBalanced (old new : Network) : Type 0 where
   pub remade : IsRemade old new
   pub levels : NoHigherBy old.mapped old.netlist new.netlist
 
+-- What rewriting makes of the network: it is remade, and no proposal of rewriting for any of its ANDs saves one, by the rows that it spells.
+pub record IsRewritten (old new : Network) : Type 0 where
+  pub remade : IsRemade old new
+  pub closed : Closed (rows_of new.netlist) (observed_of new.netlist) (rewritings (rows_of new.netlist))
+
 -- What a command makes of a network. One that makes none leaves it.
 abbrev pub Makes : Command → Network → Network → Type 0
 Makes commands.Strash old new = IsRemade old new
 Makes commands.Balance old new = IsBalanced old new
+Makes (commands.Rewrite zero workers) old new = IsRewritten old new
 Makes other old new = new ≡ old
 
 -- There is a network, and the command makes another of it.

@@ -12,6 +12,7 @@ use crate::refusal::Refusal;
 use crate::scripts::{SCRIPT_LIMIT, run_script};
 use crate::session::Session;
 use std::alloc::Global;
+use std::thread::Threads;
 use syn_io::{Files, LineFault, Lines, Sink};
 
 // The most lines that are run.
@@ -44,7 +45,8 @@ fn first_status(status: u8, next: u8) -> u8
 }
 
 // Takes a line and runs it.
-fn take_turn<F: Files, L: Lines, O: Sink>(
+fn take_turn<R: Threads + Sync, F: Files, L: Lines, O: Sink>(
+    rt: &R,
     alloc: Global,
     session: &mut Session,
     files: &mut F,
@@ -59,7 +61,7 @@ fn take_turn<F: Files, L: Lines, O: Sink>(
         Ok(None) => return Turn::Ends(0),
         Err(cause) => return Turn::Ends(announce(out, &cause, &[]).status()),
     };
-    match run_script(alloc, session, line.as_slice(), files, out) {
+    match run_script(rt, alloc, session, line.as_slice(), files, out) {
         None => Turn::GoesOn(0),
         Some(Announcement::Whole(status)) => Turn::GoesOn(status),
         Some(Announcement::Cut(status)) => Turn::Ends(status),
@@ -78,7 +80,8 @@ fn last_turn<L: Lines, O: Sink>(alloc: Global, lines: &mut L, out: &mut O) -> u8
 }
 
 /// Runs the lines, each as a script, and gives the status of the first refusal, 0 where nothing was refused.
-pub(crate) fn run_lines<F: Files, L: Lines, O: Sink>(
+pub(crate) fn run_lines<R: Threads + Sync, F: Files, L: Lines, O: Sink>(
+    rt: &R,
     alloc: Global,
     workers: u8,
     files: &mut F,
@@ -92,7 +95,7 @@ pub(crate) fn run_lines<F: Files, L: Lines, O: Sink>(
     let mut session = Session::new(workers);
     let mut status: u8 = 0;
     for _taken in 0..MOST_LINES {
-        match take_turn(alloc, &mut session, files, lines, out) {
+        match take_turn(rt, alloc, &mut session, files, lines, out) {
             Turn::GoesOn(next) => status = first_status(status, next),
             Turn::Ends(next) => return first_status(status, next),
         }

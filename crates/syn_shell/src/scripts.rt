@@ -9,6 +9,7 @@ use crate::announcing::{Announcement, announce};
 use crate::refusal::Refusal;
 use crate::session::Session;
 use std::alloc::Global;
+use std::thread::Threads;
 use syn_io::{Files, Sink};
 use syn_words::{Command, ScriptFault, parse_script};
 
@@ -57,7 +58,8 @@ fn commands_in(alloc: Global, text: &[u8]) -> Result<Vec<Command>, Refusal>
 }
 
 // The commands one after the other, up to the first that is refused.
-fn run_commands<'a, F: Files, O: Sink>(
+fn run_commands<'a, R: Threads + Sync, F: Files, O: Sink>(
+    rt: &R,
     alloc: Global,
     session: &mut Session,
     commands: &'a [Command],
@@ -68,7 +70,7 @@ fn run_commands<'a, F: Files, O: Sink>(
         (outcome_of result) (state session.new (F.disk files.new) (O.screen out.new)) }
 {
     for command in commands {
-        if let Err(cause) = session.step(alloc, command, files, out) {
+        if let Err(cause) = session.step(rt, alloc, command, files, out) {
             return Err(stopped_at(command, cause));
         }
     }
@@ -76,7 +78,8 @@ fn run_commands<'a, F: Files, O: Sink>(
 }
 
 /// Runs a script and tells its refusal, if there is one.
-pub(crate) fn run_script<F: Files, O: Sink>(
+pub(crate) fn run_script<R: Threads + Sync, F: Files, O: Sink>(
+    rt: &R,
     alloc: Global,
     session: &mut Session,
     text: &[u8],
@@ -90,7 +93,7 @@ pub(crate) fn run_script<F: Files, O: Sink>(
         Ok(commands) => commands,
         Err(cause) => return Some(announce(out, &cause, &[])),
     };
-    match run_commands(alloc, session, commands.as_slice(), files, out) {
+    match run_commands(rt, alloc, session, commands.as_slice(), files, out) {
         Ok(()) => None,
         Err(stopped) => Some(announce(out, &stopped.cause, stopped.name)),
     }

@@ -9,12 +9,13 @@ ghost use Rattle.syn_shapes.specs.Printed.{printed};
 ghost use Rattle.syn_graph.specs.Graphs.{network_of};
 ghost use Rattle.syn_shell.specs.Networks.{graph_network};
 ghost use Rattle.syn_shell.specs.Outside.{FileIs, FilesStand, OthersStand, state};
-ghost use Rattle.syn_shell.specs.Steps.{file_limit, IsBalanced, IsReadAs, IsRemade, Makes, MakingRefused, ParseRefused, ReadRefused, Remakes, SessionStep, WriteRefused};
+ghost use Rattle.syn_shell.specs.Steps.{file_limit, IsBalanced, IsReadAs, IsRemade, IsRewritten, Makes, MakingRefused, ParseRefused, ReadRefused, Remakes, SessionStep, WriteRefused};
 
 use crate::lines::print_stats;
 use crate::refusal::Refusal;
 use std::alloc::{AllocError, Global};
 use std::marker::Model;
+use std::thread::Threads;
 use syn_build::build_checked;
 use syn_graph::Graph;
 use syn_io::{Files, GetFault, PutFault, Sink};
@@ -144,14 +145,52 @@ fn balanced(alloc: Global, graph: Graph) -> Result<Graph, (Graph, Refusal)>
     }
 }
 
+// A graph, rewritten by so many workers; refused, the graph as it was.
+fn rewritten<R: Threads + Sync>(
+    rt: &R,
+    alloc: Global,
+    graph: Graph,
+    workers: u8,
+    zero: bool,
+) -> Result<Graph, (Graph, Refusal)>
+    ensures rewritten { IfOk result (λ new. IsRewritten (graph_network (network_of graph)) (graph_network (network_of new))) }
+    ensures refused { IfErr result (λ back. (network_of back.0 ≡ network_of graph) × (back.1 ≡ Refusal.NoMemory)) }
+{
+    syn_shapes::network_of_graph();
+    syn_shapes::graph_has_function();
+    syn_netlist::same_from_function();
+    match syn_rewrite::rewrite(rt, alloc, graph, workers, zero) {
+        Ok(new) => Ok(new),
+        Err((graph, _)) => Err((graph, Refusal::NoMemory)),
+    }
+}
+
+// The number of workers of a command: the one that it names, else the session's.
+fn workers_of(named: Option<u8>, workers: u8) -> u8 {
+    match named {
+        Some(named) => named,
+        None => workers,
+    }
+}
+
 // What a command makes of a graph; refused, the graph as it was. A command that makes none leaves it.
-fn remake(alloc: Global, command: &Command, graph: Graph) -> Result<Graph, (Graph, Refusal)>
+fn remake<R: Threads + Sync>(
+    rt: &R,
+    alloc: Global,
+    command: &Command,
+    graph: Graph,
+    workers: u8,
+) -> Result<Graph, (Graph, Refusal)>
     ensures made { IfOk result (λ new. Makes command.now (graph_network (network_of graph)) (graph_network (network_of new))) }
     ensures refused { IfErr result (λ back. (network_of back.0 ≡ network_of graph) × (back.1 ≡ Refusal.NoMemory)) }
 {
     match command {
         Command::Strash => Ok(hashed(graph)),
         Command::Balance => balanced(alloc, graph),
+        Command::Rewrite {
+            zero,
+            workers: named,
+        } => rewritten(rt, alloc, graph, workers_of(*named, workers), *zero),
         Command::Read(_) | Command::Stats | Command::Write(_) => Ok(graph),
     }
 }
@@ -169,14 +208,19 @@ impl Session {
     }
 
     // Makes the network anew.
-    fn make(&mut self, alloc: Global, command: &Command) -> Result<(), Refusal>
+    fn make<R: Threads + Sync>(
+        &mut self,
+        rt: &R,
+        alloc: Global,
+        command: &Command,
+    ) -> Result<(), Refusal>
         ensures made { OnOk result (Remakes command.now self.old self.new) }
         ensures refused { IfErr result (λ cause. MakingRefused self.old cause × (self.new ≡ self.old)) }
     {
         let Some(graph) = self.network.take() else {
             return Err(Refusal::NoNetwork);
         };
-        match remake(alloc, command, graph) {
+        match remake(rt, alloc, command, graph, self.workers) {
             Ok(new) => {
                 self.network = Some(new);
                 Ok(())
@@ -189,8 +233,9 @@ impl Session {
     }
 
     /// Does one command. Refused, it leaves the network.
-    pub fn step<F: Files, O: Sink>(
+    pub fn step<R: Threads + Sync, F: Files, O: Sink>(
         &mut self,
+        rt: &R,
         alloc: Global,
         command: &Command,
         files: &mut F,
@@ -212,7 +257,9 @@ impl Session {
                 None => Err(Refusal::NoNetwork),
                 Some(graph) => write(alloc, graph, name.as_str(), files),
             },
-            Command::Strash | Command::Balance => self.make(alloc, command),
+            Command::Strash | Command::Balance | Command::Rewrite { .. } => {
+                self.make(rt, alloc, command)
+            }
         }
     }
 }

@@ -12,10 +12,12 @@ use crate::line_mode::run_lines;
 use crate::scripts::run_script;
 use crate::session::Session;
 use std::alloc::Global;
+use std::thread::Threads;
 use syn_io::{Files, Lines, Sink};
 
 // Runs one script, and gives the status of its refusal, 0 where nothing was refused.
-fn run_one<F: Files, O: Sink>(
+fn run_one<R: Threads + Sync, F: Files, O: Sink>(
+    rt: &R,
     alloc: Global,
     workers: u8,
     text: &[u8],
@@ -26,14 +28,15 @@ fn run_one<F: Files, O: Sink>(
     ensures { RanOne result text.now (F.disk files.old) (O.screen out.old) (F.disk files.new) (O.screen out.new) }
 {
     let mut session = Session::new(workers);
-    match run_script(alloc, &mut session, text, files, out) {
+    match run_script(rt, alloc, &mut session, text, files, out) {
         None => 0,
         Some(announcement) => announcement.status(),
     }
 }
 
 // Runs what the words mean.
-fn run_words<F: Files, L: Lines, O: Sink>(
+fn run_words<R: Threads + Sync, F: Files, L: Lines, O: Sink>(
+    rt: &R,
     alloc: Global,
     words: &[String],
     files: &mut F,
@@ -48,8 +51,8 @@ fn run_words<F: Files, L: Lines, O: Sink>(
         Err(cause) => return announce(out, &cause, &[]).status(),
     };
     match asked.script {
-        None => run_lines(alloc, asked.workers, files, lines, out),
-        Some(script) => run_one(alloc, asked.workers, script.as_bytes(), files, out),
+        None => run_lines(rt, alloc, asked.workers, files, lines, out),
+        Some(script) => run_one(rt, alloc, asked.workers, script.as_bytes(), files, out),
     }
 }
 
@@ -61,7 +64,8 @@ fn run_words<F: Files, L: Lines, O: Sink>(
 /// A status of 7 comes only where a call of the files, of the lines or of the sink failed. Where the words are well
 /// formed, scripts and lines are within their limits and spell commands, what each command needs is there in the state
 /// in which it is run, and no such call failed, the status is 0, or 8 for want of memory.
-pub fn run<F: Files, L: Lines, O: Sink>(
+pub fn run<R: Threads + Sync, F: Files, L: Lines, O: Sink>(
+    rt: &R,
     alloc: Global,
     words: &[String],
     files: &mut F,
@@ -77,5 +81,5 @@ pub fn run<F: Files, L: Lines, O: Sink>(
     ensures complete { IsComplete (map string_bytes words.now) (F.disk files.old) (O.screen out.old) (L.input lines.old) (F.disk files.new) (O.screen out.new) (L.input lines.new) result }
 {
     syn_reader::not_both();
-    run_words(alloc, words, files, lines, out)
+    run_words(rt, alloc, words, files, lines, out)
 }

@@ -3,7 +3,7 @@ use Rattle.std.specs.Prelude.{◌≡◌, true, false, ℕ, List, [], ◌∷◌, 
 use Rattle.syn_words.specs.Words.{words_at}
 use Rattle.syn_words.specs.Forms.{given_by}
 use Rattle.syn_words.specs.Scripts.{IsScript, IsFirstFault}
-use Rattle.syn_words.specs.declared.Command.TheVariants.{Read, Write, Stats, Strash, Balance}
+use Rattle.syn_words.specs.declared.Command.TheVariants.{Read, Write, Stats, Strash, Balance, Rewrite}
 use Rattle.syn_words.specs.declared.ScriptFault.{ScriptFault}
 use Rattle.syn_words.specs.declared.ScriptFault.TheVariants.{BadByte, UnknownCommand, MissingWord, ExtraWord, BadNumber, OutOfRange}
 use Rattle.syn_words.specs.declared.forms.Form.{Form}
@@ -36,6 +36,11 @@ pub record WorkedScripts : Type 0 where
   pub tab_and_cr : IsScript (codes "read_blif" ++ 9 ∷ codes "a.blif" ++ 13 ∷ []) (Read (codes "a.blif") ∷ [])
   pub comment_is_none : IsScript (codes "write_blif #a\\b") (Write (codes "#a\\b") ∷ [])
   pub hyphen_is_a_name : IsScript (codes "read_blif -a") (Read (codes "-a") ∷ [])
+  pub rewriting : IsScript (codes "rw; rewrite -w 4 -z; rwz") (Rewrite false None ∷ Rewrite true (Some 4) ∷ Rewrite true None ∷ [])
+  pub zero_twice : IsFirstFault (codes "rw -z -z") (ExtraWord 6)
+  pub zero_set_already : IsFirstFault (codes "rwz -z") (ExtraWord 4)
+  pub too_many_workers : IsFirstFault (codes "rw -w 17") (OutOfRange 6)
+  pub no_number_of_workers : IsFirstFault (codes "rw -w") (MissingWord 5)
   pub unknown : IsFirstFault (codes "rewrit") (UnknownCommand 0)
   pub not_yet : IsFirstFault (codes "ps; resyn2") (UnknownCommand 4)
   pub upper_case : IsFirstFault (codes "PS") (UnknownCommand 0)

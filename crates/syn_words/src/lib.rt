@@ -44,6 +44,13 @@ pub enum Command {
     Strash,
     /// `balance`, `b`: balances the graph.
     Balance,
+    /// `rewrite [-z] [-w N]`, `rw`; `rwz` has `-z` set: rewrites the graph until no listed replacement saves a node.
+    Rewrite {
+        /// Whether a replacement that saves nothing may be made too.
+        zero: bool,
+        /// The number of workers, where one is named.
+        workers: Option<u8>,
+    },
 }
 
 /// Why a text is no script. A place is an offset in bytes, from 0.

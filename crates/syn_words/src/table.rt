@@ -1,10 +1,10 @@
 //! The table of commands: their names, what may stand behind each, and what it then says.
 
-ghost use Rattle.std.specs.Prelude.{◌≡◌, ◌⊎◌, [], ◌∷◌, Err, Ok, IfOk, OnOk, IfErr};
-ghost use Rattle.syn_words.specs.Commands.{commands_of, form_of, named_in, names, said};
+ghost use Rattle.std.specs.Prelude.{◌≡◌, ◌⊎◌, [], ◌∷◌, Err, Ok, IfOk, OnOk, IfErr, option_map};
+ghost use Rattle.syn_words.specs.Commands.{commands_of, form_of, named_in, names, said, with_workers, words_alone, workers_of};
 ghost use Rattle.syn_words.specs.Scripts.{said_onto};
 
-use crate::forms::{Form, Operands};
+use crate::forms::{Form, NumberRange, Numbered, Operands};
 use crate::names::FileName;
 use crate::reading::{Given, given_by};
 use crate::words::Phrase;
@@ -19,6 +19,8 @@ pub enum Keyword {
     PrintStats,
     Strash,
     Balance,
+    Rewrite,
+    RewriteZero,
 }
 
 // The keyword that a word names.
@@ -35,8 +37,46 @@ fn keyword_of(word: &[u8]) -> Option<Keyword>
         Some(Keyword::Strash)
     } else if b"balance".as_slice() == word || b"b".as_slice() == word {
         Some(Keyword::Balance)
+    } else if b"rewrite".as_slice() == word || b"rw".as_slice() == word {
+        Some(Keyword::Rewrite)
+    } else if b"rwz".as_slice() == word {
+        Some(Keyword::RewriteZero)
     } else {
         None
+    }
+}
+
+// So many workers at most.
+const MOST_WORKERS: u8 = 16;
+
+// The option with a number of workers.
+const WORKERS: Numbered = Numbered {
+    letter: b'w',
+    range: NumberRange {
+        least: 1,
+        most: MOST_WORKERS as u64,
+    },
+};
+
+// No option, and these words.
+fn words_alone(operands: Operands) -> Form
+    ensures { result ≡ words_alone operands }
+{
+    Form {
+        flag: None,
+        numbered: None,
+        operands,
+    }
+}
+
+// An option without a number, where it has one, and a number of workers.
+fn with_workers(flag: Option<u8>) -> Form
+    ensures { result ≡ with_workers flag }
+{
+    Form {
+        flag,
+        numbered: Some(WORKERS),
+        operands: Operands::Nothing,
     }
 }
 
@@ -44,14 +84,32 @@ fn keyword_of(word: &[u8]) -> Option<Keyword>
 fn form_of(keyword: Keyword) -> Form
     ensures { result ≡ form_of keyword }
 {
-    let operands = match keyword {
-        Keyword::ReadBlif | Keyword::WriteBlif => Operands::Name,
-        Keyword::PrintStats | Keyword::Strash | Keyword::Balance => Operands::Nothing,
-    };
-    Form {
-        flag: None,
-        numbered: None,
-        operands,
+    match keyword {
+        Keyword::ReadBlif | Keyword::WriteBlif => words_alone(Operands::Name),
+        Keyword::PrintStats | Keyword::Strash | Keyword::Balance => words_alone(Operands::Nothing),
+        Keyword::Rewrite => with_workers(Some(b'z')),
+        Keyword::RewriteZero => with_workers(None),
+    }
+}
+
+// A number of workers, at most the most.
+fn workers_of(number: u64) -> u8
+    ensures { result ≡ workers_of number }
+{
+    if number < MOST_WORKERS as u64 {
+        number as u8
+    } else {
+        MOST_WORKERS
+    }
+}
+
+// The number of workers that was given, if any.
+fn given_workers(number: Option<u64>) -> Option<u8>
+    ensures { result ≡ option_map workers_of number }
+{
+    match number {
+        Some(number) => Some(workers_of(number)),
+        None => None,
     }
 }
 
@@ -65,6 +123,14 @@ fn command_of(alloc: Global, keyword: Keyword, given: Given<'_>) -> Result<Comma
         Keyword::PrintStats => Ok(Command::Stats),
         Keyword::Strash => Ok(Command::Strash),
         Keyword::Balance => Ok(Command::Balance),
+        Keyword::Rewrite => Ok(Command::Rewrite {
+            zero: given.flag,
+            workers: given_workers(given.number),
+        }),
+        Keyword::RewriteZero => Ok(Command::Rewrite {
+            zero: true,
+            workers: given_workers(given.number),
+        }),
     }
 }
 

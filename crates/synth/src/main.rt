@@ -38,5 +38,12 @@ fn main(rt: HostRuntime) -> ExitCode {
     let mut lines = RealLines::new(alloc, rt.reader());
     let mut files = RealFiles::new(&rt);
     let mut out = RealSink::new(&rt);
-    ExitCode::from(syn_shell::run(alloc, words.as_slice(), &mut files, &mut lines, &mut out))
+    ExitCode::from(syn_shell::run(
+        &rt,
+        alloc,
+        words.as_slice(),
+        &mut files,
+        &mut lines,
+        &mut out,
+    ))
 }

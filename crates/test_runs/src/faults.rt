@@ -3,21 +3,27 @@
 use crate::harness::{Outcome, SCRIPT, script_leaves};
 use std::alloc::Global;
 use std::test::Fail;
+use std::thread::Threads;
 
 // Whether a file of these bytes is refused with this line, and nothing is written.
-fn refuses(alloc: Global, bytes: &[u8], printed: &str) -> Result<bool, Fail> {
+fn refuses<R: Threads + Sync>(
+    rt: &R,
+    alloc: Global,
+    bytes: &[u8],
+    printed: &str,
+) -> Result<bool, Fail> {
     let wanted = Outcome {
         status: 4,
         printed,
         written: None,
     };
-    script_leaves(alloc, SCRIPT, bytes, wanted)
+    script_leaves(rt, alloc, SCRIPT, bytes, wanted)
 }
 
 #[test]
 fn names_the_first_fault(rt: HostRuntime) -> Result<(), Fail> {
     let byte_128 = b".model m\n\x80";
-    assert!(rt; refuses(rt.alloc(), byte_128, "refused: byte 9: bad byte\n")?);
+    assert!(rt; refuses(&rt, rt.alloc(), byte_128, "refused: byte 9: bad byte\n")?);
     let rows = [
         (
             "backslash in a name",
@@ -118,7 +124,10 @@ fn names_the_first_fault(rt: HostRuntime) -> Result<(), Fail> {
         ),
     ];
     for (name, text, printed) in rows {
-        assert!(rt; refuses(rt.alloc(), text.as_bytes(), printed)?, "{name}");
+        assert!(rt;
+            refuses(&rt, rt.alloc(), text.as_bytes(), printed)?,
+            "{name}"
+        );
     }
     Ok(())
 }

@@ -2,6 +2,7 @@
 
 use std::alloc::{AllocError, Global};
 use std::test::Fail;
+use std::thread::Threads;
 use syn_io::{MemFiles, MemLines, MemSink};
 
 /// Reads the file `a`, prints its line, and writes the file `o`.
@@ -52,7 +53,8 @@ pub fn lines_of(alloc: Global, text: &str) -> Result<MemLines, AllocError> {
 }
 
 // The status of a run.
-fn status(
+fn status<R: Threads + Sync>(
+    rt: &R,
     alloc: Global,
     words: &[&str],
     files: &mut MemFiles,
@@ -60,7 +62,7 @@ fn status(
     out: &mut MemSink,
 ) -> Result<u8, Fail> {
     let words = words_of(alloc, words)?;
-    Ok(syn_shell::run(alloc, words.as_slice(), files, lines, out))
+    Ok(syn_shell::run(rt, alloc, words.as_slice(), files, lines, out))
 }
 
 fn is_text(bytes: &[u8], text: &str) -> bool {
@@ -79,7 +81,8 @@ fn is_file(bytes: Option<&[u8]>, text: Option<&str>) -> bool {
 }
 
 /// Whether a run leaves this.
-pub fn leaves(
+pub fn leaves<R: Threads + Sync>(
+    rt: &R,
     alloc: Global,
     words: &[&str],
     mut files: MemFiles,
@@ -87,7 +90,7 @@ pub fn leaves(
     mut out: MemSink,
     wanted: Outcome,
 ) -> Result<bool, Fail> {
-    let status = status(alloc, words, &mut files, &mut lines, &mut out)?;
+    let status = status(rt, alloc, words, &mut files, &mut lines, &mut out)?;
     Ok(
         status == wanted.status
             && is_text(out.bytes(), wanted.printed)
@@ -96,7 +99,8 @@ pub fn leaves(
 }
 
 /// Whether a script leaves this where the file `a` has the bytes.
-pub fn script_leaves(
+pub fn script_leaves<R: Threads + Sync>(
+    rt: &R,
     alloc: Global,
     script: &str,
     bytes: &[u8],
@@ -106,5 +110,5 @@ pub fn script_leaves(
     let files = file_of(alloc, bytes)?;
     let lines = lines_of(alloc, "")?;
     let out = sink(alloc)?;
-    leaves(alloc, &words, files, lines, out, wanted)
+    leaves(rt, alloc, &words, files, lines, out, wanted)
 }

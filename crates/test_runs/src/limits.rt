@@ -3,6 +3,7 @@
 use crate::harness::{Outcome, file_of, leaves, lines_of, sink};
 use std::alloc::{AllocError, Global};
 use std::test::Fail;
+use std::thread::Threads;
 use syn_io::{MemFiles, MemLines, MemSink};
 
 // So many times the same byte.
@@ -29,7 +30,7 @@ fn reads_a_file_up_to_its_limit(rt: HostRuntime) -> Result<(), Fail> {
         let out = sink(alloc)?;
         let words = ["synth", "-c", "read_blif a; ps"];
         assert!(rt;
-            leaves(alloc, &words, files, lines, out, wanted)?,
+            leaves(&rt, alloc, &words, files, lines, out, wanted)?,
             "{count} bytes"
         );
     }
@@ -65,7 +66,7 @@ fn reads_a_cost_up_to_its_limit(rt: HostRuntime) -> Result<(), Fail> {
         let out = sink(alloc)?;
         let words = ["synth", "-c", "read_blif a; ps"];
         assert!(rt;
-            leaves(alloc, &words, files, lines, out, wanted)?,
+            leaves(&rt, alloc, &words, files, lines, out, wanted)?,
             "{printed}"
         );
     }
@@ -91,7 +92,7 @@ fn runs_a_script_up_to_its_limit(rt: HostRuntime) -> Result<(), Fail> {
         let out = sink(alloc)?;
         let words = ["synth", "-c", blanks.as_str()];
         assert!(rt;
-            leaves(alloc, &words, files, lines, out, wanted)?,
+            leaves(&rt, alloc, &words, files, lines, out, wanted)?,
             "{count} blanks"
         );
     }
@@ -99,7 +100,13 @@ fn runs_a_script_up_to_its_limit(rt: HostRuntime) -> Result<(), Fail> {
 }
 
 // Whether lines leave this status and this print, with no file there.
-fn lines_leave(alloc: Global, bytes: Vec<u8>, status: u8, printed: &str) -> Result<bool, Fail> {
+fn lines_leave<R: Threads + Sync>(
+    rt: &R,
+    alloc: Global,
+    bytes: Vec<u8>,
+    status: u8,
+    printed: &str,
+) -> Result<bool, Fail> {
     let lines = MemLines::new(bytes, Vec::new(alloc));
     let wanted = Outcome {
         status,
@@ -107,6 +114,7 @@ fn lines_leave(alloc: Global, bytes: Vec<u8>, status: u8, printed: &str) -> Resu
         written: None,
     };
     leaves(
+        rt,
         alloc,
         &["synth"],
         MemFiles::new(alloc),
@@ -126,7 +134,7 @@ fn runs_a_line_up_to_its_limit(rt: HostRuntime) -> Result<(), Fail> {
     for (count, status, printed) in rows {
         let bytes = repeated(alloc, b' ', count)?;
         assert!(rt;
-            lines_leave(alloc, bytes, status, printed)?,
+            lines_leave(&rt, alloc, bytes, status, printed)?,
             "{count} blanks"
         );
     }
@@ -143,7 +151,7 @@ fn runs_lines_up_to_their_limit(rt: HostRuntime) -> Result<(), Fail> {
     for (count, status, printed) in rows {
         let bytes = repeated(alloc, b'\n', count)?;
         assert!(rt;
-            lines_leave(alloc, bytes, status, printed)?,
+            lines_leave(&rt, alloc, bytes, status, printed)?,
             "{count} lines"
         );
     }

@@ -3,10 +3,12 @@
 use crate::harness::{NAND, NAND_WRITTEN, Outcome, file_of, leaves, lines_of, sink};
 use std::alloc::Global;
 use std::test::Fail;
+use std::thread::Threads;
 use syn_io::{MemFiles, MemLines, MemSink};
 
 // Whether lines leave this over the files.
-fn lines_leave(
+fn lines_leave<R: Threads + Sync>(
+    rt: &R,
     alloc: Global,
     lines: &str,
     files: MemFiles,
@@ -14,7 +16,7 @@ fn lines_leave(
     wanted: Outcome,
 ) -> Result<bool, Fail> {
     let lines = lines_of(alloc, lines)?;
-    leaves(alloc, &["synth"], files, lines, out, wanted)
+    leaves(rt, alloc, &["synth"], files, lines, out, wanted)
 }
 
 #[test]
@@ -31,7 +33,7 @@ fn keeps_the_network_after_a_refusal(rt: HostRuntime) -> Result<(), Fail> {
     };
     let lines = "read_blif g\nread_blif h\nwrite_blif o\n";
     let out = sink(alloc)?;
-    assert!(rt; lines_leave(alloc, lines, files, out, wanted)?);
+    assert!(rt; lines_leave(&rt, alloc, lines, files, out, wanted)?);
     Ok(())
 }
 
@@ -65,7 +67,10 @@ fn gives_the_first_status(rt: HostRuntime) -> Result<(), Fail> {
         };
         let files = file_of(alloc, NAND.as_bytes())?;
         let out = sink(alloc)?;
-        assert!(rt; lines_leave(alloc, lines, files, out, wanted)?, "{lines}");
+        assert!(rt;
+            lines_leave(&rt, alloc, lines, files, out, wanted)?,
+            "{lines}"
+        );
     }
     Ok(())
 }
@@ -82,7 +87,7 @@ fn writes_after_a_failed_write(rt: HostRuntime) -> Result<(), Fail> {
     };
     let lines = "read_blif a\nwrite_blif o\nwrite_blif o\n";
     let out = sink(alloc)?;
-    assert!(rt; lines_leave(alloc, lines, files, out, wanted)?);
+    assert!(rt; lines_leave(&rt, alloc, lines, files, out, wanted)?);
     Ok(())
 }
 
@@ -99,7 +104,7 @@ fn ends_where_a_line_fails(rt: HostRuntime) -> Result<(), Fail> {
     };
     let files = file_of(alloc, NAND.as_bytes())?;
     let out = sink(alloc)?;
-    assert!(rt; leaves(alloc, &["synth"], files, lines, out, wanted)?);
+    assert!(rt; leaves(&rt, alloc, &["synth"], files, lines, out, wanted)?);
     Ok(())
 }
 
@@ -119,7 +124,10 @@ fn ends_where_the_sink_fails(rt: HostRuntime) -> Result<(), Fail> {
         };
         let files = file_of(alloc, NAND.as_bytes())?;
         let out = MemSink::new(alloc, room, Vec::new(alloc))?;
-        assert!(rt; lines_leave(alloc, lines, files, out, wanted)?, "{lines}");
+        assert!(rt;
+            lines_leave(&rt, alloc, lines, files, out, wanted)?,
+            "{lines}"
+        );
     }
     Ok(())
 }

@@ -3,15 +3,22 @@
 use crate::harness::{NAND, NAND_LINE, NAND_WRITTEN, Outcome, SCRIPT, script_leaves};
 use std::alloc::Global;
 use std::test::Fail;
+use std::thread::Threads;
 
 // Whether a text is read, its line printed, and its graph written as this.
-fn writes(alloc: Global, text: &str, printed: &str, written: &str) -> Result<bool, Fail> {
+fn writes<R: Threads + Sync>(
+    rt: &R,
+    alloc: Global,
+    text: &str,
+    printed: &str,
+    written: &str,
+) -> Result<bool, Fail> {
     let wanted = Outcome {
         status: 0,
         printed,
         written: Some(written),
     };
-    script_leaves(alloc, SCRIPT, text.as_bytes(), wanted)
+    script_leaves(rt, alloc, SCRIPT, text.as_bytes(), wanted)
 }
 
 #[test]
@@ -98,7 +105,7 @@ fn writes_what_is_read(rt: HostRuntime) -> Result<(), Fail> {
         ),
     ];
     for (name, text, printed, written) in rows {
-        assert!(rt; writes(rt.alloc(), text, printed, written)?, "{name}");
+        assert!(rt; writes(&rt, rt.alloc(), text, printed, written)?, "{name}");
     }
     Ok(())
 }

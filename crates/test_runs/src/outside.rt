@@ -32,7 +32,7 @@ fn refuses_where_the_outside_fails(rt: HostRuntime) -> Result<(), Fail> {
         };
         let words = ["synth", "-c", SCRIPT];
         assert!(rt;
-            leaves(alloc, &words, files, lines, out, wanted)?,
+            leaves(&rt, alloc, &words, files, lines, out, wanted)?,
             "{printed}"
         );
     }
@@ -52,6 +52,6 @@ fn puts_a_line_of_statistics_in_one_piece(rt: HostRuntime) -> Result<(), Fail> {
         written: None,
     };
     let words = ["synth", "-c", "read_blif a; ps; ps"];
-    assert!(rt; leaves(alloc, &words, files, lines, out, wanted)?);
+    assert!(rt; leaves(&rt, alloc, &words, files, lines, out, wanted)?);
     Ok(())
 }

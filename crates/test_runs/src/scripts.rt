@@ -53,7 +53,7 @@ fn runs_scripts(rt: HostRuntime) -> Result<(), Fail> {
             written,
         };
         assert!(rt;
-            script_leaves(rt.alloc(), script, NAND.as_bytes(), wanted)?,
+            script_leaves(&rt, rt.alloc(), script, NAND.as_bytes(), wanted)?,
             "{name}"
         );
     }
@@ -105,6 +105,36 @@ fn refuses_scripts(rt: HostRuntime) -> Result<(), Fail> {
             6,
             "refused: no network\n",
         ),
+        (
+            "rewriting without a network",
+            "rw",
+            6,
+            "refused: no network\n",
+        ),
+        (
+            "zero gains let through twice",
+            "rw -z -z",
+            3,
+            "refused: script 6: extra word\n",
+        ),
+        (
+            "zero gains let through already",
+            "rwz -z",
+            3,
+            "refused: script 4: extra word\n",
+        ),
+        (
+            "too many workers",
+            "rw -w 17",
+            3,
+            "refused: script 6: out of range\n",
+        ),
+        (
+            "no number of workers",
+            "rw -w",
+            3,
+            "refused: script 5: missing word\n",
+        ),
         ("missing file", "read_blif q", 7, "refused: cannot read q\n"),
         (
             "the first refusal ends the script",
@@ -132,7 +162,7 @@ fn refuses_scripts(rt: HostRuntime) -> Result<(), Fail> {
             written: None,
         };
         assert!(rt;
-            script_leaves(rt.alloc(), script, NAND.as_bytes(), wanted)?,
+            script_leaves(&rt, rt.alloc(), script, NAND.as_bytes(), wanted)?,
             "{name}"
         );
     }
@@ -161,7 +191,7 @@ fn balances_networks(rt: HostRuntime) -> Result<(), Fail> {
         };
         let script = "read_blif a; ps; b; ps";
         assert!(rt;
-            script_leaves(rt.alloc(), script, text.as_bytes(), wanted)?,
+            script_leaves(&rt, rt.alloc(), script, text.as_bytes(), wanted)?,
             "{name}"
         );
     }
@@ -198,9 +228,47 @@ fn takes_words_or_refuses_them(rt: HostRuntime) -> Result<(), Fail> {
         let lines = lines_of(alloc, "")?;
         let out = sink(alloc)?;
         assert!(rt;
-            leaves(alloc, words, files, lines, out, wanted)?,
+            leaves(&rt, alloc, words, files, lines, out, wanted)?,
             "{words:?}"
         );
     }
+    Ok(())
+}
+
+// f is ab or ac, and so a(b + c): one of three ANDs goes, whatever the number of workers.
+#[test]
+fn rewrites_a_cone(rt: HostRuntime) -> Result<(), Fail> {
+    let cone = ".model m\n.inputs a b c\n.outputs f\n.names a b c f\n11- 1\n1-1 1\n.end\n";
+    let written =
+        ".model m\n.inputs a b c\n.outputs f\n.names b c n1\n00 1\n.names a n1 n2\n10 1\n.names n2 f\n1 1\n.end\n";
+    let wanted = Outcome {
+        status: 0,
+        printed: "m : i/o = 3/1 lat = 0 and = 3 lev = 2\nm : i/o = 3/1 lat = 0 and = 2 lev = 2\n",
+        written: Some(written),
+    };
+    for script in [
+        "read_blif a; ps; rw; ps; write_blif o",
+        "read_blif a; ps; rewrite -w 4 -z; ps; write_blif o",
+    ] {
+        assert!(rt;
+            script_leaves(&rt, rt.alloc(), script, cone.as_bytes(), wanted)?,
+            "{script}"
+        );
+    }
+    Ok(())
+}
+
+// The same cone with ab and ac observed: their ANDs stay, and nothing saves.
+#[test]
+fn leaves_shared_products(rt: HostRuntime) -> Result<(), Fail> {
+    let shared =
+        ".model m\n.inputs a b c\n.outputs f g h\n.names a b g\n11 1\n.names a c h\n11 1\n.names g h f\n1- 1\n-1 1\n.end\n";
+    let wanted = Outcome {
+        status: 0,
+        printed: "m : i/o = 3/3 lat = 0 and = 3 lev = 2\nm : i/o = 3/3 lat = 0 and = 3 lev = 2\n",
+        written: None,
+    };
+    let script = "read_blif a; ps; rwz; ps";
+    assert!(rt; script_leaves(&rt, rt.alloc(), script, shared.as_bytes(), wanted)?);
     Ok(())
 }

@@ -1,10 +1,10 @@
 -- The steps of the rewriting seat are allowed.
-use Rattle.std.proofs.Common.{◌≡◌, ℕ, ◌<◌, ◌≤◌, ◌&&◌, not, Bool, true, false, List, [], ◌∷◌, length, Some, refl, ap, arith, inl, inr, sym, subst}
+use Rattle.std.proofs.Common.{◌≡◌, ℕ, ◌&&◌, not, Bool, true, false, List, [], ◌∷◌, Some, refl, ap, arith, inl, inr, sym, subst}
 use Rattle.syn_rows.specs.declared.Row.TheVariants.{Alias}
 use Rattle.syn_core_laws.specs.declared.View.{View}
-use Rattle.syn_core_laws.specs.Views.{known_row, pinned, key_loaded}
+use Rattle.syn_core_laws.specs.Views.{pinned, key_loaded}
 use Rattle.syn_core_laws.specs.Events.{MayPin}
-use Rattle.syn_core_laws.specs.SameValue.{SameValue, SameFor}
+use Rattle.syn_core_laws.specs.SameValue.{SameValue}
 use Rattle.syn_table.specs.Steps.{KnowsRedefine}
 use Rattle.test_table.specs.Rewriting.{lit, and, keyed, all_taken, neither_made, product_made}
 

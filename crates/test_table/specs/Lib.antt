@@ -1,2 +1,3 @@
 pub mod Resting
 pub mod Rewriting
+pub mod Rounds

@@ -9,6 +9,8 @@ mod opened;
 #[cfg(test)]
 mod rewriting;
 #[cfg(test)]
+mod rounds;
+#[cfg(test)]
 mod steps;
 #[cfg(test)]
 mod turns;

@@ -14,7 +14,7 @@ use syn_rows::{Lit, Row};
 use syn_table::{Seat, Shared};
 
 // Claims a node and loads its row: whether it is this one.
-fn take(shared: &Shared, seat: &mut Seat, node: u32, row: Row) -> bool
+pub(crate) fn take(shared: &Shared, seat: &mut Seat, node: u32, row: Row) -> bool
     requires table { IsOf seat.old shared.now }
     requires node { node < nodes_of shared.now }
     requires free { has node (view_of seat.old).held ≡ false }
