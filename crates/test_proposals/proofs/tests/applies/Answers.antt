@@ -1,4 +1,4 @@
-use Rattle.std.proofs.Common.{◌≡◌, ap, ◌∙◌, length, arith}
+use Rattle.std.proofs.Common.{ap, length, arith}
 use Rattle.syn_gain.specs.Proposals.{replacement_of}
 use Rattle.syn_plan.specs.declared.plan.Plan.{Plan}
 use Rattle.test_proposals.proofs.tests.applies.Goals as goal
