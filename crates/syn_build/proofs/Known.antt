@@ -9,7 +9,7 @@ use Rattle.syn_rows.specs.declared.Lit.{Lit}
 use Rattle.syn_rows.specs.declared.Row.{Row}
 use Rattle.syn_rows.specs.Rows.{node_of}
 use Rattle.syn_rows.specs.Values.{given_by, rows_function, value_in, values_of}
-use Rattle.syn_netlist.specs.Words.{has, distinct}
+use Rattle.syn_netlist.specs.Words.{has_word, distinct}
 use Rattle.syn_netlist.specs.declared.tables.Table.{Table as NumberedTable}
 use Rattle.syn_netlist.specs.Lists.{Netlist, Table, output_of, sources, observed}
 use Rattle.syn_netlist.specs.Costs.{cost_of, row_cost, table_cost}
@@ -21,7 +21,7 @@ use Rattle.syn_netlist.specs.Order.{defined, reads_known, observes_defined, Orde
 use Rattle.syn_netlist.specs.Faults.{no_table, tables_at, PutsInOrder}
 use Rattle.syn_netlist.proofs.Checked.{checked_observes}
 use Rattle.std.proofs.lemmas.List.Sorted.{IsPermutation-sym, sum_by-IsPermutation}
-use Rattle.syn_netlist.proofs.Sets.{same_word, has-append, apart, has_head, has_tail}
+use Rattle.syn_netlist.proofs.Sets.{same_word, has_word-append, apart, has_head, has_tail}
 use Rattle.syn_netlist.proofs.Places.{one_number}
 use Rattle.syn_shapes.specs.GraphShape.{place}
 use Rattle.syn_shapes.specs.Graphs.{IsHashed, lit_at, source_lit}
@@ -35,21 +35,21 @@ use Rattle.syn_build.proofs.Matching.{there_kept}
 
 -- places of words
 
-place_lt : (ws : List (List ℕ)) (word : List ℕ) → has ws word ≡ true → place word ws < length ws
+place_lt : (ws : List (List ℕ)) (word : List ℕ) → has_word ws word ≡ true → place word ws < length ws
 place_lt [] word h = absurd (both_ways false refl h)
 place_lt (w ∷ ws) word h = elim (cases_Bool (bytes_eq w word)) [
   | inl e ↦ omega (arith, cond-true (bytes_eq w word) 0 (suc (place word ws)) e)
   | inr e ↦
-      let rest : has ws word ≡ true = elim (or_cases (bytes_eq w word) (has ws word) h) [ inl t ↦ absurd (both_ways (bytes_eq w word) e t) | inr t ↦ t ] in
+      let rest : has_word ws word ≡ true = elim (or_cases (bytes_eq w word) (has_word ws word) h) [ inl t ↦ absurd (both_ways (bytes_eq w word) e t) | inr t ↦ t ] in
       omega (arith, cond-false (bytes_eq w word) 0 (suc (place word ws)) e, place_lt ws word rest)
 ]
 
-word_placed : (ws : List (List ℕ)) (word : List ℕ) → has ws word ≡ true → get_or ws (place word ws) [] ≡ word
+word_placed : (ws : List (List ℕ)) (word : List ℕ) → has_word ws word ≡ true → get_or ws (place word ws) [] ≡ word
 word_placed [] word h = absurd (both_ways false refl h)
 word_placed (w ∷ ws) word h = elim (cases_Bool (bytes_eq w word)) [
   | inl e ↦ ap (λ k. get_or (w ∷ ws) k []) (cond-true (bytes_eq w word) 0 (suc (place word ws)) e) ∙ same_word w word e
   | inr e ↦
-      let rest : has ws word ≡ true = elim (or_cases (bytes_eq w word) (has ws word) h) [ inl t ↦ absurd (both_ways (bytes_eq w word) e t) | inr t ↦ t ] in
+      let rest : has_word ws word ≡ true = elim (or_cases (bytes_eq w word) (has_word ws word) h) [ inl t ↦ absurd (both_ways (bytes_eq w word) e t) | inr t ↦ t ] in
       ap (λ k. get_or (w ∷ ws) k []) (cond-false (bytes_eq w word) 0 (suc (place word ws)) e) ∙ word_placed ws word rest
 ]
 
@@ -95,7 +95,7 @@ named_sources n names numbers count rows lits e dis below hashed sized long ther
     counted : length (sources n.frame) ≡ length numbers
     counted = sym (ap length e) ∙ length-map numbers (word_at names)
 
-    own : (i : ℕ) → i < length names → has (sources n.frame) (word_at names i) ≡ true → lit_at lits i ≡ source_lit (place (word_at names i) (sources n.frame))
+    own : (i : ℕ) → i < length names → has_word (sources n.frame) (word_at names i) ≡ true → lit_at lits i ≡ source_lit (place (word_at names i) (sources n.frame))
     own i lt known =
         let p : ℕ = place (word_at names i) (sources n.frame) in
         let inside : p < length numbers = omega (arith, place_lt (sources n.frame) (word_at names i) known, counted) in
@@ -106,18 +106,18 @@ named_sources n names numbers count rows lits e dis below hashed sized long ther
 
 -- the literals of known names have their values
 literals_valued : (n : Netlist) (names known : List (List ℕ)) (rows : List Row) (lits : List Lit) → IsNamed n names known rows lits → (v : List ℕ → Bool) → Consistent n v
-    → (numbers : List ℕ) → all_below (length names) numbers ≡ true → list_all (has known) (words_at names numbers) ≡ true
+    → (numbers : List ℕ) → all_below (length names) numbers ≡ true → list_all (has_word known) (words_at names numbers) ≡ true
     → map (value_by (given_by (map v (sources n.frame))) rows) (map (lit_at lits) numbers) ≡ map v (words_at names numbers)
 literals_valued n names known rows lits named v cv [] below there = refl
 literals_valued n names known rows lits named v cv (x ∷ xs) below there =
     let low = and_parts (nat_lt x (length names)) (all_below (length names) xs) below in
-    let all = and_parts (has known (word_at names x)) (list_all (has known) (words_at names xs)) there in
+    let all = and_parts (has_word known (word_at names x)) (list_all (has_word known) (words_at names xs)) there in
     ap₂ (λ (b : Bool) (bs : List Bool). b ∷ bs) (named.values v cv x (ltb-true x (length names) low.0) all.0) (literals_valued n names known rows lits named v cv xs low.1 all.1)
 
 -- a table's output becomes known
 pub named_more : (n : Netlist) (names known : List (List ℕ)) (old new : List Row) (lits : List Lit) (numbers : List ℕ) (output : ℕ) (rows : List (List ℕ)) (on : Bool) (literal : Lit)
     → IsNamed n names known old lits → distinct names ≡ true → Extends old new → node_of literal < length new → output < length names → all_below (length names) numbers ≡ true
-    → list_all (has known) (words_at names numbers) ≡ true → has (sources n.frame) (word_at names output) ≡ false
+    → list_all (has_word known) (words_at names numbers) ≡ true → has_word (sources n.frame) (word_at names output) ≡ false
     → ((v : List ℕ → Bool) → Consistent n v → v (word_at names output) ≡ cover_value rows on (map v (words_at names numbers)))
     → IsCover old rows on (map (lit_at lits) numbers) new literal
     → IsNamed n names (known ++ word_at names output ∷ []) new (set lits output literal)
@@ -125,7 +125,7 @@ named_more n names known old new lits numbers output rows on literal named dis g
   count = length-set lits output literal ∙ named.count;
   there = All-set (λ l. node_of l < length new) lits output literal there (there_kept old new lits grown named.there);
   own = λ i lt h. elim (cases_eq i output) [
-    | inl e ↦ absurd (both_ways (has (sources n.frame) (word_at names output)) fresh (sym (ap (λ k. has (sources n.frame) (word_at names k)) e) ∙ h))
+    | inl e ↦ absurd (both_ways (has_word (sources n.frame) (word_at names output)) fresh (sym (ap (λ k. has_word (sources n.frame) (word_at names k)) e) ∙ h))
     | inr ne ↦ get_or-set_other lits output i literal (record { 0 = 0 }) ne ∙ named.own i lt h
   ];
   values = λ v cv i lt h. elim (cases_eq i output) [
@@ -139,15 +139,15 @@ named_more n names known old new lits numbers output rows on literal named dis g
         ∙ ap (λ k. v (word_at names k)) (sym e)
     | inr ne ↦
         let given : ℕ → Bool = given_by (map v (sources n.frame)) in
-        let before : has known (word_at names i) ≡ true = still i lt ne (sym (has-append known (word_at names output ∷ []) (word_at names i)) ∙ h) in
+        let before : has_word known (word_at names i) ≡ true = still i lt ne (sym (has_word-append known (word_at names output ∷ []) (word_at names i)) ∙ h) in
         ap (value_by given new) (get_or-set_other lits output i literal (record { 0 = 0 }) ne)
         ∙ literal_kept given old new grown (lit_at lits i) (All-get_or (λ l. node_of l < length old) lits i (record { 0 = 0 }) (omega (arith, named.count)) named.there)
         ∙ named.values v cv i lt before
   ];
 }
   where
-    still : (i : ℕ) → i < length names → (i ≡ output → ⊥) → (has known (word_at names i) || has (word_at names output ∷ []) (word_at names i)) ≡ true → has known (word_at names i) ≡ true
-    still i lt ne h = elim (or_cases (has known (word_at names i)) (has (word_at names output ∷ []) (word_at names i)) h) [
+    still : (i : ℕ) → i < length names → (i ≡ output → ⊥) → (has_word known (word_at names i) || has_word (word_at names output ∷ []) (word_at names i)) ≡ true → has_word known (word_at names i) ≡ true
+    still i lt ne h = elim (or_cases (has_word known (word_at names i)) (has_word (word_at names output ∷ []) (word_at names i)) h) [
       | inl k ↦ k
       | inr o ↦ elim (or_cases (bytes_eq (word_at names output) (word_at names i)) false o) [
         | inl same ↦ absurd (ne (sym (one_number names output i dis inside lt (same_word (word_at names output) (word_at names i) same))))
@@ -163,13 +163,13 @@ known_at n k = sources n.frame ++ map output_of (take k n.tables)
 
 -- What an ordered netlist says of the table at a place.
 pub record IsNext (n : Netlist) (k : ℕ) (t : Table) : Type 0 where
-  pub reads : list_all (has (known_at n k)) t.inputs ≡ true
+  pub reads : list_all (has_word (known_at n k)) t.inputs ≡ true
   pub rest : reads_known (known_at n (k + 1)) (drop (k + 1) n.tables) ≡ true
-  pub fresh : has (sources n.frame) t.output ≡ false
+  pub fresh : has_word (sources n.frame) t.output ≡ false
   pub gives : (v : List ℕ → Bool) → Consistent n v → v t.output ≡ table_value t v
   pub known : known_at n k ++ t.output ∷ [] ≡ known_at n (k + 1)
 
-output_there : (ts : List Table) (k : ℕ) (d : Table) → k < length ts → has (map output_of ts) (get_or ts k d).output ≡ true
+output_there : (ts : List Table) (k : ℕ) (d : Table) → k < length ts → has_word (map output_of ts) (get_or ts k d).output ≡ true
 output_there [] k d lt = absurd (omega arith)
 output_there (t ∷ ts) zero d lt = has_head t.output (map output_of ts)
 output_there (t ∷ ts) (suc k) d lt = has_tail t.output (get_or ts k d).output (map output_of ts) (output_there ts k d (omega arith))
@@ -178,9 +178,9 @@ pub next_table : (n : Netlist) (k : ℕ) (t : Table) → Ordered n → k < lengt
 next_table n k t order lt at reads = record {
   reads = parts.0;
   rest = ap (λ (known : List (List ℕ)). reads_known known (drop (k + 1) n.tables)) (sym more) ∙ parts.1;
-  fresh = elim (cases_Bool (has (sources n.frame) t.output)) [
-    | inl s ↦ absurd (both_ways (has (map output_of n.tables) t.output) (apart (sources n.frame) (map output_of n.tables) t.output order.once.all s)
-        (ap (λ (x : Table). has (map output_of n.tables) x.output) at ∙ output_there n.tables k t lt))
+  fresh = elim (cases_Bool (has_word (sources n.frame) t.output)) [
+    | inl s ↦ absurd (both_ways (has_word (map output_of n.tables) t.output) (apart (sources n.frame) (map output_of n.tables) t.output order.once.all s)
+        (ap (λ (x : Table). has_word (map output_of n.tables) x.output) at ∙ output_there n.tables k t lt))
     | inr f ↦ f
   ];
   gives = λ v cv. subst (λ (x : Table). v x.output ≡ table_value x v) (sym at) (All-get_or (λ (x : Table). v x.output ≡ table_value x v) n.tables k t lt cv);
@@ -190,8 +190,8 @@ next_table n k t order lt at reads = record {
     here : drop k n.tables ≡ t ∷ drop (k + 1) n.tables
     here = drop_more n.tables k t lt ∙ ap (λ (x : Table). x ∷ drop (k + 1) n.tables) (sym at)
 
-    parts : (list_all (has (known_at n k)) t.inputs ≡ true) × (reads_known (known_at n k ++ t.output ∷ []) (drop (k + 1) n.tables) ≡ true)
-    parts = and_parts (list_all (has (known_at n k)) t.inputs) (reads_known (known_at n k ++ t.output ∷ []) (drop (k + 1) n.tables)) (sym (ap (reads_known (known_at n k)) here) ∙ reads)
+    parts : (list_all (has_word (known_at n k)) t.inputs ≡ true) × (reads_known (known_at n k ++ t.output ∷ []) (drop (k + 1) n.tables) ≡ true)
+    parts = and_parts (list_all (has_word (known_at n k)) t.inputs) (reads_known (known_at n k ++ t.output ∷ []) (drop (k + 1) n.tables)) (sym (ap (reads_known (known_at n k)) here) ∙ reads)
 
     more : known_at n k ++ t.output ∷ [] ≡ known_at n (k + 1)
     more =
@@ -261,7 +261,7 @@ ordered_function : (n : Netlist) (names : List (List ℕ)) (numbers : List ℕ) 
     → HasFunction n (rows_function rows found)
 ordered_function n names numbers rows lits found has_one order all named e below is = subst (λ (ls : List Lit). HasFunction n (rows_function rows ls)) (sym is) (record {
   total = (has_one n order).0;
-  value = λ v cv. ap (map v) (sym e) ∙ sym (literals_valued n names (defined n) rows lits named v cv numbers below (ap (list_all (has (defined n))) e ∙ all));
+  value = λ v cv. ap (map v) (sym e) ∙ sym (literals_valued n names (defined n) rows lits named v cv numbers below (ap (list_all (has_word (defined n))) e ∙ all));
 })
 
 -- the function doesn't depend on the order of the tables
@@ -286,5 +286,5 @@ observed_own n names known numbers rows lits found named e below is i lt own =
     let word : word_at (observed n.frame) i ≡ word_at names (get_or numbers i 0) = ap (λ (ws : List (List ℕ)). word_at ws i) (sym e) ∙ get_or-map (word_at names) numbers i 0 [] inside in
     ap (λ (ls : List Lit). lit_at ls i) is
     ∙ get_or-map (lit_at lits) numbers i 0 (record { 0 = 0 }) inside
-    ∙ named.own (get_or numbers i 0) (number_below (length names) numbers below i 0 inside) (sym (ap (has (sources n.frame)) word) ∙ own)
+    ∙ named.own (get_or numbers i 0) (number_below (length names) numbers below i 0 inside) (sym (ap (has_word (sources n.frame)) word) ∙ own)
     ∙ ap (λ (w : List ℕ). source_lit (place w (sources n.frame))) (sym word)

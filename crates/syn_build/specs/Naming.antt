@@ -3,7 +3,7 @@ use Rattle.std.specs.Prelude.{◌≡◌, ℕ, ◌<◌, Bool, true, List, length,
 use Rattle.syn_rows.specs.declared.Lit.{Lit}
 use Rattle.syn_rows.specs.declared.Row.{Row}
 use Rattle.syn_rows.specs.Values.{given_by}
-use Rattle.syn_netlist.specs.Words.{has}
+use Rattle.syn_netlist.specs.Words.{has_word}
 use Rattle.syn_netlist.specs.Lists.{Netlist, sources}
 use Rattle.syn_netlist.specs.Numbers.{word_at}
 use Rattle.syn_netlist.specs.Values.{Consistent}
@@ -22,5 +22,5 @@ in_order n order = with_tables n (tables_at n order)
 pub record IsNamed (n : Netlist) (names known : List (List ℕ)) (rows : List Row) (lits : List Lit) : Type 0 where
   pub count : length lits ≡ length names
   pub there : AllThere rows lits
-  pub own : (i : ℕ) → i < length names → has (sources n.frame) (word_at names i) ≡ true → lit_at lits i ≡ source_lit (place (word_at names i) (sources n.frame))
-  pub values : (v : List ℕ → Bool) → Consistent n v → (i : ℕ) → i < length names → has known (word_at names i) ≡ true → value_by (given_by (map v (sources n.frame))) rows (lit_at lits i) ≡ v (word_at names i)
+  pub own : (i : ℕ) → i < length names → has_word (sources n.frame) (word_at names i) ≡ true → lit_at lits i ≡ source_lit (place (word_at names i) (sources n.frame))
+  pub values : (v : List ℕ → Bool) → Consistent n v → (i : ℕ) → i < length names → has_word known (word_at names i) ≡ true → value_by (given_by (map v (sources n.frame))) rows (lit_at lits i) ≡ v (word_at names i)

@@ -38,13 +38,13 @@ gate_and n (And a b) h = refl
 gate_and n (Alias a) h = h
 
 pub graph_ands : (frame : Frame) (rows : List Row) (lits : List Lit) (k : ℕ) → ((rows : List Row) (observed : List Lit) → InOrder rows → HasAnds rows observed) → IsGraph frame rows lits → k + (length (sources frame) + 1) ≡ length rows → Ands rows lits k
-graph_ands frame rows lits k has g counted = (set, is_set, omega (arith, counted, total))
+graph_ands frame rows lits k has_word g counted = (set, is_set, omega (arith, counted, total))
   where
     count : ℕ
     count = length (sources frame)
 
     found : HasAnds rows lits
-    found = has rows lits (hashed_in_order count rows g.hashed)
+    found = has_word rows lits (hashed_in_order count rows g.hashed)
 
     set : ℕ → Bool
     set = found.1.0

@@ -18,10 +18,10 @@ use Rattle.syn_netlist.specs.Order.{defined, reads_known}
 use Rattle.syn_netlist.specs.Tables.{table_in}
 use Rattle.syn_netlist.specs.Views.{netlist_in}
 use Rattle.syn_netlist.specs.Walk.{table_output, inputs_at, output_at, distinct_numbers, maker_at, maker_among, reads_made, AreMakers, IsOrder}
-use Rattle.syn_netlist.specs.Words.{has, distinct}
+use Rattle.syn_netlist.specs.Words.{has_word, distinct}
 use Rattle.syn_netlist.proofs.Finding.{bytes_eq-sym}
 use Rattle.syn_netlist.proofs.Places.{below_parts, has_words}
-use Rattle.syn_netlist.proofs.Sets.{word_same, has_left, has_right, has-append}
+use Rattle.syn_netlist.proofs.Sets.{word_same, has_left, has_right, has_word-append}
 use Rattle.syn_netlist.proofs.Firsts.{table_outputs_below}
 use Rattle.syn_netlist.proofs.Undriven.{words_at-table_outputs}
 use Rattle.syn_netlist.proofs.Walking.{maker_is, inputs_below}
@@ -130,19 +130,19 @@ distinct_none = tt
 
 to_distinct : (ws : List (List ℕ)) → distinct ws ≡ true → IsDistinct other_word ws
 to_distinct [] h = distinct_none
-to_distinct (w ∷ ws) h = let parts = and_parts (not (has ws w)) (distinct ws) h in IsDistinct-cons other_word w ws (none ws (not-true (has ws w) parts.0)) (to_distinct ws parts.1)
+to_distinct (w ∷ ws) h = let parts = and_parts (not (has_word ws w)) (distinct ws) h in IsDistinct-cons other_word w ws (none ws (not-true (has_word ws w) parts.0)) (to_distinct ws parts.1)
   where
-    none : (xs : List (List ℕ)) → has xs w ≡ false → AllByRecursion (λ y. other_word w y ≡ false) xs
+    none : (xs : List (List ℕ)) → has_word xs w ≡ false → AllByRecursion (λ y. other_word w y ≡ false) xs
     none [] h = tt
-    none (x ∷ xs) h = let parts = or_parts (bytes_eq x w) (has xs w) h in (parts.0, none xs parts.1)
+    none (x ∷ xs) h = let parts = or_parts (bytes_eq x w) (has_word xs w) h in (parts.0, none xs parts.1)
 
 from_distinct : (ws : List (List ℕ)) → IsDistinct other_word ws → distinct ws ≡ true
 from_distinct [] h = refl
-from_distinct (w ∷ ws) h = and_from (not (has ws w)) (distinct ws) (not_from_false (has ws w) (none ws (IsDistinct-head other_word w ws h))) (from_distinct ws (IsDistinct-tail other_word w ws h))
+from_distinct (w ∷ ws) h = and_from (not (has_word ws w)) (distinct ws) (not_from_false (has_word ws w) (none ws (IsDistinct-head other_word w ws h))) (from_distinct ws (IsDistinct-tail other_word w ws h))
   where
-    none : (xs : List (List ℕ)) → AllByRecursion (λ y. other_word w y ≡ false) xs → has xs w ≡ false
+    none : (xs : List (List ℕ)) → AllByRecursion (λ y. other_word w y ≡ false) xs → has_word xs w ≡ false
     none [] h = refl
-    none (x ∷ xs) h = or_from (bytes_eq x w) (has xs w) h.0 (none xs h.1)
+    none (x ∷ xs) h = or_from (bytes_eq x w) (has_word xs w) h.0 (none xs h.1)
 
 pub distinct_permuted : (xs ys : List (List ℕ)) → IsPermutation xs ys → distinct xs ≡ true → distinct ys ≡ true
 distinct_permuted xs ys p h = from_distinct ys (IsDistinct-IsPermutation other_word (λ a b. bytes_eq-sym b a) xs ys p (to_distinct xs h))
@@ -186,12 +186,12 @@ inputs_all test names [] t h = refl
 inputs_all test names (x ∷ xs) zero h = all_left test (words_at names x.inputs) (flat_map inputs_of (map (table_in names) xs)) h
 inputs_all test names (x ∷ xs) (suc t) h = inputs_all test names xs t (all_right test (words_at names x.inputs) (flat_map inputs_of (map (table_in names) xs)) h)
 
-pub inputs_defined : (n : Netlist) → first_undriven (netlist_in n) ≡ None → (t : ℕ) → list_all (has (defined (netlist_in n))) (words_at n.frame.names (inputs_at n.tables t)) ≡ true
+pub inputs_defined : (n : Netlist) → first_undriven (netlist_in n) ≡ None → (t : ℕ) → list_all (has_word (defined (netlist_in n))) (words_at n.frame.names (inputs_at n.tables t)) ≡ true
 inputs_defined n h t =
     let m = netlist_in n in
-    inputs_all (has (defined m)) n.frame.names n.tables t
-    (all_right (has (defined m)) (flat_map latch_reads m.frame.latches) (flat_map inputs_of m.tables)
-    (all_right (has (defined m)) m.frame.outputs (flat_map latch_reads m.frame.latches ++ flat_map inputs_of m.tables) (none_found (has (defined m)) (reads m) h)))
+    inputs_all (has_word (defined m)) n.frame.names n.tables t
+    (all_right (has_word (defined m)) (flat_map latch_reads m.frame.latches) (flat_map inputs_of m.tables)
+    (all_right (has_word (defined m)) m.frame.outputs (flat_map latch_reads m.frame.latches ++ flat_map inputs_of m.tables) (none_found (has_word (defined m)) (reads m) h)))
 
 -- each table of the order reads what is known
 
@@ -203,41 +203,41 @@ module _ (n : Netlist) (makers : List (Option ℕ)) (d : distinct n.frame.names 
   abbrev known_after : List ℕ → List (List ℕ)
   known_after before = sources (netlist_in n).frame ++ map output_of (tables_at (netlist_in n) before)
 
-  among_known : (before : List ℕ) → all_below (length n.tables) before ≡ true → (u : ℕ) → has_number before u ≡ true → has (map output_of (tables_at (netlist_in n) before)) (word_at the_names (output_at n.tables u)) ≡ true
+  among_known : (before : List ℕ) → all_below (length n.tables) before ≡ true → (u : ℕ) → has_number before u ≡ true → has_word (map output_of (tables_at (netlist_in n) before)) (word_at the_names (output_at n.tables u)) ≡ true
   among_known [] h u k = absurd (both_ways false refl k)
   among_known (b ∷ bs) h u k =
       let (lt, rest) = below_parts (length n.tables) b bs h in
       elim (eqb_tells b u) [
-        | inl (t, e) ↦ or_left (bytes_eq (get_or (netlist_in n).tables b no_table).output (word_at the_names (output_at n.tables u))) (has (map output_of (tables_at (netlist_in n) bs)) (word_at the_names (output_at n.tables u)))
+        | inl (t, e) ↦ or_left (bytes_eq (get_or (netlist_in n).tables b no_table).output (word_at the_names (output_at n.tables u))) (has_word (map output_of (tables_at (netlist_in n) bs)) (word_at the_names (output_at n.tables u)))
             (ap₂ bytes_eq (word_of_output n.tables the_names b lt) (ap (λ k. word_at the_names (output_at n.tables k)) (sym e)) ∙ word_same (word_at the_names (output_at n.tables b)))
-        | inr (t, e) ↦ or_right (bytes_eq (get_or (netlist_in n).tables b no_table).output (word_at the_names (output_at n.tables u))) (has (map output_of (tables_at (netlist_in n) bs)) (word_at the_names (output_at n.tables u)))
+        | inr (t, e) ↦ or_right (bytes_eq (get_or (netlist_in n).tables b no_table).output (word_at the_names (output_at n.tables u))) (has_word (map output_of (tables_at (netlist_in n) bs)) (word_at the_names (output_at n.tables u)))
             (among_known bs rest u (elim (or_cases (nat_eq b u) (has_number bs u) k) [ inl y ↦ absurd (both_ways (nat_eq b u) t y) | inr y ↦ y ]))
       ]
 
-  name_known : (before : List ℕ) → all_below (length n.tables) before ≡ true → (name : ℕ) → name < length the_names → has (defined (netlist_in n)) (word_at the_names name) ≡ true → maker_among before (maker_at makers name) ≡ true
-      → has (known_after before) (word_at the_names name) ≡ true
+  name_known : (before : List ℕ) → all_below (length n.tables) before ≡ true → (name : ℕ) → name < length the_names → has_word (defined (netlist_in n)) (word_at the_names name) ≡ true → maker_among before (maker_at makers name) ≡ true
+      → has_word (known_after before) (word_at the_names name) ≡ true
   name_known before h name lt def among = go (maker_at makers name) refl (are.at name (subst (λ k. name < k) (sym len) lt)) among
     where
       go : (m : Option ℕ) → maker_at makers name ≡ m → MatchOption (maker_at makers name) (has_number (map table_output n.tables) name ≡ false) (λ t. (t < length n.tables) × (output_at n.tables t ≡ name)) → maker_among before m ≡ true
-          → has (known_after before) (word_at the_names name) ≡ true
+          → has_word (known_after before) (word_at the_names name) ≡ true
       go None e at k = has_left (sources (netlist_in n).frame) (map output_of (tables_at (netlist_in n) before)) (word_at the_names name)
-          (elim (or_cases (has (sources (netlist_in n).frame) (word_at the_names name)) (has (map output_of (netlist_in n).tables) (word_at the_names name)) (sym (has-append (sources (netlist_in n).frame) (map output_of (netlist_in n).tables) (word_at the_names name)) ∙ def)) [
+          (elim (or_cases (has_word (sources (netlist_in n).frame) (word_at the_names name)) (has_word (map output_of (netlist_in n).tables) (word_at the_names name)) (sym (has_word-append (sources (netlist_in n).frame) (map output_of (netlist_in n).tables) (word_at the_names name)) ∙ def)) [
             | inl y ↦ y
-            | inr y ↦ absurd (both_ways (has (map output_of (netlist_in n).tables) (word_at the_names name))
-                (ap (λ (l : List (List ℕ)). has l (word_at the_names name)) (sym (words_at-table_outputs the_names n.tables)) ∙ has_words the_names (map table_output n.tables) name d (table_outputs_below (length the_names) n.tables n.tables_below) lt
+            | inr y ↦ absurd (both_ways (has_word (map output_of (netlist_in n).tables) (word_at the_names name))
+                (ap (λ (l : List (List ℕ)). has_word l (word_at the_names name)) (sym (words_at-table_outputs the_names n.tables)) ∙ has_words the_names (map table_output n.tables) name d (table_outputs_below (length the_names) n.tables n.tables_below) lt
                 ∙ subst (λ o. MatchOption o (has_number (map table_output n.tables) name ≡ false) (λ t. (t < length n.tables) × (output_at n.tables t ≡ name))) e at) y)
           ])
       go (Some u) e at k = has_right (sources (netlist_in n).frame) (map output_of (tables_at (netlist_in n) before)) (word_at the_names name)
-          (subst (λ i. has (map output_of (tables_at (netlist_in n) before)) (word_at the_names i) ≡ true) (maker_is n.tables makers name u are e).1 (among_known before h u k))
+          (subst (λ i. has_word (map output_of (tables_at (netlist_in n) before)) (word_at the_names i) ≡ true) (maker_is n.tables makers name u are e).1 (among_known before h u k))
 
-  names_known : (before : List ℕ) → all_below (length n.tables) before ≡ true → (inputs : List ℕ) → all_below (length the_names) inputs ≡ true → list_all (has (defined (netlist_in n))) (words_at the_names inputs) ≡ true
-      → list_all (λ name. maker_among before (maker_at makers name)) inputs ≡ true → list_all (has (known_after before)) (words_at the_names inputs) ≡ true
+  names_known : (before : List ℕ) → all_below (length n.tables) before ≡ true → (inputs : List ℕ) → all_below (length the_names) inputs ≡ true → list_all (has_word (defined (netlist_in n))) (words_at the_names inputs) ≡ true
+      → list_all (λ name. maker_among before (maker_at makers name)) inputs ≡ true → list_all (has_word (known_after before)) (words_at the_names inputs) ≡ true
   names_known before h [] b def among = refl
   names_known before h (i ∷ is) b def among =
       let (lt, rest) = below_parts (length the_names) i is b in
-      let defs = and_parts (has (defined (netlist_in n)) (word_at the_names i)) (list_all (has (defined (netlist_in n))) (words_at the_names is)) def in
+      let defs = and_parts (has_word (defined (netlist_in n)) (word_at the_names i)) (list_all (has_word (defined (netlist_in n))) (words_at the_names is)) def in
       let made = and_parts (maker_among before (maker_at makers i)) (list_all (λ name. maker_among before (maker_at makers name)) is) among in
-      and_from (has (known_after before) (word_at the_names i)) (list_all (has (known_after before)) (words_at the_names is)) (name_known before h i lt defs.0 made.0) (names_known before h is rest defs.1 made.1)
+      and_from (has_word (known_after before) (word_at the_names i)) (list_all (has_word (known_after before)) (words_at the_names is)) (name_known before h i lt defs.0 made.0) (names_known before h is rest defs.1 made.1)
 
   known_more : (before : List ℕ) (t : ℕ) → known_after (before ++ t ∷ []) ≡ known_after before ++ (get_or (netlist_in n).tables t no_table).output ∷ []
   known_more before t =
@@ -250,8 +250,8 @@ module _ (n : Netlist) (makers : List (Option ℕ)) (d : distinct n.frame.names 
   order_known before (t ∷ order) b r =
       let parts = and_parts (list_all (λ name. maker_among before (maker_at makers name)) (inputs_at n.tables t)) (reads_made n.tables makers (before ++ t ∷ []) order) r in
       let lt : t < length n.tables = (below_parts (length n.tables) t order (below_right before (t ∷ order) b)).0 in
-      and_from (list_all (has (known_after before)) (get_or (netlist_in n).tables t no_table).inputs) (reads_known (known_after before ++ (get_or (netlist_in n).tables t no_table).output ∷ []) (tables_at (netlist_in n) order))
-      (ap (list_all (has (known_after before))) (words_of_inputs n.tables the_names t lt) ∙ names_known before (below_left before (t ∷ order) b) (inputs_at n.tables t) (inputs_below (length the_names) n.tables t n.tables_below) (inputs_defined n driven t) parts.0)
+      and_from (list_all (has_word (known_after before)) (get_or (netlist_in n).tables t no_table).inputs) (reads_known (known_after before ++ (get_or (netlist_in n).tables t no_table).output ∷ []) (tables_at (netlist_in n) order))
+      (ap (list_all (has_word (known_after before))) (words_of_inputs n.tables the_names t lt) ∙ names_known before (below_left before (t ∷ order) b) (inputs_at n.tables t) (inputs_below (length the_names) n.tables t n.tables_below) (inputs_defined n driven t) parts.0)
       (ap (λ (l : List (List ℕ)). reads_known l (tables_at (netlist_in n) order)) (sym (known_more before t))
       ∙ order_known (before ++ t ∷ []) order (ap (all_below (length n.tables)) (append_assoc before (t ∷ []) order) ∙ b) parts.1)
     where

@@ -7,46 +7,46 @@ use Rattle.syn_netlist.specs.declared.NetFault.TheVariants.{Undriven, Cycle, NoM
 use Rattle.syn_netlist.specs.Faults.{EachReadsAnother, TableReads, ReadInTurn, IsCircle, GoesOn, next_in, IsChecked, reads, inputs_of, OrderableReachesNoCircle, AnsweredIsCircle, CheckedHasNoFault, CheckedHasFunction}
 use Rattle.syn_netlist.specs.Lists.{Table, Netlist, output_of, sources, observed, latch_reads}
 use Rattle.syn_netlist.specs.Order.{defined, reads_known, with_tables, function_of, observes_defined}
-use Rattle.syn_netlist.specs.Words.{has, distinct, without, firsts}
+use Rattle.syn_netlist.specs.Words.{has_word, distinct, without, firsts}
 use Rattle.syn_netlist.proofs.Arranging.{none_found, all_left}
 use Rattle.syn_netlist.proofs.CyclicSets.{In, to_in, from_in, in_has, one_table}
 use Rattle.syn_netlist.proofs.Evaluation.{orderable_has_function}
-use Rattle.syn_netlist.proofs.Sets.{same_word, has-append, has_head, has_tail, apart, distinct_right, all_at}
+use Rattle.syn_netlist.proofs.Sets.{same_word, has_word-append, has_head, has_tail, apart, distinct_right, all_at}
 
 -- an element that passes
-any_found : (test : List ℕ → Bool) (ws : List (List ℕ)) → list_any test ws ≡ true → (w : List ℕ) × (has ws w ≡ true) × (test w ≡ true)
+any_found : (test : List ℕ → Bool) (ws : List (List ℕ)) → list_any test ws ≡ true → (w : List ℕ) × (has_word ws w ≡ true) × (test w ≡ true)
 any_found test [] h = absurd (both_ways false refl h)
 any_found test (w ∷ ws) h = elim (or_cases (test w) (list_any test ws) h) [
   | inl t ↦ (w, has_head w ws, t)
   | inr t ↦ (let r = any_found test ws t in (r.0, has_tail w r.0 ws r.1, r.2))
 ]
 
-found_there : (test : List ℕ → Bool) (ws : List (List ℕ)) (w : List ℕ) → find test ws ≡ Some w → (has ws w ≡ true) × (test w ≡ true)
+found_there : (test : List ℕ → Bool) (ws : List (List ℕ)) (w : List ℕ) → find test ws ≡ Some w → (has_word ws w ≡ true) × (test w ≡ true)
 found_there test [] w h = cc
 found_there test (x ∷ xs) w h = elim (cases_Bool (test x)) [
-  | inl t ↦ (let e : Some x ≡ Some w = sym (cond-true (test x) (Some x) (find test xs) t) ∙ h in let same : x ≡ w = cc in (subst (λ k. has (x ∷ xs) k ≡ true) same (has_head x xs), subst (λ k. test k ≡ true) same t))
+  | inl t ↦ (let e : Some x ≡ Some w = sym (cond-true (test x) (Some x) (find test xs) t) ∙ h in let same : x ≡ w = cc in (subst (λ k. has_word (x ∷ xs) k ≡ true) same (has_head x xs), subst (λ k. test k ≡ true) same t))
   | inr f ↦ (let r = found_there test xs w (sym (cond-false (test x) (Some x) (find test xs) f) ∙ h) in (has_tail x w xs r.0, r.1))
 ]
 
 module _ (tables : List Table) (set : List ℕ → Bool) (reading : EachReadsAnother tables set) where
   -- where known names aren't in the set, the outputs of tables that read them aren't either
   outputs_out : (all order : List Table) (known : List (List ℕ)) → ((t : Table) → In tables t → In all t) → distinct (map output_of all) ≡ true → ((t : Table) → In order t → In all t)
-      → ((w : List ℕ) → has known w ≡ true → set w ≡ false) → reads_known known order ≡ true → (w : List ℕ) → has (map output_of order) w ≡ true → set w ≡ false
+      → ((w : List ℕ) → has_word known w ≡ true → set w ≡ false) → reads_known known order ≡ true → (w : List ℕ) → has_word (map output_of order) w ≡ true → set w ≡ false
   outputs_out all [] known sub d inside out r w h = absurd (both_ways false refl h)
   outputs_out all (t ∷ ts) known sub d inside out r w h =
-      let parts = and_parts (list_all (has known) t.inputs) (reads_known (known ++ t.output ∷ []) ts) r in
+      let parts = and_parts (list_all (has_word known) t.inputs) (reads_known (known ++ t.output ∷ []) ts) r in
       let here : set t.output ≡ false = false_from_ne_true (set t.output) (λ k.
       let q = reading t.output k in
       let same : q.0 ≡ t = one_table all q.0 t d (sub q.0 (to_in tables q.0 q.1.0 q.1.1 q.1.2)) (inside t (inl refl)) q.2 in
       let f = any_found set t.inputs (subst (λ (x : Table). list_any set x.inputs ≡ true) same q.3) in
-      both_ways (set f.0) (out f.0 (all_at (has known) t.inputs f.0 parts.0 f.1)) f.2) in
-      elim (or_cases (bytes_eq t.output w) (has (map output_of ts) w) h) [
+      both_ways (set f.0) (out f.0 (all_at (has_word known) t.inputs f.0 parts.0 f.1)) f.2) in
+      elim (or_cases (bytes_eq t.output w) (has_word (map output_of ts) w) h) [
         | inl e ↦ subst (λ k. set k ≡ false) (same_word t.output w e) here
         | inr k ↦ outputs_out all ts (known ++ t.output ∷ []) sub d (λ u i. inside u (inr i)) (λ v j. more known t.output v here out j) parts.1 w k
       ]
     where
-      more : (known : List (List ℕ)) (x v : List ℕ) → set x ≡ false → ((w : List ℕ) → has known w ≡ true → set w ≡ false) → has (known ++ x ∷ []) v ≡ true → set v ≡ false
-      more known x v here out j = elim (or_cases (has known v) (bytes_eq x v || false) (sym (has-append known (x ∷ []) v) ∙ j)) [
+      more : (known : List (List ℕ)) (x v : List ℕ) → set x ≡ false → ((w : List ℕ) → has_word known w ≡ true → set w ≡ false) → has_word (known ++ x ∷ []) v ≡ true → set v ≡ false
+      more known x v here out j = elim (or_cases (has_word known v) (bytes_eq x v || false) (sym (has_word-append known (x ∷ []) v) ∙ j)) [
         | inl k ↦ out v k
         | inr k ↦ elim (or_cases (bytes_eq x v) false k) [ inl e ↦ subst (λ y. set y ≡ false) (same_word x v e) here | inr e ↦ absurd (both_ways false refl e) ]
       ]
@@ -55,8 +55,8 @@ pub orderable_reaches_no_circle : OrderableReachesNoCircle
 orderable_reaches_no_circle n order word can (set, reading, there) =
     let d : distinct (map output_of order) ≡ true = distinct_right (sources n.frame) (map output_of order) can.ordered.once.all in
     let sub : (t : Table) → In n.tables t → In order t = λ t i. (let c = Contains-permutation n.tables order t can.permuted (from_in n.tables t i) in to_in order t c.0 c.1 c.2) in
-    let named : (w : List ℕ) → set w ≡ true → has (map output_of order) w ≡ true = λ w h. (let q = reading w h in subst (λ k. has (map output_of order) k ≡ true) q.2 (in_has order q.0 (sub q.0 (to_in n.tables q.0 q.1.0 q.1.1 q.1.2)))) in
-    let source_out : (w : List ℕ) → has (sources n.frame) w ≡ true → set w ≡ false = λ w h. false_from_ne_true (set w) (λ k. both_ways (has (map output_of order) w) (apart (sources n.frame) (map output_of order) w can.ordered.once.all h) (named w k)) in
+    let named : (w : List ℕ) → set w ≡ true → has_word (map output_of order) w ≡ true = λ w h. (let q = reading w h in subst (λ k. has_word (map output_of order) k ≡ true) q.2 (in_has order q.0 (sub q.0 (to_in n.tables q.0 q.1.0 q.1.1 q.1.2)))) in
+    let source_out : (w : List ℕ) → has_word (sources n.frame) w ≡ true → set w ≡ false = λ w h. false_from_ne_true (set w) (λ k. both_ways (has_word (map output_of order) w) (apart (sources n.frame) (map output_of order) w can.ordered.once.all h) (named w k)) in
     both_ways (set word) (outputs_out n.tables set reading order order (sources n.frame) sub d (λ t i. i) source_out can.ordered.above word (named word there)) there
 
 -- the answered circle
@@ -115,17 +115,17 @@ all_firsts : (test : List ℕ → Bool) (ws : List (List ℕ)) → list_all test
 all_firsts test [] h = refl
 all_firsts test (w ∷ ws) h =
     let parts = and_parts (test w) (list_all test ws) h in
-    and_from (test w) (list_all test (without (w ∷ []) (firsts ws))) parts.0 (all_filtered test (λ x. not (has (w ∷ []) x)) (firsts ws) (all_firsts test ws parts.1))
+    and_from (test w) (list_all test (without (w ∷ []) (firsts ws))) parts.0 (all_filtered test (λ x. not (has_word (w ∷ []) x)) (firsts ws) (all_firsts test ws parts.1))
 
-all_permuted : (order tables : List Table) (from : List (List ℕ)) (ws : List (List ℕ)) → ((w : List ℕ) → has (from ++ map output_of tables) w ≡ has (from ++ map output_of order) w) → list_all (has (from ++ map output_of tables)) ws ≡ true → list_all (has (from ++ map output_of order)) ws ≡ true
+all_permuted : (order tables : List Table) (from : List (List ℕ)) (ws : List (List ℕ)) → ((w : List ℕ) → has_word (from ++ map output_of tables) w ≡ has_word (from ++ map output_of order) w) → list_all (has_word (from ++ map output_of tables)) ws ≡ true → list_all (has_word (from ++ map output_of order)) ws ≡ true
 all_permuted order tables from [] same h = refl
 all_permuted order tables from (w ∷ ws) same h =
-    let parts = and_parts (has (from ++ map output_of tables) w) (list_all (has (from ++ map output_of tables)) ws) h in
-    and_from (has (from ++ map output_of order) w) (list_all (has (from ++ map output_of order)) ws) (sym (same w) ∙ parts.0) (all_permuted order tables from ws same parts.1)
+    let parts = and_parts (has_word (from ++ map output_of tables) w) (list_all (has_word (from ++ map output_of tables)) ws) h in
+    and_from (has_word (from ++ map output_of order) w) (list_all (has_word (from ++ map output_of order)) ws) (sym (same w) ∙ parts.0) (all_permuted order tables from ws same parts.1)
 
 pub checked_observes : (n : Netlist) (k : IsChecked n) → observes_defined (with_tables n k.order) ≡ true
 checked_observes n k =
-    let test : List ℕ → Bool = has (defined n) in
+    let test : List ℕ → Bool = has_word (defined n) in
     let all : list_all test (reads n) ≡ true = none_found test (reads n) k.driven in
     let rest : List (List ℕ) = flat_map latch_reads n.frame.latches in
     let regrouped : list_all test ((n.frame.outputs ++ rest) ++ flat_map inputs_of n.tables) ≡ true = ap (list_all test) (append_assoc n.frame.outputs rest (flat_map inputs_of n.tables)) ∙ all in

@@ -17,7 +17,7 @@ use Rattle.syn_netlist.specs.Numbers.{word_at, words_at, all_below}
 use Rattle.syn_netlist.specs.Tables.{table_in}
 use Rattle.syn_netlist.specs.Views.{netlist_in}
 use Rattle.syn_netlist.specs.Walk.{table_output, inputs_at, output_at, distinct_numbers, maker_at, stage_at, is_done, is_finished, maker_among, reads_made, seen_at, Leads, Linked, Begins, AreMakers, IsOrderWalk, Meets, from_number, output_words}
-use Rattle.syn_netlist.specs.Words.{has, distinct}
+use Rattle.syn_netlist.specs.Words.{has_word, distinct}
 use Rattle.syn_netlist.proofs.Arranging.{word_of_output, words_of_inputs}
 use Rattle.syn_netlist.proofs.CyclicSets.{to_in, in_has, one_table, next_is, cyclic_set}
 use Rattle.syn_netlist.proofs.Firsts.{table_outputs_below}
@@ -43,21 +43,21 @@ distinct_words names [] d b o = refl
 distinct_words names (n ∷ ns) d b o =
     let (lt, rest) = below_parts (length names) n ns b in
     let parts = and_parts (not (has_number ns n)) (distinct_numbers ns) o in
-    and_from (not (has (words_at names ns) (word_at names n))) (distinct (words_at names ns)) (ap not (has_words names ns n d rest lt) ∙ parts.0) (distinct_words names ns d rest parts.1)
+    and_from (not (has_word (words_at names ns) (word_at names n))) (distinct (words_at names ns)) (ap not (has_words names ns n d rest lt) ∙ parts.0) (distinct_words names ns d rest parts.1)
 
 -- a word among the words of numbers is that of one of them
-word_among : (names : List (List ℕ)) (numbers : List ℕ) (w : List ℕ) → has (words_at names numbers) w ≡ true → (t : ℕ) × (has_number numbers t ≡ true) × (bytes_eq (word_at names t) w ≡ true)
+word_among : (names : List (List ℕ)) (numbers : List ℕ) (w : List ℕ) → has_word (words_at names numbers) w ≡ true → (t : ℕ) × (has_number numbers t ≡ true) × (bytes_eq (word_at names t) w ≡ true)
 word_among names [] w h = absurd (both_ways false refl h)
-word_among names (n ∷ ns) w h = elim (or_cases (bytes_eq (word_at names n) w) (has (words_at names ns) w) h) [
+word_among names (n ∷ ns) w h = elim (or_cases (bytes_eq (word_at names n) w) (has_word (words_at names ns) w) h) [
   | inl e ↦ (n, or_left (nat_eq n n) (has_number ns n) (elim (eqb_tells n n) [ inl (t, f) ↦ t | inr (t, f) ↦ absurd (f refl) ]), e)
   | inr r ↦ (let (t, there, same) = word_among names ns w r in (t, or_right (nat_eq n t) (has_number ns t) there, same))
 ]
 
-among_words : (names : List (List ℕ)) (numbers : List ℕ) (t : ℕ) → has_number numbers t ≡ true → has (words_at names numbers) (word_at names t) ≡ true
+among_words : (names : List (List ℕ)) (numbers : List ℕ) (t : ℕ) → has_number numbers t ≡ true → has_word (words_at names numbers) (word_at names t) ≡ true
 among_words names [] t h = absurd (both_ways false refl h)
 among_words names (n ∷ ns) t h = elim (or_cases (nat_eq n t) (has_number ns t) h) [
-  | inl e ↦ or_left (bytes_eq (word_at names n) (word_at names t)) (has (words_at names ns) (word_at names t)) (elim (eqb_tells n t) [ inl (u, f) ↦ ap (λ k. bytes_eq (word_at names n) (word_at names k)) (sym f) ∙ word_same (word_at names n) | inr (u, f) ↦ absurd (both_ways (nat_eq n t) u e) ])
-  | inr r ↦ or_right (bytes_eq (word_at names n) (word_at names t)) (has (words_at names ns) (word_at names t)) (among_words names ns t r)
+  | inl e ↦ or_left (bytes_eq (word_at names n) (word_at names t)) (has_word (words_at names ns) (word_at names t)) (elim (eqb_tells n t) [ inl (u, f) ↦ ap (λ k. bytes_eq (word_at names n) (word_at names k)) (sym f) ∙ word_same (word_at names n) | inr (u, f) ↦ absurd (both_ways (nat_eq n t) u e) ])
+  | inr r ↦ or_right (bytes_eq (word_at names n) (word_at names t)) (has_word (words_at names ns) (word_at names t)) (among_words names ns t r)
 ]
 
 has_below : (count : ℕ) (numbers : List ℕ) (t : ℕ) → all_below count numbers ≡ true → has_number numbers t ≡ true → t < count
@@ -163,10 +163,10 @@ module _ (n : Netlist) (makers : List (Option ℕ)) (d : distinct n.frame.names 
     unmade_out : (name : ℕ) → name < length n.frame.names → maker_at makers name ≡ None → set (word_at n.frame.names name) ≡ false
     unmade_out name lt e = false_from_ne_true (set (word_at n.frame.names name)) (λ h.
         let r = reading (word_at n.frame.names name) h in
-        let there : has (outs n) (word_at n.frame.names name) ≡ true = subst (λ x. has (outs n) x ≡ true) r.2 (in_has (netlist_in n).tables r.0 (to_in (netlist_in n).tables r.0 r.1.0 r.1.1 r.1.2)) in
+        let there : has_word (outs n) (word_at n.frame.names name) ≡ true = subst (λ x. has_word (outs n) x ≡ true) r.2 (in_has (netlist_in n).tables r.0 (to_in (netlist_in n).tables r.0 r.1.0 r.1.1 r.1.2)) in
         let away : has_number (map table_output n.tables) name ≡ false = subst (λ o. MatchOption o (has_number (map table_output n.tables) name ≡ false) (λ t. (t < length n.tables) × (output_at n.tables t ≡ name))) e (are.at name (subst (λ k. name < k) (sym len) lt)) in
-        both_ways (has (outs n) (word_at n.frame.names name))
-        (ap (λ (l : List (List ℕ)). has l (word_at n.frame.names name)) (sym (words_at-table_outputs n.frame.names n.tables)) ∙ has_words n.frame.names (map table_output n.tables) name d (table_outputs_below (length n.frame.names) n.tables n.tables_below) lt ∙ away) there)
+        both_ways (has_word (outs n) (word_at n.frame.names name))
+        (ap (λ (l : List (List ℕ)). has_word l (word_at n.frame.names name)) (sym (words_at-table_outputs n.frame.names n.tables)) ∙ has_words n.frame.names (map table_output n.tables) name d (table_outputs_below (length n.frame.names) n.tables n.tables_below) lt ∙ away) there)
 
     maker_out : (before : List ℕ) → ((t : ℕ) → has_number before t ≡ true → set (word_at (outs n) t) ≡ false) → (name : ℕ) → name < length n.frame.names → maker_among before (maker_at makers name) ≡ true → set (word_at n.frame.names name) ≡ false
     maker_out before out name lt h = go (maker_at makers name) refl h
@@ -244,7 +244,7 @@ module _ (n : Netlist) (makers : List (Option ℕ)) (d : distinct n.frame.names 
 
   -- the words of the path read each other
   abbrev on_path : List ℕ → Bool
-  on_path w = has (words_at (outs n) path) w
+  on_path w = has_word (words_at (outs n) path) w
 
   path_reads : EachReadsAnother (netlist_in n).tables on_path
   path_reads word h =

@@ -11,7 +11,7 @@ use Rattle.syn_netlist.specs.Lists.{output_of, sources}
 use Rattle.syn_netlist.specs.Numbers.{word_at, words_at, all_below}
 use Rattle.syn_netlist.specs.Views.{netlist_in}
 use Rattle.syn_netlist.specs.Walk.{table_output}
-use Rattle.syn_netlist.specs.Words.{has, distinct}
+use Rattle.syn_netlist.specs.Words.{has_word, distinct}
 use Rattle.syn_netlist.proofs.Firsts.{table_outputs_below}
 use Rattle.syn_netlist.proofs.Places.{below_parts}
 use Rattle.syn_netlist.proofs.Sets.{word_same, distinct_right}
@@ -24,13 +24,13 @@ none_distinct = tt
 numbers_distinct : (names : List (List ℕ)) (ns : List ℕ) → distinct (words_at names ns) ≡ true → IsDistinct eqb ns
 numbers_distinct names [] h = none_distinct
 numbers_distinct names (n ∷ ns) h =
-    let parts = and_parts (not (has (words_at names ns) (word_at names n))) (distinct (words_at names ns)) h in
-    IsDistinct-cons eqb n ns (others ns (not-true (has (words_at names ns) (word_at names n)) parts.0)) (numbers_distinct names ns parts.1)
+    let parts = and_parts (not (has_word (words_at names ns) (word_at names n))) (distinct (words_at names ns)) h in
+    IsDistinct-cons eqb n ns (others ns (not-true (has_word (words_at names ns) (word_at names n)) parts.0)) (numbers_distinct names ns parts.1)
   where
-    others : (xs : List ℕ) → has (words_at names xs) (word_at names n) ≡ false → AllByRecursion (λ y. eqb n y ≡ false) xs
+    others : (xs : List ℕ) → has_word (words_at names xs) (word_at names n) ≡ false → AllByRecursion (λ y. eqb n y ≡ false) xs
     others [] h = tt
     others (x ∷ xs) h =
-        let parts = or_parts (bytes_eq (word_at names x) (word_at names n)) (has (words_at names xs) (word_at names n)) h in (
+        let parts = or_parts (bytes_eq (word_at names x) (word_at names n)) (has_word (words_at names xs) (word_at names n)) h in (
           elim (eqb_tells n x) [
             | inl (t, e) ↦ absurd (both_ways (bytes_eq (word_at names x) (word_at names n)) parts.0 (ap (λ k. bytes_eq (word_at names x) (word_at names k)) e ∙ word_same (word_at names x)))
             | inr (t, e) ↦ t

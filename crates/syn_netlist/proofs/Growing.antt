@@ -9,7 +9,7 @@ use Rattle.syn_netlist.specs.declared.tables.Table.{Table}
 use Rattle.syn_netlist.specs.Kept.{latch_in, latches_below, latch_numbers, control_number, no_nil_control, nil_word}
 use Rattle.syn_netlist.specs.Numbers.{word_at, words_at, with_word, all_below, kind_at, Grows}
 use Rattle.syn_netlist.specs.Tables.{table_in, tables_below}
-use Rattle.syn_netlist.specs.Words.{has}
+use Rattle.syn_netlist.specs.Words.{has_word}
 use Rattle.syn_netlist.specs.Lists.{control_of}
 use Rattle.syn_netlist.specs.Lists as lists
 
@@ -23,9 +23,9 @@ Grows-again a b c g h = record {
 }
 
 pub Grows-with_word : (names : List (List ℕ)) (word : List ℕ) → Grows names (with_word names word)
-Grows-with_word names word = elim (cases_Bool (has names word)) [
-  | inl e ↦ record { rest = []; is = cond-true (has names word) names (names ++ word ∷ []) e ∙ sym (append-nil names) }
-  | inr e ↦ record { rest = word ∷ []; is = cond-false (has names word) names (names ++ word ∷ []) e }
+Grows-with_word names word = elim (cases_Bool (has_word names word)) [
+  | inl e ↦ record { rest = []; is = cond-true (has_word names word) names (names ++ word ∷ []) e ∙ sym (append-nil names) }
+  | inr e ↦ record { rest = word ∷ []; is = cond-false (has_word names word) names (names ++ word ∷ []) e }
 ]
 
 pub length-grows : (names more : List (List ℕ)) → Grows names more → length names ≤ length more

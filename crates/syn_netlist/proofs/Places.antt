@@ -9,10 +9,10 @@ use Rattle.syn_netlist.specs.Kept.{latch_in, latches_below, latch_numbers, contr
 use Rattle.syn_netlist.specs.Lists.{latch_output, latch_reads, control_of, sources, observed}
 use Rattle.syn_netlist.specs.Marks.{has_number, without_numbers, first_numbers, output_number, read_numbers, source_numbers, observed_numbers}
 use Rattle.syn_netlist.specs.Numbers.{word_at, words_at, all_below, kind_at}
-use Rattle.syn_netlist.specs.Words.{has, distinct, without, firsts}
+use Rattle.syn_netlist.specs.Words.{has_word, distinct, without, firsts}
 use Rattle.syn_netlist.proofs.Sets.{same_word, word_same, has_head, has_tail, distinct_head}
 
-has_word_at : (names : List (List ℕ)) (i : ℕ) → i < length names → has names (word_at names i) ≡ true
+has_word_at : (names : List (List ℕ)) (i : ℕ) → i < length names → has_word names (word_at names i) ≡ true
 has_word_at [] i lt = absurd (omega arith)
 has_word_at (w ∷ ws) zero lt = has_head w ws
 has_word_at (w ∷ ws) (suc i) lt = has_tail w (word_at ws i) ws (has_word_at ws i (omega arith))
@@ -21,9 +21,9 @@ has_word_at (w ∷ ws) (suc i) lt = has_tail w (word_at ws i) ws (has_word_at ws
 pub one_number : (names : List (List ℕ)) (i j : ℕ) → distinct names ≡ true → i < length names → j < length names → word_at names i ≡ word_at names j → i ≡ j
 one_number [] i j d li lj e = absurd (omega arith)
 one_number (w ∷ ws) zero zero d li lj e = refl
-one_number (w ∷ ws) zero (suc j) d li lj e = absurd (both_ways (has ws w) (distinct_head w ws d) (subst (λ x. has ws x ≡ true) (sym e) (has_word_at ws j (omega arith))))
-one_number (w ∷ ws) (suc i) zero d li lj e = absurd (both_ways (has ws w) (distinct_head w ws d) (subst (λ x. has ws x ≡ true) e (has_word_at ws i (omega arith))))
-one_number (w ∷ ws) (suc i) (suc j) d li lj e = ap suc (one_number ws i j (and_parts (not (has ws w)) (distinct ws) d).1 (omega arith) (omega arith) e)
+one_number (w ∷ ws) zero (suc j) d li lj e = absurd (both_ways (has_word ws w) (distinct_head w ws d) (subst (λ x. has_word ws x ≡ true) (sym e) (has_word_at ws j (omega arith))))
+one_number (w ∷ ws) (suc i) zero d li lj e = absurd (both_ways (has_word ws w) (distinct_head w ws d) (subst (λ x. has_word ws x ≡ true) e (has_word_at ws i (omega arith))))
+one_number (w ∷ ws) (suc i) (suc j) d li lj e = ap suc (one_number ws i j (and_parts (not (has_word ws w)) (distinct ws) d).1 (omega arith) (omega arith) e)
 
 pub same_number : (names : List (List ℕ)) (i j : ℕ) → distinct names ≡ true → i < length names → j < length names → bytes_eq (word_at names i) (word_at names j) ≡ nat_eq i j
 same_number names i j d li lj = elim (eqb_tells i j) [
@@ -62,7 +62,7 @@ pub all_below-firsts : (n : ℕ) (numbers : List ℕ) → all_below n numbers �
 all_below-firsts n [] h = refl
 all_below-firsts n (i ∷ is) h = let (lt, rest) = below_parts n i is h in below_from n i (without_numbers (i ∷ []) (first_numbers is)) lt (all_below-without n (i ∷ []) (first_numbers is) (all_below-firsts n is rest))
 
-pub has_words : (names : List (List ℕ)) (numbers : List ℕ) (i : ℕ) → distinct names ≡ true → all_below (length names) numbers ≡ true → i < length names → has (words_at names numbers) (word_at names i) ≡ has_number numbers i
+pub has_words : (names : List (List ℕ)) (numbers : List ℕ) (i : ℕ) → distinct names ≡ true → all_below (length names) numbers ≡ true → i < length names → has_word (words_at names numbers) (word_at names i) ≡ has_number numbers i
 has_words names [] i d h lt = refl
 has_words names (n ∷ ns) i d h lt = let (here, rest) = below_parts (length names) n ns h in ap₂ (λ (a b : Bool). a || b) (same_number names n i d here lt) (has_words names ns i d rest lt)
 
@@ -75,9 +75,9 @@ words_at-without names others (n ∷ ns) d ho h =
     let test = has_words names others n d ho lt in
     elim (cases_Bool (has_number others n)) [
       | inl e ↦ ap (words_at names) (cond-false (not (has_number others n)) (n ∷ without_numbers others ns) (without_numbers others ns) (not_from_true (has_number others n) e)) ∙ again
-          ∙ sym (cond-false (not (has (words_at names others) (word_at names n))) (word_at names n ∷ without (words_at names others) (words_at names ns)) (without (words_at names others) (words_at names ns)) (not_from_true (has (words_at names others) (word_at names n)) (test ∙ e)))
+          ∙ sym (cond-false (not (has_word (words_at names others) (word_at names n))) (word_at names n ∷ without (words_at names others) (words_at names ns)) (without (words_at names others) (words_at names ns)) (not_from_true (has_word (words_at names others) (word_at names n)) (test ∙ e)))
       | inr e ↦ ap (words_at names) (cond-true (not (has_number others n)) (n ∷ without_numbers others ns) (without_numbers others ns) (not_from_false (has_number others n) e)) ∙ ap (λ (l : List (List ℕ)). word_at names n ∷ l) again
-          ∙ sym (cond-true (not (has (words_at names others) (word_at names n))) (word_at names n ∷ without (words_at names others) (words_at names ns)) (without (words_at names others) (words_at names ns)) (not_from_false (has (words_at names others) (word_at names n)) (test ∙ e)))
+          ∙ sym (cond-true (not (has_word (words_at names others) (word_at names n))) (word_at names n ∷ without (words_at names others) (words_at names ns)) (without (words_at names others) (words_at names ns)) (not_from_false (has_word (words_at names others) (word_at names n)) (test ∙ e)))
     ]
 
 pub words_at-firsts : (names : List (List ℕ)) (numbers : List ℕ) → distinct names ≡ true → all_below (length names) numbers ≡ true → words_at names (first_numbers numbers) ≡ firsts (words_at names numbers)

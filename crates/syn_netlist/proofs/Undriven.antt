@@ -12,7 +12,7 @@ use Rattle.syn_netlist.specs.Order.{defined}
 use Rattle.syn_netlist.specs.Tables.{table_in}
 use Rattle.syn_netlist.specs.Views.{netlist_in}
 use Rattle.syn_netlist.specs.Walk.{is_unmarked, table_inputs, table_output}
-use Rattle.syn_netlist.specs.Words.{has, distinct}
+use Rattle.syn_netlist.specs.Words.{has_word, distinct}
 use Rattle.syn_netlist.proofs.Firsts.{table_outputs_below, table_inputs_below}
 use Rattle.syn_netlist.proofs.Places.{below_parts, all_below-append, has_words, reads_below, words_at-reads}
 
@@ -45,20 +45,20 @@ reads_there n =
     (all_below-append count (flat_map read_numbers n.frame.latches) (flat_map table_inputs n.tables) (reads_below count n.frame.latches n.frame.latches_below) (table_inputs_below count n.tables n.tables_below))
 
 find_words : (names : List (List ℕ)) (defined : List ℕ) (marks : List Bool) → distinct names ≡ true → all_below (length names) defined ≡ true → length marks ≡ length names → AreMarks defined marks
-    → (numbers : List ℕ) → all_below (length names) numbers ≡ true → find (λ w. not (has (words_at names defined) w)) (words_at names numbers) ≡ option_map (word_at names) (find (is_unmarked marks) numbers)
+    → (numbers : List ℕ) → all_below (length names) numbers ≡ true → find (λ w. not (has_word (words_at names defined) w)) (words_at names numbers) ≡ option_map (word_at names) (find (is_unmarked marks) numbers)
 find_words names defined marks d hd len m [] h = refl
 find_words names defined marks d hd len m (n ∷ ns) h =
     let (lt, rest) = below_parts (length names) n ns h in
-    let test : has (words_at names defined) (word_at names n) ≡ get_or marks n false = has_words names defined n d hd lt ∙ sym (m.at n (subst (λ k. n < k) (sym len) lt)) in
+    let test : has_word (words_at names defined) (word_at names n) ≡ get_or marks n false = has_words names defined n d hd lt ∙ sym (m.at n (subst (λ k. n < k) (sym len) lt)) in
     go (get_or marks n false) test refl (find_words names defined marks d hd len m ns rest)
   where
-    go : (b : Bool) → has (words_at names defined) (word_at names n) ≡ b → get_or marks n false ≡ b → find (λ w. not (has (words_at names defined) w)) (words_at names ns) ≡ option_map (word_at names) (find (is_unmarked marks) ns)
-        → find (λ w. not (has (words_at names defined) w)) (word_at names n ∷ words_at names ns) ≡ option_map (word_at names) (find (is_unmarked marks) (n ∷ ns))
+    go : (b : Bool) → has_word (words_at names defined) (word_at names n) ≡ b → get_or marks n false ≡ b → find (λ w. not (has_word (words_at names defined) w)) (words_at names ns) ≡ option_map (word_at names) (find (is_unmarked marks) ns)
+        → find (λ w. not (has_word (words_at names defined) w)) (word_at names n ∷ words_at names ns) ≡ option_map (word_at names) (find (is_unmarked marks) (n ∷ ns))
     go true e f r =
-        cond-false (not (has (words_at names defined) (word_at names n))) (Some (word_at names n)) (find (λ w. not (has (words_at names defined) w)) (words_at names ns)) (not_from_true _ e) ∙ r
+        cond-false (not (has_word (words_at names defined) (word_at names n))) (Some (word_at names n)) (find (λ w. not (has_word (words_at names defined) w)) (words_at names ns)) (not_from_true _ e) ∙ r
         ∙ ap (λ (o : Option ℕ). option_map (word_at names) o) (sym (cond-false (is_unmarked marks n) (Some n) (find (is_unmarked marks) ns) (not_from_true _ f)))
     go false e f r =
-        cond-true (not (has (words_at names defined) (word_at names n))) (Some (word_at names n)) (find (λ w. not (has (words_at names defined) w)) (words_at names ns)) (not_from_false _ e)
+        cond-true (not (has_word (words_at names defined) (word_at names n))) (Some (word_at names n)) (find (λ w. not (has_word (words_at names defined) w)) (words_at names ns)) (not_from_false _ e)
         ∙ ap (λ (o : Option ℕ). option_map (word_at names) o) (sym (cond-true (is_unmarked marks n) (Some n) (find (is_unmarked marks) ns) (not_from_false _ f)))
 
 -- the first of these names that isn't defined, by marks
@@ -66,7 +66,7 @@ pub undefined_is : (n : Netlist) (from : List ℕ) (marks : List Bool) (numbers 
     → length marks ≡ length n.frame.names → AreMarks (from ++ map table_output n.tables) marks → all_below (length n.frame.names) numbers ≡ true
     → first_undefined (netlist_in n) (words_at n.frame.names numbers) ≡ option_map (word_at n.frame.names) (find (is_unmarked marks) numbers)
 undefined_is n from marks numbers d e h len m below =
-    ap (λ (a : List (List ℕ)). find (λ w. not (has a w)) (words_at n.frame.names numbers)) (sym (defined_words n from e))
+    ap (λ (a : List (List ℕ)). find (λ w. not (has_word a w)) (words_at n.frame.names numbers)) (sym (defined_words n from e))
     ∙ find_words n.frame.names (from ++ map table_output n.tables) marks d (all_below-append (length n.frame.names) from (map table_output n.tables) h (table_outputs_below (length n.frame.names) n.tables n.tables_below)) len m numbers below
 
 pub undriven_is : (n : Netlist) (from : List ℕ) (marks : List Bool) → distinct n.frame.names ≡ true → words_at n.frame.names from ≡ sources (netlist_in n).frame → all_below (length n.frame.names) from ≡ true

@@ -4,7 +4,7 @@ ghost use Rattle.std.specs.Prelude.{◌≡◌, ℕ, ◌+◌, ◌^◌, ◌<◌, �
 ghost use Rattle.std.specs.List.{list_all};
 ghost use Rattle.syn_netlist.specs.Numbers.{with_word, word_at};
 ghost use Rattle.syn_netlist.specs.Texts.{texts};
-ghost use Rattle.syn_netlist.specs.Words.{distinct, has, is_word};
+ghost use Rattle.syn_netlist.specs.Words.{distinct, has_word, is_word};
 
 use indexmap::IndexSet;
 use std::alloc::{AllocError, Global};
@@ -51,7 +51,7 @@ impl Names {
     /// The word's number.
     pub fn find(&self, word: &[u8]) -> Option<u32>
         ensures some { IfSome result (λ i. (i < length self.now) × (word_at self.now i ≡ word.now)) }
-        ensures none { IsNone result ↔ (has self.now word.now ≡ false) }
+        ensures none { IsNone result ↔ (has_word self.now word.now ≡ false) }
     {
         find_word(&self.words, word)
     }
@@ -87,7 +87,7 @@ impl Names {
 fn find_word(words: &IndexSet<Vec<u8>>, word: &[u8]) -> Option<u32>
     requires { length words.now.keys < 2 ^ 32 }
     ensures some { IfSome result (λ i. (i < length words.now.keys) × (word_at (texts words.now.keys) i ≡ word.now)) }
-    ensures none { IsNone result ↔ (has (texts words.now.keys) word.now ≡ false) }
+    ensures none { IsNone result ↔ (has_word (texts words.now.keys) word.now ≡ false) }
 {
     match words.get_index_of(word) {
         Some(i) => Some(i as u32),
@@ -98,7 +98,7 @@ fn find_word(words: &IndexSet<Vec<u8>>, word: &[u8]) -> Option<u32>
 // Puts a new word at the end.
 #[tactic(auto, using(crate::proofs::Sets::distinct_push))]
 fn push_word(alloc: Global, words: &mut IndexSet<Vec<u8>>, word: &[u8]) -> Result<(), AllocError>
-    requires { has (texts words.old.keys) word.now ≡ false }
+    requires { has_word (texts words.old.keys) word.now ≡ false }
     ensures ok { OnOk result (texts words.new.keys ≡ texts words.old.keys ++ word.now ∷ []) }
     ensures err { OnErr result (words.new.keys ≡ words.old.keys) }
     ensures few { length words.new.keys ≤ length words.old.keys + 1 }

@@ -8,7 +8,7 @@ use Rattle.syn_netlist.specs.Faults as faults
 use Rattle.syn_netlist.specs.Faults.{IsChecked, ReachesCircle, OrderableReachesNoCircle, first_undefined}
 use Rattle.syn_netlist.specs.Lists.{Netlist}
 use Rattle.syn_netlist.specs.Order.{defined}
-use Rattle.syn_netlist.specs.Words.{has}
+use Rattle.syn_netlist.specs.Words.{has_word}
 use Rattle.syn_netlist.proofs.Arranging.{none_found}
 use Rattle.syn_netlist.proofs.Checked.{orderable_reaches_no_circle}
 use Rattle.syn_netlist.proofs.Sets.{has_head, has_tail, all_at}
@@ -29,10 +29,10 @@ find_same s t e (x ∷ xs) = ap₂ (λ b o. if b then Some x else o) (e x) (find
 -- the first name of the statements that is read and never defined, by their netlist
 pub undriven_is : (ss : List Statement) (n : Netlist) (read : List (List ℕ)) → Spell ss n → read ≡ flat_map reads ss → first_undriven ss ≡ first_undefined n read
 undriven_is ss n read spell e =
-    find_same (λ name. not (has (map name_of (flat_map definitions ss)) name)) (λ name. not (has (defined n) name)) (λ w. ap not (spelled_names ss n w spell)) (flat_map reads ss)
+    find_same (λ name. not (has_word (map name_of (flat_map definitions ss)) name)) (λ name. not (has_word (defined n) name)) (λ w. ap not (spelled_names ss n w spell)) (flat_map reads ss)
     ∙ ap (first_undefined n) (sym e)
 
-pub all_each : (test : List ℕ → Bool) (ws : List (List ℕ)) → ((w : List ℕ) → has ws w ≡ true → test w ≡ true) → list_all test ws ≡ true
+pub all_each : (test : List ℕ → Bool) (ws : List (List ℕ)) → ((w : List ℕ) → has_word ws w ≡ true → test w ≡ true) → list_all test ws ≡ true
 all_each test [] h = refl
 all_each test (x ∷ xs) h = and_from (test x) (list_all test xs) (h x (has_head x xs)) (all_each test xs (λ w t. h w (has_tail x w xs t)))
 
@@ -45,9 +45,9 @@ none_from_all test (x ∷ xs) h =
 -- where all that is read is defined, the netlist is driven
 pub all_driven : (n : Netlist) (read : List (List ℕ)) → AreRead n read → first_undefined n read ≡ None → faults.first_undriven n ≡ None
 all_driven n read are none =
-    let all : list_all (has (defined n)) read ≡ true = none_found (has (defined n)) read none in
-    none_from_all (has (defined n)) (faults.reads n)
-    (all_each (has (defined n)) (faults.reads n) (λ w h. all_at (has (defined n)) read w all (are w ∙ h)))
+    let all : list_all (has_word (defined n)) read ≡ true = none_found (has_word (defined n)) read none in
+    none_from_all (has_word (defined n)) (faults.reads n)
+    (all_each (has_word (defined n)) (faults.reads n) (λ w h. all_at (has_word (defined n)) read w all (are w ∙ h)))
 
 -- the steps of reading, on the text
 after_bytes : (bytes : List ℕ) → bad_byte bytes ≡ None → first_fault_of_text bytes ≡ option_or (first_fault_of_lines checks [] (statements bytes)) (option_map Undriven (first_undriven (statements bytes)))
@@ -75,7 +75,7 @@ gathered_first bytes n read fault g (inl e) = inl (text_is bytes n read g ∙ e)
 gathered_first bytes n read fault g (inr (e, f)) = inr (no_fault bytes n read g e, (n, g.spelled, f))
 
 pub gathered_read : (bytes : List ℕ) (n : Netlist) (read : List (List ℕ)) → IsGathered bytes n read → AreRead n read
-gathered_read bytes n read g word = ap (λ l. has l word) g.reads ∙ spelled_reads (statements bytes) n word g.spelled
+gathered_read bytes n read g word = ap (λ l. has_word l word) g.reads ∙ spelled_reads (statements bytes) n word g.spelled
 
 pub no_circle : (n : Netlist) → IsChecked n → NoCircle n
 no_circle n c = λ word reached. orderable_reaches_no_circle n c.order word c.ordered reached

@@ -2,7 +2,7 @@
 use Rattle.std.proofs.Common.{◌≡◌, ℕ, suc, ◌&&◌, not, nat_lt, Bool, true, false, if◌then◌else◌, List, [], ◌∷◌, length, find, bytes_eq, codes, refl, sym, ap, ◌∙◌, subst, inl, inr, Option, Some, None, option_map, option_and_then, arith}
 use Rattle.std.proofs.lemmas.Bool.Decides.{nat_tests}
 use Rattle.std.proofs.lemmas.Bool.{both_ways, or_cases, not-false}
-use Rattle.syn_netlist.specs.Words.{has}
+use Rattle.syn_netlist.specs.Words.{has_word}
 use Rattle.syn_netlist.specs.Lists.{Netlist, Latch}
 use Rattle.syn_netlist.specs.declared.LatchKind.{LatchKind}
 use Rattle.syn_netlist.specs.declared.LatchKind.TheVariants as types
@@ -20,7 +20,7 @@ use Rattle.syn_netlist.proofs.Sets.{same_word}
 use Rattle.syn_reader.proofs.Spelled.{spell_back, one_spelled}
 use Rattle.syn_reader.proofs.Fine.{IsFine, parts_of, rows_fit, init_some}
 
-pub type_some : (w : List ℕ) → has latch_types w ≡ true → (k : LatchKind) × (type_of w ≡ Some k)
+pub type_some : (w : List ℕ) → has_word latch_types w ≡ true → (k : LatchKind) × (type_of w ≡ Some k)
 type_some w h = elim (or_cases (bytes_eq (codes "fe") w) _ h) [
   | inl e ↦ subst (λ v. (k : LatchKind) × (type_of v ≡ Some k)) (same_word (codes "fe") w e) (types.Fe, refl)
   | inr h1 ↦ elim (or_cases (bytes_eq (codes "re") w) _ h1) [

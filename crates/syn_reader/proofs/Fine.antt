@@ -2,7 +2,7 @@
 use Rattle.std.proofs.Common.{◌≡◌, ℕ, zero, suc, ◌&&◌, ◌||◌, not, Bool, true, false, if◌then◌else◌, List, [], ◌∷◌, length, bytes_eq, codes, refl, sym, ap, ◌∙◌, subst, inl, inr, Option, Some, None, option_map, option_and_then}
 use Rattle.std.specs.Option.{option_or}
 use Rattle.std.proofs.lemmas.Bool.{both_ways, cond-true, cond-false, and_parts, and_from, or_cases, not-false}
-use Rattle.syn_netlist.specs.Words.{has}
+use Rattle.syn_netlist.specs.Words.{has_word}
 use Rattle.syn_reader.specs.Faults.{Fault, DefinedTwice}
 use Rattle.syn_reader.specs.Statements.{Statement, is_row, is_names}
 use Rattle.syn_reader.specs.Shapes.{last_word, all_but_last, is_row_of, is_output, is_input_part, output_word, initial_values}
@@ -192,7 +192,7 @@ rows_fit names above (s ∷ ss) r n e = go (is_row s.kind) refl
         (cond-true (is_row s.kind) _ _ q ∙ table) (λ v. cond-true (is_row s.kind) _ _ q ∙ alone s.words) output p.1)
 
 -- latches
-pub init_some : (w : List ℕ) → has initial_values w ≡ true → (i : ℕ) × (init_of w ≡ Some i)
+pub init_some : (w : List ℕ) → has_word initial_values w ≡ true → (i : ℕ) × (init_of w ≡ Some i)
 init_some w h = elim (or_cases (bytes_eq (codes "0") w) _ h) [
   | inl e ↦ subst (λ v. (i : ℕ) × (init_of v ≡ Some i)) (same_word (codes "0") w e) (0, refl)
   | inr h1 ↦ elim (or_cases (bytes_eq (codes "1") w) _ h1) [

@@ -3,7 +3,7 @@ use Rattle.std.proofs.Common.{◌≡◌, ◌≢◌, ℕ, zero, suc, ◌+◌, ◌
 use Rattle.std.specs.Borrow.{Bor}
 use Rattle.std.specs.Option.{option_or}
 use Rattle.std.proofs.lemmas.Bool.{false_from_ne_true, and_parts, and_from}
-use Rattle.syn_netlist.specs.Words.{has, is_word}
+use Rattle.syn_netlist.specs.Words.{has_word, is_word}
 use Rattle.syn_netlist.specs.declared.LatchKind.{LatchKind}
 use Rattle.syn_netlist.specs.declared.LatchKind.TheVariants as types
 use Rattle.syn_reader.specs.declared.ReadFault.{ReadFault}
@@ -18,26 +18,26 @@ use Rattle.syn_reader.proofs.Faultless.{type_some}
 use Rattle.syn_reader.proofs.Fine.{init_some}
 use Rattle.syn_reader.proofs.Latches.{type_back, init_back}
 
-no_type : (w : List ℕ) → type_of w ≡ None → has latch_types w ≡ false
-no_type w e = false_from_ne_true (has latch_types w) (λ h. let p = type_some w h in let z : ◌≡◌ {A = Option LatchKind} None (Some p.0) = sym e ∙ p.1 in cc)
+no_type : (w : List ℕ) → type_of w ≡ None → has_word latch_types w ≡ false
+no_type w e = false_from_ne_true (has_word latch_types w) (λ h. let p = type_some w h in let z : ◌≡◌ {A = Option LatchKind} None (Some p.0) = sym e ∙ p.1 in cc)
 
-no_init : (w : List ℕ) → init_of w ≡ None → has initial_values w ≡ false
-no_init w e = false_from_ne_true (has initial_values w) (λ h. let p = init_some w h in let z : ◌≡◌ {A = Option ℕ} None (Some p.0) = sym e ∙ p.1 in cc)
+no_init : (w : List ℕ) → init_of w ≡ None → has_word initial_values w ≡ false
+no_init w e = false_from_ne_true (has_word initial_values w) (λ h. let p = init_some w h in let z : ◌≡◌ {A = Option ℕ} None (Some p.0) = sym e ∙ p.1 in cc)
 
-is_type : (w : List ℕ) (k : LatchKind) → type_of w ≡ Some k → has latch_types w ≡ true
-is_type w k e = ap (has latch_types) (type_back w k e) ∙ go k
+is_type : (w : List ℕ) (k : LatchKind) → type_of w ≡ Some k → has_word latch_types w ≡ true
+is_type w k e = ap (has_word latch_types) (type_back w k e) ∙ go k
   where
-    go : (j : LatchKind) → has latch_types (type_word j) ≡ true
+    go : (j : LatchKind) → has_word latch_types (type_word j) ≡ true
     go types.Fe = refl
     go types.Re = refl
     go types.Ah = refl
     go types.Al = refl
     go types.As = refl
 
-is_init : (w : List ℕ) (i : ℕ) → init_of w ≡ Some i → has initial_values w ≡ true
-is_init w i e = let p = init_back w i e in ap (has initial_values) p.0 ∙ go i p.1
+is_init : (w : List ℕ) (i : ℕ) → init_of w ≡ Some i → has_word initial_values w ≡ true
+is_init w i e = let p = init_back w i e in ap (has_word initial_values) p.0 ∙ go i p.1
   where
-    go : (j : ℕ) → j ≤ 3 → has initial_values ((j + 48) ∷ []) ≡ true
+    go : (j : ℕ) → j ≤ 3 → has_word initial_values ((j + 48) ∷ []) ≡ true
     go zero h = refl
     go (suc zero) h = refl
     go (suc (suc zero)) h = refl
@@ -50,7 +50,7 @@ bad_type line feed output rest words w h n = ap (latch_fault line) w ∙ go rest
     go : (k : Option (Bor (List ℕ) × Bor (List ℕ))) (i : Option (Bor (List ℕ))) → IfSome k (λ pair. type_of pair.0.now ≡ None) → k ≢ None → latch_fault line (feed ∷ output ∷ (kind_words k ++ init_words i)) ≡ Some (LatchType line)
     go None i h n = absurd (n refl)
     go (Some (t, c)) None h n = ap (λ b. option_or (fault_where (not b) (LatchType line)) None) (no_type t.now h)
-    go (Some (t, c)) (Some i) h n = ap (λ b. option_or (fault_where (not b) (LatchType line)) (fault_where (not (has initial_values i.now)) (LatchInit line))) (no_type t.now h)
+    go (Some (t, c)) (Some i) h n = ap (λ b. option_or (fault_where (not b) (LatchType line)) (fault_where (not (has_word initial_values i.now)) (LatchInit line))) (no_type t.now h)
 
 pub bad_init : (line : ℕ) (feed output : List ℕ) (rest : Rest) (kind : Option (LatchKind × Bor (List ℕ))) (words : List (List ℕ)) → words ≡ feed ∷ output ∷ rest_words rest → IsKind rest.kind kind → IfSome rest.init (λ w. init_of w.now ≡ None) → rest.init ≢ None → latch_fault line words ≡ Some (LatchInit line)
 bad_init line feed output rest kind words w k h n = ap (latch_fault line) w ∙ go rest.kind kind rest.init k h n

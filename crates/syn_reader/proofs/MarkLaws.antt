@@ -2,7 +2,7 @@
 use Rattle.std.proofs.Common.{◌≡◌, ◌≢◌, ℕ, zero, suc, ◌+◌, ◌<◌, ◌||◌, ◌&&◌, not, Bool, true, false, if◌then◌else◌, List, [], ◌∷◌, ◌++◌, length, bytes_eq, slice_index_or, slice_set, refl, sym, ap, ap₂, ◌∙◌, subst, inl, inr, arith, length-append}
 use Rattle.std.proofs.lemmas.Bool.{and_parts, both_ways, cases_Bool, cond-true, cond-false, not-true, false_from_ne_true}
 use Rattle.syn_netlist.specs.Numbers.{word_at, with_word}
-use Rattle.syn_netlist.specs.Words.{has, distinct}
+use Rattle.syn_netlist.specs.Words.{has_word, distinct}
 use Rattle.syn_netlist.proofs.Sets.{distinct_push, same_word, word_same}
 use Rattle.syn_reader.specs.declared.Kind.{Kind}
 use Rattle.syn_reader.specs.declared.Kind.TheVariants as kinds
@@ -18,19 +18,19 @@ or_false false = refl
 
 -- names
 
-with_new : (names more : List (List ℕ)) (word : List ℕ) → more ≡ with_word names word → length names < length more → (has names word ≡ false) × (more ≡ names ++ word ∷ [])
-with_new names more word m lt = elim (cases_Bool (has names word)) [
-  | inl e ↦ absurd (let same = ap length (m ∙ cond-true (has names word) names (names ++ word ∷ []) e) in omega (arith, same, lt))
-  | inr e ↦ (e, m ∙ cond-false (has names word) names (names ++ word ∷ []) e)
+with_new : (names more : List (List ℕ)) (word : List ℕ) → more ≡ with_word names word → length names < length more → (has_word names word ≡ false) × (more ≡ names ++ word ∷ [])
+with_new names more word m lt = elim (cases_Bool (has_word names word)) [
+  | inl e ↦ absurd (let same = ap length (m ∙ cond-true (has_word names word) names (names ++ word ∷ []) e) in omega (arith, same, lt))
+  | inr e ↦ (e, m ∙ cond-false (has_word names word) names (names ++ word ∷ []) e)
 ]
 
 pub with_known : (names more : List (List ℕ)) (word : List ℕ) (i : ℕ) → more ≡ with_word names word → word_at more i ≡ word → i < length more → i ≢ length names → more ≡ names
-with_known names more word i m w lt ne = elim (cases_Bool (has names word)) [
-  | inl e ↦ m ∙ cond-true (has names word) names (names ++ word ∷ []) e
+with_known names more word i m w lt ne = elim (cases_Bool (has_word names word)) [
+  | inl e ↦ m ∙ cond-true (has_word names word) names (names ++ word ∷ []) e
   | inr e ↦
-      let is : more ≡ names ++ word ∷ [] = m ∙ cond-false (has names word) names (names ++ word ∷ []) e in
+      let is : more ≡ names ++ word ∷ [] = m ∙ cond-false (has_word names word) names (names ++ word ∷ []) e in
       let size : length more ≡ length names + 1 = ap length is ∙ length-append names (word ∷ []) in
-      absurd (both_ways (has names word) e (known_before names more word i m w (omega (arith, size, lt, ne))))
+      absurd (both_ways (has_word names word) e (known_before names more word i m w (omega (arith, size, lt, ne))))
 ]
 
 forbidden_snoc : (ns : List (List ℕ)) (ms : List Mark) (v : List ℕ) (k : Kind) (w : List ℕ) → length ms ≡ length ns → forbidden (ns ++ v ∷ []) (ms ++ marks.Free ∷ []) k w ≡ forbidden ns ms k w
@@ -52,9 +52,9 @@ added_free names more ms items word m lt s i =
     (λ k w. ap₂ (λ ns is. forbidden ns is k w) new.1 i ∙ forbidden_snoc names ms word k w s, omega (arith, s, size, sized))
 
 pub still_distinct : (names more : List (List ℕ)) (word : List ℕ) → more ≡ with_word names word → distinct names ≡ true → distinct more ≡ true
-still_distinct names more word m d = elim (cases_Bool (has names word)) [
-  | inl e ↦ ap distinct (m ∙ cond-true (has names word) names (names ++ word ∷ []) e) ∙ d
-  | inr e ↦ ap distinct (m ∙ cond-false (has names word) names (names ++ word ∷ []) e) ∙ distinct_push names word d e
+still_distinct names more word m d = elim (cases_Bool (has_word names word)) [
+  | inl e ↦ ap distinct (m ∙ cond-true (has_word names word) names (names ++ word ∷ []) e) ∙ d
+  | inr e ↦ ap distinct (m ∙ cond-false (has_word names word) names (names ++ word ∷ []) e) ∙ distinct_push names word d e
 ]
 
 -- the mark of a number
@@ -64,8 +64,8 @@ forbidden_at [] ms i d m k h lt e a = absurd (omega arith)
 forbidden_at (n ∷ ns) [] i d m k h lt e a = absurd (omega arith)
 forbidden_at (n ∷ ns) (x ∷ ms) zero d m k h lt e a = cond-true (bytes_eq n n) (mark_forbids x k) (forbidden ns ms k n) (word_same n) ∙ ap (λ q. mark_forbids q k) a
 forbidden_at (n ∷ ns) (x ∷ ms) (suc i) d m k h lt e a =
-    let p = and_parts (not (has ns n)) (distinct ns) h in
-    let other : bytes_eq n (word_at ns i) ≡ false = false_from_ne_true (bytes_eq n (word_at ns i)) (λ z. both_ways (has ns n) (not-true _ p.0) (subst (λ v. has ns v ≡ true) (sym (same_word n (word_at ns i) z)) (has_at ns i (omega arith)))) in
+    let p = and_parts (not (has_word ns n)) (distinct ns) h in
+    let other : bytes_eq n (word_at ns i) ≡ false = false_from_ne_true (bytes_eq n (word_at ns i)) (λ z. both_ways (has_word ns n) (not-true _ p.0) (subst (λ v. has_word ns v ≡ true) (sym (same_word n (word_at ns i) z)) (has_at ns i (omega arith)))) in
     cond-false (bytes_eq n (word_at ns i)) (mark_forbids x k) (forbidden ns ms k (word_at ns i)) other ∙ forbidden_at ns ms i d m k p.1 (omega arith) (omega arith) a
 
 forbidden_set : (ns : List (List ℕ)) (ms : List Mark) (i : ℕ) (m : Mark) (k : Kind) (w : List ℕ) → distinct ns ≡ true → i < length ns → length ms ≡ length ns
@@ -77,14 +77,14 @@ forbidden_set (n ∷ ns) (x ∷ ms) zero m k w h lt e = go (bytes_eq n w)
     go : (b : Bool) → (if b then mark_forbids m k else forbidden ns ms k w) ≡ (if b then mark_forbids m k else if b then mark_forbids x k else forbidden ns ms k w)
     go true = refl
     go false = refl
-forbidden_set (n ∷ ns) (x ∷ ms) (suc i) m k w h lt e = go (bytes_eq n w) refl (forbidden_set ns ms i m k w (and_parts (not (has ns n)) (distinct ns) h).1 (omega arith) (omega arith))
+forbidden_set (n ∷ ns) (x ∷ ms) (suc i) m k w h lt e = go (bytes_eq n w) refl (forbidden_set ns ms i m k w (and_parts (not (has_word ns n)) (distinct ns) h).1 (omega arith) (omega arith))
   where
     go : (b : Bool) → bytes_eq n w ≡ b → forbidden ns (slice_set ms i m) k w ≡ (if bytes_eq (word_at ns i) w then mark_forbids m k else forbidden ns ms k w)
         → (if b then mark_forbids x k else forbidden ns (slice_set ms i m) k w) ≡ (if bytes_eq (word_at ns i) w then mark_forbids m k else if b then mark_forbids x k else forbidden ns ms k w)
     go false q ih = ih
     go true q ih =
-        let p = and_parts (not (has ns n)) (distinct ns) h in
-        let other : bytes_eq (word_at ns i) w ≡ false = false_from_ne_true (bytes_eq (word_at ns i) w) (λ z. both_ways (has ns n) (not-true _ p.0) (subst (λ v. has ns v ≡ true) (same_word (word_at ns i) w z ∙ sym (same_word n w q)) (has_at ns i (omega arith)))) in
+        let p = and_parts (not (has_word ns n)) (distinct ns) h in
+        let other : bytes_eq (word_at ns i) w ≡ false = false_from_ne_true (bytes_eq (word_at ns i) w) (λ z. both_ways (has_word ns n) (not-true _ p.0) (subst (λ v. has_word ns v ≡ true) (same_word (word_at ns i) w z ∙ sym (same_word n w q)) (has_at ns i (omega arith)))) in
         sym (cond-false (bytes_eq (word_at ns i) w) (mark_forbids m k) (mark_forbids x k) other)
 
 -- the mark after a definition

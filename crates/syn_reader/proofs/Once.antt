@@ -2,7 +2,7 @@
 use Rattle.std.proofs.Common.{◌≡◌, ℕ, ◌<◌, ◌≤◌, ◌||◌, not, Bool, true, false, if◌then◌else◌, List, [], ◌∷◌, ◌++◌, length, map, flat_map, bytes_eq, refl, sym, ap, ap₂, ◌∙◌, subst, inl, inr, ◌⊎◌, Option, Some, None, option_map}
 use Rattle.std.specs.List.{list_any}
 use Rattle.std.proofs.lemmas.Bool.{both_ways, false_from_ne_true, and_from, or_left, or_right}
-use Rattle.syn_netlist.specs.Words.{has, distinct}
+use Rattle.syn_netlist.specs.Words.{has_word, distinct}
 use Rattle.syn_netlist.specs.Lists.{Table, Netlist, output_of, sources}
 use Rattle.syn_netlist.specs.Faults.{ReachesCircle, IsAnsweredCircle}
 use Rattle.syn_lex.specs.Lines.{bad_byte}
@@ -48,21 +48,21 @@ pub output_is : (w : List ℕ) (ws : List (List ℕ)) (rows : List (List (List �
 output_is w ws rows t is = ap last_word is.names ∙ last_snoc t.inputs t.output
 
 -- a taken name is no output below
-later : (name : List ℕ) (above ss : List Statement) (n : Netlist) → taken (flat_map definitions above) name ≡ true → first_fault_of_lines checks above ss ≡ None → Spell ss n → has (map output_of n.tables) name ≡ false
-later name above [] n h e p = ap (λ (m : Netlist). has (map output_of m.tables) name) p
+later : (name : List ℕ) (above ss : List Statement) (n : Netlist) → taken (flat_map definitions above) name ≡ true → first_fault_of_lines checks above ss ≡ None → Spell ss n → has_word (map output_of n.tables) name ≡ false
+later name above [] n h e p = ap (λ (m : Netlist). has_word (map output_of m.tables) name) p
 later name above (s ∷ ss) n h e p =
     step s.line s.kind s.words (parts_of above s ss e).0.once p.2 (later name (s ∷ above) ss p.0 (any_right (definitions s) (flat_map definitions above) name h) (parts_of above s ss e).1 p.1)
   where
     step : (line : ℕ) (kind : Kind) (words : List (List ℕ)) → defined_twice above (record { line = line; kind = kind; words = words }) ≡ None → Adds kind words (rows_below ss) p.0 n
-        → has (map output_of p.0.tables) name ≡ false → has (map output_of n.tables) name ≡ false
-    step line kinds.Row words t a ih = ap (λ (m : Netlist). has (map output_of m.tables) name) a ∙ ih
+        → has_word (map output_of p.0.tables) name ≡ false → has_word (map output_of n.tables) name ≡ false
+    step line kinds.Row words t a ih = ap (λ (m : Netlist). has_word (map output_of m.tables) name) a ∙ ih
     step line kinds.Unknown words t a ih = absurd a
-    step line kinds.Model words t a ih = ap (λ (m : Netlist). has (map output_of m.tables) name) a.2 ∙ ih
-    step line kinds.Inputs words t a ih = ap (λ (m : Netlist). has (map output_of m.tables) name) a ∙ ih
-    step line kinds.Outputs words t a ih = ap (λ (m : Netlist). has (map output_of m.tables) name) a ∙ ih
-    step line kinds.Clock words t a ih = ap (λ (m : Netlist). has (map output_of m.tables) name) a ∙ ih
-    step line kinds.Latch words t a ih = ap (λ (m : Netlist). has (map output_of m.tables) name) a.2 ∙ ih
-    step line kinds.End words t a ih = ap (λ (m : Netlist). has (map output_of m.tables) name) a ∙ ih
+    step line kinds.Model words t a ih = ap (λ (m : Netlist). has_word (map output_of m.tables) name) a.2 ∙ ih
+    step line kinds.Inputs words t a ih = ap (λ (m : Netlist). has_word (map output_of m.tables) name) a ∙ ih
+    step line kinds.Outputs words t a ih = ap (λ (m : Netlist). has_word (map output_of m.tables) name) a ∙ ih
+    step line kinds.Clock words t a ih = ap (λ (m : Netlist). has_word (map output_of m.tables) name) a ∙ ih
+    step line kinds.Latch words t a ih = ap (λ (m : Netlist). has_word (map output_of m.tables) name) a.2 ∙ ih
+    step line kinds.End words t a ih = ap (λ (m : Netlist). has_word (map output_of m.tables) name) a ∙ ih
     step line kinds.Names [] t a ih = absurd (no_words a.0.inputs a.0.output (a.1.names))
       where
         no_words : (xs : List (List ℕ)) (x : List ℕ) → ◌≡◌ {A = List (List ℕ)} [] (xs ++ x ∷ []) → ⊥
@@ -71,7 +71,7 @@ later name above (s ∷ ss) n h e p =
     step line kinds.Names (w ∷ ws) t a ih =
         let free : taken (flat_map definitions above) (last_word (w ∷ ws)) ≡ false = not_taken (flat_map definitions above) (last_word (w ∷ ws)) t in
         let apart : bytes_eq a.0.output name ≡ false = false_from_ne_true (bytes_eq a.0.output name) (λ z. both_ways (taken (flat_map definitions above) (last_word (w ∷ ws))) free (subst (λ v. taken (flat_map definitions above) v ≡ true) (sym (output_is w ws (rows_below ss) a.0 a.1 ∙ same_word a.0.output name z)) h)) in
-        ap (λ (m : Netlist). has (map output_of m.tables) name) a.2 ∙ ap₂ (λ x y. x || y) apart ih
+        ap (λ (m : Netlist). has_word (map output_of m.tables) name) a.2 ∙ ap₂ (λ x y. x || y) apart ih
 
 -- the outputs of the tables are distinct
 pub once : (above ss : List Statement) (n : Netlist) → first_fault_of_lines checks above ss ≡ None → Spell ss n → distinct (map output_of n.tables) ≡ true
@@ -80,7 +80,7 @@ once above (s ∷ ss) n e p =
     step s.line s.kind s.words (λ name h. later name (s ∷ above) ss p.0 h (parts_of above s ss e).1 p.1) p.2 (once (s ∷ above) ss p.0 (parts_of above s ss e).1 p.1)
   where
     step : (line : ℕ) (kind : Kind) (words : List (List ℕ))
-        → ((name : List ℕ) → taken (definitions (record { line = line; kind = kind; words = words }) ++ flat_map definitions above) name ≡ true → has (map output_of p.0.tables) name ≡ false)
+        → ((name : List ℕ) → taken (definitions (record { line = line; kind = kind; words = words }) ++ flat_map definitions above) name ≡ true → has_word (map output_of p.0.tables) name ≡ false)
         → Adds kind words (rows_below ss) p.0 n → distinct (map output_of p.0.tables) ≡ true → distinct (map output_of n.tables) ≡ true
     step line kinds.Row words f a ih = ap (λ (m : Netlist). distinct (map output_of m.tables)) a ∙ ih
     step line kinds.Unknown words f a ih = absurd a
@@ -97,8 +97,8 @@ once above (s ∷ ss) n e p =
         no_words (y ∷ ys) x z = cc
     step line kinds.Names (w ∷ ws) f a ih =
         let mine : taken (by_table (last_word (w ∷ ws)) ∷ flat_map definitions above) (last_word (w ∷ ws)) ≡ true = or_left _ (taken (flat_map definitions above) (last_word (w ∷ ws))) (and_from (bytes_eq (last_word (w ∷ ws)) (last_word (w ∷ ws))) true (word_same (last_word (w ∷ ws))) refl) in
-        let new : has (map output_of p.0.tables) a.0.output ≡ false = subst (λ v. has (map output_of p.0.tables) v ≡ false) (output_is w ws (rows_below ss) a.0 a.1) (f (last_word (w ∷ ws)) mine) in
-        ap (λ (m : Netlist). distinct (map output_of m.tables)) a.2 ∙ and_from (not (has (map output_of p.0.tables) a.0.output)) (distinct (map output_of p.0.tables)) (ap not new) ih
+        let new : has_word (map output_of p.0.tables) a.0.output ≡ false = subst (λ v. has_word (map output_of p.0.tables) v ≡ false) (output_is w ws (rows_below ss) a.0 a.1) (f (last_word (w ∷ ws)) mine) in
+        ap (λ (m : Netlist). distinct (map output_of m.tables)) a.2 ∙ and_from (not (has_word (map output_of p.0.tables) a.0.output)) (distinct (map output_of p.0.tables)) (ap not new) ih
 
 pub either_or : EitherOr
 either_or bytes = go (first_fault_of_text bytes) refl

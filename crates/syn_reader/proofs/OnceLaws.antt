@@ -1,9 +1,9 @@
 -- Without a second definition the sources and the outputs of tables are distinct.
 use Rattle.std.proofs.Common.{◌≡◌, ◌+◌, ℕ, ◌||◌, not, Bool, true, false, if◌then◌else◌, List, [], ◌∷◌, ◌++◌, map, flat_map, bytes_eq, refl, sym, ap, ap₂, ◌∙◌, subst, inl, inr, ◌⊎◌, Option, Some, None}
 use Rattle.std.proofs.lemmas.Bool.{both_ways, false_from_ne_true, and_from, and_parts, or_left, or_right, or_cases, not-true}
-use Rattle.syn_netlist.specs.Words.{has, distinct, without}
+use Rattle.syn_netlist.specs.Words.{has_word, distinct, without}
 use Rattle.syn_netlist.specs.Lists.{Netlist, output_of, latch_output}
-use Rattle.syn_netlist.proofs.Sets.{has-append, same_word, word_same}
+use Rattle.syn_netlist.proofs.Sets.{has_word-append, same_word, word_same}
 use Rattle.syn_reader.specs.declared.Kind.{Kind}
 use Rattle.syn_reader.specs.declared.Kind.TheVariants as kinds
 use Rattle.syn_reader.specs.Statements.{Statement}
@@ -87,14 +87,14 @@ puts kinds.Names kinds.Names words rows n m a = table_defines words n rows m a
 puts kinds.Names kind words rows n m a = refl
 
 -- definitions that none before forbids
-apart_above : (before : List Definition) (by : Kind) (ws : List (List ℕ)) (w : List ℕ) → first_forbidden before (map (by_kind by) ws) ≡ None → has ws w ≡ true → forbidden_by before by w ≡ false
+apart_above : (before : List Definition) (by : Kind) (ws : List (List ℕ)) (w : List ℕ) → first_forbidden before (map (by_kind by) ws) ≡ None → has_word ws w ≡ true → forbidden_by before by w ≡ false
 apart_above before by [] w e h = absurd (both_ways false refl h)
 apart_above before by (x ∷ xs) w e h = go (forbidden_by before by x) refl e (λ z k. apart_above (by_kind by x ∷ before) by xs w z k)
   where
     go : (b : Bool) → forbidden_by before by x ≡ b → (if b then Some x else first_forbidden (by_kind by x ∷ before) (map (by_kind by) xs)) ≡ None
-        → (first_forbidden (by_kind by x ∷ before) (map (by_kind by) xs) ≡ None → has xs w ≡ true → forbidden_by (by_kind by x ∷ before) by w ≡ false) → forbidden_by before by w ≡ false
+        → (first_forbidden (by_kind by x ∷ before) (map (by_kind by) xs) ≡ None → has_word xs w ≡ true → forbidden_by (by_kind by x ∷ before) by w ≡ false) → forbidden_by before by w ≡ false
     go true q z ih = absurd (let y : ◌≡◌ {A = Option (List ℕ)} (Some x) None = z in cc)
-    go false q z ih = elim (or_cases (bytes_eq x w) (has xs w) h) [
+    go false q z ih = elim (or_cases (bytes_eq x w) (has_word xs w) h) [
       | inl s ↦ ap (forbidden_by before by) (sym (same_word x w s)) ∙ q
       | inr k ↦ right (forbids (by_kind by x) (by_kind by w)) (forbidden_by before by w) (ih z k)
     ]
@@ -109,23 +109,23 @@ apart_words before by (x ∷ xs) s e = go (forbidden_by before by x) e (λ z. ap
   where
     go : (b : Bool) → (if b then Some x else first_forbidden (by_kind by x ∷ before) (map (by_kind by) xs)) ≡ None → (first_forbidden (by_kind by x ∷ before) (map (by_kind by) xs) ≡ None → distinct xs ≡ true) → distinct (x ∷ xs) ≡ true
     go true z ih = absurd (let y : ◌≡◌ {A = Option (List ℕ)} (Some x) None = z in cc)
-    go false z ih = and_from (not (has xs x)) (distinct xs)
-        (ap not (false_from_ne_true (has xs x) (λ k. both_ways (forbidden_by (by_kind by x ∷ before) by x) (apart_above (by_kind by x ∷ before) by xs x z k)
+    go false z ih = and_from (not (has_word xs x)) (distinct xs)
+        (ap not (false_from_ne_true (has_word xs x) (λ k. both_ways (forbidden_by (by_kind by x ∷ before) by x) (apart_above (by_kind by x ∷ before) by xs x z k)
         (or_left (forbids (by_kind by x) (by_kind by x)) (forbidden_by before by x) (and_from (bytes_eq x x) (not (may_share by by)) (word_same x) (ap not s)))))) (ih z)
 
 forbidden_right : (ds es : List Definition) (k : Kind) (w : List ℕ) → forbidden_by es k w ≡ true → forbidden_by (ds ++ es) k w ≡ true
 forbidden_right [] es k w h = h
 forbidden_right (d ∷ ds) es k w h = or_right (forbids d (by_kind k w)) (forbidden_by (ds ++ es) k w) (forbidden_right ds es k w h)
 
-forbidden_left : (by : Kind) (ws : List (List ℕ)) (es : List Definition) (k : Kind) (w : List ℕ) → may_share by k ≡ false → has ws w ≡ true → forbidden_by (map (by_kind by) ws ++ es) k w ≡ true
+forbidden_left : (by : Kind) (ws : List (List ℕ)) (es : List Definition) (k : Kind) (w : List ℕ) → may_share by k ≡ false → has_word ws w ≡ true → forbidden_by (map (by_kind by) ws ++ es) k w ≡ true
 forbidden_left by [] es k w s h = absurd (both_ways false refl h)
-forbidden_left by (x ∷ xs) es k w s h = elim (or_cases (bytes_eq x w) (has xs w) h) [
+forbidden_left by (x ∷ xs) es k w s h = elim (or_cases (bytes_eq x w) (has_word xs w) h) [
   | inl e ↦ or_left (forbids (by_kind by x) (by_kind k w)) (forbidden_by (map (by_kind by) xs ++ es) k w) (and_from (bytes_eq x w) (not (may_share by k)) e (ap not s))
   | inr r ↦ or_right (forbids (by_kind by x) (by_kind k w)) (forbidden_by (map (by_kind by) xs ++ es) k w) (forbidden_left by xs es k w s r)
 ]
 
 -- the kind of what is put in front
-put_kind : (by kind : Kind) (words : List (List ℕ)) (w : List ℕ) → has (put by kind words) w ≡ true → (by ≡ kind) × (has (names_defined by words) w ≡ true)
+put_kind : (by kind : Kind) (words : List (List ℕ)) (w : List ℕ) → has_word (put by kind words) w ≡ true → (by ≡ kind) × (has_word (names_defined by words) w ≡ true)
 put_kind kinds.Inputs kinds.Inputs words w h = (refl, h)
 put_kind kinds.Clock kinds.Clock words w h = (refl, h)
 put_kind kinds.Latch kinds.Latch words w h = (refl, h)
@@ -133,10 +133,10 @@ put_kind kinds.Names kinds.Names words w h = (refl, h)
 put_kind by kind words w h = absurd (both_ways false refl h)
 
 -- a forbidden name isn't defined below
-later : (kind : Kind) (w : List ℕ) (above ss : List Statement) (n : Netlist) → forbidden_by (flat_map definitions above) kind w ≡ true → first_fault_of_lines checks above ss ≡ None → Spell ss n → has (of_kind kind n) w ≡ false
-later kind w above [] n h e p = ap (λ m. has (of_kind kind m) w) p ∙ none kind
+later : (kind : Kind) (w : List ℕ) (above ss : List Statement) (n : Netlist) → forbidden_by (flat_map definitions above) kind w ≡ true → first_fault_of_lines checks above ss ≡ None → Spell ss n → has_word (of_kind kind n) w ≡ false
+later kind w above [] n h e p = ap (λ m. has_word (of_kind kind m) w) p ∙ none kind
   where
-    none : (k : Kind) → has (of_kind k no_netlist) w ≡ false
+    none : (k : Kind) → has_word (of_kind k no_netlist) w ≡ false
     none kinds.Inputs = refl
     none kinds.Clock = refl
     none kinds.Latch = refl
@@ -145,19 +145,19 @@ later kind w above [] n h e p = ap (λ m. has (of_kind kind m) w) p ∙ none kin
 later kind w above (s ∷ ss) n h e p =
     let here = parts_of above s ss e in
     let below = later kind w (s ∷ above) ss p.0 (forbidden_right (definitions s) (flat_map definitions above) kind w h) here.1 p.1 in
-    false_from_ne_true (has (of_kind kind n) w) (λ z. elim (or_cases (has (put s.kind kind s.words) w) (has (of_kind kind p.0) w) (sym (has-append (put s.kind kind s.words) (of_kind kind p.0) w) ∙ (ap (λ l. has l w) (sym (puts s.kind kind s.words (rows_below ss) p.0 n p.2)) ∙ z))) [
+    false_from_ne_true (has_word (of_kind kind n) w) (λ z. elim (or_cases (has_word (put s.kind kind s.words) w) (has_word (of_kind kind p.0) w) (sym (has_word-append (put s.kind kind s.words) (of_kind kind p.0) w) ∙ (ap (λ l. has_word l w) (sym (puts s.kind kind s.words (rows_below ss) p.0 n p.2)) ∙ z))) [
       | inl q ↦
           let k = put_kind s.kind kind s.words w q in
           both_ways (forbidden_by (flat_map definitions above) kind w) (subst (λ j. forbidden_by (flat_map definitions above) j w ≡ false) k.0 (apart_above (flat_map definitions above) s.kind (names_defined s.kind s.words) w here.0.once k.1)) h
-      | inr q ↦ both_ways (has (of_kind kind p.0) w) below q
+      | inr q ↦ both_ways (has_word (of_kind kind p.0) w) below q
     ])
 
 -- definitions of two kinds that may not share a name
 apart_kinds : (one other : Kind) (above ss : List Statement) (n : Netlist) → may_share one other ≡ false → may_share other one ≡ false → same_kind one other ≡ false → same_kind other one ≡ false → first_fault_of_lines checks above ss ≡ None → Spell ss n
-    → (w : List ℕ) → has (of_kind one n) w ≡ true → has (of_kind other n) w ≡ true → ⊥
-apart_kinds one other above [] n s t d d' e p w h k = nothing one (sym (ap (λ m. has (of_kind one m) w) p) ∙ h)
+    → (w : List ℕ) → has_word (of_kind one n) w ≡ true → has_word (of_kind other n) w ≡ true → ⊥
+apart_kinds one other above [] n s t d d' e p w h k = nothing one (sym (ap (λ m. has_word (of_kind one m) w) p) ∙ h)
   where
-    nothing : (j : Kind) → has (of_kind j no_netlist) w ≡ true → ⊥
+    nothing : (j : Kind) → has_word (of_kind j no_netlist) w ≡ true → ⊥
     nothing kinds.Inputs z = both_ways false refl z
     nothing kinds.Clock z = both_ways false refl z
     nothing kinds.Latch z = both_ways false refl z
@@ -176,30 +176,30 @@ apart_kinds one other above (s ∷ ss) n sh t d d' e p w h k =
       ]
     ]
   where
-    split : (kind : Kind) → has (of_kind kind n) w ≡ true → (has (put s.kind kind s.words) w ≡ true) ⊎ (has (of_kind kind p.0) w ≡ true)
-    split kind z = or_cases (has (put s.kind kind s.words) w) (has (of_kind kind p.0) w) (sym (has-append (put s.kind kind s.words) (of_kind kind p.0) w) ∙ (ap (λ l. has l w) (sym (puts s.kind kind s.words (rows_below ss) p.0 n p.2)) ∙ z))
+    split : (kind : Kind) → has_word (of_kind kind n) w ≡ true → (has_word (put s.kind kind s.words) w ≡ true) ⊎ (has_word (of_kind kind p.0) w ≡ true)
+    split kind z = or_cases (has_word (put s.kind kind s.words) w) (has_word (of_kind kind p.0) w) (sym (has_word-append (put s.kind kind s.words) (of_kind kind p.0) w) ∙ (ap (λ l. has_word l w) (sym (puts s.kind kind s.words (rows_below ss) p.0 n p.2)) ∙ z))
 
-    both_kinds : (by : Kind) → has (put by one s.words) w ≡ true → has (put by other s.words) w ≡ true → ⊥
+    both_kinds : (by : Kind) → has_word (put by one s.words) w ≡ true → has_word (put by other s.words) w ≡ true → ⊥
     both_kinds by a b =
         let x = put_kind by one s.words w a in
-        both_ways (has (put one other s.words) w) (ap (λ q. has (if q then names_defined one s.words else []) w) d) (subst (λ j. has (put j other s.words) w ≡ true) x.0 b)
+        both_ways (has_word (put one other s.words) w) (ap (λ q. has_word (if q then names_defined one s.words else []) w) d) (subst (λ j. has_word (put j other s.words) w ≡ true) x.0 b)
 
-    mixed : has (put s.kind one s.words) w ≡ true → has (put s.kind other s.words) w ≡ true → ⊥
+    mixed : has_word (put s.kind one s.words) w ≡ true → has_word (put s.kind other s.words) w ≡ true → ⊥
     mixed = both_kinds s.kind
 
-    elsewhere : (a b : Kind) → has (put s.kind a s.words) w ≡ true → has (of_kind b p.0) w ≡ true → may_share a b ≡ false → first_fault_of_lines checks (s ∷ above) ss ≡ None → ⊥
+    elsewhere : (a b : Kind) → has_word (put s.kind a s.words) w ≡ true → has_word (of_kind b p.0) w ≡ true → may_share a b ≡ false → first_fault_of_lines checks (s ∷ above) ss ≡ None → ⊥
     elsewhere a b x y m z =
         let q = put_kind s.kind a s.words w x in
-        both_ways (has (of_kind b p.0) w) (later b w (s ∷ above) ss p.0 (forbidden_left s.kind (names_defined s.kind s.words) (flat_map definitions above) b w (ap (λ j. may_share j b) q.0 ∙ m) q.1) z p.1) y
+        both_ways (has_word (of_kind b p.0) w) (later b w (s ∷ above) ss p.0 (forbidden_left s.kind (names_defined s.kind s.words) (flat_map definitions above) b w (ap (λ j. may_share j b) q.0 ∙ m) q.1) z p.1) y
 
 -- definitions of one kind
-distinct_append : (xs ys : List (List ℕ)) → distinct xs ≡ true → distinct ys ≡ true → ((w : List ℕ) → has xs w ≡ true → has ys w ≡ true → ⊥) → distinct (xs ++ ys) ≡ true
+distinct_append : (xs ys : List (List ℕ)) → distinct xs ≡ true → distinct ys ≡ true → ((w : List ℕ) → has_word xs w ≡ true → has_word ys w ≡ true → ⊥) → distinct (xs ++ ys) ≡ true
 distinct_append [] ys d e f = e
 distinct_append (x ∷ xs) ys d e f =
-    let p = and_parts (not (has xs x)) (distinct xs) d in
-    let here : has (x ∷ xs) x ≡ true = or_left (bytes_eq x x) (has xs x) (word_same x) in
-    let none : has (xs ++ ys) x ≡ false = has-append xs ys x ∙ ap₂ (λ a b. a || b) (not-true (has xs x) p.0) (false_from_ne_true (has ys x) (λ z. f x here z)) in
-    and_from (not (has (xs ++ ys) x)) (distinct (xs ++ ys)) (ap not none) (distinct_append xs ys p.1 e (λ w a b. f w (or_right (bytes_eq x w) (has xs w) a) b))
+    let p = and_parts (not (has_word xs x)) (distinct xs) d in
+    let here : has_word (x ∷ xs) x ≡ true = or_left (bytes_eq x x) (has_word xs x) (word_same x) in
+    let none : has_word (xs ++ ys) x ≡ false = has_word-append xs ys x ∙ ap₂ (λ a b. a || b) (not-true (has_word xs x) p.0) (false_from_ne_true (has_word ys x) (λ z. f x here z)) in
+    and_from (not (has_word (xs ++ ys) x)) (distinct (xs ++ ys)) (ap not none) (distinct_append xs ys p.1 e (λ w a b. f w (or_right (bytes_eq x w) (has_word xs w) a) b))
 
 put_distinct : (before : List Definition) (by kind : Kind) (words : List (List ℕ)) → first_forbidden before (map (by_kind by) (names_defined by words)) ≡ None → may_share kind kind ≡ false → distinct (put by kind words) ≡ true
 put_distinct before kinds.Inputs kinds.Inputs words e s = apart_words before kinds.Inputs (names_defined kinds.Inputs words) refl e
@@ -223,40 +223,40 @@ once_kind kind above (s ∷ ss) n sh e p =
     ∙ distinct_append (put s.kind kind s.words) (of_kind kind p.0) (put_distinct (flat_map definitions above) s.kind kind s.words here.0.once sh) (once_kind kind (s ∷ above) ss p.0 sh here.1 p.1)
     (λ w a b.
     let q = put_kind s.kind kind s.words w a in
-    both_ways (has (of_kind kind p.0) w) (later kind w (s ∷ above) ss p.0 (forbidden_left s.kind (names_defined s.kind s.words) (flat_map definitions above) kind w (ap (λ j. may_share j kind) q.0 ∙ sh) q.1) here.1 p.1) b)
+    both_ways (has_word (of_kind kind p.0) w) (later kind w (s ∷ above) ss p.0 (forbidden_left s.kind (names_defined s.kind s.words) (flat_map definitions above) kind w (ap (λ j. may_share j kind) q.0 ∙ sh) q.1) here.1 p.1) b)
 
-without_apart : (xs ys : List (List ℕ)) (w : List ℕ) → has xs w ≡ true → has (without xs ys) w ≡ true → ⊥
+without_apart : (xs ys : List (List ℕ)) (w : List ℕ) → has_word xs w ≡ true → has_word (without xs ys) w ≡ true → ⊥
 without_apart xs [] w h k = both_ways false refl k
-without_apart xs (y ∷ ys) w h k = go (has xs y) refl k (without_apart xs ys w h)
+without_apart xs (y ∷ ys) w h k = go (has_word xs y) refl k (without_apart xs ys w h)
   where
-    go : (b : Bool) → has xs y ≡ b → has (if not b then y ∷ without xs ys else without xs ys) w ≡ true → (has (without xs ys) w ≡ true → ⊥) → ⊥
+    go : (b : Bool) → has_word xs y ≡ b → has_word (if not b then y ∷ without xs ys else without xs ys) w ≡ true → (has_word (without xs ys) w ≡ true → ⊥) → ⊥
     go true e z f = f z
-    go false e z f = elim (or_cases (bytes_eq y w) (has (without xs ys) w) z) [
-      | inl q ↦ both_ways (has xs y) e (ap (has xs) (same_word y w q) ∙ h)
+    go false e z f = elim (or_cases (bytes_eq y w) (has_word (without xs ys) w) z) [
+      | inl q ↦ both_ways (has_word xs y) e (ap (has_word xs) (same_word y w q) ∙ h)
       | inr r ↦ f r
     ]
 
-without_has : (xs ys : List (List ℕ)) (w : List ℕ) → has (without xs ys) w ≡ true → has ys w ≡ true
+without_has : (xs ys : List (List ℕ)) (w : List ℕ) → has_word (without xs ys) w ≡ true → has_word ys w ≡ true
 without_has xs [] w h = h
-without_has xs (y ∷ ys) w h = go (has xs y) h (without_has xs ys w)
+without_has xs (y ∷ ys) w h = go (has_word xs y) h (without_has xs ys w)
   where
-    go : (b : Bool) → has (if not b then y ∷ without xs ys else without xs ys) w ≡ true → (has (without xs ys) w ≡ true → has ys w ≡ true) → has (y ∷ ys) w ≡ true
-    go true z f = or_right (bytes_eq y w) (has ys w) (f z)
-    go false z f = elim (or_cases (bytes_eq y w) (has (without xs ys) w) z) [
-      | inl q ↦ or_left (bytes_eq y w) (has ys w) q
-      | inr r ↦ or_right (bytes_eq y w) (has ys w) (f r)
+    go : (b : Bool) → has_word (if not b then y ∷ without xs ys else without xs ys) w ≡ true → (has_word (without xs ys) w ≡ true → has_word ys w ≡ true) → has_word (y ∷ ys) w ≡ true
+    go true z f = or_right (bytes_eq y w) (has_word ys w) (f z)
+    go false z f = elim (or_cases (bytes_eq y w) (has_word (without xs ys) w) z) [
+      | inl q ↦ or_left (bytes_eq y w) (has_word ys w) q
+      | inr r ↦ or_right (bytes_eq y w) (has_word ys w) (f r)
     ]
 
 without_distinct : (xs ys : List (List ℕ)) → distinct ys ≡ true → distinct (without xs ys) ≡ true
 without_distinct xs [] d = refl
-without_distinct xs (y ∷ ys) d = go (has xs y) (without_distinct xs ys p.1)
+without_distinct xs (y ∷ ys) d = go (has_word xs y) (without_distinct xs ys p.1)
   where
-    p : (not (has ys y) ≡ true) × (distinct ys ≡ true)
-    p = and_parts (not (has ys y)) (distinct ys) d
+    p : (not (has_word ys y) ≡ true) × (distinct ys ≡ true)
+    p = and_parts (not (has_word ys y)) (distinct ys) d
 
     go : (b : Bool) → distinct (without xs ys) ≡ true → distinct (if not b then y ∷ without xs ys else without xs ys) ≡ true
     go true z = z
-    go false z = and_from (not (has (without xs ys) y)) (distinct (without xs ys)) (ap not (false_from_ne_true (has (without xs ys) y) (λ k. both_ways (has ys y) (not-true (has ys y) p.0) (without_has xs ys y k)))) z
+    go false z = and_from (not (has_word (without xs ys) y)) (distinct (without xs ys)) (ap not (false_from_ne_true (has_word (without xs ys) y) (λ k. both_ways (has_word ys y) (not-true (has_word ys y) p.0) (without_has xs ys y k)))) z
 
 pub once_law : (ss : List Statement) (n : Netlist) → first_fault_of_lines checks [] ss ≡ None → Spell ss n → IsOnce n
 once_law ss n e p =
@@ -274,16 +274,16 @@ once_law ss n e p =
     let ct = apart_kinds kinds.Clock kinds.Names [] ss n refl refl refl refl e p in
     let lt = apart_kinds kinds.Latch kinds.Names [] ss n refl refl refl refl e p in
     let cls : distinct (c ++ l) ≡ true = distinct_append c l (without_distinct i n.frame.clocks clocks) latches (λ w a b. cl w (without_has i n.frame.clocks w a) b) in
-    let srcs : distinct (i ++ (c ++ l)) ≡ true = distinct_append i (c ++ l) inputs cls (λ w a b. elim (or_cases (has c w) (has l w) (sym (has-append c l w) ∙ b)) [
+    let srcs : distinct (i ++ (c ++ l)) ≡ true = distinct_append i (c ++ l) inputs cls (λ w a b. elim (or_cases (has_word c w) (has_word l w) (sym (has_word-append c l w) ∙ b)) [
       | inl q ↦ without_apart i n.frame.clocks w a q
       | inr q ↦ il w a q
     ]) in
     record {
       clocks_once = clocks;
       sources_once = srcs;
-      tables_once = distinct_append (i ++ (c ++ l)) t srcs tables (λ w a b. elim (or_cases (has i w) (has (c ++ l) w) (sym (has-append i (c ++ l) w) ∙ a)) [
+      tables_once = distinct_append (i ++ (c ++ l)) t srcs tables (λ w a b. elim (or_cases (has_word i w) (has_word (c ++ l) w) (sym (has_word-append i (c ++ l) w) ∙ a)) [
         | inl q ↦ it w q b
-        | inr q ↦ elim (or_cases (has c w) (has l w) (sym (has-append c l w) ∙ q)) [
+        | inr q ↦ elim (or_cases (has_word c w) (has_word l w) (sym (has_word-append c l w) ∙ q)) [
           | inl r ↦ ct w (without_has i n.frame.clocks w r) b
           | inr r ↦ lt w r b
         ]

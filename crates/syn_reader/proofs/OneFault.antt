@@ -1,7 +1,7 @@
 -- A text has at most one first fault.
 use Rattle.std.proofs.Common.{◌≡◌, ℕ, ◌||◌, not, Bool, true, false, if◌then◌else◌, List, [], ◌∷◌, ◌++◌, map, find, bytes_eq, refl, sym, ap, ap₂, ◌∙◌, subst, inl, inr, Option, Some, None, arith, append_assoc, append-nil}
 use Rattle.std.proofs.lemmas.Bool.{both_ways, false_from_ne_true, and_parts, or_left, or_right, not-true}
-use Rattle.syn_netlist.specs.Words.{has, distinct}
+use Rattle.syn_netlist.specs.Words.{has_word, distinct}
 use Rattle.syn_netlist.specs.Lists.{Table, Netlist, output_of}
 use Rattle.syn_netlist.specs.Faults.{IsCyclicSet, next_in, GoesOn, IsAnsweredCircle}
 use Rattle.syn_reader.specs.Faults.{Fault, Cycle, TooManySources, TooLarge}
@@ -29,15 +29,15 @@ goes_same : (ts : List Table) (s t : List ℕ → Bool) → ((w : List ℕ) → 
 goes_same ts s t e name [] back g = sym (next_same ts s t e name) ∙ g
 goes_same ts s t e name (n ∷ ns) back g = (sym (next_same ts s t e name) ∙ g.0, goes_same ts s t e n ns back g.1)
 
-has_middle : (xs : List (List ℕ)) (w : List ℕ) (ys : List (List ℕ)) → has (xs ++ w ∷ ys) w ≡ true
-has_middle [] w ys = or_left (bytes_eq w w) (has ys w) (word_same w)
-has_middle (x ∷ xs) w ys = or_right (bytes_eq x w) (has (xs ++ w ∷ ys) w) (has_middle xs w ys)
+has_middle : (xs : List (List ℕ)) (w : List ℕ) (ys : List (List ℕ)) → has_word (xs ++ w ∷ ys) w ≡ true
+has_middle [] w ys = or_left (bytes_eq w w) (has_word ys w) (word_same w)
+has_middle (x ∷ xs) w ys = or_right (bytes_eq x w) (has_word (xs ++ w ∷ ys) w) (has_middle xs w ys)
 
-new_word : (xs : List (List ℕ)) (w : List ℕ) (ys : List (List ℕ)) → distinct (xs ++ w ∷ ys) ≡ true → has xs w ≡ false
+new_word : (xs : List (List ℕ)) (w : List ℕ) (ys : List (List ℕ)) → distinct (xs ++ w ∷ ys) ≡ true → has_word xs w ≡ false
 new_word [] w ys d = refl
 new_word (x ∷ xs) w ys d =
-    let p = and_parts (not (has (xs ++ w ∷ ys) x)) (distinct (xs ++ w ∷ ys)) d in
-    let apart : bytes_eq x w ≡ false = false_from_ne_true (bytes_eq x w) (λ e. both_ways (has (xs ++ w ∷ ys) x) (not-true _ p.0) (subst (λ v. has (xs ++ w ∷ ys) v ≡ true) (sym (same_word x w e)) (has_middle xs w ys))) in
+    let p = and_parts (not (has_word (xs ++ w ∷ ys) x)) (distinct (xs ++ w ∷ ys)) d in
+    let apart : bytes_eq x w ≡ false = false_from_ne_true (bytes_eq x w) (λ e. both_ways (has_word (xs ++ w ∷ ys) x) (not-true _ p.0) (subst (λ v. has_word (xs ++ w ∷ ys) v ≡ true) (sym (same_word x w e)) (has_middle xs w ys))) in
     ap₂ (λ a b. a || b) apart (new_word xs w ys p.1)
 
 some_word : (x y : List ℕ) → Some x ≡ Some y → x ≡ y
@@ -48,40 +48,40 @@ head_is x y xs ys e = ((let a : x ≡ y = cc in a), (let b : xs ≡ ys = cc in b
 
 -- two walks from one name, each up to a name met before
 same_walk : (ts : List Table) (set : List ℕ → Bool) (seen : List (List ℕ)) (name : List ℕ) (xs ys : List (List ℕ)) (back other : List ℕ)
-    → GoesOn ts set name xs back → GoesOn ts set name ys other → distinct (seen ++ xs) ≡ true → distinct (seen ++ ys) ≡ true → has (seen ++ xs) back ≡ true → has (seen ++ ys) other ≡ true
+    → GoesOn ts set name xs back → GoesOn ts set name ys other → distinct (seen ++ xs) ≡ true → distinct (seen ++ ys) ≡ true → has_word (seen ++ xs) back ≡ true → has_word (seen ++ ys) other ≡ true
     → (xs ≡ ys) × (back ≡ other)
 same_walk ts set seen name [] [] back other g h dx dy bx by = (refl, some_word back other (sym g ∙ h))
 same_walk ts set seen name [] (y ∷ ys) back other g h dx dy bx by =
     let e : back ≡ y = some_word back y (sym g ∙ h.0) in
-    absurd (both_ways (has seen y) (new_word seen y ys dy) (subst (λ l. has l y ≡ true) (append-nil seen) (subst (λ v. has (seen ++ []) v ≡ true) e bx)))
+    absurd (both_ways (has_word seen y) (new_word seen y ys dy) (subst (λ l. has_word l y ≡ true) (append-nil seen) (subst (λ v. has_word (seen ++ []) v ≡ true) e bx)))
 same_walk ts set seen name (x ∷ xs) [] back other g h dx dy bx by =
     let e : other ≡ x = some_word other x (sym h ∙ g.0) in
-    absurd (both_ways (has seen x) (new_word seen x xs dx) (subst (λ l. has l x ≡ true) (append-nil seen) (subst (λ v. has (seen ++ []) v ≡ true) e by)))
+    absurd (both_ways (has_word seen x) (new_word seen x xs dx) (subst (λ l. has_word l x ≡ true) (append-nil seen) (subst (λ v. has_word (seen ++ []) v ≡ true) e by)))
 same_walk ts set seen name (x ∷ xs) (y ∷ ys) back other g h dx dy bx by =
     let e : y ≡ x = some_word y x (sym h.0 ∙ g.0) in
     let shift : (l : List (List ℕ)) → seen ++ x ∷ l ≡ (seen ++ x ∷ []) ++ l = λ l. sym (append_assoc seen (x ∷ []) l) in
     let whole : seen ++ y ∷ ys ≡ (seen ++ x ∷ []) ++ ys = ap (λ v. seen ++ v ∷ ys) e ∙ shift ys in
     let r = same_walk ts set (seen ++ x ∷ []) x xs ys back other g.1 (subst (λ v. GoesOn ts set v ys other) e h.1)
     (subst (λ l. distinct l ≡ true) (shift xs) dx) (subst (λ l. distinct l ≡ true) whole dy)
-    (subst (λ l. has l back ≡ true) (shift xs) bx) (subst (λ l. has l other ≡ true) whole by) in
+    (subst (λ l. has_word l back ≡ true) (shift xs) bx) (subst (λ l. has_word l other ≡ true) whole by) in
     (ap₂ (λ (v : List ℕ) (l : List (List ℕ)). v ∷ l) (sym e) r.0, r.1)
 
 same_split : (xs ys : List (List ℕ)) (b : List ℕ) (cs bs : List (List ℕ)) → xs ++ b ∷ cs ≡ ys ++ b ∷ bs → distinct (xs ++ b ∷ cs) ≡ true → cs ≡ bs
 same_split [] [] b cs bs e d = (head_is b b cs bs e).1
 same_split [] (y ∷ ys) b cs bs e d =
     let p = head_is b y cs (ys ++ b ∷ bs) e in
-    let q = and_parts (not (has cs b)) (distinct cs) d in
-    absurd (both_ways (has cs b) (not-true _ q.0) (subst (λ l. has l b ≡ true) (sym p.1) (has_middle ys b bs)))
+    let q = and_parts (not (has_word cs b)) (distinct cs) d in
+    absurd (both_ways (has_word cs b) (not-true _ q.0) (subst (λ l. has_word l b ≡ true) (sym p.1) (has_middle ys b bs)))
 same_split (x ∷ xs) [] b cs bs e d =
     let p = head_is x b (xs ++ b ∷ cs) bs e in
-    let q = and_parts (not (has (xs ++ b ∷ cs) x)) (distinct (xs ++ b ∷ cs)) d in
-    absurd (both_ways (has (xs ++ b ∷ cs) x) (not-true _ q.0) (subst (λ v. has (xs ++ b ∷ cs) v ≡ true) (sym p.0) (has_middle xs b cs)))
+    let q = and_parts (not (has_word (xs ++ b ∷ cs) x)) (distinct (xs ++ b ∷ cs)) d in
+    absurd (both_ways (has_word (xs ++ b ∷ cs) x) (not-true _ q.0) (subst (λ v. has_word (xs ++ b ∷ cs) v ≡ true) (sym p.0) (has_middle xs b cs)))
 same_split (x ∷ xs) (y ∷ ys) b cs bs e d =
-    same_split xs ys b cs bs (head_is x y (xs ++ b ∷ cs) (ys ++ b ∷ bs) e).1 (and_parts (not (has (xs ++ b ∷ cs) x)) (distinct (xs ++ b ∷ cs)) d).1
+    same_split xs ys b cs bs (head_is x y (xs ++ b ∷ cs) (ys ++ b ∷ bs) e).1 (and_parts (not (has_word (xs ++ b ∷ cs) x)) (distinct (xs ++ b ∷ cs)) d).1
 
 -- a word of what is walked
-met : (first : List ℕ) (rest before circle : List (List ℕ)) (back : List ℕ) (more : List (List ℕ)) → before ++ circle ≡ first ∷ rest → circle ≡ back ∷ more → has (first ∷ rest) back ≡ true
-met first rest before circle back more e c = subst (λ l. has l back ≡ true) (sym (ap (λ l. before ++ l) c) ∙ e) (has_middle before back more)
+met : (first : List ℕ) (rest before circle : List (List ℕ)) (back : List ℕ) (more : List (List ℕ)) → before ++ circle ≡ first ∷ rest → circle ≡ back ∷ more → has_word (first ∷ rest) back ≡ true
+met first rest before circle back more e c = subst (λ l. has_word l back ≡ true) (sym (ap (λ l. before ++ l) c) ∙ e) (has_middle before back more)
 
 one_circle : (ts : List Table) (f g : List ℕ) (b d c e : List (List ℕ)) (s t : List ℕ → Bool) → IsAnsweredCircle ts f b c s → IsAnsweredCircle ts g d e t → c ≡ e
 one_circle ts f g b d c e s t x y =

@@ -1,12 +1,12 @@
 -- The names that statements read are those that their netlist reads.
 use Rattle.std.proofs.Common.{◌≡◌, ◌≢◌, ℕ, ◌+◌, ◌||◌, not, Bool, true, false, List, [], ◌∷◌, ◌++◌, flat_map, bytes_eq, refl, sym, ap, ◌∙◌, inl, inr, Option, Some, None}
 use Rattle.std.proofs.lemmas.Bool.{cond-true, false_from_ne_true}
-use Rattle.syn_netlist.specs.Words.{has, without}
+use Rattle.syn_netlist.specs.Words.{has_word, without}
 use Rattle.syn_netlist.specs.declared.LatchKind.{LatchKind}
 use Rattle.syn_netlist.specs.Lists.{Latch, Netlist, latch_reads, control_of}
 use Rattle.syn_netlist.specs.Faults as faults
 use Rattle.syn_netlist.specs.Faults.{inputs_of}
-use Rattle.syn_netlist.proofs.Sets.{has-append, same_word}
+use Rattle.syn_netlist.proofs.Sets.{has_word-append, same_word}
 use Rattle.syn_reader.specs.declared.Kind.{Kind}
 use Rattle.syn_reader.specs.declared.Kind.TheVariants as kinds
 use Rattle.syn_reader.specs.Statements.{Statement}
@@ -46,7 +46,7 @@ latch_reads_are words latch is =
 
 -- the name is an output, or a latch or a table reads it
 abbrev pub is_read : Netlist → List ℕ → Bool
-is_read n w = has n.frame.outputs w || (has (flat_map latch_reads n.frame.latches) w || has (flat_map inputs_of n.tables) w)
+is_read n w = has_word n.frame.outputs w || (has_word (flat_map latch_reads n.frame.latches) w || has_word (flat_map inputs_of n.tables) w)
 
 first_in : (a x r : Bool) → ((x || a) || r) ≡ (x || (a || r))
 first_in a true r = refl
@@ -66,7 +66,7 @@ third_in false true false r = refl
 third_in false false true r = refl
 third_in false false false r = refl
 
-step : (kind : Kind) (words : List (List ℕ)) (rows : List (List (List ℕ))) (n m : Netlist) (w : List ℕ) → Adds kind words rows n m → is_read m w ≡ (has (names_read kind words) w || is_read n w)
+step : (kind : Kind) (words : List (List ℕ)) (rows : List (List (List ℕ))) (n m : Netlist) (w : List ℕ) → Adds kind words rows n m → is_read m w ≡ (has_word (names_read kind words) w || is_read n w)
 step kinds.Row words rows n m w a = ap (λ k. is_read k w) a
 step kinds.Unknown words rows n m w a = absurd a
 step kinds.Model words rows n m w a = ap (λ k. is_read k w) a.2
@@ -74,30 +74,30 @@ step kinds.Inputs words rows n m w a = ap (λ k. is_read k w) a
 step kinds.Clock words rows n m w a = ap (λ k. is_read k w) a
 step kinds.End words rows n m w a = ap (λ k. is_read k w) a
 step kinds.Outputs words rows n m w a =
-    let rest : Bool = has (flat_map latch_reads n.frame.latches) w || has (flat_map inputs_of n.tables) w in
-    ap (λ k. is_read k w) a ∙ ap (λ t. t || rest) (has-append words n.frame.outputs w) ∙ first_in (has n.frame.outputs w) (has words w) rest
+    let rest : Bool = has_word (flat_map latch_reads n.frame.latches) w || has_word (flat_map inputs_of n.tables) w in
+    ap (λ k. is_read k w) a ∙ ap (λ t. t || rest) (has_word-append words n.frame.outputs w) ∙ first_in (has_word n.frame.outputs w) (has_word words w) rest
 step kinds.Latch words rows n m w a =
     ap (λ k. is_read k w) a.2
-    ∙ ap (λ t. has n.frame.outputs w || (t || has (flat_map inputs_of n.tables) w)) (has-append (latch_reads a.0) (flat_map latch_reads n.frame.latches) w)
-    ∙ second_in (has n.frame.outputs w) (has (flat_map latch_reads n.frame.latches) w) (has (latch_reads a.0) w) (has (flat_map inputs_of n.tables) w)
-    ∙ ap (λ l. has l w || is_read n w) (sym (latch_reads_are words a.0 a.1))
+    ∙ ap (λ t. has_word n.frame.outputs w || (t || has_word (flat_map inputs_of n.tables) w)) (has_word-append (latch_reads a.0) (flat_map latch_reads n.frame.latches) w)
+    ∙ second_in (has_word n.frame.outputs w) (has_word (flat_map latch_reads n.frame.latches) w) (has_word (latch_reads a.0) w) (has_word (flat_map inputs_of n.tables) w)
+    ∙ ap (λ l. has_word l w || is_read n w) (sym (latch_reads_are words a.0 a.1))
 step kinds.Names words rows n m w a =
     ap (λ k. is_read k w) a.2
-    ∙ ap (λ t. has n.frame.outputs w || (has (flat_map latch_reads n.frame.latches) w || t)) (has-append a.0.inputs (flat_map inputs_of n.tables) w)
-    ∙ third_in (has n.frame.outputs w) (has (flat_map latch_reads n.frame.latches) w) (has a.0.inputs w) (has (flat_map inputs_of n.tables) w)
-    ∙ ap (λ l. has l w || is_read n w) (sym (ap all_but_last a.1.names ∙ all_but_snoc a.0.inputs a.0.output))
+    ∙ ap (λ t. has_word n.frame.outputs w || (has_word (flat_map latch_reads n.frame.latches) w || t)) (has_word-append a.0.inputs (flat_map inputs_of n.tables) w)
+    ∙ third_in (has_word n.frame.outputs w) (has_word (flat_map latch_reads n.frame.latches) w) (has_word a.0.inputs w) (has_word (flat_map inputs_of n.tables) w)
+    ∙ ap (λ l. has_word l w || is_read n w) (sym (ap all_but_last a.1.names ∙ all_but_snoc a.0.inputs a.0.output))
 
-reads_has : (n : Netlist) (w : List ℕ) → has (faults.reads n) w ≡ is_read n w
+reads_has : (n : Netlist) (w : List ℕ) → has_word (faults.reads n) w ≡ is_read n w
 reads_has n w =
-    has-append n.frame.outputs (flat_map latch_reads n.frame.latches ++ flat_map inputs_of n.tables) w
-    ∙ ap (λ t. has n.frame.outputs w || t) (has-append (flat_map latch_reads n.frame.latches) (flat_map inputs_of n.tables) w)
+    has_word-append n.frame.outputs (flat_map latch_reads n.frame.latches ++ flat_map inputs_of n.tables) w
+    ∙ ap (λ t. has_word n.frame.outputs w || t) (has_word-append (flat_map latch_reads n.frame.latches) (flat_map inputs_of n.tables) w)
 
-pub spelled_reads : (ss : List Statement) (n : Netlist) (w : List ℕ) → Spell ss n → has (flat_map reads ss) w ≡ has (faults.reads n) w
+pub spelled_reads : (ss : List Statement) (n : Netlist) (w : List ℕ) → Spell ss n → has_word (flat_map reads ss) w ≡ has_word (faults.reads n) w
 spelled_reads ss n w spell = all ss n spell ∙ sym (reads_has n w)
   where
-    all : (ss : List Statement) (n : Netlist) → Spell ss n → has (flat_map reads ss) w ≡ is_read n w
+    all : (ss : List Statement) (n : Netlist) → Spell ss n → has_word (flat_map reads ss) w ≡ is_read n w
     all [] n spell = ap (λ k. is_read k w) (sym spell)
     all (s ∷ ss) n spell =
-        has-append (reads s) (flat_map reads ss) w
-        ∙ ap (λ t. has (reads s) w || t) (all ss spell.0 spell.1)
+        has_word-append (reads s) (flat_map reads ss) w
+        ∙ ap (λ t. has_word (reads s) w || t) (all ss spell.0 spell.1)
         ∙ sym (step s.kind s.words (rows_below ss) spell.0 n w spell.2)

@@ -4,7 +4,7 @@ use Rattle.syn_lex.specs.Lines.{bad_byte}
 use Rattle.syn_netlist.specs.Faults as faults
 use Rattle.syn_netlist.specs.Faults.{first_undefined}
 use Rattle.syn_netlist.specs.Lists.{Netlist}
-use Rattle.syn_netlist.specs.Words.{has}
+use Rattle.syn_netlist.specs.Words.{has_word}
 use Rattle.syn_reader.specs.Definitions.{reads}
 use Rattle.syn_reader.specs.Faults.{Fault, Undriven}
 use Rattle.syn_reader.specs.LineFaults.{checks, first_fault_of_lines}
@@ -21,7 +21,7 @@ pub record IsGathered (bytes : List ℕ) (n : Netlist) (read : List (List ℕ)) 
 
 -- The names are those that the netlist reads, in whatever order.
 abbrev pub AreRead : Netlist → List (List ℕ) → Type 0
-AreRead n read = (word : List ℕ) → has read word ≡ has (faults.reads n) word
+AreRead n read = (word : List ℕ) → has_word read word ≡ has_word (faults.reads n) word
 
 -- The fault of a netlist of which these names are read: the first of them that it doesn't define, or else a circle, too many sources or too great a cost.
 abbrev pub IsGatheredFault : Netlist → List (List ℕ) → Fault → Type 0

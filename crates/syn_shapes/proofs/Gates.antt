@@ -8,7 +8,7 @@ use Rattle.syn_rows.specs.declared.Lit.{Lit}
 use Rattle.syn_rows.specs.declared.Row.{Row}
 use Rattle.syn_rows.specs.declared.Row.TheVariants.{Free, And}
 use Rattle.syn_rows.specs.Rows.{node_of, row_at}
-use Rattle.syn_netlist.specs.Words.{has, distinct}
+use Rattle.syn_netlist.specs.Words.{has_word, distinct}
 use Rattle.syn_netlist.specs.Costs.{is_sign}
 use Rattle.syn_netlist.specs.Lists.{Table, output_of}
 use Rattle.syn_netlist.specs.Numbers.{word_at}
@@ -60,7 +60,7 @@ second_there n a b g = omega (arith, g.low, g.less)
 
 -- names of literals
 
-pub has_at : (names : List (List ℕ)) (i : ℕ) → i < length names → has names (word_at names i) ≡ true
+pub has_at : (names : List (List ℕ)) (i : ℕ) → i < length names → has_word names (word_at names i) ≡ true
 has_at [] i lt = absurd (omega arith)
 has_at (w ∷ ws) zero lt = has_head w ws
 has_at (w ∷ ws) (suc i) lt = has_tail w (word_at ws i) ws (has_at ws i (omega arith))
@@ -70,9 +70,9 @@ place_back [] d i lt = absurd (omega arith)
 place_back (w ∷ ws) d zero lt = cond-true (bytes_eq w w) 0 (suc (place w ws)) (word_same w)
 place_back (w ∷ ws) d (suc i) lt =
     let word : List ℕ = word_at ws i in
-    let there : has ws word ≡ true = has_at ws i (omega arith) in
-    let other : bytes_eq w word ≡ false = false_from_ne_true (bytes_eq w word) (λ e. both_ways (has ws w) (distinct_head w ws d) (subst (λ k. has ws k ≡ true) (sym (same_word w word e)) there)) in
-    cond-false (bytes_eq w word) 0 (suc (place word ws)) other ∙ ap suc (place_back ws (and_parts (not (has ws w)) (distinct ws) d).1 i (omega arith))
+    let there : has_word ws word ≡ true = has_at ws i (omega arith) in
+    let other : bytes_eq w word ≡ false = false_from_ne_true (bytes_eq w word) (λ e. both_ways (has_word ws w) (distinct_head w ws d) (subst (λ k. has_word ws k ≡ true) (sym (same_word w word e)) there)) in
+    cond-false (bytes_eq w word) 0 (suc (place word ws)) other ∙ ap suc (place_back ws (and_parts (not (has_word ws w)) (distinct ws) d).1 i (omega arith))
 
 sign_bit : (r : ℕ) → r < 2 → ◌≡◌ {A = ℕ} (if nat_eq (if nat_eq r 0 then 49 else 48) 49 then 0 else 1) r
 sign_bit zero lt = refl
@@ -156,9 +156,9 @@ gates_are_ands names d n (And a b ∷ rows) (w ∷ ws) g e fits =
 gates_are_ands names d n (row ∷ rows) (w ∷ ws) g e fits = absurd (both_ways false refl g.0)
 
 -- each gate reads names above it; `known` are the names of the nodes before it
-known_lit : (known more names : List (List ℕ)) → names ≡ known ++ more → (l : Lit) → 1 ≤ node_of l → node_of l ≤ length known → has known (lit_name names l) ≡ true
+known_lit : (known more names : List (List ℕ)) → names ≡ known ++ more → (l : Lit) → 1 ≤ node_of l → node_of l ≤ length known → has_word known (lit_name names l) ≡ true
 known_lit known more names e l low high =
-    ap (has known) (ap (λ (ws : List (List ℕ)). word_at ws (node_of l - 1)) e ∙ get_or_append_left known more [] (node_of l - 1) (omega (arith, low, high)))
+    ap (has_word known) (ap (λ (ws : List (List ℕ)). word_at ws (node_of l - 1)) e ∙ get_or_append_left known more [] (node_of l - 1) (omega (arith, low, high)))
     ∙ has_at known (node_of l - 1) (omega (arith, low, high))
 
 pub gates_read : (known names : List (List ℕ)) (n : ℕ) (rows : List Row) (words : List (List ℕ)) (ends : List Table) → AreGates n rows → length words ≡ length rows → n ≡ length known + 1
@@ -171,8 +171,8 @@ gates_read known names n (And a b ∷ rows) (w ∷ ws) ends g e at same r =
     let below = first_below n a b parts in
     let one = known_lit known (w ∷ ws) names same a (first_there n a b parts) (omega (arith, below, at)) in
     let two = known_lit known (w ∷ ws) names same b (second_there n a b parts) (omega (arith, parts.below, at)) in
-    and_from (has known (lit_name names a) && (has known (lit_name names b) && true)) (reads_known (known ++ w ∷ []) (gate_tables names rows ws ++ ends))
-    (and_from (has known (lit_name names a)) (has known (lit_name names b) && true) one (and_from (has known (lit_name names b)) true two refl))
+    and_from (has_word known (lit_name names a) && (has_word known (lit_name names b) && true)) (reads_known (known ++ w ∷ []) (gate_tables names rows ws ++ ends))
+    (and_from (has_word known (lit_name names a)) (has_word known (lit_name names b) && true) one (and_from (has_word known (lit_name names b)) true two refl))
     (gates_read (known ++ w ∷ []) names (suc n) rows ws ends g.1 (omega (arith, e)) (omega (arith, at, length_push known w)) (same ∙ sym (append_assoc known (w ∷ []) ws)) r)
 gates_read known names n (row ∷ rows) (w ∷ ws) ends g e at same r = absurd (both_ways false refl g.0)
 

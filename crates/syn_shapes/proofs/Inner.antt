@@ -8,7 +8,7 @@ use Rattle.std.proofs.lemmas.Bool.{and_parts, and_from, or_cases, or_from, not-t
 use Rattle.std.proofs.lemmas.List.{take_at, map-append, length-map, length-take-le}
 use Rattle.std.proofs.lemmas.List.Elements.{filter-append}
 use Rattle.std.proofs.lemmas.List.Filters.{length-filter_both}
-use Rattle.syn_netlist.specs.Words.{has, distinct, without, is_word, is_word_byte}
+use Rattle.syn_netlist.specs.Words.{has_word, distinct, without, is_word, is_word_byte}
 use Rattle.syn_netlist.proofs.Sets.{same_word, has_head, has_tail}
 use Rattle.syn_shapes.specs.Spelling.{digit_char, inner_word, numbers_from, free_names, inner_names}
 use Rattle.syn_shapes.proofs.Spelled.{in_rest, has_without}
@@ -25,16 +25,16 @@ same_digits xs ys e = sym (back xs) ∙ ap (map (λ c. c - 48)) e ∙ back ys
 same_number : (m n : ℕ) → inner_word m ≡ inner_word n → m ≡ n
 same_number m n e = same_from_digits_of 10 m n (omega arith) (same_digits (digits_of 10 m) (digits_of 10 n) (ap (drop 1) e))
 
-no_smaller : (k first count : ℕ) → k < first → has (map inner_word (numbers_from first count)) (inner_word k) ≡ false
+no_smaller : (k first count : ℕ) → k < first → has_word (map inner_word (numbers_from first count)) (inner_word k) ≡ false
 no_smaller k first zero lt = refl
-no_smaller k first (suc count) lt = or_from (bytes_eq (inner_word first) (inner_word k)) (has (map inner_word (numbers_from (first + 1) count)) (inner_word k))
+no_smaller k first (suc count) lt = or_from (bytes_eq (inner_word first) (inner_word k)) (has_word (map inner_word (numbers_from (first + 1) count)) (inner_word k))
     (false_from_ne_true (bytes_eq (inner_word first) (inner_word k)) (λ e. let same = same_number first k (same_word (inner_word first) (inner_word k) e) in absurd (omega (arith, same, lt))))
     (no_smaller k (first + 1) count (omega arith))
 
 words_distinct : (first count : ℕ) → distinct (map inner_word (numbers_from first count)) ≡ true
 words_distinct first zero = refl
-words_distinct first (suc count) = and_from (not (has (map inner_word (numbers_from (first + 1) count)) (inner_word first))) (distinct (map inner_word (numbers_from (first + 1) count)))
-    (not_from_false (has (map inner_word (numbers_from (first + 1) count)) (inner_word first)) (no_smaller first (first + 1) count (omega arith)))
+words_distinct first (suc count) = and_from (not (has_word (map inner_word (numbers_from (first + 1) count)) (inner_word first))) (distinct (map inner_word (numbers_from (first + 1) count)))
+    (not_from_false (has_word (map inner_word (numbers_from (first + 1) count)) (inner_word first)) (no_smaller first (first + 1) count (omega arith)))
     (words_distinct (first + 1) count)
 
 length-numbers : (first count : ℕ) → length (numbers_from first count) ≡ count
@@ -44,37 +44,37 @@ length-numbers first (suc count) = ap suc (length-numbers (first + 1) count)
 -- parts of lists of words
 
 -- a word of a filtered list passes, and is in the list
-pub filtered : (p : List ℕ → Bool) (ws : List (List ℕ)) (w : List ℕ) → has (filter p ws) w ≡ true → (p w ≡ true) × (has ws w ≡ true)
+pub filtered : (p : List ℕ → Bool) (ws : List (List ℕ)) (w : List ℕ) → has_word (filter p ws) w ≡ true → (p w ≡ true) × (has_word ws w ≡ true)
 filtered p [] w h = absurd (both_ways false refl h)
 filtered p (x ∷ xs) w h = elim (cases_Bool (p x)) [
   | inl e ↦
-      let there : has (x ∷ filter p xs) w ≡ true = ap (λ (l : List (List ℕ)). has l w) (sym (cond-true (p x) (x ∷ filter p xs) (filter p xs) e)) ∙ h in
-      elim (or_cases (bytes_eq x w) (has (filter p xs) w) there) [
-        | inl s ↦ let same = same_word x w s in (ap p (sym same) ∙ e, subst (λ k. has (x ∷ xs) k ≡ true) same (has_head x xs))
+      let there : has_word (x ∷ filter p xs) w ≡ true = ap (λ (l : List (List ℕ)). has_word l w) (sym (cond-true (p x) (x ∷ filter p xs) (filter p xs) e)) ∙ h in
+      elim (or_cases (bytes_eq x w) (has_word (filter p xs) w) there) [
+        | inl s ↦ let same = same_word x w s in (ap p (sym same) ∙ e, subst (λ k. has_word (x ∷ xs) k ≡ true) same (has_head x xs))
         | inr t ↦ let rest = filtered p xs w t in (rest.0, has_tail x w xs rest.1)
       ]
   | inr e ↦
-      let rest = filtered p xs w (ap (λ (l : List (List ℕ)). has l w) (sym (cond-false (p x) (x ∷ filter p xs) (filter p xs) e)) ∙ h) in
+      let rest = filtered p xs w (ap (λ (l : List (List ℕ)). has_word l w) (sym (cond-false (p x) (x ∷ filter p xs) (filter p xs) e)) ∙ h) in
       (rest.0, has_tail x w xs rest.1)
 ]
 
 pub distinct-filter : (p : List ℕ → Bool) (ws : List (List ℕ)) → distinct ws ≡ true → distinct (filter p ws) ≡ true
 distinct-filter p [] d = refl
 distinct-filter p (x ∷ xs) d =
-    let parts = and_parts (not (has xs x)) (distinct xs) d in
+    let parts = and_parts (not (has_word xs x)) (distinct xs) d in
     elim (cases_Bool (p x)) [
       | inl e ↦ ap distinct (cond-true (p x) (x ∷ filter p xs) (filter p xs) e)
-          ∙ and_from (not (has (filter p xs) x)) (distinct (filter p xs))
-          (not_from_false (has (filter p xs) x) (false_from_ne_true (has (filter p xs) x) (λ t. both_ways (has xs x) (not-true (has xs x) parts.0) (filtered p xs x t).1)))
+          ∙ and_from (not (has_word (filter p xs) x)) (distinct (filter p xs))
+          (not_from_false (has_word (filter p xs) x) (false_from_ne_true (has_word (filter p xs) x) (λ t. both_ways (has_word xs x) (not-true (has_word xs x) parts.0) (filtered p xs x t).1)))
           (distinct-filter p xs parts.1)
       | inr e ↦ ap distinct (cond-false (p x) (x ∷ filter p xs) (filter p xs) e) ∙ distinct-filter p xs parts.1
     ]
 
-taken_from : (n : ℕ) (ws : List (List ℕ)) (w : List ℕ) → has (take n ws) w ≡ true → has ws w ≡ true
+taken_from : (n : ℕ) (ws : List (List ℕ)) (w : List ℕ) → has_word (take n ws) w ≡ true → has_word ws w ≡ true
 taken_from zero ws w h = absurd (both_ways false refl h)
 taken_from (suc n) [] w h = absurd (both_ways false refl h)
-taken_from (suc n) (x ∷ xs) w h = elim (or_cases (bytes_eq x w) (has (take n xs) w) h) [
-  | inl e ↦ ap (λ b. b || has xs w) e
+taken_from (suc n) (x ∷ xs) w h = elim (or_cases (bytes_eq x w) (has_word (take n xs) w) h) [
+  | inl e ↦ ap (λ b. b || has_word xs w) e
   | inr t ↦ has_tail x w xs (taken_from n xs w t)
 ]
 
@@ -82,56 +82,56 @@ distinct-take : (n : ℕ) (ws : List (List ℕ)) → distinct ws ≡ true → di
 distinct-take zero ws d = refl
 distinct-take (suc n) [] d = refl
 distinct-take (suc n) (x ∷ xs) d =
-    let parts = and_parts (not (has xs x)) (distinct xs) d in
-    and_from (not (has (take n xs) x)) (distinct (take n xs))
-    (not_from_false (has (take n xs) x) (false_from_ne_true (has (take n xs) x) (λ t. both_ways (has xs x) (not-true (has xs x) parts.0) (taken_from n xs x t))))
+    let parts = and_parts (not (has_word xs x)) (distinct xs) d in
+    and_from (not (has_word (take n xs) x)) (distinct (take n xs))
+    (not_from_false (has_word (take n xs) x) (false_from_ne_true (has_word (take n xs) x) (λ t. both_ways (has_word xs x) (not-true (has_word xs x) parts.0) (taken_from n xs x t))))
     (distinct-take n xs parts.1)
 
 -- different words that are all in a list are no more than the list has
 
 length-without : (w : List ℕ) (ws : List (List ℕ)) → length (without (w ∷ []) ws) ≤ length ws
 length-without w [] = omega arith
-length-without w (x ∷ xs) = elim (cases_Bool (not (has (w ∷ []) x))) [
-  | inl e ↦ omega (arith, ap (λ (l : List (List ℕ)). length l) (cond-true (not (has (w ∷ []) x)) (x ∷ without (w ∷ []) xs) (without (w ∷ []) xs) e), length-without w xs)
-  | inr e ↦ omega (arith, ap (λ (l : List (List ℕ)). length l) (cond-false (not (has (w ∷ []) x)) (x ∷ without (w ∷ []) xs) (without (w ∷ []) xs) e), length-without w xs)
+length-without w (x ∷ xs) = elim (cases_Bool (not (has_word (w ∷ []) x))) [
+  | inl e ↦ omega (arith, ap (λ (l : List (List ℕ)). length l) (cond-true (not (has_word (w ∷ []) x)) (x ∷ without (w ∷ []) xs) (without (w ∷ []) xs) e), length-without w xs)
+  | inr e ↦ omega (arith, ap (λ (l : List (List ℕ)). length l) (cond-false (not (has_word (w ∷ []) x)) (x ∷ without (w ∷ []) xs) (without (w ∷ []) xs) e), length-without w xs)
 ]
 
-one_less : (w : List ℕ) (ws : List (List ℕ)) → has ws w ≡ true → length (without (w ∷ []) ws) < length ws
+one_less : (w : List ℕ) (ws : List (List ℕ)) → has_word ws w ≡ true → length (without (w ∷ []) ws) < length ws
 one_less w [] h = absurd (both_ways false refl h)
 one_less w (x ∷ xs) h = elim (cases_Bool (bytes_eq x w)) [
   | inl e ↦
-      let there : has (w ∷ []) x ≡ true = subst (λ k. has (w ∷ []) k ≡ true) (sym (same_word x w e)) (has_head w []) in
-      omega (arith, ap (λ (l : List (List ℕ)). length l) (cond-false (not (has (w ∷ []) x)) (x ∷ without (w ∷ []) xs) (without (w ∷ []) xs) (not_from_true (has (w ∷ []) x) there)), length-without w xs)
+      let there : has_word (w ∷ []) x ≡ true = subst (λ k. has_word (w ∷ []) k ≡ true) (sym (same_word x w e)) (has_head w []) in
+      omega (arith, ap (λ (l : List (List ℕ)). length l) (cond-false (not (has_word (w ∷ []) x)) (x ∷ without (w ∷ []) xs) (without (w ∷ []) xs) (not_from_true (has_word (w ∷ []) x) there)), length-without w xs)
   | inr e ↦
       let rest = one_less w xs (in_rest x xs w e h) in
-      elim (cases_Bool (not (has (w ∷ []) x))) [
-        | inl k ↦ omega (arith, ap (λ (l : List (List ℕ)). length l) (cond-true (not (has (w ∷ []) x)) (x ∷ without (w ∷ []) xs) (without (w ∷ []) xs) k), rest)
-        | inr k ↦ omega (arith, ap (λ (l : List (List ℕ)). length l) (cond-false (not (has (w ∷ []) x)) (x ∷ without (w ∷ []) xs) (without (w ∷ []) xs) k), rest)
+      elim (cases_Bool (not (has_word (w ∷ []) x))) [
+        | inl k ↦ omega (arith, ap (λ (l : List (List ℕ)). length l) (cond-true (not (has_word (w ∷ []) x)) (x ∷ without (w ∷ []) xs) (without (w ∷ []) xs) k), rest)
+        | inr k ↦ omega (arith, ap (λ (l : List (List ℕ)). length l) (cond-false (not (has_word (w ∷ []) x)) (x ∷ without (w ∷ []) xs) (without (w ∷ []) xs) k), rest)
       ]
 ]
 
-pub no_more : (ws within : List (List ℕ)) → distinct ws ≡ true → ((w : List ℕ) → has ws w ≡ true → has within w ≡ true) → length ws ≤ length within
+pub no_more : (ws within : List (List ℕ)) → distinct ws ≡ true → ((w : List ℕ) → has_word ws w ≡ true → has_word within w ≡ true) → length ws ≤ length within
 no_more [] within d h = omega arith
 no_more (w ∷ ws) within d h =
-    let parts = and_parts (not (has ws w)) (distinct ws) d in
+    let parts = and_parts (not (has_word ws w)) (distinct ws) d in
     let fewer = one_less w within (h w (has_head w ws)) in
     let rest = no_more ws (without (w ∷ []) within) parts.1
     (λ x t. has_without (w ∷ []) within x (h x (has_tail w x ws t))
-    (or_from (bytes_eq w x) false (false_from_ne_true (bytes_eq w x) (λ e. both_ways (has ws w) (not-true (has ws w) parts.0) (subst (λ k. has ws k ≡ true) (sym (same_word w x e)) t))) refl)) in
+    (or_from (bytes_eq w x) false (false_from_ne_true (bytes_eq w x) (λ e. both_ways (has_word ws w) (not-true (has_word ws w) parts.0) (subst (λ k. has_word ws k ≡ true) (sym (same_word w x e)) t))) refl)) in
     omega (arith, fewer, rest)
 
 -- the inner names
 
 abbrev is_free : List (List ℕ) → List ℕ → Bool
-is_free taken w = not (has taken w)
+is_free taken w = not (has_word taken w)
 
 -- among so many more words than are taken, so many are free
 pub many_free : (taken : List (List ℕ)) (count m : ℕ) → count + length taken ≤ m → count ≤ length (free_names taken m)
 many_free taken count m le =
     let words : List (List ℕ) = map inner_word (numbers_from 1 m) in
     let all : length words ≡ m = length-map (numbers_from 1 m) inner_word ∙ length-numbers 1 m in
-    let both = length-filter_both (has taken) (is_free taken) (λ _. refl) words in
-    let few = no_more (filter (has taken) words) taken (distinct-filter (has taken) words (words_distinct 1 m)) (λ w h. (filtered (has taken) words w h).0) in
+    let both = length-filter_both (has_word taken) (is_free taken) (λ _. refl) words in
+    let few = no_more (filter (has_word taken) words) taken (distinct-filter (has_word taken) words (words_distinct 1 m)) (λ w h. (filtered (has_word taken) words w h).0) in
     omega (arith, le, all, both, few)
 
 pub length-inner_names : (taken : List (List ℕ)) (count : ℕ) → length (inner_names taken count) ≡ count
@@ -142,10 +142,10 @@ inner_names_distinct taken count =
     let words : List (List ℕ) = map inner_word (numbers_from 1 (count + length taken)) in
     distinct-take count (filter (is_free taken) words) (distinct-filter (is_free taken) words (words_distinct 1 (count + length taken)))
 
-pub inner_names_free : (taken : List (List ℕ)) (count : ℕ) (w : List ℕ) → has (inner_names taken count) w ≡ true → has taken w ≡ false
+pub inner_names_free : (taken : List (List ℕ)) (count : ℕ) (w : List ℕ) → has_word (inner_names taken count) w ≡ true → has_word taken w ≡ false
 inner_names_free taken count w h =
     let words : List (List ℕ) = map inner_word (numbers_from 1 (count + length taken)) in
-    not-true (has taken w) (filtered (is_free taken) words w (taken_from count (filter (is_free taken) words) w h)).0
+    not-true (has_word taken w) (filtered (is_free taken) words w (taken_from count (filter (is_free taken) words) w h)).0
 
 -- finding them one by one
 
@@ -162,11 +162,11 @@ free_split taken m k n e =
     ∙ filter-append (is_free taken) (map inner_word (numbers_from 1 m)) (map inner_word (numbers_from (1 + m) k))
 
 -- one word more
-pub free_names_more : (taken : List (List ℕ)) (k : ℕ) → 0 < k → free_names taken k ≡ free_names taken (k - 1) ++ (if has taken (inner_word k) then [] else inner_word k ∷ [])
+pub free_names_more : (taken : List (List ℕ)) (k : ℕ) → 0 < k → free_names taken k ≡ free_names taken (k - 1) ++ (if has_word taken (inner_word k) then [] else inner_word k ∷ [])
 free_names_more taken k low =
     free_split taken (k - 1) 1 k (omega (arith, low))
     ∙ ap (λ j. free_names taken (k - 1) ++ filter (is_free taken) (inner_word j ∷ [])) (let s : 1 + (k - 1) ≡ k = omega (arith, low) in s)
-    ∙ ap (λ (l : List (List ℕ)). free_names taken (k - 1) ++ l) (turned (has taken (inner_word k)) (inner_word k ∷ []))
+    ∙ ap (λ (l : List (List ℕ)). free_names taken (k - 1) ++ l) (turned (has_word taken (inner_word k)) (inner_word k ∷ []))
   where
     turned : (b : Bool) (l : List (List ℕ)) → cond (not b) l [] ≡ (if b then [] else l)
     turned true l = refl

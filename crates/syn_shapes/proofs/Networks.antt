@@ -9,11 +9,11 @@ use Rattle.syn_rows.specs.declared.Row.{Row}
 use Rattle.syn_rows.specs.declared.Row.TheVariants.{Free, Source}
 use Rattle.syn_rows.specs.Rows.{node_of}
 use Rattle.syn_rows.specs.Reach.{IsClosed, HasObserved, Reached}
-use Rattle.syn_netlist.specs.Words.{has, distinct, without}
+use Rattle.syn_netlist.specs.Words.{has_word, distinct, without}
 use Rattle.syn_netlist.specs.Lists.{Table, Netlist, output_of, latch_reads, sources, observed}
 use Rattle.syn_netlist.specs.Numbers.{word_at}
 use Rattle.syn_netlist.specs.Order.{Ordered}
-use Rattle.syn_netlist.proofs.Sets.{has-append, has_head, has_tail}
+use Rattle.syn_netlist.proofs.Sets.{has_word-append, has_head, has_tail}
 use Rattle.syn_shapes.specs.GraphShape.{has_two, and_tables, end_tables, node_names, place, shown, row_of, source_row, rows_of, lit_of, lit_of_table, observed_of, is_and_table, is_end_table, same_pair, GraphShape}
 use Rattle.syn_shapes.specs.Graphs.{lit_at}
 use Rattle.syn_shapes.specs.Spelling.{gates_of, gate_names, gate_tables, ends_from, network, NetworkOfGraph}
@@ -22,12 +22,12 @@ use Rattle.syn_shapes.proofs.Inner.{filtered, distinct-filter, length-inner_name
 use Rattle.syn_shapes.proofs.Gates.{AreGates, hashed_gates, lit, gates_have_two, no_gate_ends, gate_outputs, length-gate_tables, gates_spell, gates_are_ands, gates_read, other_pairs}
 use Rattle.syn_shapes.proofs.Ends.{firsts_distinct, AllWithin, no_end_has_two, ends_are_others, end_outputs, ends_are_ends, ends_read, end_found, end_back}
 
-distinct_append : (xs ys : List (List ℕ)) → distinct xs ≡ true → distinct ys ≡ true → ((w : List ℕ) → has xs w ≡ true → has ys w ≡ false) → distinct (xs ++ ys) ≡ true
+distinct_append : (xs ys : List (List ℕ)) → distinct xs ≡ true → distinct ys ≡ true → ((w : List ℕ) → has_word xs w ≡ true → has_word ys w ≡ false) → distinct (xs ++ ys) ≡ true
 distinct_append [] ys d e away = e
 distinct_append (x ∷ xs) ys d e away =
-    let parts = and_parts (not (has xs x)) (distinct xs) d in
-    and_from (not (has (xs ++ ys) x)) (distinct (xs ++ ys))
-    (not_from_false (has (xs ++ ys) x) (has-append xs ys x ∙ or_from (has xs x) (has ys x) (not-true (has xs x) parts.0) (away x (has_head x xs))))
+    let parts = and_parts (not (has_word xs x)) (distinct xs) d in
+    and_from (not (has_word (xs ++ ys) x)) (distinct (xs ++ ys))
+    (not_from_false (has_word (xs ++ ys) x) (has_word-append xs ys x ∙ or_from (has_word xs x) (has_word ys x) (not-true (has_word xs x) parts.0) (away x (has_head x xs))))
     (distinct_append xs ys parts.1 e (λ w h. away w (has_tail x w xs h)))
 
 front_at : (words : List (List ℕ)) (k : ℕ) (d : Row) → k < length words + 1 → get_or (Source ∷ map source_row words) k d ≡ Source
@@ -79,14 +79,14 @@ network_spells frame rows lits clocks once graph = record { ordered = ordered; s
     names_long : length names ≡ length S + length rest
     names_long = length-append S inner ∙ ap (λ k. length S + k) inner_long
 
-    inner_free : (w : List ℕ) → has inner w ≡ true → (has S w ≡ false) × (has O w ≡ false)
-    inner_free w h = or_parts (has S w) (has O w) (sym (has-append S O w) ∙ inner_names_free (S ++ O) (length rest) w h)
+    inner_free : (w : List ℕ) → has_word inner w ≡ true → (has_word S w ≡ false) × (has_word O w ≡ false)
+    inner_free w h = or_parts (has_word S w) (has_word O w) (sym (has_word-append S O w) ∙ inner_names_free (S ++ O) (length rest) w h)
 
     inner_distinct : distinct inner ≡ true
     inner_distinct = inner_names_distinct (S ++ O) (length rest)
 
     names_distinct : distinct names ≡ true
-    names_distinct = distinct_append S inner once inner_distinct (λ w h. false_from_ne_true (has inner w) (λ t. both_ways (has S w) (inner_free w t).0 h))
+    names_distinct = distinct_append S inner once inner_distinct (λ w h. false_from_ne_true (has_word inner w) (λ t. both_ways (has_word S w) (inner_free w t).0 h))
 
     within : AllWithin (length names) lits
     within = recursion_from_All (λ l. node_of l ≤ length names) lits (λ k d lt. omega (arith, graph.within k d lt, names_long, long))
@@ -120,13 +120,13 @@ network_spells frame rows lits clocks once graph = record { ordered = ordered; s
     same_rows = ap₂ (λ (xs ys : List Row). xs ++ ys) front gates_spelled ∙ take-append-drop first rows
 
     lit_back : (i : ℕ) → i < length O → lit_of n (word_at O i) ≡ lit_at lits i
-    lit_back i lt = elim (cases_Bool (has S (word_at O i))) [
-      | inl s ↦ cond-true (has S (word_at O i)) (shown (node_names n) (word_at O i) 49) (lit_of_table (node_names n) (find (λ t. bytes_eq t.output (word_at O i)) (end_tables n))) s
+    lit_back i lt = elim (cases_Bool (has_word S (word_at O i))) [
+      | inl s ↦ cond-true (has_word S (word_at O i)) (shown (node_names n) (word_at O i) 49) (lit_of_table (node_names n) (find (λ t. bytes_eq t.output (word_at O i)) (end_tables n))) s
           ∙ ap (λ (ns : List (List ℕ)). shown ns (word_at O i) 49) node_names_are
           ∙ ap (λ p. lit (2 * (p + 1) + 0)) (place_in_front S inner (word_at O i) s)
           ∙ ap lit (let z : 2 * (place (word_at O i) S + 1) + 0 ≡ 2 * (place (word_at O i) S + 1) = omega arith in z)
           ∙ sym (graph.own i (omega (arith, lt, graph.count)) s)
-      | inr s ↦ cond-false (has S (word_at O i)) (shown (node_names n) (word_at O i) 49) (lit_of_table (node_names n) (find (λ t. bytes_eq t.output (word_at O i)) (end_tables n))) s
+      | inr s ↦ cond-false (has_word S (word_at O i)) (shown (node_names n) (word_at O i) 49) (lit_of_table (node_names n) (find (λ t. bytes_eq t.output (word_at O i)) (end_tables n))) s
           ∙ ap₂ (λ (ns : List (List ℕ)) (ts : List Table). lit_of_table ns (find (λ t. bytes_eq t.output (word_at O i)) ts)) node_names_are end_tables_are
           ∙ ap (lit_of_table names) (end_found S names O lits observed_distinct graph.count i lt s)
           ∙ end_back names names_distinct (word_at O i) (lit_at lits i) (omega (arith, graph.within i (lit 0) (omega (arith, lt, graph.count)), names_long, long))
@@ -139,16 +139,16 @@ network_spells frame rows lits clocks once graph = record { ordered = ordered; s
         get_or-map (lit_of n) O k [] d inside ∙ lit_back k inside ∙ get_or_default lits k (lit 0) d (omega (arith, inside, graph.count)))
 
     ends_once : distinct (without S O) ≡ true
-    ends_once = distinct-filter (λ w. not (has S w)) O observed_distinct
+    ends_once = distinct-filter (λ w. not (has_word S w)) O observed_distinct
 
     defined_once : distinct (S ++ map output_of (gates ++ ends)) ≡ true
     defined_once = ap (λ (ws : List (List ℕ)). distinct (S ++ ws)) (map-append output_of gates ends ∙ ap₂ (λ (xs ys : List (List ℕ)). xs ++ ys) outputs (end_outputs S names O lits graph.count))
         ∙ distinct_append S (inner ++ without S O) once
         (distinct_append inner (without S O) inner_distinct ends_once
-        (λ w h. false_from_ne_true (has (without S O) w) (λ t. both_ways (has O w) (inner_free w h).1 (filtered (λ x. not (has S x)) O w t).1)))
-        (λ w h. has-append inner (without S O) w ∙ or_from (has inner w) (has (without S O) w)
-        (false_from_ne_true (has inner w) (λ t. both_ways (has S w) (inner_free w t).0 h))
-        (false_from_ne_true (has (without S O) w) (λ t. both_ways (has S w) (not-true (has S w) (filtered (λ x. not (has S x)) O w t).0) h)))
+        (λ w h. false_from_ne_true (has_word (without S O) w) (λ t. both_ways (has_word O w) (inner_free w h).1 (filtered (λ x. not (has_word S x)) O w t).1)))
+        (λ w h. has_word-append inner (without S O) w ∙ or_from (has_word inner w) (has_word (without S O) w)
+        (false_from_ne_true (has_word inner w) (λ t. both_ways (has_word S w) (inner_free w t).0 h))
+        (false_from_ne_true (has_word (without S O) w) (λ t. both_ways (has_word S w) (not-true (has_word S w) (filtered (λ x. not (has_word S x)) O w t).0) h)))
 
     ordered : Ordered n
     ordered = record { once = record { clocks = clocks; all = defined_once }; above = gates_read S names first rest inner ends are inner_long refl refl (ends_read S names O lits names within (λ w h. h)) }

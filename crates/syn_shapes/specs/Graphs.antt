@@ -5,7 +5,7 @@ use Rattle.syn_rows.specs.declared.Row.{Row}
 use Rattle.syn_rows.specs.Rows.{node_of}
 use Rattle.syn_rows.specs.Reach.{Reached}
 pub use Rattle.syn_hashed.specs.Hashed.{is_gate, IsHashed, lit_at}
-use Rattle.syn_netlist.specs.Words.{has}
+use Rattle.syn_netlist.specs.Words.{has_word}
 use Rattle.syn_netlist.specs.Lists.{Frame, sources, observed}
 use Rattle.syn_netlist.specs.Numbers.{word_at}
 use Rattle.syn_shapes.specs.GraphShape.{place}
@@ -19,5 +19,5 @@ pub record IsGraph (frame : Frame) (rows : List Row) (lits : List Lit) : Type 0 
   pub hashed : IsHashed (length (sources frame)) rows
   pub count : length lits ≡ length (observed frame)
   pub within : All (λ l. node_of l < length rows) lits
-  pub own : (i : ℕ) → i < length lits → has (sources frame) (word_at (observed frame) i) ≡ true → lit_at lits i ≡ source_lit (place (word_at (observed frame) i) (sources frame))
+  pub own : (i : ℕ) → i < length lits → has_word (sources frame) (word_at (observed frame) i) ≡ true → lit_at lits i ≡ source_lit (place (word_at (observed frame) i) (sources frame))
   pub reached : (n : ℕ) → length (sources frame) < n → n < length rows → Reached rows lits n

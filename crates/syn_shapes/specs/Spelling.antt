@@ -5,7 +5,7 @@ use Rattle.syn_rows.specs.declared.Lit.{Lit}
 use Rattle.syn_rows.specs.declared.Row.{Row}
 use Rattle.syn_rows.specs.declared.Row.TheVariants.{Free, Source, And, Alias}
 use Rattle.syn_rows.specs.Rows.{node_of}
-use Rattle.syn_netlist.specs.Words.{has, distinct}
+use Rattle.syn_netlist.specs.Words.{has_word, distinct}
 use Rattle.syn_netlist.specs.Lists.{Frame, Table, Netlist, sources, observed}
 use Rattle.syn_netlist.specs.Numbers.{word_at}
 use Rattle.syn_netlist.specs.Order.{Ordered}
@@ -27,7 +27,7 @@ numbers_from first (suc count) = first ∷ numbers_from (first + 1) count
 
 -- those of the first so many of n1, n2, .. that are not taken
 abbrev pub free_names : List (List ℕ) → ℕ → List (List ℕ)
-free_names taken count = filter (λ w. not (has taken w)) (map inner_word (numbers_from 1 count))
+free_names taken count = filter (λ w. not (has_word taken w)) (map inner_word (numbers_from 1 count))
 
 -- the first so many of n1, n2, .. that are not taken
 abbrev pub inner_names : List (List ℕ) → ℕ → List (List ℕ)
@@ -72,7 +72,7 @@ end_table names word l = if node_of l == 0
 abbrev pub ends_from : List (List ℕ) → List (List ℕ) → List (List ℕ) → List Lit → List Table
 ends_from known names [] lits = []
 ends_from known names (word ∷ words) [] = []
-ends_from known names (word ∷ words) (l ∷ lits) = if has known word then ends_from known names words lits else end_table names word l ∷ ends_from known names words lits
+ends_from known names (word ∷ words) (l ∷ lits) = if has_word known word then ends_from known names words lits else end_table names word l ∷ ends_from known names words lits
 
 -- the netlist of a graph
 abbrev pub network : Frame → List Row → List Lit → Netlist

@@ -4,7 +4,7 @@ use Rattle.std.proofs.lemmas.Bool.{cases_lt}
 use Rattle.std.proofs.lemmas.List.{length-map, get_or_default, map-append}
 use Rattle.syn_netlist.specs.Marks.{AreMarks}
 use Rattle.syn_netlist.specs.Numbers.{word_at, words_at, with_word, all_below, Grows}
-use Rattle.syn_netlist.specs.Words.{has, distinct}
+use Rattle.syn_netlist.specs.Words.{has_word, distinct}
 use Rattle.syn_netlist.proofs.Growing.{Grows-with_word, words_at-grows, all_below-more, length-grows}
 use Rattle.syn_netlist.proofs.Places.{has_words, all_below-append, below_from}
 use Rattle.syn_shapes.specs.Spelling.{inner_word, free_names, inner_names}
@@ -12,7 +12,7 @@ use Rattle.syn_shapes.proofs.Inner.{many_free, free_names_more, free_names_found
 
 -- a mark tells whether the name of its number is in the set
 pub marked_has : (names : List (List ℕ)) (numbers : List ℕ) (marks : List Bool) (i : ℕ) (d : Bool) → distinct names ≡ true → all_below (length names) numbers ≡ true → length marks ≡ length names → AreMarks numbers marks → i < length names
-    → get_or marks i d ≡ has (words_at names numbers) (word_at names i)
+    → get_or marks i d ≡ has_word (words_at names numbers) (word_at names i)
 marked_has names numbers marks i d once below long marked lt = get_or_default marks i d false (omega (arith, lt, long)) ∙ marked.at i (omega (arith, lt, long)) ∙ sym (has_words names numbers i once below lt)
 
 -- one name more
@@ -36,9 +36,9 @@ still_sought taken names numbers count k found lt = elim (cases_lt (k - 1) (coun
   | inr past ↦ absurd (omega (arith, many_free taken count (k - 1) past, ap (λ (ws : List (List ℕ)). length ws) found, length-map numbers (word_at names), lt))
 ]
 
-pub found_more : (taken before after : List (List ℕ)) (k : ℕ) → 0 < k → before ≡ free_names taken (k - 1) → after ≡ before ++ (if has taken (inner_word k) then [] else inner_word k ∷ []) → after ≡ free_names taken (k + 1 - 1)
+pub found_more : (taken before after : List (List ℕ)) (k : ℕ) → 0 < k → before ≡ free_names taken (k - 1) → after ≡ before ++ (if has_word taken (inner_word k) then [] else inner_word k ∷ []) → after ≡ free_names taken (k + 1 - 1)
 found_more taken before after k low found more =
-    more ∙ ap (λ (ws : List (List ℕ)). ws ++ (if has taken (inner_word k) then [] else inner_word k ∷ [])) found ∙ sym (free_names_more taken k low)
+    more ∙ ap (λ (ws : List (List ℕ)). ws ++ (if has_word taken (inner_word k) then [] else inner_word k ∷ [])) found ∙ sym (free_names_more taken k low)
     ∙ ap (free_names taken) (let s : k ≡ k + 1 - 1 = omega arith in s)
 
 pub all_found : (taken names : List (List ℕ)) (numbers : List ℕ) (count k : ℕ) → words_at names numbers ≡ free_names taken (k - 1) → k - 1 ≤ count + length taken → length numbers ≡ count → words_at names numbers ≡ inner_names taken count

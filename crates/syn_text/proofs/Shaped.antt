@@ -7,59 +7,59 @@ use Rattle.std.proofs.lemmas.List.Sorted.{IsPermutation-refl}
 use Rattle.syn_netlist.specs.Faults.{inputs_of, reads}
 use Rattle.syn_netlist.specs.Lists.{Table, Netlist, output_of, latch_reads, sources, observed}
 use Rattle.syn_netlist.specs.Order.{Ordered, defined, reads_known}
-use Rattle.syn_netlist.specs.Words.{has, without, firsts}
-use Rattle.syn_netlist.proofs.Sets.{has-append, has_left, has_right, all_at}
+use Rattle.syn_netlist.specs.Words.{has_word, without, firsts}
+use Rattle.syn_netlist.proofs.Sets.{has_word-append, has_left, has_right, all_at}
 use Rattle.syn_shapes.specs.GraphShape.{GraphShape, and_tables, end_tables}
 use Rattle.syn_reader.proofs.Answering.{all_each, none_from_all}
-use Rattle.syn_reader.proofs.Defining.{has-without}
+use Rattle.syn_reader.proofs.Defining.{has_word-without}
 use Rattle.syn_text.specs.WellFormed.{ShapedIsChecked}
 
 -- each word of a list is among its first ones
-among_firsts : (ws : List (List ℕ)) (w : List ℕ) → has ws w ≡ true → has (firsts ws) w ≡ true
+among_firsts : (ws : List (List ℕ)) (w : List ℕ) → has_word ws w ≡ true → has_word (firsts ws) w ≡ true
 among_firsts [] w h = h
 among_firsts (x ∷ xs) w h = elim (cases_Bool (bytes_eq x w)) [
-  | inl e ↦ or_left (bytes_eq x w) (has (without (x ∷ []) (firsts xs)) w) e
-  | inr f ↦ or_right (bytes_eq x w) (has (without (x ∷ []) (firsts xs)) w)
-      (has-without (x ∷ []) (firsts xs) w
-      ∙ and_from (has (firsts xs) w) (not (has (x ∷ []) w))
-      (among_firsts xs w (elim (or_cases (bytes_eq x w) (has xs w) h) [ inl e ↦ absurd (both_ways (bytes_eq x w) f e) | inr t ↦ t ]))
-      (not_from_false (has (x ∷ []) w) (or_from (bytes_eq x w) false f refl)))
+  | inl e ↦ or_left (bytes_eq x w) (has_word (without (x ∷ []) (firsts xs)) w) e
+  | inr f ↦ or_right (bytes_eq x w) (has_word (without (x ∷ []) (firsts xs)) w)
+      (has_word-without (x ∷ []) (firsts xs) w
+      ∙ and_from (has_word (firsts xs) w) (not (has_word (x ∷ []) w))
+      (among_firsts xs w (elim (or_cases (bytes_eq x w) (has_word xs w) h) [ inl e ↦ absurd (both_ways (bytes_eq x w) f e) | inr t ↦ t ]))
+      (not_from_false (has_word (x ∷ []) w) (or_from (bytes_eq x w) false f refl)))
 ]
 
 -- an observed signal is a source, or has its table
-observed_defined : (n : Netlist) → GraphShape n → (w : List ℕ) → has (observed n.frame) w ≡ true → has (defined n) w ≡ true
-observed_defined n shape w h = elim (cases_Bool (has (sources n.frame) w)) [
+observed_defined : (n : Netlist) → GraphShape n → (w : List ℕ) → has_word (observed n.frame) w ≡ true → has_word (defined n) w ≡ true
+observed_defined n shape w h = elim (cases_Bool (has_word (sources n.frame) w)) [
   | inl s ↦ has_left (sources n.frame) (map output_of n.tables) w s
   | inr f ↦ has_right (sources n.frame) (map output_of n.tables) w
-      (ap (λ (ws : List (List ℕ)). has ws w) (ap (map output_of) shape.split ∙ map-append output_of (and_tables n) (end_tables n))
+      (ap (λ (ws : List (List ℕ)). has_word ws w) (ap (map output_of) shape.split ∙ map-append output_of (and_tables n) (end_tables n))
       ∙ has_right (map output_of (and_tables n)) (map output_of (end_tables n)) w
-      (ap (λ (ws : List (List ℕ)). has ws w) shape.each ∙ has-without (sources n.frame) (observed n.frame) w
-      ∙ and_from (has (observed n.frame) w) (not (has (sources n.frame) w)) h (not_from_false (has (sources n.frame) w) f)))
+      (ap (λ (ws : List (List ℕ)). has_word ws w) shape.each ∙ has_word-without (sources n.frame) (observed n.frame) w
+      ∙ and_from (has_word (observed n.frame) w) (not (has_word (sources n.frame) w)) h (not_from_false (has_word (sources n.frame) w) f)))
 ]
 
 -- what ordered tables read is known, or the output of one of them
-inputs_defined : (known : List (List ℕ)) (ts : List Table) (w : List ℕ) → reads_known known ts ≡ true → has (flat_map inputs_of ts) w ≡ true → has (known ++ map output_of ts) w ≡ true
+inputs_defined : (known : List (List ℕ)) (ts : List Table) (w : List ℕ) → reads_known known ts ≡ true → has_word (flat_map inputs_of ts) w ≡ true → has_word (known ++ map output_of ts) w ≡ true
 inputs_defined known [] w r h = absurd (both_ways false refl h)
 inputs_defined known (t ∷ ts) w r h =
-    let parts = and_parts (list_all (has known) t.inputs) (reads_known (known ++ t.output ∷ []) ts) r in
-    elim (or_cases (has t.inputs w) (has (flat_map inputs_of ts) w) (sym (has-append t.inputs (flat_map inputs_of ts) w) ∙ h)) [
-      | inl here ↦ has_left known (map output_of (t ∷ ts)) w (all_at (has known) t.inputs w parts.0 here)
-      | inr below ↦ ap (λ (ws : List (List ℕ)). has ws w) (sym (append_assoc known (t.output ∷ []) (map output_of ts))) ∙ inputs_defined (known ++ t.output ∷ []) ts w parts.1 below
+    let parts = and_parts (list_all (has_word known) t.inputs) (reads_known (known ++ t.output ∷ []) ts) r in
+    elim (or_cases (has_word t.inputs w) (has_word (flat_map inputs_of ts) w) (sym (has_word-append t.inputs (flat_map inputs_of ts) w) ∙ h)) [
+      | inl here ↦ has_left known (map output_of (t ∷ ts)) w (all_at (has_word known) t.inputs w parts.0 here)
+      | inr below ↦ ap (λ (ws : List (List ℕ)). has_word ws w) (sym (append_assoc known (t.output ∷ []) (map output_of ts))) ∙ inputs_defined (known ++ t.output ∷ []) ts w parts.1 below
     ]
 
-read_defined : (n : Netlist) → GraphShape n → Ordered n → (w : List ℕ) → has (reads n) w ≡ true → has (defined n) w ≡ true
+read_defined : (n : Netlist) → GraphShape n → Ordered n → (w : List ℕ) → has_word (reads n) w ≡ true → has_word (defined n) w ≡ true
 read_defined n shape order w h =
     let signals : List (List ℕ) = flat_map latch_reads n.frame.latches in
     let inputs : List (List ℕ) = flat_map inputs_of n.tables in
-    let grouped : has ((n.frame.outputs ++ signals) ++ inputs) w ≡ true = ap (λ (ws : List (List ℕ)). has ws w) (append_assoc n.frame.outputs signals inputs) ∙ h in
-    elim (or_cases (has (n.frame.outputs ++ signals) w) (has inputs w) (sym (has-append (n.frame.outputs ++ signals) inputs w) ∙ grouped)) [
+    let grouped : has_word ((n.frame.outputs ++ signals) ++ inputs) w ≡ true = ap (λ (ws : List (List ℕ)). has_word ws w) (append_assoc n.frame.outputs signals inputs) ∙ h in
+    elim (or_cases (has_word (n.frame.outputs ++ signals) w) (has_word inputs w) (sym (has_word-append (n.frame.outputs ++ signals) inputs w) ∙ grouped)) [
       | inl seen ↦ observed_defined n shape w (among_firsts (n.frame.outputs ++ signals) w seen)
       | inr read ↦ inputs_defined (sources n.frame) n.tables w order.above read
     ]
 
 pub shaped_is_checked : ShapedIsChecked
 shaped_is_checked n shape order = record {
-  driven = none_from_all (has (defined n)) (reads n) (all_each (has (defined n)) (reads n) (read_defined n shape order));
+  driven = none_from_all (has_word (defined n)) (reads n) (all_each (has_word (defined n)) (reads n) (read_defined n shape order));
   order = n.tables;
   ordered = record { permuted = IsPermutation-refl n.tables; ordered = order };
 }

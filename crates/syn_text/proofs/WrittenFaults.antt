@@ -2,12 +2,12 @@
 use Rattle.std.proofs.Common.{◌≡◌, ℕ, zero, suc, ◌<◌, ◌&&◌, ◌||◌, not, nat_lt, Bool, true, false, if◌then◌else◌, List, [], ◌∷◌, ◌++◌, length, map, flat_map, bytes_eq, refl, sym, ap, ap₂, ◌∙◌, subst, Option, Some, None, arith, append_assoc}
 use Rattle.std.specs.List.{list_all, list_any}
 use Rattle.std.proofs.lemmas.Bool.{both_ways, cond-false, and_parts, and_from, and_right, or_parts, or_from, not-true, not_from_true, not_from_false, false_from_ne_true}
-use Rattle.syn_netlist.specs.Words.{has, distinct, without}
+use Rattle.syn_netlist.specs.Words.{has_word, distinct, without}
 use Rattle.syn_netlist.specs.Lists.{Latch, Table, Netlist, output_of, latch_output}
 use Rattle.syn_netlist.specs.declared.LatchKind.{LatchKind}
 use Rattle.syn_netlist.specs.declared.LatchKind.TheVariants as types
 use Rattle.syn_netlist.specs.Kept.{row_fits, rows_fit}
-use Rattle.syn_netlist.proofs.Sets.{same_word, word_same, has-append, has_head, has_tail, has_right, apart, distinct_right, distinct_head}
+use Rattle.syn_netlist.proofs.Sets.{same_word, word_same, has_word-append, has_head, has_tail, has_right, apart, distinct_right, distinct_head}
 use Rattle.syn_shapes.specs.Printed.{kind_word, kind_words, digit}
 use Rattle.syn_reader.specs.declared.Kind.{Kind}
 use Rattle.syn_reader.specs.declared.Kind.TheVariants as kinds
@@ -24,10 +24,10 @@ use Rattle.syn_text.proofs.WrittenFits.{FitsLatch, latch_parts, table_parts}
 use Rattle.syn_text.proofs.WrittenNames.{defines, statement, names_in, table_defines}
 
 -- definitions that none before them forbids
-other : (w v : List ℕ) (ws : List (List ℕ)) → has ws w ≡ false → has ws v ≡ true → bytes_eq w v ≡ false
-other w v ws n h = false_from_ne_true (bytes_eq w v) (λ e. both_ways (has ws w) n (subst (λ x. has ws x ≡ true) (sym (same_word w v e)) h))
+other : (w v : List ℕ) (ws : List (List ℕ)) → has_word ws w ≡ false → has_word ws v ≡ true → bytes_eq w v ≡ false
+other w v ws n h = false_from_ne_true (bytes_eq w v) (λ e. both_ways (has_word ws w) n (subst (λ x. has_word ws x ≡ true) (sym (same_word w v e)) h))
 
-one_kind : (kind : Kind) (before : List Definition) (ws : List (List ℕ)) → ((w : List ℕ) → has ws w ≡ true → list_any (λ one. forbids one (defines kind w)) before ≡ false) → distinct ws ≡ true → first_forbidden before (map (defines kind) ws) ≡ None
+one_kind : (kind : Kind) (before : List Definition) (ws : List (List ℕ)) → ((w : List ℕ) → has_word ws w ≡ true → list_any (λ one. forbids one (defines kind w)) before ≡ false) → distinct ws ≡ true → first_forbidden before (map (defines kind) ws) ≡ None
 one_kind kind before [] f d = refl
 one_kind kind before (w ∷ ws) f d =
     cond-false (list_any (λ one. forbids one (defines kind w)) before) (Some w) (first_forbidden (defines kind w ∷ before) (map (defines kind) ws)) (f w (has_head w ws))
@@ -35,28 +35,28 @@ one_kind kind before (w ∷ ws) f d =
     (λ v h. or_from (forbids (defines kind w) (defines kind v)) (list_any (λ one. forbids one (defines kind v)) before)
     (ap (λ b. b && not (may_share kind kind)) (other w v ws (distinct_head w ws d) h))
     (f v (has_tail w v ws h)))
-    (and_parts (not (has ws w)) (distinct ws) d).1
+    (and_parts (not (has_word ws w)) (distinct ws) d).1
 
 shared : (ws : List (List ℕ)) (w : List ℕ) → list_any (λ one. forbids one (defines kinds.Clock w)) (map (defines kinds.Inputs) ws ++ []) ≡ false
 shared [] w = refl
 shared (x ∷ xs) w = or_from (bytes_eq x w && false) (list_any (λ one. forbids one (defines kinds.Clock w)) (map (defines kinds.Inputs) xs ++ [])) (and_right (bytes_eq x w) false refl) (shared xs w)
 
-unforbidden : (before : List Definition) (kind : Kind) (w : List ℕ) → has (map name_of before) w ≡ false → list_any (λ one. forbids one (defines kind w)) before ≡ false
+unforbidden : (before : List Definition) (kind : Kind) (w : List ℕ) → has_word (map name_of before) w ≡ false → list_any (λ one. forbids one (defines kind w)) before ≡ false
 unforbidden [] kind w h = refl
 unforbidden (d ∷ ds) kind w h =
-    let p = or_parts (bytes_eq d.name w) (has (map name_of ds) w) h in
+    let p = or_parts (bytes_eq d.name w) (has_word (map name_of ds) w) h in
     or_from (forbids d (defines kind w)) (list_any (λ one. forbids one (defines kind w)) ds) (ap (λ b. b && not (may_share d.by kind)) p.0) (unforbidden ds kind w p.1)
 
-one_alone : (before : List Definition) (kind : Kind) (w : List ℕ) → has (map name_of before) w ≡ false → first_forbidden before (defines kind w ∷ []) ≡ None
+one_alone : (before : List Definition) (kind : Kind) (w : List ℕ) → has_word (map name_of before) w ≡ false → first_forbidden before (defines kind w ∷ []) ≡ None
 one_alone before kind w h = cond-false (list_any (λ one. forbids one (defines kind w)) before) (Some w) None (unforbidden before kind w h)
 
 -- the statements above: no `.end`, and none of the names that are still to be defined
 pub record IsAbove (above : List Statement) (rest : List (List ℕ)) : Type 0 where
   pub no_end : list_any (λ t. is_end t.kind) above ≡ false
-  pub new : (w : List ℕ) → has rest w ≡ true → has (names_in above) w ≡ false
+  pub new : (w : List ℕ) → has_word rest w ≡ true → has_word (names_in above) w ≡ false
 
-still_new : (above : List Statement) (w : List ℕ) (rest : List (List ℕ)) → distinct (w ∷ rest) ≡ true → IsAbove above (w ∷ rest) → (v : List ℕ) → has rest v ≡ true → has (w ∷ names_in above) v ≡ false
-still_new above w rest d a v h = or_from (bytes_eq w v) (has (names_in above) v) (other w v rest (distinct_head w rest d) h) (a.new v (has_tail w v rest h))
+still_new : (above : List Statement) (w : List ℕ) (rest : List (List ℕ)) → distinct (w ∷ rest) ≡ true → IsAbove above (w ∷ rest) → (v : List ℕ) → has_word rest v ≡ true → has_word (w ∷ names_in above) v ≡ false
+still_new above w rest d a v h = or_from (bytes_eq w v) (has_word (names_in above) v) (other w v rest (distinct_head w rest d) h) (a.new v (has_tail w v rest h))
 
 -- rows
 pub record IsRowAbove (above : List Statement) (names : List (List ℕ)) (on : Bool) : Type 0 where
@@ -133,13 +133,13 @@ tables_fine : (ts : List Table) (k : ℕ) (above : List Statement) → list_all 
 tables_fine [] k above h d a = fine_first above (statement k kinds.End []) [] (fine_end above k a.no_end) refl
 tables_fine (t ∷ ts) k above h d a =
     let p = and_parts (table_fits t) (list_all table_fits ts) h in
-    let q = and_parts (not (has (map output_of ts) t.output)) (distinct (map output_of ts)) d in
+    let q = and_parts (not (has_word (map output_of ts) t.output)) (distinct (map output_of ts)) d in
     let here : Statement = statement k kinds.Names (t.inputs ++ t.output ∷ []) in
     fine_first above here (numbered (suc k) (map (row_said t.inputs t.on) t.rows ++ from_tables ts)) (fine_names above k t.inputs t.output (map output_of ts) a)
     (rows_fine t.inputs t.output t.on t.rows ts (suc k) (here ∷ above) (map output_of ts) (table_parts t p.0).rows
     (record {
       no_end = a.no_end;
-      new = λ w z. ap (λ (ds : List Definition). has (map name_of (ds ++ flat_map definitions above)) w) (table_defines t.inputs t.output k) ∙ still_new above t.output (map output_of ts) d a w z;
+      new = λ w z. ap (λ (ds : List Definition). has_word (map name_of (ds ++ flat_map definitions above)) w) (table_defines t.inputs t.output k) ∙ still_new above t.output (map output_of ts) d a w z;
     })
     (record { table = refl; first = λ words e. e })
     (λ j over b. tables_fine ts j over p.1 q.1 b))
@@ -150,7 +150,7 @@ latch_sizes feed output None init = refl
 latch_sizes feed output (Some (k, None)) init = refl
 latch_sizes feed output (Some (k, Some name)) init = refl
 
-is_type : (k : LatchKind) → not (has latch_types (kind_word k)) ≡ false
+is_type : (k : LatchKind) → not (has_word latch_types (kind_word k)) ≡ false
 is_type types.Fe = refl
 is_type types.Re = refl
 is_type types.Ah = refl
@@ -162,7 +162,7 @@ latch_typed feed output None init = refl
 latch_typed feed output (Some (k, None)) init = is_type k
 latch_typed feed output (Some (k, Some name)) init = is_type k
 
-is_initial : (i : ℕ) → i < 4 → not (has initial_values (digit i)) ≡ false
+is_initial : (i : ℕ) → i < 4 → not (has_word initial_values (digit i)) ≡ false
 is_initial zero h = refl
 is_initial (suc zero) h = refl
 is_initial (suc (suc zero)) h = refl
@@ -196,37 +196,37 @@ latches_fine [] ts k above h f d a = tables_fine ts k above f d a
 latches_fine (l ∷ ls) ts k above h f d a =
     let p = and_parts (latch_fits l) (list_all latch_fits ls) h in
     let rest : List (List ℕ) = map latch_output ls ++ map output_of ts in
-    let q = and_parts (not (has rest l.output)) (distinct rest) d in
+    let q = and_parts (not (has_word rest l.output)) (distinct rest) d in
     fine_first above (statement k kinds.Latch (latch_words l)) (numbered (suc k) (from_latches ls ts)) (fine_latch above k l rest (latch_parts l p.0) a)
     (latches_fine ls ts (suc k) (statement k kinds.Latch (latch_words l) ∷ above) p.1 f q.1 (record { no_end = a.no_end; new = λ w z. still_new above l.output rest d a w z }))
 
 -- what is defined once
-not_without : (others ws : List (List ℕ)) (w : List ℕ) → has (without others ws) w ≡ false → has others w ≡ false → has ws w ≡ false
+not_without : (others ws : List (List ℕ)) (w : List ℕ) → has_word (without others ws) w ≡ false → has_word others w ≡ false → has_word ws w ≡ false
 not_without others [] w e o = refl
-not_without others (x ∷ xs) w e o = go (has others x) refl e (not_without others xs w)
+not_without others (x ∷ xs) w e o = go (has_word others x) refl e (not_without others xs w)
   where
-    go : (t : Bool) → has others x ≡ t → has (if not t then x ∷ without others xs else without others xs) w ≡ false → (has (without others xs) w ≡ false → has others w ≡ false → has xs w ≡ false) → (bytes_eq x w || has xs w) ≡ false
-    go true h e ih = or_from (bytes_eq x w) (has xs w) (false_from_ne_true (bytes_eq x w) (λ s. both_ways (has others w) o (subst (λ v. has others v ≡ true) (same_word x w s) h))) (ih e o)
-    go false h e ih = let p = or_parts (bytes_eq x w) (has (without others xs) w) e in or_from (bytes_eq x w) (has xs w) p.0 (ih p.1 o)
+    go : (t : Bool) → has_word others x ≡ t → has_word (if not t then x ∷ without others xs else without others xs) w ≡ false → (has_word (without others xs) w ≡ false → has_word others w ≡ false → has_word xs w ≡ false) → (bytes_eq x w || has_word xs w) ≡ false
+    go true h e ih = or_from (bytes_eq x w) (has_word xs w) (false_from_ne_true (bytes_eq x w) (λ s. both_ways (has_word others w) o (subst (λ v. has_word others v ≡ true) (same_word x w s) h))) (ih e o)
+    go false h e ih = let p = or_parts (bytes_eq x w) (has_word (without others xs) w) e in or_from (bytes_eq x w) (has_word xs w) p.0 (ih p.1 o)
 
 distinct_left : (xs ys : List (List ℕ)) → distinct (xs ++ ys) ≡ true → distinct xs ≡ true
 distinct_left [] ys d = refl
 distinct_left (x ∷ xs) ys d =
-    let p = and_parts (not (has (xs ++ ys) x)) (distinct (xs ++ ys)) d in
-    and_from (not (has xs x)) (distinct xs) (not_from_false (has xs x) (or_parts (has xs x) (has ys x) (sym (has-append xs ys x) ∙ not-true (has (xs ++ ys) x) p.0)).0) (distinct_left xs ys p.1)
+    let p = and_parts (not (has_word (xs ++ ys) x)) (distinct (xs ++ ys)) d in
+    and_from (not (has_word xs x)) (distinct xs) (not_from_false (has_word xs x) (or_parts (has_word xs x) (has_word ys x) (sym (has_word-append xs ys x) ∙ not-true (has_word (xs ++ ys) x) p.0)).0) (distinct_left xs ys p.1)
 
 regroup : (a b c d : List (List ℕ)) → (a ++ (b ++ c)) ++ d ≡ a ++ (b ++ (c ++ d))
 regroup a b c d = simp append_assoc
 
 -- what comes later is in no earlier part
-not_earlier : (xs ys : List (List ℕ)) (w : List ℕ) → distinct (xs ++ ys) ≡ true → has ys w ≡ true → has xs w ≡ false
-not_earlier xs ys w d h = false_from_ne_true (has xs w) (λ t. both_ways (has ys w) (apart xs ys w d t) h)
+not_earlier : (xs ys : List (List ℕ)) (w : List ℕ) → distinct (xs ++ ys) ≡ true → has_word ys w ≡ true → has_word xs w ≡ false
+not_earlier xs ys w d h = false_from_ne_true (has_word xs w) (λ t. both_ways (has_word ys w) (apart xs ys w d t) h)
 
 pub record IsSplit (is cs rest : List (List ℕ)) : Type 0 where
   pub inputs : distinct is ≡ true
   pub rest_once : distinct rest ≡ true
-  pub no_input : (w : List ℕ) → has rest w ≡ true → has is w ≡ false
-  pub no_clock : (w : List ℕ) → has rest w ≡ true → has cs w ≡ false
+  pub no_input : (w : List ℕ) → has_word rest w ≡ true → has_word is w ≡ false
+  pub no_clock : (w : List ℕ) → has_word rest w ≡ true → has_word cs w ≡ false
 
 split : (is cs ls ts : List (List ℕ)) → distinct ((is ++ (without is cs ++ ls)) ++ ts) ≡ true → IsSplit is cs (ls ++ ts)
 split is cs ls ts d =
@@ -244,8 +244,8 @@ names_named : (kind : Kind) (ws : List (List ℕ)) (more : List Definition) → 
 names_named kind [] more = refl
 names_named kind (w ∷ ws) more = ap (λ (l : List (List ℕ)). w ∷ l) (names_named kind ws more)
 
-no_name : (kind : Kind) (ws : List (List ℕ)) (more : List Definition) (w : List ℕ) → has ws w ≡ false → has (map name_of more) w ≡ false → has (map name_of (map (defines kind) ws ++ more)) w ≡ false
-no_name kind ws more w a b = ap (λ (l : List (List ℕ)). has l w) (names_named kind ws more) ∙ (has-append ws (map name_of more) w ∙ or_from (has ws w) (has (map name_of more) w) a b)
+no_name : (kind : Kind) (ws : List (List ℕ)) (more : List Definition) (w : List ℕ) → has_word ws w ≡ false → has_word (map name_of more) w ≡ false → has_word (map name_of (map (defines kind) ws ++ more)) w ≡ false
+no_name kind ws more w a b = ap (λ (l : List (List ℕ)). has_word l w) (names_named kind ws more) ∙ (has_word-append ws (map name_of more) w ∙ or_from (has_word ws w) (has_word (map name_of more) w) a b)
 
 abbrev head : Netlist → List Statement
 head n = statement 3 kinds.Outputs n.frame.outputs ∷ statement 2 kinds.Inputs n.frame.inputs ∷ statement 1 kinds.Model (n.frame.model ∷ []) ∷ []

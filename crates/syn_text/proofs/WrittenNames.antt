@@ -2,13 +2,13 @@
 use Rattle.std.proofs.Common.{◌≡◌, ℕ, suc, ◌||◌, not, Bool, true, false, if◌then◌else◌, List, [], ◌∷◌, ◌++◌, map, flat_map, find, bytes_eq, refl, sym, ap, ap₂, ◌∙◌, ◌⊎◌, Option, Some, None, inl, inr, append_assoc}
 use Rattle.std.specs.List.{list_all}
 use Rattle.std.proofs.lemmas.Bool.{both_ways, cond-true, and_parts, or_cases, or_from, not-true, not_from_false, false_from_ne_true}
-use Rattle.syn_netlist.specs.Words.{has, without}
+use Rattle.syn_netlist.specs.Words.{has_word, without}
 use Rattle.syn_netlist.specs.Lists.{Latch, Table, Netlist, output_of, latch_output, latch_reads, control_of}
 use Rattle.syn_netlist.specs.declared.LatchKind.{LatchKind}
 use Rattle.syn_netlist.specs.Order.{defined}
 use Rattle.syn_netlist.specs.Faults.{inputs_of, reads as netlist_reads, first_undriven as netlist_undriven}
 use Rattle.syn_netlist.specs.Kept.{nil_word}
-use Rattle.syn_netlist.proofs.Sets.{has-append, has_tail, has_left, has_right}
+use Rattle.syn_netlist.proofs.Sets.{has_word-append, has_tail, has_left, has_right}
 use Rattle.syn_reader.specs.declared.Kind.{Kind}
 use Rattle.syn_reader.specs.declared.Kind.TheVariants as kinds
 use Rattle.syn_reader.specs.Statements.{Statement}
@@ -93,18 +93,18 @@ written_read : (n : Netlist) → IsWellFormed n → flat_map reads (written n) �
 written_read n w = ap (λ (x : List (List ℕ)). n.frame.outputs ++ x) (clocks_read n.frame.clocks n.frame.latches n.tables 4 w.latches)
 
 -- each name that the netlist defines is defined by a statement
-has_cases : (xs ys : List (List ℕ)) (w : List ℕ) → has (xs ++ ys) w ≡ true → (has xs w ≡ true) ⊎ (has ys w ≡ true)
-has_cases xs ys w h = or_cases (has xs w) (has ys w) (sym (has-append xs ys w) ∙ h)
+has_cases : (xs ys : List (List ℕ)) (w : List ℕ) → has_word (xs ++ ys) w ≡ true → (has_word xs w ≡ true) ⊎ (has_word ys w ≡ true)
+has_cases xs ys w h = or_cases (has_word xs w) (has_word ys w) (sym (has_word-append xs ys w) ∙ h)
 
-has_of_without : (others ws : List (List ℕ)) (w : List ℕ) → has (without others ws) w ≡ true → has ws w ≡ true
+has_of_without : (others ws : List (List ℕ)) (w : List ℕ) → has_word (without others ws) w ≡ true → has_word ws w ≡ true
 has_of_without others [] w h = h
-has_of_without others (x ∷ xs) w h = go (not (has others x)) h (has_of_without others xs w)
+has_of_without others (x ∷ xs) w h = go (not (has_word others x)) h (has_of_without others xs w)
   where
-    go : (t : Bool) → has (if t then x ∷ without others xs else without others xs) w ≡ true → (has (without others xs) w ≡ true → has xs w ≡ true) → (bytes_eq x w || has xs w) ≡ true
-    go true h ih = elim (or_cases (bytes_eq x w) (has (without others xs) w) h) [ inl e ↦ ap (λ b. b || has xs w) e | inr r ↦ has_tail x w xs (ih r) ]
+    go : (t : Bool) → has_word (if t then x ∷ without others xs else without others xs) w ≡ true → (has_word (without others xs) w ≡ true → has_word xs w ≡ true) → (bytes_eq x w || has_word xs w) ≡ true
+    go true h ih = elim (or_cases (bytes_eq x w) (has_word (without others xs) w) h) [ inl e ↦ ap (λ b. b || has_word xs w) e | inr r ↦ has_tail x w xs (ih r) ]
     go false h ih = has_tail x w xs (ih h)
 
-all_defined : (is cs ls ts : List (List ℕ)) (w : List ℕ) → has ((is ++ (without is cs ++ ls)) ++ ts) w ≡ true → has (is ++ (cs ++ (ls ++ ts))) w ≡ true
+all_defined : (is cs ls ts : List (List ℕ)) (w : List ℕ) → has_word ((is ++ (without is cs ++ ls)) ++ ts) w ≡ true → has_word (is ++ (cs ++ (ls ++ ts))) w ≡ true
 all_defined is cs ls ts w h = elim (has_cases (is ++ (without is cs ++ ls)) ts w h) [
   | inl s ↦ elim (has_cases is (without is cs ++ ls) w s) [
     | inl i ↦ has_left is (cs ++ (ls ++ ts)) w i
@@ -128,9 +128,9 @@ find_less p q (w ∷ ws) h e = go (p w) (q w) refl refl e (find_less p q ws h)
 -- no statement reads a name that none defines
 pub all_driven : (n : Netlist) → IsWellFormed n → netlist_undriven n ≡ None → first_undriven (written n) ≡ None
 all_driven n w e =
-    ap (find (λ name. not (has (names_in (written n)) name))) (written_read n w)
-    ∙ find_less (λ name. not (has (defined n) name)) (λ name. not (has (names_in (written n)) name)) (netlist_reads n)
-    (λ name u. not_from_false (has (defined n) name) (false_from_ne_true (has (defined n) name) (λ d.
-    both_ways (has (names_in (written n)) name) (not-true (has (names_in (written n)) name) u)
-    (ap (λ (l : List (List ℕ)). has l name) (written_name n) ∙ all_defined n.frame.inputs n.frame.clocks (map latch_output n.frame.latches) (map output_of n.tables) name d))))
+    ap (find (λ name. not (has_word (names_in (written n)) name))) (written_read n w)
+    ∙ find_less (λ name. not (has_word (defined n) name)) (λ name. not (has_word (names_in (written n)) name)) (netlist_reads n)
+    (λ name u. not_from_false (has_word (defined n) name) (false_from_ne_true (has_word (defined n) name) (λ d.
+    both_ways (has_word (names_in (written n)) name) (not-true (has_word (names_in (written n)) name) u)
+    (ap (λ (l : List (List ℕ)). has_word l name) (written_name n) ∙ all_defined n.frame.inputs n.frame.clocks (map latch_output n.frame.latches) (map output_of n.tables) name d))))
     e

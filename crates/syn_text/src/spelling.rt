@@ -9,7 +9,7 @@ ghost use Rattle.syn_netlist.specs.Marks.{AreMarks};
 ghost use Rattle.syn_netlist.specs.Numbers.{all_below, Grows, word_at, words_at};
 ghost use Rattle.syn_netlist.specs.Tables.{tables_below};
 ghost use Rattle.syn_netlist.specs.Views.{frame_in, netlist_in, table_in};
-ghost use Rattle.syn_netlist.specs.Words.{distinct, has, is_word};
+ghost use Rattle.syn_netlist.specs.Words.{distinct, has_word, is_word};
 ghost use Rattle.syn_netlist.specs.Faults.{IsChecked};
 ghost use Rattle.syn_netlist.specs.Order.{Ordered};
 ghost use Rattle.syn_shapes.specs.GraphShape.{GraphShape, observed_of, rows_of};
@@ -53,14 +53,14 @@ impl<'a> NameSet<'a> {
     // Whether the name of a number is in the set.
     fn has(&self, number: u32) -> bool
         requires { number < length self.now.names.now }
-        ensures { result ≡ has (words_at self.now.names.now self.now.numbers.items) (word_at self.now.names.now number) }
+        ensures { result ≡ has_word (words_at self.now.names.now self.now.numbers.items) (word_at self.now.names.now number) }
     {
         self.marks[number as usize]
     }
 
     // Whether a word is in the set.
     fn has_word(&self, word: &[u8]) -> bool
-        ensures { result ≡ has (words_at self.now.names.now self.now.numbers.items) word.now }
+        ensures { result ≡ has_word (words_at self.now.names.now self.now.numbers.items) word.now }
     {
         match self.names.find(word) {
             Some(number) => self.has(number),
@@ -112,7 +112,7 @@ fn add_inner_name(
     requires positive { 0 < k }
     requires few { length names.old + 1 < 2 ^ 32 }
     requires below { all_below (length names.old) numbers.old.items ≡ true }
-    ensures words { OnOk result (words_at names.new numbers.new.items ≡ words_at names.old numbers.old.items ++ (if has (words_at taken.now.names.now taken.now.numbers.items) (inner_word k) then [] else inner_word k ∷ [])) }
+    ensures words { OnOk result (words_at names.new numbers.new.items ≡ words_at names.old numbers.old.items ++ (if has_word (words_at taken.now.names.now taken.now.numbers.items) (inner_word k) then [] else inner_word k ∷ [])) }
     ensures below { OnOk result (all_below (length names.new) numbers.new.items ≡ true) }
     ensures grows { OnOk result (Grows names.old names.new) }
     ensures few { OnOk result (length names.new + length numbers.old.items ≤ length names.old + length numbers.new.items) }
@@ -289,7 +289,7 @@ fn push_end(
 ) -> Result<(), AllocError>
     requires signal { signal < length sources.now.names.now }
     requires within { is_within (length nodes.now) lit ≡ true }
-    ensures words { OnOk result ((names : List (List ℕ)) → map (table_in names) tables.new.items ≡ map (table_in names) tables.old.items ++ (if has (words_at sources.now.names.now sources.now.numbers.items) (word_at sources.now.names.now signal) then [] else end_table (words_at names nodes.now) (word_at names signal) lit ∷ [])) }
+    ensures words { OnOk result ((names : List (List ℕ)) → map (table_in names) tables.new.items ≡ map (table_in names) tables.old.items ++ (if has_word (words_at sources.now.names.now sources.now.numbers.items) (word_at sources.now.names.now signal) then [] else end_table (words_at names nodes.now) (word_at names signal) lit ∷ [])) }
     ensures below { OnOk result ((count : ℕ) → all_below count nodes.now ≡ true → signal < count → tables_below count tables.old.items ≡ true → tables_below count tables.new.items ≡ true) }
 {
     if sources.has(signal) {

@@ -3,7 +3,7 @@ use Rattle.syn_rows.specs.declared.Lit.{Lit}
 use Rattle.syn_netlist.specs.Lists as lists
 use Rattle.syn_netlist.specs.Numbers.{word_at, words_at}
 use Rattle.syn_netlist.specs.Tables.{table_in}
-use Rattle.syn_netlist.specs.Words.{has}
+use Rattle.syn_netlist.specs.Words.{has_word}
 use Rattle.syn_netlist.proofs.Growing.{word_at-grows}
 use Rattle.syn_shapes.specs.Spelling.{end_table, ends_from}
 use Rattle.syn_text.specs.Numbered.{is_within}
@@ -26,7 +26,7 @@ loop-i-preserved c =
           let nodes : List (List ℕ) = words_at names c.args.nodes.now in
           let word : List ℕ = word_at old (get_or signals i 0) in
           let before : List lists.Table = map (table_in names) c.loop-i.tables.items in
-          let mine : List lists.Table = if has known word then [] else end_table nodes (word_at names (get_or signals i 0)) (get_or lits i none) ∷ [] in
+          let mine : List lists.Table = if has_word known word then [] else end_table nodes (word_at names (get_or signals i 0)) (get_or lits i none) ∷ [] in
           let rest : List lists.Table = ends_from known nodes (words_at names (drop (i + 1) signals)) (drop (i + 1) lits) in
           let all : List lists.Table = map (table_in names) c.args.tables.now.items ++ ends_from known nodes (words_at names signals) lits in
           let same : word ≡ word_at names (get_or signals i 0) = sym (word_at-grows old names (get_or signals i 0) grows (item_below (length old) signals i inside c.requires.signals)) in
