@@ -2,7 +2,7 @@ use Rattle.std.proofs.Common.{◌==◌, ◌∙◌, rules, tests}
 use Rattle.std.proofs.lemmas.Iterator.{YieldsList-from_slice}
 use Rattle.std.proofs.lemmas.Iterator.Search.{position_from_yields_List}
 use Rattle.syn_lex.proofs.Lengths.{first_or_len}
-use Rattle.syn_lex.proofs.bytes_before.Goals as goal
+use Rattle.syn_lex.proofs.pieces.bytes_before.Goals as goal
 
 pub returns-clause-value : goal.returns-clause-value
 returns-clause-value c =
