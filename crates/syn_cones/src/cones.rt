@@ -9,13 +9,15 @@ ghost use Rattle.syn_truth.specs.Truth.{value_of};
 ghost use Rattle.syn_cones.specs.Cones.{IsCut, IsTruthOver, has_node};
 ghost use Rattle.syn_cones.specs.Walk.{FitsInside, IsWalk, TablesAgree, has_all, have_vars, inner_refs, put_node, put_nodes};
 
+use crate::words::small_table;
 use smallvec::SmallVec;
 use std::alloc::{AllocError, Global};
 use syn_rows::{Lit, Row};
 use syn_truth::Truth;
 
 // The place of a node.
-fn place_of(nodes: &[u32], node: u32) -> Option<usize>
+#[inline]
+pub(crate) fn place_of(nodes: &[u32], node: u32) -> Option<usize>
     ensures some { IfSome result (λ i. (i < length nodes.now) × (slice_index_or nodes.now i 0 ≡ node)) }
     ensures none { IfNone result (has_node nodes.now node ≡ false) }
 {
@@ -196,6 +198,9 @@ pub fn function(alloc: Global, rows: &[Row], root: u32, leaves: &[u32]) -> Resul
     requires cut { IsCut rows.now leaves.now root }
     ensures { IfOk result (IsTruthOver rows.now leaves.now root) }
 {
+    if let Some(table) = small_table(rows, root, leaves) {
+        return Ok(table);
+    }
     let cone = cone_of(alloc, rows, leaves, root)?;
     cone_table(alloc, rows, leaves, root, cone)
 }
