@@ -1,19 +1,19 @@
 -- Words as functions over leaves.
-use Rattle.std.proofs.Common.{◌≡◌, ◌≢◌, ℕ, zero, suc, ◌-◌, ◌^◌, ◌<◌, ◌≤◌, ◌&&◌, nat_eq, Bool, true, false, not, List, [], ◌∷◌, length, map, get_or, bit_and, refl, sym, ap, ap₂, ◌∙◌, subst, arith}
+use Rattle.std.proofs.Common.{◌≡◌, ◌≢◌, ℕ, zero, suc, ◌-◌, ◌^◌, ◌<◌, ◌≤◌, ◌&&◌, nat_eq, Bool, true, false, not, List, [], ◌∷◌, length, get_or, bit_and, refl, sym, ap, ap₂, ◌∙◌, subst, arith}
 use Rattle.std.specs.Int.{bit_at, w64}
 use Rattle.std.proofs.Math.Nat.{pow-le-pow_right}
-use Rattle.std.proofs.lemmas.List.{get_or-map, length-map}
+use Rattle.std.proofs.lemmas.List.{get_or-map}
 use Rattle.std.proofs.lemmas.Nat.Bits.{bit_at-lt, bit_at-zero, bit_at_not}
 use Rattle.syn_rows.specs.declared.Lit.{Lit}
 use Rattle.syn_rows.specs.declared.Row.{Row}
 use Rattle.syn_rows.specs.declared.Row.TheVariants.{And}
 use Rattle.syn_rows.specs.Rows.{node_of, row_at, refs_of}
 use Rattle.syn_rows.specs.Values.{RowFits, lit_value}
-use Rattle.syn_truth.specs.Truth.{digit, minterm_of}
+use Rattle.syn_truth.specs.Truth.{minterm_of}
 use Rattle.syn_truth.specs.Words.{value_in}
 use Rattle.syn_truth.proofs.Minterms.{minterm_below, bit_at-minterm_of}
 use Rattle.syn_truth.proofs.Operations.{and_at, set_bit}
-use Rattle.syn_cones.specs.Cones.{has_node, Refers, LeadsTo, FitsAt, FitsBetween, IsCut}
+use Rattle.syn_cones.specs.Cones.{has_node, Refers, FitsAt, FitsBetween, IsCut}
 use Rattle.syn_cones.specs.Words.{IsWordOver}
 use Rattle.syn_cones.proofs.Walking.{cut_led, has_here, has_there}
 

@@ -1,9 +1,9 @@
-use Rattle.std.proofs.Common.{◌≡◌, ℕ, ◌<◌, Bool, List, length, sym, subst, arith}
+use Rattle.std.proofs.Common.{◌≡◌, ◌<◌, sym, subst, arith}
 use Rattle.syn_rows.specs.declared.Row.TheVariants.{And}
-use Rattle.syn_rows.specs.Rows.{row_at, node_of, AllRefs}
+use Rattle.syn_rows.specs.Rows.{row_at, AllRefs}
 use Rattle.syn_cones.specs.Cones.{Refers}
 use Rattle.syn_cones.specs.Words.{IsWordOver}
-use Rattle.syn_cones.proofs.Wording.{IsAnd, and_word, constant_word, cut_of_fan_in, is_and}
+use Rattle.syn_cones.proofs.Wording.{and_word, constant_word, cut_of_fan_in, is_and}
 use Rattle.syn_cones.proofs.words.+word_of.Goals as goal
 
 pub returns-then-node-eq0 : goal.returns-then-node-eq0
