@@ -1,6 +1,7 @@
 //! From a netlist to its graph.
 
 ghost use Rattle.std.specs.Prelude.{◌≡◌, ◌+◌, ◌<◌, ◌≤◌, ◌^◌, length, IfOk, true};
+ghost use Rattle.syn_rows.specs.declared.TheConstants.{NODE_LIMIT};
 ghost use Rattle.syn_rows.specs.Values.{rows_function};
 ghost use Rattle.syn_netlist.specs.Frames.{frame_in};
 ghost use Rattle.syn_netlist.specs.Lists.{sources};
@@ -22,7 +23,7 @@ use syn_netlist::{CheckedNetlist, NetFault, Netlist};
 /// The frame is copied, and the order of the tables is looked for; `build_checked` does neither.
 pub fn build(alloc: Global, netlist: &Netlist) -> Result<Graph, AllocError>
     requires checked { IsChecked (netlist_in netlist.now) }
-    requires room { length (sources (frame_in netlist.now.frame)) + cost_of (netlist_in netlist.now) + 2 < 2 ^ 29 }
+    requires room { length (sources (frame_in netlist.now.frame)) + cost_of (netlist_in netlist.now) + 2 < NODE_LIMIT }
     requires names { length netlist.now.frame.names < 2 ^ 31 }
     ensures network { IfOk result (λ graph. IsGraphOf (netlist_in netlist.now) (network_of graph)) }
     ensures function { IfOk result (λ graph. HasFunction (netlist_in netlist.now) (rows_function graph.rows graph.observed)) }
@@ -42,7 +43,7 @@ pub fn build(alloc: Global, netlist: &Netlist) -> Result<Graph, AllocError>
 /// The graph of a checked netlist, as `build` makes it. The frame is moved, and the tables are built in the order that
 /// stands beside the netlist.
 pub fn build_checked(alloc: Global, checked: CheckedNetlist) -> Result<Graph, AllocError>
-    requires room { length (sources (frame_in checked.netlist.frame)) + cost_of (netlist_in checked.netlist) + 2 < 2 ^ 29 }
+    requires room { length (sources (frame_in checked.netlist.frame)) + cost_of (netlist_in checked.netlist) + 2 < NODE_LIMIT }
     requires names { length checked.netlist.frame.names < 2 ^ 31 }
     ensures network { IfOk result (λ graph. IsGraphOf (netlist_in checked.netlist) (network_of graph)) }
     ensures function { IfOk result (λ graph. HasFunction (netlist_in checked.netlist) (rows_function graph.rows graph.observed)) }

@@ -13,9 +13,11 @@ use Rattle.syn_truth.specs.Truth.{minterm_of}
 use Rattle.syn_truth.specs.Words.{value_in}
 use Rattle.syn_truth.proofs.Minterms.{minterm_below, bit_at-minterm_of}
 use Rattle.syn_truth.proofs.Operations.{and_at, set_bit}
-use Rattle.syn_cones.specs.Cones.{has_node, Refers, FitsAt, FitsBetween, IsCut}
+use Rattle.syn_rows.specs.Nodes.{has_node}
+use Rattle.syn_rows.proofs.Nodes.{has_here, has_there}
+use Rattle.syn_cones.specs.Cones.{Refers, FitsAt, FitsBetween, IsCut}
 use Rattle.syn_cones.specs.Words.{IsWordOver}
-use Rattle.syn_cones.proofs.Walking.{cut_led, has_here, has_there}
+use Rattle.syn_cones.proofs.Walking.{cut_led}
 
 pub minterm_in_word : (xs : List Bool) → length xs ≤ 6 → minterm_of xs < 64
 minterm_in_word xs few = omega (arith, minterm_below xs, pow-le-pow_right {n = 2} (omega arith) few)

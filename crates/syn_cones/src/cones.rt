@@ -6,8 +6,9 @@ ghost use Rattle.syn_rows.specs.Rows.{InOrder, node_of, refs_of, row_at};
 ghost use Rattle.syn_rows.specs.Values.{RowFits, is_open, lit_value};
 ghost use Rattle.syn_truth.specs.declared.TheConstants.{MOST_VARS};
 ghost use Rattle.syn_truth.specs.Truth.{value_of};
-ghost use Rattle.syn_cones.specs.Cones.{IsCut, IsTruthOver, has_node};
-ghost use Rattle.syn_cones.specs.Walk.{FitsInside, IsWalk, TablesAgree, has_all, have_vars, inner_refs, put_node, put_nodes};
+ghost use Rattle.syn_rows.specs.Nodes.{has_node};
+ghost use Rattle.syn_cones.specs.Cones.{IsCut, IsTruthOver};
+ghost use Rattle.syn_cones.specs.Walk.{FitsInside, IsConeWalk, TablesAgree, has_all, have_vars, inner_refs, put_node, put_nodes};
 
 use crate::words::small_table;
 use smallvec::SmallVec;
@@ -114,7 +115,7 @@ fn cone_of(
 ) -> Result<SmallVec<u32, 32>, AllocError>
     requires order { InOrder rows.now }
     requires root { root < length rows.now }
-    ensures { IfOk result (λ cone. IsWalk rows.now leaves.now root cone.items []) }
+    ensures { IfOk result (λ cone. IsConeWalk rows.now leaves.now root cone.items []) }
 {
     let mut cone = SmallVec::new(alloc);
     let mut waiting = SmallVec::new(alloc);
@@ -201,7 +202,7 @@ fn cone_table(
     requires order { InOrder rows.now }
     requires root { root < length rows.now }
     requires cut { IsCut rows.now leaves.now root }
-    requires walk { IsWalk rows.now leaves.now root cone.items [] }
+    requires walk { IsConeWalk rows.now leaves.now root cone.items [] }
     ensures { IfOk result (IsTruthOver rows.now leaves.now root) }
 {
     let mut cone = cone;

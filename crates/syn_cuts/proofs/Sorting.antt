@@ -5,7 +5,7 @@ use Rattle.std.proofs.lemmas.Bool.{and_parts, and_from, or_cases, or_left, or_ri
 use Rattle.std.proofs.lemmas.Slice.Eq.{bytes_eq-Decides}
 use Rattle.syn_cuts.specs.Cuts.{leaves_before, comes_before, put, arranged}
 use Rattle.syn_cuts.specs.Laws.{are_in_order, has_cut, ArrangedInOrder}
-use Rattle.syn_cones.proofs.Walking.{node_same}
+use Rattle.syn_rows.proofs.Nodes.{node_same}
 
 leaves_trans : (a b c : List ℕ) → leaves_before a b ≡ true → leaves_before b c ≡ true → leaves_before a c ≡ true
 leaves_trans [] b c h g = absurd (both_ways false refl h)

@@ -12,7 +12,7 @@ use Rattle.syn_rows.specs.Reach.{ands_in, is_and, IsReachedSet}
 use Rattle.syn_rows.specs.References.{and_count}
 use Rattle.syn_hashed.specs.Hashed.{IsHashed}
 use Rattle.syn_rows.specs.Levels.{HasLevels, level_in, levels_of, row_level}
-use Rattle.std.proofs.Common.{max, ◌^◌}
+use Rattle.std.proofs.Common.{max}
 use Rattle.syn_hashed.specs.Growing.{value_by, level_by, Extends, IsAnd, IsJoin}
 use Rattle.syn_hashed.proofs.LevelLaws.{level_kept, source_level, join_level}
 use Rattle.syn_hashed.specs.Visiting.{visited, with_sign, literal_of, both, fan_ins_of, unvisited, IsVisit, IsMade, IsReady, FirstsOf, StaysVisited, IsMadeAgain}
@@ -24,6 +24,7 @@ use Rattle.std.proofs.lemmas.List.{length-map}
 use Rattle.std.proofs.lemmas.List.Elements.{All-nil, All-cons}
 use Rattle.syn_hashed.specs.Hashed.{lit_at}
 use Rattle.std.proofs.lemmas.Bool.{eq-eqb}
+use Rattle.syn_rows.specs.declared.TheConstants.{NODE_LIMIT}
 use Rattle.syn_hashed.proofs.Rising.{extends_itself, extends_longer, literal_kept, source_value}
 use Rattle.syn_hashed.proofs.Joining.{plain_value, not_value}
 use Rattle.syn_hashed.proofs.Counted.{ands_fewer, ands_more}
@@ -200,7 +201,7 @@ alias_all count rows literals new n a None visit is fa = tt
 alias_all count rows literals new n a (Some l) visit is fa = alias_made count rows literals new n a l visit is (sym fa)
 
 -- a node that was not visited leaves room for its row
-pub room_left : (count : ℕ) (rows : List Row) (literals : List (Option Lit)) (new : List Row) (n : ℕ) → IsVisit count rows literals new → n < length rows → visited literals n ≡ None → length rows < 2 ^ 29 → length new + 1 < 2 ^ 29
+pub room_left : (count : ℕ) (rows : List Row) (literals : List (Option Lit)) (new : List Row) (n : ℕ) → IsVisit count rows literals new → n < length rows → visited literals n ≡ None → length rows < NODE_LIMIT → length new + 1 < NODE_LIMIT
 room_left count rows literals new n visit lt none few =
     let inside : n < length literals = omega (arith, visit.all) in
     omega (arith, sum_by-set unvisited literals n (Some (record { 0 = 0 })) None inside, ap unvisited none, visit.few)

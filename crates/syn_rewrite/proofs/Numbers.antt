@@ -13,7 +13,8 @@ use Rattle.syn_truth.specs.Truth.{minterm_of, value_of}
 use Rattle.syn_npn.specs.Images.{number_of, value_at}
 use Rattle.syn_npn.proofs.Computed.{every_at}
 use Rattle.syn_npn.proofs.Numbers.{number_of-lt, same_from_values, value_at-number_of}
-use Rattle.syn_cones.specs.Cones.{FitsAt, FitsBetween, IsTruthOver, has_node}
+use Rattle.syn_rows.specs.Nodes.{has_node}
+use Rattle.syn_cones.specs.Cones.{FitsAt, FitsBetween, IsTruthOver}
 use Rattle.syn_gain.specs.Leaves.{are_below, rise_above}
 use Rattle.syn_rewrite.specs.Functions.{bits_of, cut_function, leaf_value, row_value_over, values_over}
 use Rattle.syn_rewrite.specs.Laws.{FunctionOfTable}

@@ -6,7 +6,8 @@ use Rattle.syn_rows.specs.Values.{row_value, value_in}
 use Rattle.syn_truth.specs.declared.Truth.{Truth}
 use Rattle.syn_npn.specs.Images.{number_of, value_at}
 use Rattle.syn_library.specs.Library.{IsNumberOf}
-use Rattle.syn_cones.specs.Cones.{IsTruthOver, has_node}
+use Rattle.syn_rows.specs.Nodes.{has_node}
+use Rattle.syn_cones.specs.Cones.{IsTruthOver}
 
 -- the value of a leaf, from the values of all leaves
 abbrev pub leaf_value : List ℕ → List Bool → ℕ → Bool

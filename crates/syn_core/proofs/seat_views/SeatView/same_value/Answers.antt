@@ -2,7 +2,7 @@ use Rattle.std.proofs.Common.{rules, ◌≡◌, ◌∙◌, Decides}
 use Rattle.std.proofs.lemmas.Result.{IfOk-weaker}
 use Rattle.syn_core_laws.specs.SameValue.{SameValue}
 use Rattle.syn_core.proofs.Telling.{decides_same_in}
-use Rattle.syn_core.proofs.places.Place.same_value.Goals as goal
+use Rattle.syn_core.proofs.seat_views.SeatView.same_value.Goals as goal
 
 pub returns : goal.returns
 returns c =

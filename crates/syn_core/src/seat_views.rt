@@ -1,13 +1,15 @@
 //! What a seat knows, as values.
 
 ghost use Rattle.std.specs.Prelude.{◌≡◌, ℕ, ◌+◌, ◌*◌, ◌^◌, ◌≤◌, pos, ◌<◌, ◌==◌, ◌||◌, ◌&&◌, not, true, false, [], ◌∷◌, ◌++◌, length, IfOk, Some, None, if◌then◌else◌};
-ghost use Rattle.syn_core_laws.specs.Lists.{has, only, kept};
+ghost use Rattle.syn_rows.specs.Nodes.{has_node};
+ghost use Rattle.syn_core_laws.specs.Lists.{only, kept};
 ghost use Rattle.syn_core_laws.specs.Views.{differs, trimmed, claimed, missed, released, row_loaded, pinned, unpinned, count_loaded, key_loaded, key_set, made, redefined, freed, is_mine, stays_sole, is_derived_known, refs_known};
 ghost use Rattle.syn_rows.specs.References.{and_count, sum_below};
 ghost use Rattle.syn_core_laws.specs.Lists.{look};
 
 use crate::lists::{
-    copied, has, look, others, others_told, refs, times, with, with_each, without_each, without_one,
+    copied, has_node, look, others, others_told, refs, times, with, with_each, without_each,
+    without_one,
 };
 use std::alloc::{AllocError, Global};
 use std::marker::Model;
@@ -16,7 +18,7 @@ use syn_rows::{Lit, Row};
 
 /// What a seat knows.
 #[derive(Debug, Drop)]
-pub struct Place {
+pub struct SeatView {
     pub(crate) number: u32,
     pub(crate) held: Vec<u32>,
     pub(crate) rows: Vec<(u32, Row)>,
@@ -30,7 +32,7 @@ pub struct Place {
     pub(crate) sole: Vec<u32>,
 }
 
-impl Model for Place {
+impl Model for SeatView {
     ghost use Rattle.syn_core_laws.specs.declared.View.{View};
 
     ghost Value = { View };
@@ -38,7 +40,7 @@ impl Model for Place {
     ghost view = { λ p. record { number = p.number; held = p.held.items; rows = p.rows.items; keys = p.keys.items; pins = p.pins.items; idle = p.idle.items; misses = p.misses.items; reads = p.reads.items; changes = p.changes.items; difference = p.difference; sole = p.sole.items } };
 }
 
-impl Place {
+impl SeatView {
     pub(crate) fn misses(&self) -> &[u32]
         ensures { result.now ≡ self.now.misses }
     {
@@ -57,10 +59,10 @@ impl Place {
         self.difference
     }
 
-    pub(crate) fn copied(&self, alloc: Global) -> Result<Place, AllocError>
+    pub(crate) fn copied(&self, alloc: Global) -> Result<SeatView, AllocError>
         ensures { IfOk result (λ p. p ≡ self.now) }
     {
-        Ok(Place {
+        Ok(SeatView {
             number: self.number,
             held: copied(alloc, self.held.as_slice())?,
             rows: copied(alloc, self.rows.as_slice())?,
@@ -75,71 +77,81 @@ impl Place {
         })
     }
 
-    pub(crate) fn claimed(&self, alloc: Global, node: u32) -> Result<Place, AllocError>
+    pub(crate) fn claimed(&self, alloc: Global, node: u32) -> Result<SeatView, AllocError>
         ensures { IfOk result (λ p. p ≡ claimed self.now node) }
     {
-        let mut place = self.copied(alloc)?;
-        place.held = with(alloc, node, place.held.as_slice())?;
-        Ok(place)
+        let mut view = self.copied(alloc)?;
+        view.held = with(alloc, node, view.held.as_slice())?;
+        Ok(view)
     }
 
-    pub(crate) fn missed(&self, alloc: Global, node: u32) -> Result<Place, AllocError>
+    pub(crate) fn missed(&self, alloc: Global, node: u32) -> Result<SeatView, AllocError>
         ensures { IfOk result (λ p. p ≡ missed self.now node) }
     {
-        let mut place = self.copied(alloc)?;
-        place.misses.push(node)?;
-        place.reads.push(Seen::Miss(node))?;
-        Ok(place)
+        let mut view = self.copied(alloc)?;
+        view.misses.push(node)?;
+        view.reads.push(Seen::Miss(node))?;
+        Ok(view)
     }
 
-    pub(crate) fn row_loaded(&self, alloc: Global, node: u32, row: Row) -> Result<Place, AllocError>
+    pub(crate) fn row_loaded(
+        &self,
+        alloc: Global,
+        node: u32,
+        row: Row,
+    ) -> Result<SeatView, AllocError>
         ensures { IfOk result (λ p. p ≡ row_loaded self.now node row) }
     {
-        let mut place = self.copied(alloc)?;
-        place.rows = with(alloc, (node, row), place.rows.as_slice())?;
-        place.reads.push(Seen::Row(node, row))?;
-        Ok(place)
+        let mut view = self.copied(alloc)?;
+        view.rows = with(alloc, (node, row), view.rows.as_slice())?;
+        view.reads.push(Seen::Row(node, row))?;
+        Ok(view)
     }
 
-    pub(crate) fn pinned(&self, alloc: Global, node: u32) -> Result<Place, AllocError>
+    pub(crate) fn pinned(&self, alloc: Global, node: u32) -> Result<SeatView, AllocError>
         ensures { IfOk result (λ p. p ≡ pinned self.now node) }
     {
-        let mut place = self.copied(alloc)?;
-        place.pins = with(alloc, node, place.pins.as_slice())?;
-        place.idle = others(alloc, place.idle.as_slice(), node)?;
-        Ok(place)
+        let mut view = self.copied(alloc)?;
+        view.pins = with(alloc, node, view.pins.as_slice())?;
+        view.idle = others(alloc, view.idle.as_slice(), node)?;
+        Ok(view)
     }
 
-    pub(crate) fn key_loaded(&self, alloc: Global, node: u32, key: u64) -> Result<Place, AllocError>
+    pub(crate) fn key_loaded(
+        &self,
+        alloc: Global,
+        node: u32,
+        key: u64,
+    ) -> Result<SeatView, AllocError>
         ensures { IfOk result (λ p. p ≡ key_loaded self.now node key) }
     {
-        let mut place = self.copied(alloc)?;
-        place.keys = with(alloc, (node, key), place.keys.as_slice())?;
-        place.reads.push(Seen::Key(node, key))?;
-        Ok(place)
+        let mut view = self.copied(alloc)?;
+        view.keys = with(alloc, (node, key), view.keys.as_slice())?;
+        view.reads.push(Seen::Key(node, key))?;
+        Ok(view)
     }
 
-    pub(crate) fn key_set(&self, alloc: Global, node: u32, key: u64) -> Result<Place, AllocError>
+    pub(crate) fn key_set(&self, alloc: Global, node: u32, key: u64) -> Result<SeatView, AllocError>
         ensures { IfOk result (λ p. p ≡ key_set self.now node key) }
     {
-        let mut place = self.copied(alloc)?;
-        place.keys = with(alloc, (node, key), place.keys.as_slice())?;
-        Ok(place)
+        let mut view = self.copied(alloc)?;
+        view.keys = with(alloc, (node, key), view.keys.as_slice())?;
+        Ok(view)
     }
 
     /// The seat's keys of held or pinned nodes alone.
-    pub(crate) fn trimmed(self, alloc: Global) -> Result<Place, AllocError>
+    pub(crate) fn trimmed(self, alloc: Global) -> Result<SeatView, AllocError>
         ensures { IfOk result (λ p. p ≡ trimmed self) }
     {
-        let mut place = self;
+        let mut view = self;
         let keys = mine_told(
             alloc,
-            place.held.as_slice(),
-            place.pins.as_slice(),
-            place.keys.as_slice(),
+            view.held.as_slice(),
+            view.pins.as_slice(),
+            view.keys.as_slice(),
         )?;
-        place.keys = keys;
-        Ok(place)
+        view.keys = keys;
+        Ok(view)
     }
 
     fn sole_after_release(&self, alloc: Global, node: u32) -> Result<Vec<u32>, AllocError>
@@ -148,24 +160,29 @@ impl Place {
         still_sole(alloc, self.sole.as_slice(), node, self.rows.as_slice())
     }
 
-    pub(crate) fn released(&self, alloc: Global, node: u32) -> Result<Place, AllocError>
+    pub(crate) fn released(&self, alloc: Global, node: u32) -> Result<SeatView, AllocError>
         ensures { IfOk result (λ p. p ≡ released self.now node) }
     {
-        let mut place = self.copied(alloc)?;
-        place.held = others(alloc, self.held.as_slice(), node)?;
-        place.rows = others_told(alloc, self.rows.as_slice(), node)?;
-        place.sole = self.sole_after_release(alloc, node)?;
-        place.trimmed(alloc)
+        let mut view = self.copied(alloc)?;
+        view.held = others(alloc, self.held.as_slice(), node)?;
+        view.rows = others_told(alloc, self.rows.as_slice(), node)?;
+        view.sole = self.sole_after_release(alloc, node)?;
+        view.trimmed(alloc)
     }
 
-    pub(crate) fn unpinned(&self, alloc: Global, node: u32, count: u32) -> Result<Place, AllocError>
+    pub(crate) fn unpinned(
+        &self,
+        alloc: Global,
+        node: u32,
+        count: u32,
+    ) -> Result<SeatView, AllocError>
         ensures { IfOk result (λ p. p ≡ unpinned self.now node count) }
     {
-        let mut place = self.copied(alloc)?;
-        place.pins = without_one(alloc, node, self.pins.as_slice())?;
+        let mut view = self.copied(alloc)?;
+        view.pins = without_one(alloc, node, self.pins.as_slice())?;
         let row = look(self.rows.as_slice(), node);
-        place.idle = idle_after(alloc, self.idle.as_slice(), node, count, row)?;
-        place.trimmed(alloc)
+        view.idle = idle_after(alloc, self.idle.as_slice(), node, count, row)?;
+        view.trimmed(alloc)
     }
 
     pub(crate) fn count_loaded(
@@ -174,15 +191,15 @@ impl Place {
         nodes: usize,
         node: u32,
         count: u32,
-    ) -> Result<Place, AllocError>
+    ) -> Result<SeatView, AllocError>
         requires nodes { nodes < 2 ^ 32 }
         requires pins { length self.now.pins < 2 ^ 32 }
         ensures { IfOk result (λ p. p ≡ count_loaded nodes self.now node count) }
     {
-        let mut place = self.copied(alloc)?;
+        let mut view = self.copied(alloc)?;
         let own = times(self.pins.as_slice(), node);
         let known = own_refs(self.rows.as_slice(), nodes, node);
-        place.sole = sole_after(
+        view.sole = sole_after(
             alloc,
             self.sole.as_slice(),
             node,
@@ -190,26 +207,26 @@ impl Place {
             known,
             own,
         )?;
-        place.reads.push(Seen::Count {
+        view.reads.push(Seen::Count {
             node,
             count,
             own: own as u32,
         })?;
-        Ok(place)
+        Ok(view)
     }
 
-    pub(crate) fn made(&self, alloc: Global, node: u32, row: Row) -> Result<Place, AllocError>
+    pub(crate) fn made(&self, alloc: Global, node: u32, row: Row) -> Result<SeatView, AllocError>
         ensures { IfOk result (λ p. p ≡ made self.now node row) }
     {
-        let mut place = self.copied(alloc)?;
-        place.pins = without_each(alloc, row, self.pins.as_slice())?;
-        place.rows = with(alloc, (node, row), self.rows.as_slice())?;
-        place.idle = with(alloc, node, self.idle.as_slice())?;
+        let mut view = self.copied(alloc)?;
+        view.pins = without_each(alloc, row, self.pins.as_slice())?;
+        view.rows = with(alloc, (node, row), self.rows.as_slice())?;
+        view.idle = with(alloc, node, self.idle.as_slice())?;
         let Some(difference) = self.difference.checked_add(1) else {
             return Err(AllocError)
         };
-        place.difference = difference;
-        place.trimmed(alloc)
+        view.difference = difference;
+        view.trimmed(alloc)
     }
 
     pub(crate) fn redefined(
@@ -218,32 +235,32 @@ impl Place {
         node: u32,
         old: Row,
         new: Row,
-    ) -> Result<Place, AllocError>
+    ) -> Result<SeatView, AllocError>
         ensures { IfOk result (λ p. p ≡ redefined self.now node old new) }
     {
-        let mut place = self.copied(alloc)?;
+        let mut view = self.copied(alloc)?;
         let less = without_each(alloc, new, self.pins.as_slice())?;
-        place.pins = with_each(alloc, old, less.as_slice())?;
-        place.rows = with(alloc, (node, new), self.rows.as_slice())?;
-        place.changes.push(Change { node, old, new })?;
+        view.pins = with_each(alloc, old, less.as_slice())?;
+        view.rows = with(alloc, (node, new), self.rows.as_slice())?;
+        view.changes.push(Change { node, old, new })?;
         let Some(more) = self.difference.checked_add(and_count(new)) else {
             return Err(AllocError)
         };
         let Some(difference) = more.checked_sub(and_count(old)) else {
             return Err(AllocError)
         };
-        place.difference = difference;
-        place.trimmed(alloc)
+        view.difference = difference;
+        view.trimmed(alloc)
     }
 
-    pub(crate) fn freed(&self, alloc: Global, node: u32, old: Row) -> Result<Place, AllocError>
+    pub(crate) fn freed(&self, alloc: Global, node: u32, old: Row) -> Result<SeatView, AllocError>
         ensures { IfOk result (λ p. p ≡ freed self.now node old) }
     {
-        let mut place = self.copied(alloc)?;
-        place.pins = with_each(alloc, old, self.pins.as_slice())?;
-        place.rows = with(alloc, (node, Row::Free), self.rows.as_slice())?;
-        place.idle = others(alloc, self.idle.as_slice(), node)?;
-        place.changes.push(Change {
+        let mut view = self.copied(alloc)?;
+        view.pins = with_each(alloc, old, self.pins.as_slice())?;
+        view.rows = with(alloc, (node, Row::Free), self.rows.as_slice())?;
+        view.idle = others(alloc, self.idle.as_slice(), node)?;
+        view.changes.push(Change {
             node,
             old,
             new: Row::Free,
@@ -251,8 +268,8 @@ impl Place {
         let Some(difference) = self.difference.checked_sub(and_count(old)) else {
             return Err(AllocError)
         };
-        place.difference = difference;
-        Ok(place)
+        view.difference = difference;
+        Ok(view)
     }
 }
 
@@ -304,11 +321,11 @@ fn mine_told(
     pins: &[u32],
     keys: &[(u32, u64)],
 ) -> Result<Vec<(u32, u64)>, AllocError>
-    ensures { IfOk result (λ r. r.items ≡ kept (λ n. has n held.now || has n pins.now) keys.now) }
+    ensures { IfOk result (λ r. r.items ≡ kept (λ n. has_node held.now n || has_node pins.now n) keys.now) }
 {
     let mut out = Vec::new(alloc);
     for x in keys {
-        let mine = has(held, x.0) || has(pins, x.0);
+        let mine = has_node(held, x.0) || has_node(pins, x.0);
         if mine {
             out.push(*x)?;
         }

@@ -4,7 +4,7 @@ use Rattle.syn_rows.specs.declared.Row.{Row}
 use Rattle.syn_core_laws.specs.Events.{MayRedefine}
 use Rattle.syn_core_laws.specs.Views.{known_row}
 use Rattle.syn_core.proofs.Testing.{decides_redefine}
-use Rattle.syn_core.proofs.places.Place.may_redefine.Goals as goal
+use Rattle.syn_core.proofs.seat_views.SeatView.may_redefine.Goals as goal
 
 pub returns-in-Some : goal.returns-in-Some
 returns-in-Some c =

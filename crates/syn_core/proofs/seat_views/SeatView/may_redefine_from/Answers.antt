@@ -1,7 +1,7 @@
 use Rattle.std.proofs.Common.{Decides}
 use Rattle.std.proofs.lemmas.Result.{IfOk-weaker}
 use Rattle.syn_core_laws.specs.Events.{MayRedefine}
-use Rattle.syn_core.proofs.places.Place.may_redefine_from.Goals as goal
+use Rattle.syn_core.proofs.seat_views.SeatView.may_redefine_from.Goals as goal
 
 pub returns : goal.returns
 returns c =
