@@ -1,11 +1,10 @@
 -- The rows of a graph are in order.
-use Rattle.std.proofs.Common.{◌≡◌, ℕ, ◌+◌, ◌<◌, true, not, ◌&&◌, nat_eq, nat_lt, nat_le, List, [], ◌∷◌, ◌++◌, length, sym, subst, arith, inl, inr}
+use Rattle.std.proofs.Common.{◌≡◌, ◌<◌, List, [], ◌∷◌, ◌++◌, length, sym, subst, arith, inl, inr}
 use Rattle.std.proofs.lemmas.List.{get_or_append_left, get_or_past, get_or_push, length_push}
-use Rattle.std.proofs.lemmas.Bool.{cases_lt, and_parts, ltb-true}
+use Rattle.std.proofs.lemmas.Bool.{cases_lt}
 use Rattle.syn_rows.specs.declared.Row.{Row}
-use Rattle.syn_rows.specs.declared.Row.TheVariants.{Free, Source, And, Alias}
-use Rattle.syn_rows.specs.Rows.{node_of, row_at, AllRefs, InOrder}
-use Rattle.syn_shapes.specs.Graphs.{is_gate, IsHashed}
+use Rattle.syn_rows.specs.declared.Row.TheVariants.{Free}
+use Rattle.syn_rows.specs.Rows.{AllRefs, InOrder}
 
 -- one more row
 pub in_order_push : (rows : List Row) (row : Row) → InOrder rows → AllRefs (λ m. m < length rows) row → InOrder (rows ++ row ∷ [])
