@@ -50,11 +50,11 @@ defined_has n w =
     ∙ ap (λ t. has_word f.inputs w || t) (has_word-append (without f.inputs f.clocks) outputs w ∙ ap (λ t. t || has_word outputs w) (has_word-without f.inputs f.clocks w)))
     ∙ each_source (has_word f.inputs w) (has_word f.clocks w) (has_word outputs w) (has_word (map output_of n.tables) w)
 
-first_in : (a x r : Bool) → ((x || a) || r) ≡ (x || (a || r))
+pub first_in : (a x r : Bool) → ((x || a) || r) ≡ (x || (a || r))
 first_in a true r = refl
 first_in a false r = refl
 
-second_in : (a b x r : Bool) → (a || ((x || b) || r)) ≡ (x || (a || (b || r)))
+pub second_in : (a b x r : Bool) → (a || ((x || b) || r)) ≡ (x || (a || (b || r)))
 second_in true b true r = refl
 second_in true b false r = refl
 second_in false b true r = refl
