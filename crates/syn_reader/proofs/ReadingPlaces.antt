@@ -13,7 +13,6 @@ use Rattle.syn_reader.specs.Statements.{Statement}
 use Rattle.syn_reader.specs.Shapes.{IsLatch, nil_control, type_and_control, control_name, all_but_last}
 use Rattle.syn_reader.specs.Definitions.{names_defined, names_read, reads}
 use Rattle.syn_reader.specs.Reading.{Adds, Spell, rows_below}
-use Rattle.syn_reader.proofs.Defining.{first_in, second_in}
 use Rattle.syn_reader.proofs.Words.{all_but_snoc}
 
 -- the words of a latch: what it defines and reads
@@ -48,6 +47,16 @@ latch_reads_are words latch is =
 -- the name is an output, or a latch or a table reads it
 abbrev pub is_read : Netlist → List ℕ → Bool
 is_read n w = has_word n.frame.outputs w || (has_word (flat_map latch_reads n.frame.latches) w || has_word (flat_map inputs_of n.tables) w)
+
+pub first_in : (a x r : Bool) → ((x || a) || r) ≡ (x || (a || r))
+first_in a true r = refl
+first_in a false r = refl
+
+pub second_in : (a b x r : Bool) → (a || ((x || b) || r)) ≡ (x || (a || (b || r)))
+second_in true b true r = refl
+second_in true b false r = refl
+second_in false b true r = refl
+second_in false b false r = refl
 
 third_in : (a b x r : Bool) → (a || (b || (x || r))) ≡ (x || (a || (b || r)))
 third_in true b true r = refl
