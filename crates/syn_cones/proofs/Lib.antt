@@ -1,3 +1,4 @@
 pub mod Walking
 pub mod Tabling
 pub mod Swapping
+pub mod Valued

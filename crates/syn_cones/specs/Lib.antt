@@ -1,4 +1,5 @@
 pub mod Leaves
 pub mod Cones
 pub mod Walk
+pub mod Values
 pub mod Laws

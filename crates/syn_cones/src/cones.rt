@@ -27,8 +27,8 @@ fn place_of(nodes: &[u32], node: u32) -> Option<usize>
     None
 }
 
-// Where a node belongs among rising nodes: the place, or none where it is there.
-fn gap_for(nodes: &[u32], node: u32) -> Option<usize>
+/// Where a node belongs among rising nodes: the place, or none where it is there.
+pub fn gap_for(nodes: &[u32], node: u32) -> Option<usize>
     ensures some { IfSome result (λ i. (i ≤ length nodes.now) × (put_node node nodes.now ≡ insert nodes.now i node)) }
     ensures none { IfNone result (put_node node nodes.now ≡ nodes.now) }
 {
