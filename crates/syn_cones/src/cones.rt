@@ -46,8 +46,8 @@ fn place_near(nodes: &[u32], hints: &[u8; HINTS], node: u32) -> Option<usize>
     place_of(nodes, node)
 }
 
-// Where a node belongs among rising nodes: the place, or none where it is there.
-fn gap_for(nodes: &[u32], node: u32) -> Option<usize>
+/// Where a node belongs among rising nodes: the place, or none where it is there.
+pub fn gap_for(nodes: &[u32], node: u32) -> Option<usize>
     ensures some { IfSome result (λ i. (i ≤ length nodes.now) × (put_node node nodes.now ≡ insert nodes.now i node)) }
     ensures none { IfNone result (put_node node nodes.now ≡ nodes.now) }
 {
