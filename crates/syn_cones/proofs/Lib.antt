@@ -1,4 +1,4 @@
 pub mod Walking
+pub mod Wording
 pub mod Tabling
 pub mod Swapping
-pub mod Wording

@@ -1,5 +1,5 @@
 pub mod Leaves
 pub mod Cones
-pub mod Walk
 pub mod Words
+pub mod Walk
 pub mod Laws
