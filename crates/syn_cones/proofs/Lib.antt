@@ -1,5 +1,5 @@
 pub mod Walking
+pub mod Wording
 pub mod Tabling
 pub mod Swapping
-pub mod Wording
 pub mod Valued

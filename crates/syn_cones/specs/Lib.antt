@@ -1,6 +1,6 @@
 pub mod Leaves
 pub mod Cones
-pub mod Walk
 pub mod Words
+pub mod Walk
 pub mod Values
 pub mod Laws

@@ -30,22 +30,6 @@ pub(crate) fn place_of(nodes: &[u32], node: u32) -> Option<usize>
     None
 }
 
-// How many hints there are: a place for each number modulo this one.
-const HINTS: usize = 64;
-
-// The place of a node, which probably stands where the hint for its number says.
-#[inline]
-fn place_near(nodes: &[u32], hints: &[u8; HINTS], node: u32) -> Option<usize>
-    ensures some { IfSome result (λ i. (i < length nodes.now) × (slice_index_or nodes.now i 0 ≡ node)) }
-    ensures none { IfNone result (has_node nodes.now node ≡ false) }
-{
-    let guess = hints[node as usize % HINTS] as usize;
-    if guess < nodes.len() && nodes[guess] == node {
-        return Some(guess);
-    }
-    place_of(nodes, node)
-}
-
 /// Where a node belongs among rising nodes: the place, or none where it is there.
 pub fn gap_for(nodes: &[u32], node: u32) -> Option<usize>
     ensures some { IfSome result (λ i. (i ≤ length nodes.now) × (put_node node nodes.now ≡ insert nodes.now i node)) }
@@ -125,6 +109,22 @@ fn cone_of(
         cone.push(node)?;
     }
     Ok(cone)
+}
+
+// How many hints there are: a place for each number modulo this one.
+const HINTS: usize = 64;
+
+// The place of a node, which probably stands where the hint for its number says.
+#[inline]
+fn place_near(nodes: &[u32], hints: &[u8; HINTS], node: u32) -> Option<usize>
+    ensures some { IfSome result (λ i. (i < length nodes.now) × (slice_index_or nodes.now i 0 ≡ node)) }
+    ensures none { IfNone result (has_node nodes.now node ≡ false) }
+{
+    let guess = hints[node as usize % HINTS] as usize;
+    if guess < nodes.len() && nodes[guess] == node {
+        return Some(guess);
+    }
+    place_of(nodes, node)
 }
 
 // The table of a literal, from those of nodes among which its node is.
