@@ -1,0 +1,111 @@
+//! The plans of the functions that a graph's cuts have, each fitted once.
+
+ghost use Rattle.std.specs.Prelude.{◌≡◌, All, IfOk, IfSome, length, map};
+ghost use Rattle.syn_plan.specs.Naming.{built_of};
+ghost use Rattle.syn_library.specs.Fitting.{Computes};
+ghost use Rattle.syn_library.specs.Library.{NamesOwn};
+ghost use Rattle.syn_rewrite.specs.Prepared.{ArePlansOf};
+ghost use Rattle.syn_rewrite.specs.Rewriting.{fitted_plans};
+
+use crate::plans::plans_of;
+use arrayvec::ArrayVec;
+use std::alloc::{AllocError, Global};
+use syn_library::Prepared as Classes;
+use syn_plan::Plan;
+
+// The number of functions of four variables.
+const FUNCTIONS: usize = 65536;
+
+/// The plans of one function.
+#[derive(Drop)]
+struct Fitted {
+    function: u16,
+    plans: ArrayVec<Plan, 4>,
+    ghost built: { map built_of plans.items ≡ fitted_plans function },
+    ghost leaves: { All (λ p. p.leaves ≡ 4) plans.items },
+    ghost values: { All (λ p. Computes p function) plans.items },
+    ghost names: { All (λ p. NamesOwn p function) plans.items },
+}
+
+/// The plans of the functions that were met, and where in the list those of a function stand.
+#[derive(Drop)]
+pub struct FittedLists {
+    lists: Vec<Fitted>,
+    places: Vec<u32>,
+}
+
+// So many places, none of them noted.
+fn no_places(alloc: Global, count: usize) -> Result<Vec<u32>, AllocError> {
+    vec![in alloc; 0; count]
+}
+
+// The plans of a function, fitted.
+fn fitted(classes: &Classes, function: u16) -> Fitted {
+    let plans = plans_of(classes, function);
+    Fitted { function, plans }
+}
+
+impl FittedLists {
+    // No plans.
+    fn new(alloc: Global) -> Result<FittedLists, AllocError> {
+        Ok(FittedLists {
+            lists: Vec::new(alloc),
+            places: no_places(alloc, FUNCTIONS)?,
+        })
+    }
+
+    /// The plans of a function, where they were made.
+    #[inline]
+    pub(crate) fn plans(&self, function: u16) -> Option<&[Plan]>
+        ensures { IfSome result (λ plans. ArePlansOf function plans.now) }
+    {
+        let at = function as usize;
+        if at >= self.places.len() {
+            return None;
+        }
+        let place = self.places[at] as usize;
+        if place >= self.lists.len() {
+            return None;
+        }
+        let found = &self.lists[place];
+        if found.function == function {
+            Some(found.plans.as_slice())
+        } else {
+            None
+        }
+    }
+
+    // Makes the plans of a function unless they are there.
+    fn meet(&mut self, classes: &Classes, function: u16) -> Result<(), AllocError> {
+        if self.plans(function).is_some() {
+            return Ok(());
+        }
+        let at = function as usize;
+        if at < self.places.len() && self.lists.len() < FUNCTIONS {
+            self.places[at] = self.lists.len() as u32;
+            self.lists.push(fitted(classes, function))?;
+        }
+        Ok(())
+    }
+
+    // Makes the plans of these functions.
+    fn meet_all(&mut self, classes: &Classes, functions: &[u16]) -> Result<(), AllocError> {
+        for function in functions {
+            self.meet(classes, *function)?;
+        }
+        Ok(())
+    }
+
+    /// The plans of all functions of these lists. The only error is want of memory.
+    pub(crate) fn of(
+        alloc: Global,
+        classes: &Classes,
+        functions: &[Vec<u16>],
+    ) -> Result<FittedLists, AllocError> {
+        let mut fitted = FittedLists::new(alloc)?;
+        for list in functions {
+            fitted.meet_all(classes, list.as_slice())?;
+        }
+        Ok(fitted)
+    }
+}
