@@ -1,6 +1,6 @@
 //! Many proposals applied together: the rows are made again from the sources up, with plans in place of the roots.
 
-ghost use Rattle.std.specs.Prelude.{◌≡◌, ℕ, ◌+◌, ◌&&◌, ◌++◌, ◌<◌, ◌≤◌, ◌∷◌, [], All, Bool, List, false, length, map, slice_index_or, IfNone, IfOk, IfSome, OnOk};
+ghost use Rattle.std.specs.Prelude.{◌≡◌, ℕ, ◌+◌, ◌&&◌, ◌++◌, ◌<◌, ◌≤◌, ◌∷◌, [], All, Bool, List, false, true, length, map, slice_index_or, IfNone, IfOk, IfSome, OnOk};
 ghost use Rattle.syn_rows.specs.declared.Lit.{Lit};
 ghost use Rattle.syn_rows.specs.declared.Row.{Row};
 ghost use Rattle.syn_rows.specs.declared.TheConstants.{NODE_LIMIT};
@@ -12,6 +12,7 @@ ghost use Rattle.syn_hashed.specs.Growing.{IsAnd};
 ghost use Rattle.syn_hashed.specs.Hashed.{IsHashed};
 ghost use Rattle.syn_netlist.specs.Frames.{frame_in};
 ghost use Rattle.syn_plan.specs.Gates.{literal_value, values_after};
+ghost use Rattle.syn_gain.specs.declared.proposals.Proposal.{Proposal};
 ghost use Rattle.syn_gain.specs.Placing.{each_below};
 ghost use Rattle.syn_gain.specs.Proposals.{replacement};
 ghost use Rattle.syn_gain.specs.Replacements.{leaf_values};
@@ -157,22 +158,16 @@ fn planned(
     Ok(literal_for(placed.as_slice(), plan.out))
 }
 
-// The proposal at a place, if it is taken and is one for this node.
-fn taken_for<'a>(
-    proposals: &'a [Proposal],
-    taken: &[bool],
-    place: usize,
-    node: u32,
-) -> Option<&'a Proposal>
-    ensures { (P : Proposal → Type 0) → All P proposals.now → IfSome result (λ p. (p.now.root ≡ node) × P p.now) }
+// Whether the proposal at a place is taken and is one for this node.
+fn is_taken(proposals: &[Proposal], taken: &[bool], place: usize, node: u32) -> bool
+    ensures there { result ≡ true → place < length proposals.now }
+    ensures root { result ≡ true → (d : Proposal) → (slice_index_or proposals.now place d).root ≡ node }
 {
-    if place < proposals.len() && place < taken.len() && taken[place] {
-        let proposal = &proposals[place];
-        if proposal.root == node {
-            return Some(proposal);
-        }
+    if place < proposals.len() && place < taken.len() {
+        taken[place] && proposals[place].root == node
+    } else {
+        false
     }
-    None
 }
 
 // The place after those before a node and at it.
@@ -195,32 +190,38 @@ fn fan_ins(row: Row) -> Option<(Lit, Lit)>
     }
 }
 
-// The literal of one node: a source's own, that of a plan for it, or that of its AND.
+// The literal of one node: a source's own, that of a taken proposal's plan, or that of its AND.
 fn made(
     alloc: Global,
     hashed: &mut HashedRows,
     rows: &[Row],
     literals: &[Lit],
     node: u32,
-    proposal: Option<&Proposal>,
+    proposals: &[Proposal],
+    taken: &[bool],
+    place: usize,
 ) -> Result<Lit, AllocError>
     requires hashed { IsHashed hashed.old.source_count rows.now }
     requires few { length rows.now < NODE_LIMIT }
     requires inside { node < length rows.now }
     requires node { node ≡ length literals.now }
     requires standing { AllStand rows.now hashed.old.rows.items literals.now }
-    requires sound { IfSome proposal (λ p. (p.now.root ≡ node) × IsSoundBy rows.now (replacement p.now)) }
+    requires sound { All (λ p. IsSoundBy rows.now (replacement p)) proposals.now }
     ensures sources { hashed.new.source_count ≡ hashed.old.source_count }
     ensures grown { OnOk result (IsGrown hashed.old.rows.items hashed.new.rows.items) }
     ensures stands { IfOk result (Stands rows.now hashed.new.rows.items node) }
     ensures source { IfOk result (λ l. node < hashed.old.source_count + 1 → l ≡ lit_of node) }
 {
-    let Some((a, b)) = fan_ins(rows[node as usize]) else {
-        return Ok(Lit::of(node, false));
-    };
-    match proposal {
-        Some(proposal) => planned(alloc, hashed, rows, literals, proposal),
-        None => joined(hashed, rows, literals, node, a, b),
+    match fan_ins(rows[node as usize]) {
+        None => Ok(Lit::of(node, false)),
+        Some((a, b)) => {
+            let here = is_taken(proposals, taken, place, node);
+            if here {
+                planned(alloc, hashed, rows, literals, &proposals[place])
+            } else {
+                joined(hashed, rows, literals, node, a, b)
+            }
+        }
     }
 }
 
@@ -243,8 +244,8 @@ fn remade(
     let mut literals = Vec::with_capacity(alloc, rows.len())?;
     let mut place = 0;
     for node in 0..rows.len() as u32 {
-        let proposal = taken_for(proposals, taken, place, node);
-        let literal = made(alloc, hashed, rows, literals.as_slice(), node, proposal)?;
+        let before = literals.as_slice();
+        let literal = made(alloc, hashed, rows, before, node, proposals, taken, place)?;
         literals.push(literal)?;
         place = place_after(proposals, place, node);
     }

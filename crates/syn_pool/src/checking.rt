@@ -1,6 +1,6 @@
 //! The check of a graph: the proposals that save, or that none does.
 
-ghost use Rattle.std.specs.Prelude.{◌≡◌, ℕ, ◌+◌, ◌<◌, ◌≤◌, All, List, None, IfNone, IfOk, IfSome, OnOk, length};
+ghost use Rattle.std.specs.Prelude.{◌≡◌, ℕ, ◌+◌, ◌<◌, ◌≤◌, ◌++◌, All, List, IfNone, IfOk, IfSome, OnOk, length, option_to_list};
 ghost use Rattle.syn_rows.specs.declared.TheConstants.{NODE_LIMIT};
 ghost use Rattle.syn_gain.specs.declared.proposals.Proposal.{Proposal};
 ghost use Rattle.syn_gain.specs.Uses.{IsUsesOf};
@@ -61,22 +61,11 @@ fn first_at<P: Proposer>(
 
 // Adds a proposal that was found to a list.
 fn add_found(found: &mut Vec<Proposal>, more: Option<Proposal>) -> Result<(), AllocError>
-    ensures each { OnOk result ((Q : Proposal → Type 0) → All Q found.old.items → IfSome more Q → All Q found.new.items) }
-    ensures none { OnOk result (length found.new.items ≡ 0 → (length found.old.items ≡ 0) × (more ≡ None)) }
+    ensures { OnOk result (found.new.items ≡ found.old.items ++ option_to_list more) }
 {
     if let Some(proposal) = more {
         found.push(proposal)?;
     }
-    Ok(())
-}
-
-// Adds proposals behind a list.
-fn add_all(found: &mut Vec<Proposal>, more: Vec<Proposal>) -> Result<(), AllocError>
-    ensures each { OnOk result ((Q : Proposal → Type 0) → All Q found.old.items → All Q more.items → All Q found.new.items) }
-    ensures none { OnOk result (length found.new.items ≡ 0 → (length found.old.items ≡ 0) × (length more.items ≡ 0)) }
-{
-    let mut more = more;
-    found.append(&mut more)?;
     Ok(())
 }
 
@@ -177,12 +166,12 @@ fn take_part<P: Proposer>(
     let Part {
         from,
         to,
-        found: more,
+        found: mut more,
     } = part;
     if from > reached || to < reached {
         return Ok(reached);
     }
-    add_all(found, more)?;
+    found.append(&mut more)?;
     Ok(to)
 }
 
@@ -209,8 +198,8 @@ fn found_in_parts<P: Proposer>(
         let part = part?;
         reached = take_part(graph, proposer, &mut found, part, reached)?;
     }
-    let more = rest(alloc, graph, uses, proposer, lists, reached)?;
-    add_all(&mut found, more)?;
+    let mut more = rest(alloc, graph, uses, proposer, lists, reached)?;
+    found.append(&mut more)?;
     Ok(found)
 }
 

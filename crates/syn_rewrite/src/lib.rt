@@ -1,8 +1,8 @@
 //! Rewriting: each node's cuts of at most four leaves, each cut's class, each of the class's plans.
 #![tactic(auto)]
 
-mod fitted;
 mod functions;
+mod known_plans;
 mod laws;
 mod plans;
 mod prepared;

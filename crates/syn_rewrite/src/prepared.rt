@@ -9,8 +9,8 @@ ghost use Rattle.syn_cuts.specs.Leaves.{leaves_of};
 ghost use Rattle.syn_rewrite.specs.Prepared.{AreFunctionsOver, HaveFunctions, IsPreparedFor, cuts_of};
 ghost use Rattle.syn_rewrite.specs.Rewriting.{all_but_last};
 
-use crate::fitted::FittedLists;
 use crate::functions::functions_over;
+use crate::known_plans::KnownPlans;
 use std::alloc::{AllocError, Global};
 use std::thread::Threads;
 use syn_cuts::{Cut, CutLists, listed};
@@ -29,7 +29,7 @@ pub struct Prepared {
     /// The functions of an AND over its listed cuts but the last, in order.
     pub functions: Vec<Vec<u16>>,
     /// The plans of these functions.
-    pub fitted: FittedLists,
+    pub known: KnownPlans,
 }
 
 // All but the last.
@@ -91,10 +91,10 @@ pub(crate) fn prepare<R: Threads + Sync>(
 {
     let cuts = listed(rt, alloc, graph, MOST_LEAVES, workers)?;
     let functions = all_functions(alloc, graph, &cuts)?;
-    let fitted = FittedLists::of(alloc, classes, functions.as_slice())?;
+    let known = KnownPlans::of(alloc, classes, functions.as_slice())?;
     Ok(Prepared {
         cuts,
         functions,
-        fitted,
+        known,
     })
 }

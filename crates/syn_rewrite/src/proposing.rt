@@ -14,7 +14,7 @@ ghost use Rattle.syn_rewrite.specs.Functions.{IsFunctionOver};
 ghost use Rattle.syn_rewrite.specs.Prepared.{AreLeavesOf, ArePlansOf, IsPreparedFor};
 ghost use Rattle.syn_rewrite.specs.Rewriting.{cut_proposals, over, rewritings};
 
-use crate::fitted::FittedLists;
+use crate::known_plans::KnownPlans;
 use crate::plans::plans_of;
 use crate::prepared::{Prepared, cuts_of, prepare};
 use std::alloc::{AllocError, Global};
@@ -123,7 +123,7 @@ fn first_of_function(
     graph: &Graph,
     uses: &Uses,
     classes: &Classes,
-    fitted: &FittedLists,
+    known: &KnownPlans,
     node: u32,
     leaves: &[u32],
     function: u16,
@@ -137,19 +137,11 @@ fn first_of_function(
     ensures sound { IfOk result (λ found. IfSome found (IsSound graph.now.rows)) }
     ensures none { IfOk result (λ found. IfNone found (All (SavesNothing graph.now.rows graph.now.observed) (cut_proposals graph.now.rows node leaves.now))) }
 {
-    if let Some(plans) = fitted.plans(function) {
+    if let Some(plans) = known.plans(function) {
         return first_over(alloc, graph, uses, node, leaves, function, plans);
     }
     let plans = plans_of(classes, function);
-    first_over(
-        alloc,
-        graph,
-        uses,
-        node,
-        leaves,
-        function,
-        plans.as_slice(),
-    )
+    first_over(alloc, graph, uses, node, leaves, function, plans.as_slice())
 }
 
 impl Proposer for CutPlans {
@@ -208,18 +200,17 @@ impl Proposer for CutPlans {
         for (i, cut) in cuts.iter().enumerate() {
             let function = functions[i];
             let leaves = cut.as_slice();
-            let found = first_of_function(
+            if let Some(found) = first_of_function(
                 alloc,
                 graph,
                 uses,
                 &self.classes,
-                &lists.fitted,
+                &lists.known,
                 node,
                 leaves,
                 function,
-            )?;
-            if let Some(proposal) = found {
-                return Ok(Some(proposal));
+            )? {
+                return Ok(Some(found));
             }
         }
         Ok(None)

@@ -3,7 +3,7 @@ use Rattle.syn_rows.specs.declared.Lit.{Lit}
 use Rattle.syn_rows.specs.Rows.{node_of}
 use Rattle.syn_hashed.specs.Growing.{IsAnd}
 use Rattle.syn_apply.specs.Remaking.{moved}
-use Rattle.syn_apply.proofs.Remaking.{both_ok, fan_ins_there, joined_stands}
+use Rattle.syn_apply.proofs.Standing.{both_ok, fan_ins_there, joined_stands}
 use Rattle.syn_apply.proofs.remaking.joined.Goals as goal
 
 pub and-requires-clause-first : goal.and-requires-clause-first

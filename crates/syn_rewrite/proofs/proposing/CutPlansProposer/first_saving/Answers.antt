@@ -43,8 +43,8 @@ pub returns-in-Some-clause-first : goal.returns-in-Some-clause-first
 returns-in-Some-clause-first c =
     let graph = c.args.graph.now in
     let node = c.args.node in
-    let first : IsFirst graph.rows graph.observed (cut_proposals graph.rows node c.as_slice-leaves.result.now) (replacement c.in-Some.proposal) = search rules in
-    first_of_all graph.rows graph.observed node c.cuts_of-cuts.result.now c.loop-i.i c.index-cuts-i.result c.as_slice-leaves.result.now (replacement c.in-Some.proposal)
+    let first : IsFirst graph.rows graph.observed (cut_proposals graph.rows node c.as_slice-leaves.result.now) (replacement c.in-Some.found) = search rules in
+    first_of_all graph.rows graph.observed node c.cuts_of-cuts.result.now c.loop-i.i c.index-cuts-i.result c.as_slice-leaves.result.now (replacement c.in-Some.found)
     (c.cuts_of-cuts.ensures graph.rows c.requires.lists.cuts) c.loop-i-test.true c.index-cuts-i.is c.as_slice-leaves.ensures.value c.loop-i.invariant first
 
 pub loop-i-preserved : goal.loop-i-preserved

@@ -39,6 +39,10 @@ pub OnOk-of : {T E : Type 0} {P : Type 0} (r : Result T E) → P → OnOk r P
 OnOk-of (Ok x) h = h
 OnOk-of (Err e) h = tt
 
+pub IfOk-map : {T E : Type 0} {P Q : T → Type 0} (r : Result T E) → ((x : T) → P x → Q x) → IfOk r P → IfOk r Q
+IfOk-map (Ok x) f h = f x h
+IfOk-map (Err e) f h = h
+
 pub both_ok : {T E : Type 0} {P Q S : T → Type 0} (r : Result T E) → ((x : T) → P x → Q x → S x) → IfOk r P → IfOk r Q → IfOk r S
 both_ok (Ok x) f p q = f x p q
 both_ok (Err e) f p q = p
@@ -164,13 +168,13 @@ gate_is_and n (Alias a) h = absurd (cc)
 
 -- what is no AND is node 0 or a source
 front_is : (count : ℕ) (rows : List Row) (n : ℕ) → IsHashed count rows → n < length rows → is_and (row_at rows n) ≡ false → n < count + 1
-front_is count rows n h inside no = elim (cases_lt n (count + 1)) [
+front_is count rows n h inside closed = elim (cases_lt n (count + 1)) [
   | inl lt ↦ lt
-  | inr ge ↦ absurd (cc (no, gate_is_and n (row_at rows n) (h.gates n (omega arith) inside)))
+  | inr ge ↦ absurd (cc (closed, gate_is_and n (row_at rows n) (h.gates n (omega arith) inside)))
 ]
 
 pub open_stands : (count : ℕ) (rows new : List Row) (n : ℕ) (l : Lit) → IsHashed count rows → IsHashed count new → n < length rows → is_and (row_at rows n) ≡ false → l ≡ lit_of n → Stands rows new n l
-open_stands count rows new n l h k inside no is = subst (Stands rows new n) (sym is) (source_stands count rows new n h k (front_is count rows n h inside no))
+open_stands count rows new n l h k inside closed is = subst (Stands rows new n) (sym is) (source_stands count rows new n h k (front_is count rows n h inside closed))
 
 pub and_is_no_source : (count : ℕ) (rows : List Row) (n : ℕ) (a b : Lit) → IsHashed count rows → row_at rows n ≡ And a b → n < count + 1 → (l : Lit) → l ≡ lit_of n
 and_is_no_source count rows n a b h row lt l = absurd (cc (row, h.front n lt))

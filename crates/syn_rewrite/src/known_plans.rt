@@ -16,9 +16,12 @@ use syn_plan::Plan;
 // The number of functions of four variables.
 const FUNCTIONS: usize = 65536;
 
+// The most functions whose plans are kept; those of others are fitted where they are wanted.
+const MOST_KEPT: usize = 8192;
+
 /// The plans of one function.
 #[derive(Drop)]
-struct Fitted {
+struct FunctionPlans {
     function: u16,
     plans: ArrayVec<Plan, 4>,
     ghost built: { map built_of plans.items ≡ fitted_plans function },
@@ -27,10 +30,22 @@ struct Fitted {
     ghost names: { All (λ p. NamesOwn p function) plans.items },
 }
 
+impl FunctionPlans {
+    // The plans of a function that is this one.
+    #[inline]
+    fn plans(&self, function: u16) -> &[Plan]
+        requires { self.now.function ≡ function }
+        ensures { ArePlansOf function result.now }
+    {
+        let _ = function;
+        self.plans.as_slice()
+    }
+}
+
 /// The plans of the functions that were met, and where in the list those of a function stand.
 #[derive(Drop)]
-pub struct FittedLists {
-    lists: Vec<Fitted>,
+pub struct KnownPlans {
+    lists: Vec<FunctionPlans>,
     places: Vec<u32>,
 }
 
@@ -40,15 +55,15 @@ fn no_places(alloc: Global, count: usize) -> Result<Vec<u32>, AllocError> {
 }
 
 // The plans of a function, fitted.
-fn fitted(classes: &Classes, function: u16) -> Fitted {
+fn fit_all(classes: &Classes, function: u16) -> FunctionPlans {
     let plans = plans_of(classes, function);
-    Fitted { function, plans }
+    FunctionPlans { function, plans }
 }
 
-impl FittedLists {
+impl KnownPlans {
     // No plans.
-    fn new(alloc: Global) -> Result<FittedLists, AllocError> {
-        Ok(FittedLists {
+    fn new(alloc: Global) -> Result<KnownPlans, AllocError> {
+        Ok(KnownPlans {
             lists: Vec::new(alloc),
             places: no_places(alloc, FUNCTIONS)?,
         })
@@ -69,7 +84,7 @@ impl FittedLists {
         }
         let found = &self.lists[place];
         if found.function == function {
-            Some(found.plans.as_slice())
+            Some(found.plans(function))
         } else {
             None
         }
@@ -81,9 +96,9 @@ impl FittedLists {
             return Ok(());
         }
         let at = function as usize;
-        if at < self.places.len() && self.lists.len() < FUNCTIONS {
+        if at < self.places.len() && self.lists.len() < MOST_KEPT {
             self.places[at] = self.lists.len() as u32;
-            self.lists.push(fitted(classes, function))?;
+            self.lists.push(fit_all(classes, function))?;
         }
         Ok(())
     }
@@ -101,11 +116,11 @@ impl FittedLists {
         alloc: Global,
         classes: &Classes,
         functions: &[Vec<u16>],
-    ) -> Result<FittedLists, AllocError> {
-        let mut fitted = FittedLists::new(alloc)?;
+    ) -> Result<KnownPlans, AllocError> {
+        let mut known = KnownPlans::new(alloc)?;
         for list in functions {
-            fitted.meet_all(classes, list.as_slice())?;
+            known.meet_all(classes, list.as_slice())?;
         }
-        Ok(fitted)
+        Ok(known)
     }
 }
