@@ -224,6 +224,21 @@ fn take(
     Ok(false)
 }
 
+// Takes a proposal for an AND of the graph if it still saves.
+fn choose(
+    alloc: Global,
+    graph: &Graph,
+    uses: &Uses,
+    tally: &mut Tally,
+    proposal: &Proposal,
+) -> Result<bool, AllocError>
+    requires uses { IsUsesOf uses.now graph.now }
+    requires root { is_and (row_at graph.now.rows proposal.now.root) ≡ true }
+{
+    let new = place(alloc, graph, &uses.pairs, proposal.borrow())?;
+    take(alloc, graph.rows.as_slice(), tally, proposal.root, &new)
+}
+
 /// Marks the proposals of a list that are applied together: from the last to the first, each that still saves after those
 /// that were marked before. The only error is want of memory.
 pub(crate) fn chosen(
@@ -237,13 +252,11 @@ pub(crate) fn chosen(
 {
     let mut tally = Tally::new(alloc, uses)?;
     let mut marks = no_marks(alloc, proposals.len())?;
-    let rows = graph.rows.as_slice();
     let mut left = proposals.len();
     while left > 0 {
         left -= 1;
-        let proposal = &proposals[left];
-        let new = place(alloc, graph, &uses.pairs, proposal.borrow())?;
-        marks[left] = take(alloc, rows, &mut tally, proposal.root, &new)?;
+        let is_taken = choose(alloc, graph, uses, &mut tally, &proposals[left])?;
+        marks[left] = is_taken;
     }
     Ok(marks)
 }

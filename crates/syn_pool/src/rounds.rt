@@ -82,7 +82,8 @@ fn smaller(
 {
     let marks = chosen(alloc, graph, uses, found)?;
     let next = applied_together(alloc, graph, found, marks.as_slice())?;
-    if is_smaller(&next, graph) {
+    let fewer = is_smaller(&next, graph);
+    if fewer {
         Ok(next)
     } else {
         first_applied(alloc, graph, &found[0])
