@@ -23,7 +23,7 @@ use Rattle.syn_cones.proofs.Swapping.{all_fit_between}
 use Rattle.syn_apply.specs.Sound.{IsSoundBy}
 
 -- in a valuation that fits, the plan has the root's value
-plan_is_root : (rows : List Row) (r : Replacement) (v : ℕ → Bool) → IsSoundBy rows r → Fits rows v
+pub plan_is_root : (rows : List Row) (r : Replacement) (v : ℕ → Bool) → IsSoundBy rows r → Fits rows v
     → literal_value (values_after (false ∷ leaf_values r.count (map v r.leaves)) r.gates) r.out ≡ v r.root
 plan_is_root rows r v sound fits =
     let t = sound.truth.0 in

@@ -1,5 +1,7 @@
-//! Proposals applied to a graph, one at a time.
+//! Proposals applied to a graph, one at a time or many together.
 #![tactic(auto)]
+
+mod remaking;
 
 ghost use Rattle.std.specs.Prelude.{◌≡◌, ℤ, pos, ◌+ℤ◌, ◌≤ℤ◌, ◌<◌, ◌^◌, Bool, List, true, length, IfErr, IfOk};
 ghost use Rattle.syn_rows.specs.Rows.{row_at};
@@ -11,6 +13,7 @@ ghost use Rattle.syn_gain.specs.Proposals.{replacement_of};
 ghost use Rattle.syn_gain.specs.Replacements.{SavedBy, rows_after_by};
 ghost use Rattle.syn_apply.specs.Sound.{IsSoundBy};
 
+pub use remaking::applied_together;
 use std::alloc::{AllocError, Global};
 use syn_gain::{Candidate, place, replaced_rows};
 use syn_graph::Graph;
@@ -24,7 +27,7 @@ fn rows_after(alloc: Global, graph: &Graph, candidate: Candidate) -> Result<Vec<
     ensures { IfOk result (λ v. v.items ≡ rows_after_by graph.now.rows (replacement_of candidate.entry)) }
 {
     let pairs = PairIndex::of(alloc, graph.rows.as_slice())?;
-    let new = place(graph, &pairs, candidate);
+    let new = place(alloc, graph, &pairs, candidate)?;
     replaced_rows(alloc, graph.rows.as_slice(), candidate.root, &new)
 }
 

@@ -1,5 +1,5 @@
 -- One graph in place of another, one after the other.
-use Rattle.std.proofs.Common.{◌≡◌, ℕ, ℤ, pos, ◌+ℤ◌, ◌≤ℤ◌, ◌+◌, ◌≤◌, Bool, List, length, ◌∙◌, arith}
+use Rattle.std.proofs.Common.{◌≡◌, ℕ, ℤ, pos, ◌+ℤ◌, ◌≤ℤ◌, ◌+◌, ◌≤◌, Bool, List, length, Result, Ok, Err, IfOk, ◌∙◌, arith}
 use Rattle.std.proofs.lemmas.Int.{ints}
 use Rattle.syn_rows.specs.Values.{rows_function}
 use Rattle.syn_netlist.specs.Frames.{frame_in}
@@ -31,3 +31,11 @@ applied_follows was now r frame names values falls some = record {
   where
     fewer : (now was : ℕ) (s : ℤ) → (pos now +ℤ s) ≤ℤ pos was → pos 1 ≤ℤ s → now + 1 ≤ was
     fewer now was s falls some = omega (arith, ints)
+
+-- the same of a result
+pub applied_follows_all : {E : Type 0} (was : Graph) (r : Replacement) (next : Result Graph E) → IfOk next (λ g. frame_in g.frame ≡ frame_in was.frame) → IfOk next (λ g. g.frame.names ≡ was.frame.names)
+    → IfOk next (λ g. (bits : List Bool) → rows_function g.rows g.observed bits ≡ rows_function was.rows was.observed bits)
+    → IfOk next (λ g. (s : ℤ) → SavedBy was.rows was.observed r s → (pos (length g.rows) +ℤ s) ≤ℤ pos (length was.rows))
+    → SavesSome was.rows was.observed r → IfOk next (Follows was 1)
+applied_follows_all was r (Ok now) frame names values falls some = applied_follows was now r frame names values falls some
+applied_follows_all was r (Err e) frame names values falls some = frame

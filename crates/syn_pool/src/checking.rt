@@ -1,14 +1,11 @@
-//! The check of a graph: the first proposal that saves, or that none does.
+//! The check of a graph: the proposals that save, or that none does.
 
-ghost use Rattle.std.specs.Prelude.{◌≡◌, ℕ, ◌+◌, ◌<◌, ◌≤◌, ◌^◌, true, All, List, IfErr, IfNone, IfOk, IfSome, length};
+ghost use Rattle.std.specs.Prelude.{◌≡◌, ℕ, ◌+◌, ◌<◌, ◌≤◌, ◌++◌, All, List, IfNone, IfOk, IfSome, OnOk, length, option_to_list};
 ghost use Rattle.syn_rows.specs.declared.TheConstants.{NODE_LIMIT};
-ghost use Rattle.syn_rows.specs.declared.Row.{Row};
-ghost use Rattle.syn_rows.specs.Rows.{row_at};
-ghost use Rattle.syn_rows.specs.Reach.{is_and};
-ghost use Rattle.syn_gain.specs.Proposals.{replacement};
+ghost use Rattle.syn_gain.specs.declared.proposals.Proposal.{Proposal};
 ghost use Rattle.syn_gain.specs.Uses.{IsUsesOf};
-ghost use Rattle.syn_pool.specs.Sound.{IsSound};
-ghost use Rattle.syn_pool.specs.Closing.{Closed, ClosedBetween, IsFirstFrom, SavesNothing};
+ghost use Rattle.syn_pool.specs.Sound.{IsLeftover};
+ghost use Rattle.syn_pool.specs.Closing.{Closed, ClosedBetween};
 
 use crate::Proposer;
 use std::alloc::{AllocError, Global};
@@ -21,12 +18,12 @@ use syn_rows::Row;
 // How many nodes are worth a thread.
 const LEAST: usize = 256;
 
-// What was found among the nodes from one on, before another: the first proposal that saves, or none.
+// What was found among the nodes from one on, before another: of each AND the first proposal that saves, if one does.
 #[derive(Drop)]
 struct Part {
     from: u32,
     to: u32,
-    found: Option<Proposal>,
+    found: Vec<Proposal>,
 }
 
 // How many nodes a part has, of so many nodes for so many workers; few nodes are one part.
@@ -53,8 +50,7 @@ fn first_at<P: Proposer>(
     requires uses { IsUsesOf uses.now graph.now }
     requires lists { P.is_lists_of proposer.now lists.now graph.now.rows }
     requires node { node < length graph.now.rows }
-    ensures first { IfOk result (λ found. IfSome found (λ p. IsFirstFrom graph.now.rows graph.now.observed (P.proposals proposer.now graph.now.rows) node (replacement p))) }
-    ensures sound { IfOk result (λ found. IfSome found (IsSound graph.now.rows)) }
+    ensures some { IfOk result (λ found. IfSome found (IsLeftover graph.now.rows graph.now.observed (P.proposals proposer.now graph.now.rows))) }
     ensures none { IfOk result (λ found. IfNone found (ClosedBetween graph.now.rows graph.now.observed (P.proposals proposer.now graph.now.rows) node (node + 1))) }
 {
     match graph.rows.as_slice()[node as usize] {
@@ -63,8 +59,18 @@ fn first_at<P: Proposer>(
     }
 }
 
-// The first proposal that saves of the nodes from one on, before another.
-fn first_between<P: Proposer>(
+// Adds a proposal that was found to a list.
+fn add_found(found: &mut Vec<Proposal>, more: Option<Proposal>) -> Result<(), AllocError>
+    ensures { OnOk result (found.new.items ≡ found.old.items ++ option_to_list more) }
+{
+    if let Some(proposal) = more {
+        found.push(proposal)?;
+    }
+    Ok(())
+}
+
+// The leftovers among the nodes from one on, before another: of each AND the first proposal that saves, if one does.
+fn found_between<P: Proposer>(
     alloc: Global,
     graph: &Graph,
     uses: &Uses,
@@ -72,20 +78,19 @@ fn first_between<P: Proposer>(
     lists: &P::Lists,
     from: u32,
     to: u32,
-) -> Result<Option<Proposal>, AllocError>
+) -> Result<Vec<Proposal>, AllocError>
     requires uses { IsUsesOf uses.now graph.now }
     requires lists { P.is_lists_of proposer.now lists.now graph.now.rows }
     requires within { to ≤ length graph.now.rows }
-    ensures first { IfOk result (λ found. IfSome found (λ p. IsFirstFrom graph.now.rows graph.now.observed (P.proposals proposer.now graph.now.rows) from (replacement p))) }
-    ensures sound { IfOk result (λ found. IfSome found (IsSound graph.now.rows)) }
-    ensures none { IfOk result (λ found. IfNone found (ClosedBetween graph.now.rows graph.now.observed (P.proposals proposer.now graph.now.rows) from to)) }
+    ensures each { IfOk result (λ found. All (IsLeftover graph.now.rows graph.now.observed (P.proposals proposer.now graph.now.rows)) found.items) }
+    ensures none { IfOk result (λ found. length found.items ≡ 0 → ClosedBetween graph.now.rows graph.now.observed (P.proposals proposer.now graph.now.rows) from to) }
 {
+    let mut found = Vec::new(alloc);
     for node in from..to {
-        if let Some(found) = first_at(alloc, graph, uses, proposer, lists, node)? {
-            return Ok(Some(found));
-        }
+        let first = first_at(alloc, graph, uses, proposer, lists, node)?;
+        add_found(&mut found, first)?;
     }
-    Ok(None)
+    Ok(found)
 }
 
 // One part of the nodes.
@@ -101,11 +106,10 @@ fn part_of<P: Proposer>(
     requires uses { IsUsesOf uses.now graph.now }
     requires lists { P.is_lists_of proposer.now lists.now graph.now.rows }
     requires within { to ≤ length graph.now.rows }
-    ensures first { IfOk result (λ part. IfSome part.found (λ p. IsFirstFrom graph.now.rows graph.now.observed (P.proposals proposer.now graph.now.rows) part.from (replacement p))) }
-    ensures sound { IfOk result (λ part. IfSome part.found (IsSound graph.now.rows)) }
-    ensures none { IfOk result (λ part. IfNone part.found (ClosedBetween graph.now.rows graph.now.observed (P.proposals proposer.now graph.now.rows) part.from part.to)) }
+    ensures each { IfOk result (λ part. All (IsLeftover graph.now.rows graph.now.observed (P.proposals proposer.now graph.now.rows)) part.found.items) }
+    ensures none { IfOk result (λ part. length part.found.items ≡ 0 → ClosedBetween graph.now.rows graph.now.observed (P.proposals proposer.now graph.now.rows) part.from part.to) }
 {
-    let found = first_between(alloc, graph, uses, proposer, lists, from, to)?;
+    let found = found_between(alloc, graph, uses, proposer, lists, from, to)?;
     Ok(Part { from, to, found })
 }
 
@@ -122,15 +126,13 @@ fn find_parts<R: Threads + Sync, P: Proposer>(
     requires uses { IsUsesOf uses.now graph.now }
     requires lists { P.is_lists_of proposer.now lists.now graph.now.rows }
     requires few { length graph.now.rows < NODE_LIMIT }
-    ensures first { IfOk result (λ parts. All (λ part. IfOk part (λ q. IfSome q.found (λ p. IsFirstFrom graph.now.rows graph.now.observed (P.proposals proposer.now graph.now.rows) q.from (replacement p)))) parts.items) }
-    ensures sound { IfOk result (λ parts. All (λ part. IfOk part (λ q. IfSome q.found (IsSound graph.now.rows))) parts.items) }
-    ensures none { IfOk result (λ parts. All (λ part. IfOk part (λ q. IfNone q.found (ClosedBetween graph.now.rows graph.now.observed (P.proposals proposer.now graph.now.rows) q.from q.to))) parts.items) }
+    ensures each { IfOk result (λ parts. All (λ part. IfOk part (λ q. All (IsLeftover graph.now.rows graph.now.observed (P.proposals proposer.now graph.now.rows)) q.found.items)) parts.items) }
+    ensures none { IfOk result (λ parts. All (λ part. IfOk part (λ q. length q.found.items ≡ 0 → ClosedBetween graph.now.rows graph.now.observed (P.proposals proposer.now graph.now.rows) q.from q.to)) parts.items) }
 {
     let work = move |start: usize, chunk: &[Row]| -> Result<Part, AllocError>
         requires { IsUsesOf uses.now graph.now × P.is_lists_of proposer.now lists.now graph.now.rows × (start + length chunk.now ≤ length graph.now.rows) × (length graph.now.rows < NODE_LIMIT) }
-        ensures first { IfOk result (λ part. IfSome part.found (λ p. IsFirstFrom graph.entry.now.rows graph.entry.now.observed (P.proposals proposer.entry.now graph.entry.now.rows) part.from (replacement p))) }
-        ensures sound { IfOk result (λ part. IfSome part.found (IsSound graph.entry.now.rows)) }
-        ensures none { IfOk result (λ part. IfNone part.found (ClosedBetween graph.entry.now.rows graph.entry.now.observed (P.proposals proposer.entry.now graph.entry.now.rows) part.from part.to)) }
+        ensures each { IfOk result (λ part. All (IsLeftover graph.entry.now.rows graph.entry.now.observed (P.proposals proposer.entry.now graph.entry.now.rows)) part.found.items) }
+        ensures none { IfOk result (λ part. length part.found.items ≡ 0 → ClosedBetween graph.entry.now.rows graph.entry.now.observed (P.proposals proposer.entry.now graph.entry.now.rows) part.from part.to) }
     {
         part_of(
             alloc,
@@ -146,62 +148,62 @@ fn find_parts<R: Threads + Sync, P: Proposer>(
     thread::map_chunks(rt, alloc, rows, part_size(rows.len(), workers), &work)
 }
 
-// Takes a part behind closed nodes: how far they are closed now, or the first proposal that saves.
+// Adds what a part found: how far the nodes are closed now where nothing was found.
 fn take_part<P: Proposer>(
     graph: &Graph,
     proposer: &P,
+    found: &mut Vec<Proposal>,
     part: Part,
     reached: u32,
-) -> Result<u32, Proposal>
-    requires closed { ClosedBetween graph.now.rows graph.now.observed (P.proposals proposer.now graph.now.rows) 0 reached }
-    requires first { IfSome part.found (λ p. IsFirstFrom graph.now.rows graph.now.observed (P.proposals proposer.now graph.now.rows) part.from (replacement p)) }
-    requires sound { IfSome part.found (IsSound graph.now.rows) }
-    requires none { IfNone part.found (ClosedBetween graph.now.rows graph.now.observed (P.proposals proposer.now graph.now.rows) part.from part.to) }
-    ensures first { IfErr result (λ p. IsFirstFrom graph.now.rows graph.now.observed (P.proposals proposer.now graph.now.rows) 0 (replacement p)) }
-    ensures sound { IfErr result (IsSound graph.now.rows) }
-    ensures closed { IfOk result (λ n. ClosedBetween graph.now.rows graph.now.observed (P.proposals proposer.now graph.now.rows) 0 n) }
+) -> Result<u32, AllocError>
+    requires closed { length found.old.items ≡ 0 → ClosedBetween graph.now.rows graph.now.observed (P.proposals proposer.now graph.now.rows) 0 reached }
+    requires each { All (IsLeftover graph.now.rows graph.now.observed (P.proposals proposer.now graph.now.rows)) found.old.items }
+    requires part { All (IsLeftover graph.now.rows graph.now.observed (P.proposals proposer.now graph.now.rows)) part.found.items }
+    requires none { length part.found.items ≡ 0 → ClosedBetween graph.now.rows graph.now.observed (P.proposals proposer.now graph.now.rows) part.from part.to }
+    ensures each { OnOk result (All (IsLeftover graph.now.rows graph.now.observed (P.proposals proposer.now graph.now.rows)) found.new.items) }
+    ensures closed { IfOk result (λ n. length found.new.items ≡ 0 → ClosedBetween graph.now.rows graph.now.observed (P.proposals proposer.now graph.now.rows) 0 n) }
 {
-    let Part { from, to, found } = part;
-    if from > reached {
+    let Part {
+        from,
+        to,
+        found: mut more,
+    } = part;
+    if from > reached || to < reached {
         return Ok(reached);
     }
-    match found {
-        Some(proposal) => Err(proposal),
-        None if to > reached => Ok(to),
-        None => Ok(reached),
-    }
+    found.append(&mut more)?;
+    Ok(to)
 }
 
-// The first proposal that saves, from the parts and from the nodes behind them.
-fn first_in_parts<P: Proposer>(
+// The leftovers of the parts, and of the nodes behind them.
+fn found_in_parts<P: Proposer>(
     alloc: Global,
     graph: &Graph,
     uses: &Uses,
     proposer: &P,
     lists: &P::Lists,
     parts: Vec<Result<Part, AllocError>>,
-) -> Result<Option<Proposal>, AllocError>
+) -> Result<Vec<Proposal>, AllocError>
     requires uses { IsUsesOf uses.now graph.now }
     requires lists { P.is_lists_of proposer.now lists.now graph.now.rows }
     requires few { length graph.now.rows < NODE_LIMIT }
-    requires first { All (λ part. IfOk part (λ q. IfSome q.found (λ p. IsFirstFrom graph.now.rows graph.now.observed (P.proposals proposer.now graph.now.rows) q.from (replacement p)))) parts.items }
-    requires sound { All (λ part. IfOk part (λ q. IfSome q.found (IsSound graph.now.rows))) parts.items }
-    requires none { All (λ part. IfOk part (λ q. IfNone q.found (ClosedBetween graph.now.rows graph.now.observed (P.proposals proposer.now graph.now.rows) q.from q.to))) parts.items }
-    ensures first { IfOk result (λ found. IfSome found (λ p. IsFirstFrom graph.now.rows graph.now.observed (P.proposals proposer.now graph.now.rows) 0 (replacement p))) }
-    ensures sound { IfOk result (λ found. IfSome found (IsSound graph.now.rows)) }
-    ensures none { IfOk result (λ found. IfNone found (ClosedBetween graph.now.rows graph.now.observed (P.proposals proposer.now graph.now.rows) 0 (length graph.now.rows))) }
+    requires each { All (λ part. IfOk part (λ q. All (IsLeftover graph.now.rows graph.now.observed (P.proposals proposer.now graph.now.rows)) q.found.items)) parts.items }
+    requires none { All (λ part. IfOk part (λ q. length q.found.items ≡ 0 → ClosedBetween graph.now.rows graph.now.observed (P.proposals proposer.now graph.now.rows) q.from q.to)) parts.items }
+    ensures each { IfOk result (λ found. All (IsLeftover graph.now.rows graph.now.observed (P.proposals proposer.now graph.now.rows)) found.items) }
+    ensures none { IfOk result (λ found. length found.items ≡ 0 → ClosedBetween graph.now.rows graph.now.observed (P.proposals proposer.now graph.now.rows) 0 (length graph.now.rows)) }
 {
+    let mut found = Vec::new(alloc);
     let mut reached = 0;
     for part in parts {
-        match take_part(graph, proposer, part?, reached) {
-            Ok(next) => reached = next,
-            Err(found) => return Ok(Some(found)),
-        }
+        let part = part?;
+        reached = take_part(graph, proposer, &mut found, part, reached)?;
     }
-    rest(alloc, graph, uses, proposer, lists, reached)
+    let mut more = rest(alloc, graph, uses, proposer, lists, reached)?;
+    found.append(&mut more)?;
+    Ok(found)
 }
 
-// The first proposal that saves, where the nodes before this one are closed.
+// The leftovers of the nodes from one on.
 fn rest<P: Proposer>(
     alloc: Global,
     graph: &Graph,
@@ -209,36 +211,35 @@ fn rest<P: Proposer>(
     proposer: &P,
     lists: &P::Lists,
     reached: u32,
-) -> Result<Option<Proposal>, AllocError>
+) -> Result<Vec<Proposal>, AllocError>
     requires uses { IsUsesOf uses.now graph.now }
     requires lists { P.is_lists_of proposer.now lists.now graph.now.rows }
     requires few { length graph.now.rows < NODE_LIMIT }
-    requires closed { ClosedBetween graph.now.rows graph.now.observed (P.proposals proposer.now graph.now.rows) 0 reached }
-    ensures first { IfOk result (λ found. IfSome found (λ p. IsFirstFrom graph.now.rows graph.now.observed (P.proposals proposer.now graph.now.rows) 0 (replacement p))) }
-    ensures sound { IfOk result (λ found. IfSome found (IsSound graph.now.rows)) }
-    ensures none { IfOk result (λ found. IfNone found (ClosedBetween graph.now.rows graph.now.observed (P.proposals proposer.now graph.now.rows) 0 (length graph.now.rows))) }
+    ensures each { IfOk result (λ found. All (IsLeftover graph.now.rows graph.now.observed (P.proposals proposer.now graph.now.rows)) found.items) }
+    ensures none { IfOk result (λ found. length found.items ≡ 0 → ClosedBetween graph.now.rows graph.now.observed (P.proposals proposer.now graph.now.rows) reached (length graph.now.rows)) }
 {
     let to = graph.rows.as_slice().len() as u32;
-    first_between(alloc, graph, uses, proposer, lists, reached, to)
+    found_between(alloc, graph, uses, proposer, lists, reached, to)
 }
 
-/// The first proposal of a proposer, by node and place, that saves on a graph with these lists; none where the graph is
-/// closed. With several workers the nodes are shared among them. The only error is want of memory.
-pub fn check<R: Threads + Sync, P: Proposer>(
+/// The leftovers of a proposer on a graph with these lists, in node order: of each AND the first proposal that saves, if
+/// one does; none where the graph is closed. With several workers the nodes are shared among them. The only error is want
+/// of memory.
+pub fn leftovers<R: Threads + Sync, P: Proposer>(
     rt: &R,
     alloc: Global,
     graph: &Graph,
+    uses: &Uses,
     proposer: &P,
     lists: &P::Lists,
     workers: u8,
-) -> Result<Option<Proposal>, AllocError>
+) -> Result<Vec<Proposal>, AllocError>
+    requires uses { IsUsesOf uses.now graph.now }
     requires lists { P.is_lists_of proposer.now lists.now graph.now.rows }
-    ensures first { IfOk result (λ found. IfSome found (λ p. IsFirstFrom graph.now.rows graph.now.observed (P.proposals proposer.now graph.now.rows) 0 (replacement p))) }
-    ensures sound { IfOk result (λ found. IfSome found (IsSound graph.now.rows)) }
-    ensures none { IfOk result (λ found. IfNone found (Closed graph.now.rows graph.now.observed (P.proposals proposer.now graph.now.rows))) }
+    ensures each { IfOk result (λ found. All (IsLeftover graph.now.rows graph.now.observed (P.proposals proposer.now graph.now.rows)) found.items) }
+    ensures none { IfOk result (λ found. length found.items ≡ 0 → Closed graph.now.rows graph.now.observed (P.proposals proposer.now graph.now.rows)) }
 {
     let _count = graph.count();
-    let uses = Uses::new(alloc, graph)?;
-    let parts = find_parts(rt, alloc, graph, &uses, proposer, lists, workers)?;
-    first_in_parts(alloc, graph, &uses, proposer, lists, parts)
+    let parts = find_parts(rt, alloc, graph, uses, proposer, lists, workers)?;
+    found_in_parts(alloc, graph, uses, proposer, lists, parts)
 }

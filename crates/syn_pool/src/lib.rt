@@ -2,16 +2,16 @@
 #![tactic(auto)]
 
 mod checking;
+mod choosing;
 mod improving;
 mod laws;
-mod owning;
 mod passing;
 mod proposing;
 mod rounds;
 
-pub use checking::check;
+pub use checking::leftovers;
 pub use improving::{Improved, Improver, Report, Unimproved};
 pub use laws::{closed_saves_nothing, first_of_parts};
-pub use owning::owned;
 pub use passing::pass;
 pub use proposing::{Proposer, saves};
+pub use syn_gain::owned;

@@ -81,9 +81,9 @@ fn closed<R: Threads + Sync, P: Proposer, I: Improver<P>>(
     }
 }
 
-/// Improves a graph, checks it, and applies the first proposal that saves, again and again until none saves: the same
-/// frame, the same values of the observed signals, fewer ANDs by at least what the report says, and closed. Where memory
-/// is refused, the same graph comes back.
+/// Improves a graph, checks it, and applies proposals that save, again and again until none saves: the same frame, the same
+/// values of the observed signals, fewer ANDs by at least what the report says, and closed. Where memory is refused, the
+/// same graph comes back.
 pub fn pass<R: Threads + Sync, P: Proposer, I: Improver<P>>(
     rt: &R,
     alloc: Global,

@@ -1,20 +1,25 @@
-//! One round: an improvement, the check, and the first proposal that saves applied.
+//! One round: an improvement, the check, and proposals that save applied.
 
-ghost use Rattle.std.specs.Prelude.{◌≡◌, ◌+◌, ◌<◌, ◌≤◌, ℕ, Bool, true, List, IfNone, IfOk, IfSome, length};
+ghost use Rattle.std.specs.Prelude.{◌≡◌, ◌+◌, ◌<◌, ◌≤◌, ℕ, Bool, true, List, All, IfNone, IfOk, IfSome, length};
 ghost use Rattle.syn_rows.specs.declared.Row.{Row};
+ghost use Rattle.syn_rows.specs.Reach.{is_and};
+ghost use Rattle.syn_rows.specs.Rows.{row_at};
 ghost use Rattle.syn_gain.specs.Proposals.{replacement};
 ghost use Rattle.syn_gain.specs.Replacements.{Replacement, rows_after_by};
-ghost use Rattle.syn_pool.specs.Closing.{Closed};
+ghost use Rattle.syn_gain.specs.Uses.{IsUsesOf};
+ghost use Rattle.syn_pool.specs.Closing.{Closed, SavesSome};
 ghost use Rattle.syn_pool.specs.Following.{Follows};
 ghost use Rattle.syn_pool.specs.Gains.{IsGain};
 ghost use Rattle.syn_pool.specs.Rounds.{IsRoundOf};
+ghost use Rattle.syn_pool.specs.Sound.{IsSound};
 
-use crate::checking::check;
+use crate::checking::leftovers;
+use crate::choosing::chosen;
 use crate::{Improved, Improver, Proposer, Report};
 use std::alloc::{AllocError, Global};
 use std::thread::Threads;
-use syn_apply::applied;
-use syn_gain::{Proposal, rows_after_are_few};
+use syn_apply::{applied, applied_together};
+use syn_gain::{Proposal, Uses, rows_after_are_few};
 use syn_graph::Graph;
 use syn_rows::NODE_LIMIT;
 
@@ -40,6 +45,51 @@ fn has_room(graph: &Graph, proposal: &Proposal) -> bool
     graph.rows.as_slice().len() + proposal.plan.gates.len() < NODE_LIMIT
 }
 
+// The graph after the first of the leftovers alone: it saves, so there are fewer ANDs.
+fn first_applied(alloc: Global, graph: &Graph, proposal: &Proposal) -> Result<Graph, AllocError>
+    requires sound { IsSound graph.now.rows proposal.now }
+    requires saves { SavesSome graph.now.rows graph.now.observed (replacement proposal.now) }
+    ensures { IfOk result (Follows graph.now 1) }
+{
+    if has_room(graph, proposal) {
+        applied(alloc, graph, proposal.borrow())
+    } else {
+        Err(AllocError)
+    }
+}
+
+// Whether a graph has fewer rows than another.
+fn is_smaller(next: &Graph, graph: &Graph) -> bool
+    ensures { result ≡ true → length next.now.rows + 1 ≤ length graph.now.rows }
+{
+    next.rows.as_slice().len() < graph.rows.as_slice().len()
+}
+
+// A smaller graph in place of one with leftovers: that after many of them, or after the first alone where what the many
+// save doesn't add up.
+fn smaller(
+    alloc: Global,
+    graph: &Graph,
+    uses: &Uses,
+    found: &[Proposal],
+) -> Result<Graph, AllocError>
+    requires uses { IsUsesOf uses.now graph.now }
+    requires some { 0 < length found.now }
+    requires ands { All (λ p. is_and (row_at graph.now.rows p.root) ≡ true) found.now }
+    requires saves { All (λ p. SavesSome graph.now.rows graph.now.observed (replacement p)) found.now }
+    requires sound { All (IsSound graph.now.rows) found.now }
+    ensures { IfOk result (Follows graph.now 1) }
+{
+    let marks = chosen(alloc, graph, uses, found)?;
+    let next = applied_together(alloc, graph, found, marks.as_slice())?;
+    let fewer = is_smaller(&next, graph);
+    if fewer {
+        Ok(next)
+    } else {
+        first_applied(alloc, graph, &found[0])
+    }
+}
+
 // A graph in place of one that is not closed; none where it is closed.
 fn checked<R: Threads + Sync, P: Proposer>(
     rt: &R,
@@ -53,13 +103,12 @@ fn checked<R: Threads + Sync, P: Proposer>(
     ensures some { IfOk result (λ next. IfSome next (Follows graph.now 1)) }
     ensures none { IfOk result (λ next. IfNone next (Closed graph.now.rows graph.now.observed (P.proposals proposer.now graph.now.rows))) }
 {
-    match check(rt, alloc, graph, proposer, lists, workers)? {
-        Some(proposal) if has_room(graph, &proposal) => {
-            Ok(Some(applied(alloc, graph, proposal.borrow())?))
-        }
-        Some(_) => Err(AllocError),
-        None => Ok(None),
+    let uses = Uses::new(alloc, graph)?;
+    let found = leftovers(rt, alloc, graph, &uses, proposer, lists, workers)?;
+    if found.len() == 0 {
+        return Ok(None);
     }
+    Ok(Some(smaller(alloc, graph, &uses, found.as_slice())?))
 }
 
 // The check of the given graph, with its lists.

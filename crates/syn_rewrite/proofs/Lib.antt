@@ -5,5 +5,4 @@ mod Parts
 mod Cuts
 mod Fitted
 mod Listed
-mod Rising
 mod Candidates

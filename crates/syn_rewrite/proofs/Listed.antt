@@ -1,7 +1,7 @@
 -- The listed cuts of a node but the last, and what is listed for a graph.
 use Rattle.std.proofs.Common.{◌≡◌, ℕ, ◌+◌, ◌-◌, ◌<◌, true, All, List, ◌∷◌, [], ◌++◌, length, get_or, inl, inr, sym, ap, ◌∙◌, subst, arith}
-use Rattle.std.proofs.lemmas.Bool.{cases_lt, leb-true}
-use Rattle.std.proofs.lemmas.List.{get_or_append_left, get_or_push, length_push}
+use Rattle.std.proofs.lemmas.Bool.{cases_lt}
+use Rattle.std.proofs.lemmas.List.{get_or_append_left, get_or_default, get_or_push, get_or-take, length-take-le, length_push}
 use Rattle.std.proofs.lemmas.List.Elements.{All-take}
 use Rattle.std.specs.Global.{Vec}
 use Rattle.syn_rows.specs.declared.Row.{Row}
@@ -11,13 +11,14 @@ use Rattle.syn_rows.proofs.Folds.{length-fold}
 use Rattle.syn_cuts.specs.Cuts.{listed_cuts, row_cuts}
 use Rattle.syn_cones.specs.Cones.{IsCut}
 use Rattle.syn_cuts.specs.Lists.{list_at}
+use Rattle.syn_cuts.specs.Laws.{IsListedCut}
 use Rattle.syn_cuts.proofs.Cutting.{listed_are_cuts}
+use Rattle.syn_cuts.proofs.Rising.{listed_cuts_rise}
 use Rattle.syn_netlist.specs.Frames.{frame_in}
 use Rattle.syn_netlist.specs.Lists.{sources}
 use Rattle.syn_graph.specs.declared.Graph.{Graph}
 use Rattle.syn_hashed.proofs.Orders.{hashed_in_order}
 use Rattle.syn_gain.proofs.Owning.{and_inside}
-use Rattle.syn_rewrite.proofs.Rising.{RisesBelow, listed_below, no_constants}
 use Rattle.syn_rewrite.specs.Prepared.{AreFunctionsOver, AreLeavesOf, HaveFunctions, cuts_of}
 
 -- the functions of one node more
@@ -42,23 +43,25 @@ within_lists lists rows node is lt = omega (arith, ap length is, listed_count ro
 -- the cuts of an AND but the last are at most four nodes that rise below it, and cuts of it
 pub listed_leaves : (graph : Graph) (node : ℕ) → is_and (row_at graph.rows node) ≡ true → All (AreLeavesOf graph.rows node) (cuts_of graph.rows node)
 listed_leaves graph node gate k d lt =
-    let rise = rising k d lt in
-    record { cut = cuts k d lt; rise = rise.0.0; below = rise.0.1; few = leb-true (length (get_or (cuts_of graph.rows node) k d)) 4 rise.1 }
+    subst (AreLeavesOf graph.rows node) (sym same) (record { cut = subst (λ c. IsCut graph.rows c node) same (cuts k d lt); rise = is.rising; below = is.below; few = is.few })
   where
     count : ℕ
     count = length (sources (frame_in graph.frame))
 
-    order : InOrder graph.rows
-    order = hashed_in_order count graph.rows graph.graph.hashed
-
-    inside : node < length graph.rows
-    inside = (and_inside count graph.rows graph.graph.hashed node gate).1
-
-    rising : All (RisesBelow 4 node) (cuts_of graph.rows node)
-    rising = listed_below 4 graph.rows order (no_constants count graph.rows graph.graph.hashed) node inside gate
+    at : (count < node) × (node < length graph.rows)
+    at = and_inside count graph.rows graph.graph.hashed node gate
 
     all : List (List ℕ)
     all = list_at (listed_cuts 4 graph.rows) node
 
+    low : k + 1 < length all
+    low = let short = length-take-le (length all - 1) all (omega arith) in omega (arith, lt, short)
+
+    same : get_or (cuts_of graph.rows node) k d ≡ get_or all k []
+    same = get_or-take (length all - 1) all k d (omega (arith, low)) ∙ get_or_default all k d [] (omega (arith, low))
+
+    is : IsListedCut 4 node (get_or all k [])
+    is = listed_cuts_rise 4 count graph.rows graph.graph.hashed node at.0 at.1 k low
+
     cuts : All (λ c. IsCut graph.rows c node) (cuts_of graph.rows node)
-    cuts = All-take (λ c. IsCut graph.rows c node) (length all - 1) all (listed_are_cuts 4 graph.rows order node inside)
+    cuts = All-take (λ c. IsCut graph.rows c node) (length all - 1) all (listed_are_cuts 4 graph.rows (hashed_in_order count graph.rows graph.graph.hashed) node at.1)

@@ -2,6 +2,7 @@
 #![tactic(auto)]
 
 mod functions;
+mod known_plans;
 mod laws;
 mod plans;
 mod prepared;

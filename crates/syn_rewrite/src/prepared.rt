@@ -10,10 +10,12 @@ ghost use Rattle.syn_rewrite.specs.Prepared.{AreFunctionsOver, HaveFunctions, Is
 ghost use Rattle.syn_rewrite.specs.Rewriting.{all_but_last};
 
 use crate::functions::functions_over;
+use crate::known_plans::KnownPlans;
 use std::alloc::{AllocError, Global};
 use std::thread::Threads;
 use syn_cuts::{Cut, CutLists, listed};
 use syn_graph::Graph;
+use syn_library::Prepared as Classes;
 use syn_rows::Row;
 
 /// The most leaves of a cut that is looked at.
@@ -26,6 +28,8 @@ pub struct Prepared {
     pub cuts: CutLists,
     /// The functions of an AND over its listed cuts but the last, in order.
     pub functions: Vec<Vec<u16>>,
+    /// The plans of these functions.
+    pub known: KnownPlans,
 }
 
 // All but the last.
@@ -79,6 +83,7 @@ fn all_functions(alloc: Global, graph: &Graph, cuts: &CutLists) -> Result<Vec<Ve
 pub(crate) fn prepare<R: Threads + Sync>(
     rt: &R,
     alloc: Global,
+    classes: &Classes,
     graph: &Graph,
     workers: u8,
 ) -> Result<Prepared, AllocError>
@@ -86,5 +91,10 @@ pub(crate) fn prepare<R: Threads + Sync>(
 {
     let cuts = listed(rt, alloc, graph, MOST_LEAVES, workers)?;
     let functions = all_functions(alloc, graph, &cuts)?;
-    Ok(Prepared { cuts, functions })
+    let known = KnownPlans::of(alloc, classes, functions.as_slice())?;
+    Ok(Prepared {
+        cuts,
+        functions,
+        known,
+    })
 }

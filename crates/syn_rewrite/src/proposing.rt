@@ -14,15 +14,16 @@ ghost use Rattle.syn_rewrite.specs.Functions.{IsFunctionOver};
 ghost use Rattle.syn_rewrite.specs.Prepared.{AreLeavesOf, ArePlansOf, IsPreparedFor};
 ghost use Rattle.syn_rewrite.specs.Rewriting.{cut_proposals, over, rewritings};
 
+use crate::known_plans::KnownPlans;
 use crate::plans::plans_of;
 use crate::prepared::{Prepared, cuts_of, prepare};
 use std::alloc::{AllocError, Global};
 use std::thread::Threads;
-use syn_gain::{Candidate, Proposal, Uses};
+use syn_gain::{Candidate, Proposal, Uses, owned};
 use syn_graph::Graph;
 use syn_library::Prepared as Classes;
 use syn_plan::Plan;
-use syn_pool::{Proposer, owned, saves};
+use syn_pool::{Proposer, saves};
 
 /// Proposes for each AND, cut by cut, the plans of its function over the cut.
 #[derive(Drop)]
@@ -116,6 +117,33 @@ fn first_over(
     Ok(None)
 }
 
+// The first of the plans of a node's function over leaves that saves: those that were made before, or else made here.
+fn first_of_function(
+    alloc: Global,
+    graph: &Graph,
+    uses: &Uses,
+    classes: &Classes,
+    known: &KnownPlans,
+    node: u32,
+    leaves: &[u32],
+    function: u16,
+) -> Result<Option<Proposal>, AllocError>
+    requires uses { IsUsesOf uses.now graph.now }
+    requires node { is_and (row_at graph.now.rows node) ≡ true }
+    requires leaves { AreLeavesOf graph.now.rows node leaves.now }
+    requires function { IsFunctionOver graph.now.rows leaves.now node function }
+    ensures first { IfOk result (λ found. IfSome found (λ p. IsFirst graph.now.rows graph.now.observed (cut_proposals graph.now.rows node leaves.now) (replacement p))) }
+    ensures root { IfOk result (λ found. IfSome found (λ p. p.root ≡ node)) }
+    ensures sound { IfOk result (λ found. IfSome found (IsSound graph.now.rows)) }
+    ensures none { IfOk result (λ found. IfNone found (All (SavesNothing graph.now.rows graph.now.observed) (cut_proposals graph.now.rows node leaves.now))) }
+{
+    if let Some(plans) = known.plans(function) {
+        return first_over(alloc, graph, uses, node, leaves, function, plans);
+    }
+    let plans = plans_of(classes, function);
+    first_over(alloc, graph, uses, node, leaves, function, plans.as_slice())
+}
+
 impl Proposer for CutPlans {
     type Lists = Prepared;
 
@@ -130,7 +158,7 @@ impl Proposer for CutPlans {
         graph: &Graph,
         workers: u8,
     ) -> Result<Prepared, AllocError> {
-        prepare(rt, alloc, graph, workers)
+        prepare(rt, alloc, &self.classes, graph, workers)
     }
 
     fn propose(
@@ -171,10 +199,17 @@ impl Proposer for CutPlans {
         let functions = &lists.functions[node as usize];
         for (i, cut) in cuts.iter().enumerate() {
             let function = functions[i];
-            let plans = plans_of(&self.classes, function);
             let leaves = cut.as_slice();
-            let plans = plans.as_slice();
-            if let Some(found) = first_over(alloc, graph, uses, node, leaves, function, plans)? {
+            if let Some(found) = first_of_function(
+                alloc,
+                graph,
+                uses,
+                &self.classes,
+                &lists.known,
+                node,
+                leaves,
+                function,
+            )? {
                 return Ok(Some(found));
             }
         }

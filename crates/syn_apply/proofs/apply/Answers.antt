@@ -13,13 +13,10 @@ use Rattle.syn_gain.specs.Replacements.{rows_after_by}
 use Rattle.syn_gain.proofs.Owning.{candidate_below}
 use Rattle.syn_apply.specs.Sound.{IsSoundBy}
 use Rattle.syn_apply.proofs.Compactable.{can_compact}
+use Rattle.syn_apply.proofs.Standing.{IfOk-map}
 use Rattle.syn_apply.proofs.Rooted.{root_is_and}
 use Rattle.syn_apply.proofs.Keeping.{kept_values, count_falls}
 use Rattle.syn_apply.proofs.apply.Goals as goal
-
-IfOk-map : {T E : Type 0} {P Q : T → Type 0} (r : Result T E) → ((x : T) → P x → Q x) → IfOk r P → IfOk r Q
-IfOk-map (Ok x) f h = f x h
-IfOk-map (Err e) f h = h
 
 candidate_is_and : (g : Graph) (p : Candidate) → IsSoundBy g.rows (replacement_of p) → is_and (row_at g.rows p.root) ≡ true
 candidate_is_and g p sound = root_is_and g (replacement_of p) (candidate_below p) sound

@@ -1,19 +1,20 @@
-use Rattle.std.proofs.Common.{sym, subst}
-use Rattle.syn_gain.specs.Proposals.{replacement, replacement_of}
-use Rattle.syn_pool.specs.Closing.{IsFirstFrom, SavesSome}
-use Rattle.syn_pool.proofs.Borrowed.{borrowed_is}
-use Rattle.syn_pool.proofs.Maps.{IfSome-at}
-use Rattle.syn_pool.proofs.Chains.{applied_follows}
+use Rattle.std.proofs.Common.{◌≡◌, true, All, List, sym, subst}
+use Rattle.syn_rows.specs.Rows.{row_at}
+use Rattle.syn_rows.specs.Reach.{is_and}
+use Rattle.syn_gain.specs.declared.proposals.Proposal.{Proposal}
+use Rattle.syn_gain.specs.Proposals.{replacement}
+use Rattle.syn_pool.specs.Closing.{SavesSome}
+use Rattle.syn_pool.specs.Sound.{IsSound}
 use Rattle.syn_pool.proofs.rounds.checked.Goals as goal
 
-pub returns-in_ok-applied-in-Some-clause-some : goal.returns-in_ok-applied-in-Some-clause-some
-returns-in_ok-applied-in-Some-clause-some g c =
-    let graph = c.args.graph.now in
-    let after = c.in_ok-applied-in-Some in
-    let proposal = c.in-Some.proposal in
-    let first =
-    IfSome-at (λ p. IsFirstFrom graph.rows graph.observed (g.P.Proposer.proposals c.args.proposer.now graph.rows) 0 (replacement p))
-    c.in_ok-proposal.field-0 proposal c.in-Some.is c.in_ok-proposal.ensures.first in
-    let same = borrowed_is c.borrow.result proposal c.borrow.ensures.root c.borrow.ensures.leaves c.borrow.ensures.plan in
-    applied_follows graph after.field-0 (replacement_of c.borrow.result) after.ensures.frame after.ensures.names after.ensures.values after.ensures.count
-    (subst (SavesSome graph.rows graph.observed) (sym same) first.first.saves)
+pub smaller-requires-clause-ands : goal.smaller-requires-clause-ands
+smaller-requires-clause-ands g c =
+    subst (λ (ps : List Proposal). All (λ p. is_and (row_at c.args.graph.now.rows p.root) ≡ true) ps) (sym c.as_slice.ensures.value) (λ k d lt. (c.in_ok-found.ensures.each k d lt).first.gate)
+
+pub smaller-requires-clause-saves : goal.smaller-requires-clause-saves
+smaller-requires-clause-saves g c =
+    subst (λ (ps : List Proposal). All (λ p. SavesSome c.args.graph.now.rows c.args.graph.now.observed (replacement p)) ps) (sym c.as_slice.ensures.value) (λ k d lt. (c.in_ok-found.ensures.each k d lt).first.first.saves)
+
+pub smaller-requires-clause-sound : goal.smaller-requires-clause-sound
+smaller-requires-clause-sound g c =
+    subst (λ (ps : List Proposal). All (IsSound c.args.graph.now.rows) ps) (sym c.as_slice.ensures.value) (λ k d lt. (c.in_ok-found.ensures.each k d lt).sound)

@@ -24,13 +24,13 @@ index-function-requires c =
     let have = functions_at c.args.lists.now rows node fs c.requires.lists (and_there c.args.graph.now node c.requires.node) c.requires.node c.index-functions.ensures in
     omega (arith, c.loop-i-test.true, functions_count rows node c.cuts_of-cuts.result.now fs.items are have, fs.ok.0)
 
-pub first_over-requires-clause-leaves : goal.first_over-requires-clause-leaves
-first_over-requires-clause-leaves c =
+pub first_of_function-requires-clause-leaves : goal.first_of_function-requires-clause-leaves
+first_of_function-requires-clause-leaves c =
     leaves_read c.args.graph.now c.args.node c.cuts_of-cuts.result.now c.loop-i.i c.index-cuts-i.result c.as_slice-leaves.result.now c.requires.node (c.cuts_of-cuts.ensures c.args.graph.now.rows c.requires.lists.cuts)
     c.loop-i-test.true c.index-cuts-i.is c.as_slice-leaves.ensures.value
 
-pub first_over-requires-clause-function : goal.first_over-requires-clause-function
-first_over-requires-clause-function c =
+pub first_of_function-requires-clause-function : goal.first_of_function-requires-clause-function
+first_of_function-requires-clause-function c =
     let rows = c.args.graph.now.rows in
     let node = c.args.node in
     let fs = c.index-functions.result.now in

@@ -3,8 +3,8 @@
 ghost use Rattle.std.specs.Prelude.{◌≡◌, ◌≤◌, length};
 ghost use Rattle.syn_gain.specs.Proposals.{replacement, replacement_of};
 
+use crate::{Candidate, Proposal};
 use arrayvec::ArrayVec;
-use syn_gain::{Candidate, Proposal};
 use syn_plan::Plan;
 
 // The same plan.

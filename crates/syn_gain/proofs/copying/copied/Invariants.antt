@@ -1,5 +1,5 @@
 use Rattle.std.proofs.Common.{◌≡◌, ◌++◌, drop}
-use Rattle.syn_pool.proofs.owning.copied.Given as goal
+use Rattle.syn_gain.proofs.copying.copied.Given as goal
 
 abbrev pub invariant-loop-gate : goal.invariant-loop-gate
 invariant-loop-gate l = l.gates.items ++ drop l.gate-index l.plan.gates.items ≡ l.plan.gates.items

@@ -1,0 +1,290 @@
+//! Many proposals applied together: the rows are made again from the sources up, with plans in place of the roots.
+
+ghost use Rattle.std.specs.Prelude.{◌≡◌, ℕ, ◌+◌, ◌&&◌, ◌++◌, ◌<◌, ◌≤◌, ◌∷◌, [], All, Bool, List, false, true, length, map, slice_index_or, IfNone, IfOk, IfSome, OnOk};
+ghost use Rattle.syn_rows.specs.declared.Lit.{Lit};
+ghost use Rattle.syn_rows.specs.declared.Row.{Row};
+ghost use Rattle.syn_rows.specs.declared.TheConstants.{NODE_LIMIT};
+ghost use Rattle.syn_rows.specs.Joining.{constant, lit_of};
+ghost use Rattle.syn_rows.specs.Reach.{is_and};
+ghost use Rattle.syn_rows.specs.Rows.{node_of, row_at};
+ghost use Rattle.syn_rows.specs.Values.{rows_function, value_in, values_of};
+ghost use Rattle.syn_hashed.specs.Growing.{IsAnd};
+ghost use Rattle.syn_hashed.specs.Hashed.{IsHashed};
+ghost use Rattle.syn_netlist.specs.Frames.{frame_in};
+ghost use Rattle.syn_plan.specs.Gates.{literal_value, values_after};
+ghost use Rattle.syn_gain.specs.declared.proposals.Proposal.{Proposal};
+ghost use Rattle.syn_gain.specs.Placing.{each_below};
+ghost use Rattle.syn_gain.specs.Proposals.{replacement};
+ghost use Rattle.syn_gain.specs.Replacements.{leaf_values};
+ghost use Rattle.syn_apply.specs.Remaking.{AllStand, HaveValues, IsGrown, SourcesStay, Stands, moved};
+ghost use Rattle.syn_apply.specs.Sound.{IsSoundBy};
+
+use smallvec::SmallVec;
+use std::alloc::{AllocError, Global};
+use syn_gain::{Proposal, literal_at, literal_for, node_at};
+use syn_graph::{Graph, copy_frame};
+use syn_hashed::HashedRows;
+use syn_plan::PLit;
+use syn_rows::{FALSE, Lit, NODE_LIMIT, Row};
+use syn_strash::finish;
+
+// How many literals of a plan stand inline.
+const INLINE_LITERALS: usize = 32;
+
+// The AND of two literals, where there is room for a row more.
+fn and(hashed: &mut HashedRows, a: Lit, b: Lit) -> Result<Lit, AllocError>
+    requires first { node_of a < length hashed.old.rows.items }
+    requires second { node_of b < length hashed.old.rows.items }
+    ensures sources { hashed.new.source_count ≡ hashed.old.source_count }
+    ensures grown { OnOk result (IsGrown hashed.old.rows.items hashed.new.rows.items) }
+    ensures there { IfOk result (λ l. node_of l < length hashed.new.rows.items) }
+    ensures value { IfOk result (λ l. IsAnd hashed.old.rows.items a b hashed.new.rows.items l) }
+{
+    if hashed.rows.len() + 1 < NODE_LIMIT {
+        hashed.and(a, b)
+    } else {
+        Err(AllocError)
+    }
+}
+
+// The literal that stands for an old one.
+fn moved(literals: &[Lit], lit: Lit) -> Lit
+    ensures { result ≡ moved literals.now lit }
+{
+    let plain = literal_at(literals, lit.node() as usize);
+    if lit.complemented() {
+        plain.not()
+    } else {
+        plain
+    }
+}
+
+// The literal of an AND of old nodes before it.
+fn joined(
+    hashed: &mut HashedRows,
+    rows: &[Row],
+    literals: &[Lit],
+    node: u32,
+    a: Lit,
+    b: Lit,
+) -> Result<Lit, AllocError>
+    requires hashed { IsHashed hashed.old.source_count rows.now }
+    requires row { row_at rows.now node ≡ Row.And a b }
+    requires node { node ≡ length literals.now }
+    requires standing { AllStand rows.now hashed.old.rows.items literals.now }
+    ensures sources { hashed.new.source_count ≡ hashed.old.source_count }
+    ensures grown { OnOk result (IsGrown hashed.old.rows.items hashed.new.rows.items) }
+    ensures stands { IfOk result (Stands rows.now hashed.new.rows.items node) }
+{
+    let first = moved(literals, a);
+    let second = moved(literals, b);
+    and(hashed, first, second)
+}
+
+// The literals of the constant and of a plan's leaves, of which there are so many.
+fn begin(
+    alloc: Global,
+    literals: &[Lit],
+    count: u8,
+    leaves: &[u32],
+) -> Result<SmallVec<Lit, INLINE_LITERALS>, AllocError>
+    ensures { IfOk result (λ v. v.items ≡ constant ∷ each_below count (λ i. slice_index_or literals.now (slice_index_or leaves.now i 0) constant)) }
+{
+    let mut begun = SmallVec::new(alloc);
+    begun.push(FALSE)?;
+    for i in 0..count {
+        let leaf = node_at(leaves, i as usize);
+        begun.push(literal_at(literals, leaf as usize))?;
+    }
+    Ok(begun)
+}
+
+// One gate of a plan.
+fn join_gate(
+    hashed: &mut HashedRows,
+    gate: (PLit, PLit),
+    literals: &mut SmallVec<Lit, INLINE_LITERALS>,
+) -> Result<(), AllocError>
+    requires there { (i : ℕ) → node_of (slice_index_or literals.old.items i constant) < length hashed.old.rows.items }
+    ensures sources { hashed.new.source_count ≡ hashed.old.source_count }
+    ensures grown { OnOk result (IsGrown hashed.old.rows.items hashed.new.rows.items) }
+    ensures there { OnOk result ((i : ℕ) → node_of (slice_index_or literals.new.items i constant) < length hashed.new.rows.items) }
+    ensures values { OnOk result ((values : (ℕ → Bool) → List Bool) → HaveValues hashed.old.rows.items literals.old.items values → HaveValues hashed.new.rows.items literals.new.items (λ given. values given ++ (literal_value (values given) gate.0 && literal_value (values given) gate.1) ∷ [])) }
+{
+    let x = literal_for(literals.as_slice(), gate.0);
+    let y = literal_for(literals.as_slice(), gate.1);
+    let literal = and(hashed, x, y)?;
+    literals.push(literal)?;
+    Ok(())
+}
+
+// The gates of a plan in order.
+fn join_gates(
+    hashed: &mut HashedRows,
+    gates: &[(PLit, PLit)],
+    literals: &mut SmallVec<Lit, INLINE_LITERALS>,
+) -> Result<(), AllocError>
+    requires there { (i : ℕ) → node_of (slice_index_or literals.old.items i constant) < length hashed.old.rows.items }
+    ensures sources { hashed.new.source_count ≡ hashed.old.source_count }
+    ensures grown { OnOk result (IsGrown hashed.old.rows.items hashed.new.rows.items) }
+    ensures values { OnOk result ((values : (ℕ → Bool) → List Bool) → HaveValues hashed.old.rows.items literals.old.items values → HaveValues hashed.new.rows.items literals.new.items (λ given. values_after (values given) gates.now)) }
+{
+    let Some((gate, rest)) = gates.split_first() else {
+        return Ok(());
+    };
+    join_gate(hashed, *gate, literals)?;
+    join_gates(hashed, rest, literals)
+}
+
+// The literal of a plan in place of an old node, over the literals of the nodes before it.
+fn planned(
+    alloc: Global,
+    hashed: &mut HashedRows,
+    rows: &[Row],
+    literals: &[Lit],
+    proposal: &Proposal,
+) -> Result<Lit, AllocError>
+    requires hashed { IsHashed hashed.old.source_count rows.now }
+    requires node { proposal.now.root ≡ length literals.now }
+    requires sound { IsSoundBy rows.now (replacement proposal.now) }
+    requires standing { AllStand rows.now hashed.old.rows.items literals.now }
+    ensures sources { hashed.new.source_count ≡ hashed.old.source_count }
+    ensures grown { OnOk result (IsGrown hashed.old.rows.items hashed.new.rows.items) }
+    ensures stands { IfOk result (Stands rows.now hashed.new.rows.items proposal.now.root) }
+{
+    let plan = &proposal.plan;
+    let mut placed = begin(alloc, literals, plan.leaves, proposal.leaves.as_slice())?;
+    join_gates(hashed, plan.gates.as_slice(), &mut placed)?;
+    Ok(literal_for(placed.as_slice(), plan.out))
+}
+
+// Whether the proposal at a place is taken and is one for this node.
+fn is_taken(proposals: &[Proposal], taken: &[bool], place: usize, node: u32) -> bool
+    ensures there { result ≡ true → place < length proposals.now }
+    ensures root { result ≡ true → (d : Proposal) → (slice_index_or proposals.now place d).root ≡ node }
+{
+    if place < proposals.len() && place < taken.len() {
+        taken[place] && proposals[place].root == node
+    } else {
+        false
+    }
+}
+
+// The place after those before a node and at it.
+fn place_after(proposals: &[Proposal], place: usize, node: u32) -> usize {
+    let mut place = place;
+    while place < proposals.len() && proposals[place].root <= node {
+        place += 1;
+    }
+    place
+}
+
+// The fan-ins of an AND.
+fn fan_ins(row: Row) -> Option<(Lit, Lit)>
+    ensures some { IfSome result (λ both. row ≡ Row.And both.0 both.1) }
+    ensures none { IfNone result (is_and row ≡ false) }
+{
+    match row {
+        Row::And(a, b) => Some((a, b)),
+        Row::Free | Row::Source | Row::Alias(_) => None,
+    }
+}
+
+// The literal of one node: a source's own, that of a taken proposal's plan, or that of its AND.
+fn made(
+    alloc: Global,
+    hashed: &mut HashedRows,
+    rows: &[Row],
+    literals: &[Lit],
+    node: u32,
+    proposals: &[Proposal],
+    taken: &[bool],
+    place: usize,
+) -> Result<Lit, AllocError>
+    requires hashed { IsHashed hashed.old.source_count rows.now }
+    requires few { length rows.now < NODE_LIMIT }
+    requires inside { node < length rows.now }
+    requires node { node ≡ length literals.now }
+    requires standing { AllStand rows.now hashed.old.rows.items literals.now }
+    requires sound { All (λ p. IsSoundBy rows.now (replacement p)) proposals.now }
+    ensures sources { hashed.new.source_count ≡ hashed.old.source_count }
+    ensures grown { OnOk result (IsGrown hashed.old.rows.items hashed.new.rows.items) }
+    ensures stands { IfOk result (Stands rows.now hashed.new.rows.items node) }
+    ensures source { IfOk result (λ l. node < hashed.old.source_count + 1 → l ≡ lit_of node) }
+{
+    match fan_ins(rows[node as usize]) {
+        None => Ok(Lit::of(node, false)),
+        Some((a, b)) => {
+            let here = is_taken(proposals, taken, place, node);
+            if here {
+                planned(alloc, hashed, rows, literals, &proposals[place])
+            } else {
+                joined(hashed, rows, literals, node, a, b)
+            }
+        }
+    }
+}
+
+// The literals of all nodes, with the plans of the taken proposals in place of their roots.
+fn remade(
+    alloc: Global,
+    hashed: &mut HashedRows,
+    rows: &[Row],
+    proposals: &[Proposal],
+    taken: &[bool],
+) -> Result<Vec<Lit>, AllocError>
+    requires hashed { IsHashed hashed.old.source_count rows.now }
+    requires few { length rows.now < NODE_LIMIT }
+    requires sound { All (λ p. IsSoundBy rows.now (replacement p)) proposals.now }
+    ensures sources { hashed.new.source_count ≡ hashed.old.source_count }
+    ensures all { IfOk result (λ v. length v.items ≡ length rows.now) }
+    ensures standing { IfOk result (λ v. AllStand rows.now hashed.new.rows.items v.items) }
+    ensures stay { IfOk result (λ v. SourcesStay hashed.old.source_count v.items) }
+{
+    let mut literals = Vec::with_capacity(alloc, rows.len())?;
+    let mut place = 0;
+    for node in 0..rows.len() as u32 {
+        let before = literals.as_slice();
+        let literal = made(alloc, hashed, rows, before, node, proposals, taken, place)?;
+        literals.push(literal)?;
+        place = place_after(proposals, place, node);
+    }
+    Ok(literals)
+}
+
+// The literals that stand for old ones.
+fn all_moved(alloc: Global, literals: &[Lit], lits: &[Lit]) -> Result<Vec<Lit>, AllocError>
+    ensures { IfOk result (λ v. v.items ≡ map (moved literals.now) lits.now) }
+{
+    let mut found = Vec::with_capacity(alloc, lits.len())?;
+    for lit in lits {
+        found.push(moved(literals, *lit))?;
+    }
+    Ok(found)
+}
+
+/// The graph after the taken ones of a list of sound proposals, all judged on the graph as it is: the same frame and the
+/// same values of the observed signals. Its rows are made again from the sources up, with plans in place of the roots, so
+/// that any number of proposals costs one sweep. Nothing is said of the number of ANDs, which the caller compares. A
+/// proposal that stands behind one for a greater node isn't applied. The only error is want of memory.
+pub fn applied_together(
+    alloc: Global,
+    graph: &Graph,
+    proposals: &[Proposal],
+    taken: &[bool],
+) -> Result<Graph, AllocError>
+    requires sound { All (λ p. IsSoundBy graph.now.rows (replacement p)) proposals.now }
+    ensures frame { IfOk result (λ g. frame_in g.frame ≡ frame_in graph.now.frame) }
+    ensures names { IfOk result (λ g. g.frame.names ≡ graph.now.frame.names) }
+    ensures values { IfOk result (λ g. (bits : List Bool) → rows_function g.rows g.observed bits ≡ rows_function graph.now.rows graph.now.observed bits) }
+{
+    let mut hashed = HashedRows::new(alloc, graph.source_count as usize)?;
+    let rows = graph.rows.as_slice();
+    let literals = remade(alloc, &mut hashed, rows, proposals, taken)?;
+    let observed = all_moved(alloc, literals.as_slice(), graph.observed.as_slice())?;
+    if hashed.rows.len() >= NODE_LIMIT {
+        return Err(AllocError);
+    }
+    let frame = copy_frame(alloc, &graph.frame)?;
+    finish(alloc, frame, hashed, observed.as_slice())
+}

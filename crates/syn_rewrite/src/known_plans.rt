@@ -1,0 +1,126 @@
+//! The plans of the functions that a graph's cuts have, each fitted once.
+
+ghost use Rattle.std.specs.Prelude.{◌≡◌, All, IfOk, IfSome, length, map};
+ghost use Rattle.syn_plan.specs.Naming.{built_of};
+ghost use Rattle.syn_library.specs.Fitting.{Computes};
+ghost use Rattle.syn_library.specs.Library.{NamesOwn};
+ghost use Rattle.syn_rewrite.specs.Prepared.{ArePlansOf};
+ghost use Rattle.syn_rewrite.specs.Rewriting.{fitted_plans};
+
+use crate::plans::plans_of;
+use arrayvec::ArrayVec;
+use std::alloc::{AllocError, Global};
+use syn_library::Prepared as Classes;
+use syn_plan::Plan;
+
+// The number of functions of four variables.
+const FUNCTIONS: usize = 65536;
+
+// The most functions whose plans are kept; those of others are fitted where they are wanted.
+const MOST_KEPT: usize = 8192;
+
+/// The plans of one function.
+#[derive(Drop)]
+struct FunctionPlans {
+    function: u16,
+    plans: ArrayVec<Plan, 4>,
+    ghost built: { map built_of plans.items ≡ fitted_plans function },
+    ghost leaves: { All (λ p. p.leaves ≡ 4) plans.items },
+    ghost values: { All (λ p. Computes p function) plans.items },
+    ghost names: { All (λ p. NamesOwn p function) plans.items },
+}
+
+impl FunctionPlans {
+    // The plans of a function that is this one.
+    #[inline]
+    fn plans(&self, function: u16) -> &[Plan]
+        requires { self.now.function ≡ function }
+        ensures { ArePlansOf function result.now }
+    {
+        let _ = function;
+        self.plans.as_slice()
+    }
+}
+
+/// The plans of the functions that were met, and where in the list those of a function stand.
+#[derive(Drop)]
+pub struct KnownPlans {
+    lists: Vec<FunctionPlans>,
+    places: Vec<u32>,
+}
+
+// So many places, none of them noted.
+fn no_places(alloc: Global, count: usize) -> Result<Vec<u32>, AllocError> {
+    vec![in alloc; 0; count]
+}
+
+// The plans of a function, fitted.
+fn fit_all(classes: &Classes, function: u16) -> FunctionPlans {
+    let plans = plans_of(classes, function);
+    FunctionPlans { function, plans }
+}
+
+impl KnownPlans {
+    // No plans.
+    fn new(alloc: Global) -> Result<KnownPlans, AllocError> {
+        Ok(KnownPlans {
+            lists: Vec::new(alloc),
+            places: no_places(alloc, FUNCTIONS)?,
+        })
+    }
+
+    /// The plans of a function, where they were made.
+    #[inline]
+    pub(crate) fn plans(&self, function: u16) -> Option<&[Plan]>
+        ensures { IfSome result (λ plans. ArePlansOf function plans.now) }
+    {
+        let at = function as usize;
+        if at >= self.places.len() {
+            return None;
+        }
+        let place = self.places[at] as usize;
+        if place >= self.lists.len() {
+            return None;
+        }
+        let found = &self.lists[place];
+        if found.function == function {
+            Some(found.plans(function))
+        } else {
+            None
+        }
+    }
+
+    // Makes the plans of a function unless they are there.
+    fn meet(&mut self, classes: &Classes, function: u16) -> Result<(), AllocError> {
+        if self.plans(function).is_some() {
+            return Ok(());
+        }
+        let at = function as usize;
+        if at < self.places.len() && self.lists.len() < MOST_KEPT {
+            self.places[at] = self.lists.len() as u32;
+            self.lists.push(fit_all(classes, function))?;
+        }
+        Ok(())
+    }
+
+    // Makes the plans of these functions.
+    fn meet_all(&mut self, classes: &Classes, functions: &[u16]) -> Result<(), AllocError> {
+        for function in functions {
+            self.meet(classes, *function)?;
+        }
+        Ok(())
+    }
+
+    /// The plans of all functions of these lists. The only error is want of memory.
+    pub(crate) fn of(
+        alloc: Global,
+        classes: &Classes,
+        functions: &[Vec<u16>],
+    ) -> Result<KnownPlans, AllocError> {
+        let mut known = KnownPlans::new(alloc)?;
+        for list in functions {
+            known.meet_all(classes, list.as_slice())?;
+        }
+        Ok(known)
+    }
+}
