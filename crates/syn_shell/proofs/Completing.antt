@@ -17,7 +17,7 @@ use Rattle.syn_shell.specs.declared.refusal.Refusal.TheVariants.{Words, Script, 
 use Rattle.syn_shell.specs.Networks.{Network}
 use Rattle.syn_shell.specs.Outside.{State, FileIs, LineIsLong, GaveLine, script_limit}
 use Rattle.syn_shell.specs.Lines.{refusal_status}
-use Rattle.syn_shell.specs.Steps.{Accepted, Denied, IsFaulty, Kind, Reading, Printing, Writing, Making, kind_of, file_limit, MakingRefused, PrintRefused, ReadRefused, WriteRefused}
+use Rattle.syn_shell.specs.Steps.{Accepted, Denied, IsFaulty, Kind, Reading, Generating, Printing, Writing, Making, kind_of, file_limit, GeneratingRefused, MakingRefused, PrintRefused, ReadRefused, WriteRefused}
 use Rattle.syn_shell.specs.Scripts.{Refused, RunsCommands, RunsScript, ScriptRefused, nameless}
 use Rattle.syn_shell.specs.LineMode.{LineRefused, NoFurther, RunsLines, listed, most_lines}
 use Rattle.syn_shell.specs.Usage.{Usage, OneScript, EachLine, Faulty, usage_of}
@@ -100,8 +100,13 @@ making_fine m NoNetwork needs why = absurd (there_is_one m needs why)
 making_fine m NoMemory needs why = no_memory
 making_fine m other needs why = absurd why
 
+generating_fine : (cause : Refusal) → GeneratingRefused cause → IsFine (refusal_status cause)
+generating_fine NoMemory why = no_memory
+generating_fine other why = absurd why
+
 denied_fine : NotBoth → (kind : Kind) (before after : State) (cause : Refusal) → Needs kind before → Denied kind before cause after → IsFine (refusal_status cause)
 denied_fine not_both (Reading name) before after cause needs (stays, why, stand, same) = read_fine not_both name before.files after.files cause needs why
+denied_fine not_both (Generating seed size) before after cause needs (stays, why, stand, same) = generating_fine cause why
 denied_fine not_both Printing before after cause needs (stays, why, same) = print_fine before.network before.sink after.sink cause needs why
 denied_fine not_both (Writing name) before after cause needs (stays, why, same) = write_fine before.network name before.files after.files cause needs why
 denied_fine not_both Making before after cause needs (stays, why, stand, same) = making_fine before.network cause needs why

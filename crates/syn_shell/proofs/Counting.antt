@@ -6,7 +6,7 @@ use Rattle.syn_words.specs.declared.Command.{Command}
 use Rattle.syn_shell.specs.declared.refusal.Refusal.{Refusal}
 use Rattle.syn_shell.specs.declared.refusal.Refusal.TheVariants.{Words, Script, Read, FileTooLong, LineTooLong, NoNetwork, GetFailed, PutFailed, LineFailed, SinkFailed, NoMemory}
 use Rattle.syn_shell.specs.Outside.{State}
-use Rattle.syn_shell.specs.Steps.{Accepted, Denied, Kind, Reading, Printing, Writing, Making, kind_of, ReadRefused, MakingRefused, PrintRefused, WriteRefused}
+use Rattle.syn_shell.specs.Steps.{Accepted, Denied, Kind, Reading, Generating, Printing, Writing, Making, kind_of, ReadRefused, GeneratingRefused, MakingRefused, PrintRefused, WriteRefused}
 use Rattle.syn_shell.specs.Scripts.{Refused, RunsCommands, RunsScript, ScriptRefused, SinkGaveUp, Announced, nameless}
 use Rattle.syn_shell.specs.LineMode.{EndsBySink, GoesOn, LineRefused, NoFurther, RunsLines, listed}
 use Rattle.syn_shell.specs.Usage.{Usage, OneScript, EachLine, Faulty, usage_of}
@@ -72,16 +72,22 @@ making_counted m name NoNetwork d d' s s' why e f = record { files = disk_same d
 making_counted m name NoMemory d d' s s' why e f = record { files = disk_same d d' e; sink = sink_same s s' f; lines = refl }
 making_counted m name other d d' s s' why e f = absurd why
 
+generating_counted : (name : List ℕ) (cause : Refusal) (d d' : Disk) (s s' : Screen) → GeneratingRefused cause → d' ≡ d → s' ≡ s → Counted (record { cause = cause; name = name } ∷ []) d s d' s'
+generating_counted name NoMemory d d' s s' why e f = record { files = disk_same d d' e; sink = sink_same s s' f; lines = refl }
+generating_counted name other d d' s s' why e f = absurd why
+
 -- a command that is refused, and one that is accepted, by its kind
 
 refused_counted : (kind : Kind) (name : List ℕ) (cause : Refusal) (before after : State) → Denied kind before cause after → Counted (record { cause = cause; name = name } ∷ []) before.files before.sink after.files after.sink
 refused_counted (Reading file) name cause before after (stays, why, stand, e) = read_counted file name cause before.files after.files before.sink after.sink why stand.later e
+refused_counted (Generating seed size) name cause before after (stays, why, e, f) = generating_counted name cause before.files after.files before.sink after.sink why e f
 refused_counted Printing name cause before after (stays, why, e) = print_counted before.network name cause before.files after.files before.sink after.sink why e
 refused_counted (Writing file) name cause before after (stays, why, e) = write_counted before.network file name cause before.files after.files before.sink after.sink why e
 refused_counted Making name cause before after (stays, why, e, f) = making_counted before.network name cause before.files after.files before.sink after.sink why e f
 
 accepted_counted : (kind : Kind) (c : Command) (before after : State) → Accepted kind c before after → Counted [] before.files before.sink after.files after.sink
 accepted_counted (Reading file) c before after (net, is, read, stand, e) = record { files = covers_none before.files.faults after.files.faults stand.later; sink = sink_same before.sink after.sink e; lines = refl }
+accepted_counted (Generating seed size) c before after (net, is, graph, e, f) = record { files = disk_same before.files after.files e; sink = sink_same before.sink after.sink f; lines = refl }
 accepted_counted Printing c before after (net, line, some, stays, e, text, took) = record { files = disk_same before.files after.files e; sink = covers_none before.sink.faults after.sink.faults took.later; lines = refl }
 accepted_counted (Writing file) c before after (net, some, stays, bytes, reads, others, e) = record { files = covers_none before.files.faults after.files.faults others.later; sink = sink_same before.sink after.sink e; lines = refl }
 accepted_counted Making c before after (made, e, f) = record { files = disk_same before.files after.files e; sink = sink_same before.sink after.sink f; lines = refl }

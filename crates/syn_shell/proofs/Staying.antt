@@ -1,4 +1,4 @@
--- The netlist of a graph that is hashed, balanced or rewritten is what these commands may make of the one before.
+-- The netlist of a graph that is hashed, balanced, rewritten or refactored is what these commands may make of the one before.
 use Rattle.std.proofs.Common.{◌≡◌, ℕ, ◌+◌, ◌<◌, ◌≤◌, Bool, true, List, map, length, refl, sym, ap, ap₂, ◌∙◌, subst, arith}
 use Rattle.std.proofs.lemmas.List.{length-drop}
 use Rattle.syn_rows.specs.declared.Lit.{Lit}
@@ -14,8 +14,8 @@ use Rattle.syn_shapes.specs.Spelling.{NetworkOfGraph, NetworkSpells, network}
 use Rattle.syn_hashed.specs.Growing.{level_by}
 use Rattle.syn_shell.specs.Networks.{graph_network}
 use Rattle.syn_pool.specs.Closing.{Closed}
-use Rattle.syn_rewrite.specs.Rewriting.{rewritings}
-use Rattle.syn_shell.specs.Steps.{IsBalanced, IsRemade, IsRewritten, level_at}
+use Rattle.syn_gain.specs.Replacements.{Replacement}
+use Rattle.syn_shell.specs.Steps.{IsBalanced, IsClosedFor, IsRemade, level_at}
 
 has_same_function : (m : Netlist) (F G : List Bool → List Bool) → ((bits : List Bool) → G bits ≡ F bits) → HasFunction m G → HasFunction m F
 has_same_function m F G same h = record { total = h.total; value = λ v c. h.value v c ∙ same (map v (sources m.frame)) }
@@ -90,14 +90,14 @@ pub stays_balanced : NetworkOfGraph → GraphHasFunction → SameFromFunction �
 stays_balanced spells has_function same_meaning frame rows lits clocks once graph =
     rebalanced_in spells has_function same_meaning frame rows rows lits lits clocks once graph graph (λ bits. refl) (omega arith) (λ i lt. omega arith)
 
--- rows and literals of the same function, no more of them, on which no proposal of rewriting saves
-rewritten_in : NetworkOfGraph → GraphHasFunction → SameFromFunction → (frame : Frame) (rows new_rows : List Row) (lits new_lits : List Lit) → distinct frame.clocks ≡ true → distinct (sources frame) ≡ true
+-- rows and literals of the same function, no more of them, on which no proposal saves
+closed_in : NetworkOfGraph → GraphHasFunction → SameFromFunction → (proposals : List Row → ℕ → List Replacement) (frame : Frame) (rows new_rows : List Row) (lits new_lits : List Lit) → distinct frame.clocks ≡ true → distinct (sources frame) ≡ true
     → IsGraph frame rows lits → IsGraph frame new_rows new_lits → ((bits : List Bool) → rows_function new_rows new_lits bits ≡ rows_function rows lits bits) → length new_rows ≤ length rows
-    → Closed new_rows new_lits (rewritings new_rows) → IsRewritten (graph_network (network frame rows lits)) (graph_network (network frame new_rows new_lits))
-rewritten_in spells has_function same_meaning frame rows new_rows lits new_lits clocks once graph new_graph same fewer closed = record {
+    → Closed new_rows new_lits (proposals new_rows) → IsClosedFor proposals (graph_network (network frame rows lits)) (graph_network (network frame new_rows new_lits))
+closed_in spells has_function same_meaning proposals frame rows new_rows lits new_lits clocks once graph new_graph same fewer closed = record {
   remade = remade_in spells has_function same_meaning frame rows new_rows lits new_lits clocks once graph new_graph same fewer;
-  closed = subst (λ (rs : List Row). Closed rs (observed_of new) (rewritings rs)) (sym t.same_rows)
-      (subst (λ (ls : List Lit). Closed new_rows ls (rewritings new_rows)) (sym t.same_lits) closed);
+  closed = subst (λ (rs : List Row). Closed rs (observed_of new) (proposals rs)) (sym t.same_rows)
+      (subst (λ (ls : List Lit). Closed new_rows ls (proposals new_rows)) (sym t.same_lits) closed);
 }
   where
     new : Netlist
@@ -107,9 +107,9 @@ rewritten_in spells has_function same_meaning frame rows new_rows lits new_lits 
     t = spells frame new_rows new_lits clocks once new_graph
 
 -- the same, of a frame that is known to be the same
-pub rewritten : NetworkOfGraph → GraphHasFunction → SameFromFunction → (frame new_frame : Frame) (rows new_rows : List Row) (lits new_lits : List Lit) → new_frame ≡ frame → distinct frame.clocks ≡ true → distinct (sources frame) ≡ true
+pub closed_for : NetworkOfGraph → GraphHasFunction → SameFromFunction → (proposals : List Row → ℕ → List Replacement) (frame new_frame : Frame) (rows new_rows : List Row) (lits new_lits : List Lit) → new_frame ≡ frame → distinct frame.clocks ≡ true → distinct (sources frame) ≡ true
     → IsGraph frame rows lits → IsGraph new_frame new_rows new_lits → ((bits : List Bool) → rows_function new_rows new_lits bits ≡ rows_function rows lits bits) → length new_rows ≤ length rows
-    → Closed new_rows new_lits (rewritings new_rows) → IsRewritten (graph_network (network frame rows lits)) (graph_network (network new_frame new_rows new_lits))
-rewritten spells has_function same_meaning frame new_frame rows new_rows lits new_lits same_frame clocks once graph new_graph same fewer closed =
-    subst (λ (f : Frame). IsGraph f new_rows new_lits → IsRewritten (graph_network (network frame rows lits)) (graph_network (network f new_rows new_lits))) (sym same_frame)
-    (λ g. rewritten_in spells has_function same_meaning frame rows new_rows lits new_lits clocks once graph g same fewer closed) new_graph
+    → Closed new_rows new_lits (proposals new_rows) → IsClosedFor proposals (graph_network (network frame rows lits)) (graph_network (network new_frame new_rows new_lits))
+closed_for spells has_function same_meaning proposals frame new_frame rows new_rows lits new_lits same_frame clocks once graph new_graph same fewer closed =
+    subst (λ (f : Frame). IsGraph f new_rows new_lits → IsClosedFor proposals (graph_network (network frame rows lits)) (graph_network (network f new_rows new_lits))) (sym same_frame)
+    (λ g. closed_in spells has_function same_meaning proposals frame rows new_rows lits new_lits clocks once graph g same fewer closed) new_graph

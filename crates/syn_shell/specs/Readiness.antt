@@ -8,7 +8,7 @@ use Rattle.syn_reader.specs.Reading.{Reads}
 use Rattle.syn_words.specs.declared.Command.{Command}
 use Rattle.syn_words.specs.Scripts.{IsScript}
 use Rattle.syn_shell.specs.Outside.{State, script_limit}
-use Rattle.syn_shell.specs.Steps.{Kind, Reading, Printing, Writing, Making, kind_of, file_limit}
+use Rattle.syn_shell.specs.Steps.{Kind, Reading, Generating, Printing, Writing, Making, kind_of, file_limit}
 use Rattle.syn_shell.specs.Scripts.{Refused, RunsCommands, RunsScript}
 use Rattle.syn_shell.specs.LineMode.{RunsLines, most_lines}
 use Rattle.syn_shell.specs.Usage.{Usage, OneScript, EachLine, Faulty, usage_of}
@@ -19,9 +19,10 @@ use Rattle.syn_shell.specs.Runs.{Ran, RunsUsage, RunsWords}
 abbrev pub IsReadable : List ℕ → Disk → Type 0
 IsReadable name files = IsSomeAnd files.told (λ list. IsSomeAnd (file_at name list) (λ bytes. (length bytes ≤ file_limit) × (net : Netlist) × Reads bytes net × Within net))
 
--- What a command needs, by its kind: its file, or a network.
+-- What a command needs, by its kind: its file, nothing, or a network.
 abbrev pub Needs : Kind → State → Type 0
 Needs (Reading name) before = IsReadable name before.files
+Needs (Generating seed size) before = ⊤
 Needs Printing before = IsSome before.network
 Needs (Writing name) before = IsSome before.network
 Needs Making before = IsSome before.network

@@ -1,6 +1,7 @@
--- What each command does, accepted or refused: a relation between the network, the files and the sink before and after it. There are four kinds of commands: those that read a file, that print, that write a file, and that make the network anew.
+-- What each command does, accepted or refused: a relation between the network, the files and the sink before and after it. There are five kinds of commands: those that read a file, that generate a netlist, that print, that write a file, and that make the network anew.
 use Rattle.std.specs.Prelude.{◌≡◌, ℕ, ◌≤◌, ◌<◌, Bool, true, false, List, length, Option, Some, None, IfSome, IsSome, IsSomeAnd, Result, Ok, Err, ⊤}
 use Rattle.syn_io.specs.Outside.{Rose, file_at, Disk, Screen}
+use Rattle.syn_rows.specs.declared.Row.{Row}
 use Rattle.syn_rows.specs.Rows.{node_of}
 use Rattle.syn_rows.specs.Levels.{level_in, levels_of}
 use Rattle.syn_netlist.specs.Lists.{Netlist}
@@ -10,6 +11,9 @@ use Rattle.syn_shapes.specs.GraphShape.{GraphShape, and_tables, observed_of, row
 use Rattle.syn_shapes.specs.Graphs.{lit_at}
 use Rattle.syn_shapes.specs.Printed.{printed}
 use Rattle.syn_pool.specs.Closing.{Closed}
+use Rattle.syn_gain.specs.Replacements.{Replacement}
+use Rattle.syn_gen.specs.Generated.{generated}
+use Rattle.syn_refactor.specs.Refactoring.{refactorings}
 use Rattle.syn_rewrite.specs.Rewriting.{rewritings}
 use Rattle.syn_words.specs.declared.Command.{Command}
 use Rattle.syn_words.specs.declared.Command.TheVariants as commands
@@ -100,16 +104,17 @@ pub record IsBalanced (old new : Network) : Type 0 where
   pub remade : IsRemade old new
   pub levels : NoHigherBy old.mapped old.netlist new.netlist
 
--- What rewriting makes of the network: it is remade, and no proposal of rewriting for any of its ANDs saves one, by the rows that it spells.
-pub record IsRewritten (old new : Network) : Type 0 where
+-- What rewriting and refactoring make of the network, each for its proposals: it is remade, and no proposal for any of its ANDs saves one, by the rows that it spells.
+pub record IsClosedFor (proposals : List Row → ℕ → List Replacement) (old new : Network) : Type 0 where
   pub remade : IsRemade old new
-  pub closed : Closed (rows_of new.netlist) (observed_of new.netlist) (rewritings (rows_of new.netlist))
+  pub closed : Closed (rows_of new.netlist) (observed_of new.netlist) (proposals (rows_of new.netlist))
 
 -- What a command makes of a network. One that makes none leaves it.
 abbrev pub Makes : Command → Network → Network → Type 0
 Makes commands.Strash old new = IsRemade old new
 Makes commands.Balance old new = IsBalanced old new
-Makes (commands.Rewrite zero workers) old new = IsRewritten old new
+Makes (commands.Rewrite zero workers) old new = IsClosedFor rewritings old new
+Makes (commands.Refactor zero workers) old new = IsClosedFor refactorings old new
 Makes other old new = new ≡ old
 
 -- There is a network, and the command makes another of it.
@@ -122,19 +127,26 @@ MakingRefused m NoNetwork = m ≡ None
 MakingRefused m NoMemory = ⊤
 MakingRefused m other = ⊥
 
+-- Why a netlist is not generated.
+abbrev pub GeneratingRefused : Refusal → Type 0
+GeneratingRefused NoMemory = ⊤
+GeneratingRefused other = ⊥
+
 -- The network stays, whatever becomes of the files and of the sink.
 abbrev pub NetworkStays : State → State → Type 0
 NetworkStays before after = after.network ≡ before.network
 
--- The kinds of commands: one that reads a file, prints, writes a file, or makes the network anew.
+-- The kinds of commands: one that reads a file, generates a netlist, prints, writes a file, or makes the network anew.
 pub data Kind : Type 0 where
   Reading : List ℕ → Kind
+  Generating : ℕ → ℕ → Kind
   Printing : Kind
   Writing : List ℕ → Kind
   Making : Kind
 
 abbrev pub kind_of : Command → Kind
 kind_of (commands.Read name) = Reading name
+kind_of (commands.Generate seed size) = Generating seed size
 kind_of commands.Stats = Printing
 kind_of (commands.Write name) = Writing name
 kind_of other = Making
@@ -143,6 +155,8 @@ kind_of other = Making
 abbrev pub Accepted : Kind → Command → State → State → Type 0
 Accepted (Reading name) command before after =
     (net : Netlist) × (after.network ≡ Some (graph_network net)) × IsReadAs name before.files net × FilesStand before.files after.files × (after.sink ≡ before.sink)
+Accepted (Generating seed size) command before after =
+    (net : Netlist) × (after.network ≡ Some (graph_network net)) × IsGraphOf (generated seed size) net × (after.files ≡ before.files) × (after.sink ≡ before.sink)
 Accepted Printing command before after =
     (net : Network) × (line : List ℕ) × (before.network ≡ Some net) × NetworkStays before after × (after.files ≡ before.files) × IsStatsLine net line × Took line before.sink after.sink
 Accepted (Writing name) command before after =
@@ -153,6 +167,7 @@ Accepted Making command before after = Remakes command before.network after.netw
 -- A command that is refused, by its kind. It leaves the network.
 abbrev pub Denied : Kind → State → Refusal → State → Type 0
 Denied (Reading name) before cause after = NetworkStays before after × ReadRefused name before.files after.files cause × FilesStand before.files after.files × (after.sink ≡ before.sink)
+Denied (Generating seed size) before cause after = NetworkStays before after × GeneratingRefused cause × (after.files ≡ before.files) × (after.sink ≡ before.sink)
 Denied Printing before cause after = NetworkStays before after × PrintRefused before.network before.sink after.sink cause × (after.files ≡ before.files)
 Denied (Writing name) before cause after = NetworkStays before after × WriteRefused before.network name before.files after.files cause × (after.sink ≡ before.sink)
 Denied Making before cause after = NetworkStays before after × MakingRefused before.network cause × (after.files ≡ before.files) × (after.sink ≡ before.sink)

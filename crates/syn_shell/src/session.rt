@@ -7,16 +7,20 @@ ghost use Rattle.syn_reader.specs.Reading.{Reads};
 ghost use Rattle.syn_reader.specs.Limits.{Within};
 ghost use Rattle.syn_shapes.specs.Printed.{printed};
 ghost use Rattle.syn_graph.specs.Graphs.{network_of};
+ghost use Rattle.syn_build.specs.Building.{IsGraphOf};
+ghost use Rattle.syn_gen.specs.Generated.{generated};
+ghost use Rattle.syn_refactor.specs.Refactoring.{refactorings};
+ghost use Rattle.syn_rewrite.specs.Rewriting.{rewritings};
 ghost use Rattle.syn_shell.specs.Networks.{graph_network};
 ghost use Rattle.syn_shell.specs.Outside.{FileIs, FilesStand, OthersStand, state};
-ghost use Rattle.syn_shell.specs.Steps.{file_limit, IsBalanced, IsReadAs, IsRemade, IsRewritten, Makes, MakingRefused, ParseRefused, ReadRefused, Remakes, SessionStep, WriteRefused};
+ghost use Rattle.syn_shell.specs.Steps.{file_limit, GeneratingRefused, IsBalanced, IsClosedFor, IsReadAs, IsRemade, Makes, MakingRefused, ParseRefused, ReadRefused, Remakes, SessionStep, WriteRefused};
 
 use crate::lines::print_stats;
 use crate::refusal::Refusal;
 use std::alloc::{AllocError, Global};
 use std::marker::Model;
 use std::thread::Threads;
-use syn_build::build_checked;
+use syn_build::{build, build_checked};
 use syn_graph::Graph;
 use syn_io::{Files, GetFault, PutFault, Sink};
 use syn_netlist::CheckedNetlist;
@@ -87,6 +91,18 @@ fn read<F: Files>(alloc: Global, name: &str, files: &mut F) -> Result<Graph, Ref
     Ok(graph)
 }
 
+// The graph of the netlist of a seed and a size.
+fn generated(alloc: Global, seed: u64, size: u16) -> Result<Graph, Refusal>
+    ensures generated { IfOk result (λ graph. IsGraphOf (generated seed size) (network_of graph)) }
+    ensures refused { IfErr result GeneratingRefused }
+{
+    syn_gen::generated_is_checked();
+    syn_gen::generated_costs();
+    let netlist = syn_gen::generate(alloc, seed, size as u32)?;
+    let graph = build(alloc, &netlist)?;
+    Ok(graph)
+}
+
 // Writes bytes to a file.
 fn put<F: Files>(alloc: Global, name: &str, bytes: &[u8], files: &mut F) -> Result<(), Refusal>
     ensures file { OnOk result (FileIs name.now (F.disk files.new) bytes.now) }
@@ -153,13 +169,33 @@ fn rewritten<R: Threads + Sync>(
     workers: u8,
     zero: bool,
 ) -> Result<Graph, (Graph, Refusal)>
-    ensures rewritten { IfOk result (λ new. IsRewritten (graph_network (network_of graph)) (graph_network (network_of new))) }
+    ensures rewritten { IfOk result (λ new. IsClosedFor rewritings (graph_network (network_of graph)) (graph_network (network_of new))) }
     ensures refused { IfErr result (λ back. (network_of back.0 ≡ network_of graph) × (back.1 ≡ Refusal.NoMemory)) }
 {
     syn_shapes::network_of_graph();
     syn_shapes::graph_has_function();
     syn_netlist::same_from_function();
     match syn_rewrite::rewrite(rt, alloc, graph, workers, zero) {
+        Ok(new) => Ok(new),
+        Err((graph, _)) => Err((graph, Refusal::NoMemory)),
+    }
+}
+
+// A graph, refactored by so many workers; refused, the graph as it was.
+fn refactored<R: Threads + Sync>(
+    rt: &R,
+    alloc: Global,
+    graph: Graph,
+    workers: u8,
+    zero: bool,
+) -> Result<Graph, (Graph, Refusal)>
+    ensures refactored { IfOk result (λ new. IsClosedFor refactorings (graph_network (network_of graph)) (graph_network (network_of new))) }
+    ensures refused { IfErr result (λ back. (network_of back.0 ≡ network_of graph) × (back.1 ≡ Refusal.NoMemory)) }
+{
+    syn_shapes::network_of_graph();
+    syn_shapes::graph_has_function();
+    syn_netlist::same_from_function();
+    match syn_refactor::refactor(rt, alloc, graph, workers, zero) {
         Ok(new) => Ok(new),
         Err((graph, _)) => Err((graph, Refusal::NoMemory)),
     }
@@ -191,7 +227,13 @@ fn remake<R: Threads + Sync>(
             zero,
             workers: named,
         } => rewritten(rt, alloc, graph, workers_of(*named, workers), *zero),
-        Command::Read(_) | Command::Stats | Command::Write(_) => Ok(graph),
+        Command::Refactor {
+            zero,
+            workers: named,
+        } => refactored(rt, alloc, graph, workers_of(*named, workers), *zero),
+        Command::Read(_) | Command::Generate { .. } | Command::Stats | Command::Write(_) => {
+            Ok(graph)
+        }
     }
 }
 
@@ -249,6 +291,11 @@ impl Session {
                 self.network = Some(graph);
                 Ok(())
             }
+            Command::Generate { seed, size } => {
+                let graph = generated(alloc, *seed, *size)?;
+                self.network = Some(graph);
+                Ok(())
+            }
             Command::Stats => match &self.network {
                 None => Err(Refusal::NoNetwork),
                 Some(graph) => print_stats(alloc, graph, out),
@@ -257,9 +304,10 @@ impl Session {
                 None => Err(Refusal::NoNetwork),
                 Some(graph) => write(alloc, graph, name.as_str(), files),
             },
-            Command::Strash | Command::Balance | Command::Rewrite { .. } => {
-                self.make(rt, alloc, command)
-            }
+            Command::Strash
+            | Command::Balance
+            | Command::Rewrite { .. }
+            | Command::Refactor { .. } => self.make(rt, alloc, command),
         }
     }
 }

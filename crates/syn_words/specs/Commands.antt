@@ -1,5 +1,5 @@
 -- The table of commands: their names, what may stand behind each, and the commands that it then spells.
-use Rattle.std.specs.Prelude.{ℕ, true, min, option_map, if◌then◌else◌, List, [], ◌∷◌, Option, Some, None, Result, Ok, Err, bytes_eq, codes}
+use Rattle.std.specs.Prelude.{ℕ, true, false, min, option_map, if◌then◌else◌, List, [], ◌∷◌, Option, Some, None, Result, Ok, Err, bytes_eq, codes}
 use Rattle.syn_words.specs.declared.words.Phrase.{Phrase}
 use Rattle.syn_words.specs.Forms.{and_then, given_by}
 use Rattle.syn_words.specs.declared.forms.Form.{Form}
@@ -27,6 +27,11 @@ names =
     ∷ (codes "rewrite", keywords.Rewrite)
     ∷ (codes "rw", keywords.Rewrite)
     ∷ (codes "rwz", keywords.RewriteZero)
+    ∷ (codes "refactor", keywords.Refactor)
+    ∷ (codes "rf", keywords.Refactor)
+    ∷ (codes "rfz", keywords.RefactorZero)
+    ∷ (codes "resyn2", keywords.Resyn2)
+    ∷ (codes "gen", keywords.Generate)
     ∷ []
 
 -- What a word names, if anything.
@@ -42,7 +47,11 @@ words_alone words = record { flag = None; numbered = None; operands = words }
 abbrev pub with_workers : Option ℕ → Form
 with_workers flag = record { flag = flag; numbered = Some (record { letter = 119; range = record { least = 1; most = 16 } }); operands = operands.Nothing }
 
--- What may stand behind a name. The option without a number of `rewrite` is `-z`; `rwz` has it set.
+-- Two numbers alone: a seed of 64 bits, and a number of tables from 1 to 32768.
+abbrev pub seed_and_size : Form
+seed_and_size = words_alone (operands.TwoNumbers (record { least = 0; most = 18446744073709551615 }) (record { least = 1; most = 32768 }))
+
+-- What may stand behind a name. The option without a number of `rewrite` and `refactor` is `-z`; `rwz` and `rfz` have it set.
 abbrev pub form_of : Keyword → Form
 form_of keywords.ReadBlif = words_alone operands.Name
 form_of keywords.WriteBlif = words_alone operands.Name
@@ -51,10 +60,33 @@ form_of keywords.Strash = words_alone operands.Nothing
 form_of keywords.Balance = words_alone operands.Nothing
 form_of keywords.Rewrite = with_workers (Some 122)
 form_of keywords.RewriteZero = with_workers None
+form_of keywords.Refactor = with_workers (Some 122)
+form_of keywords.RefactorZero = with_workers None
+form_of keywords.Resyn2 = words_alone operands.Nothing
+form_of keywords.Generate = seed_and_size
 
 -- A number of workers, 16 at most; the form lets no greater one through.
 abbrev pub workers_of : ℕ → ℕ
 workers_of number = min number 16
+
+-- A number of tables, 32768 at most, likewise.
+abbrev pub size_of : ℕ → ℕ
+size_of number = min number 32768
+
+-- What `resyn2` spells: b; rw; rf; b; rw; rwz; b; rfz; rwz; b.
+abbrev pub resyn2 : List Command
+resyn2 =
+    commands.Balance
+    ∷ commands.Rewrite false None
+    ∷ commands.Refactor false None
+    ∷ commands.Balance
+    ∷ commands.Rewrite false None
+    ∷ commands.Rewrite true None
+    ∷ commands.Balance
+    ∷ commands.Refactor true None
+    ∷ commands.Rewrite true None
+    ∷ commands.Balance
+    ∷ []
 
 -- The commands that a name spells with what was given behind it.
 abbrev pub commands_of : Keyword → Given → List Command
@@ -65,6 +97,10 @@ commands_of keywords.Strash given = commands.Strash ∷ []
 commands_of keywords.Balance given = commands.Balance ∷ []
 commands_of keywords.Rewrite given = commands.Rewrite given.flag (option_map workers_of given.number) ∷ []
 commands_of keywords.RewriteZero given = commands.Rewrite true (option_map workers_of given.number) ∷ []
+commands_of keywords.Refactor given = commands.Refactor given.flag (option_map workers_of given.number) ∷ []
+commands_of keywords.RefactorZero given = commands.Refactor true (option_map workers_of given.number) ∷ []
+commands_of keywords.Resyn2 given = resyn2
+commands_of keywords.Generate given = commands.Generate given.numbers.0 (size_of given.numbers.1) ∷ []
 
 -- What a phrase says by what its name is: the commands that it spells, or its first fault.
 abbrev pub said_by : Option Keyword → Phrase → Result (List Command) ScriptFault

@@ -3,7 +3,7 @@ use Rattle.std.specs.Prelude.{◌≡◌, true, false, ℕ, List, [], ◌∷◌, 
 use Rattle.syn_words.specs.Words.{words_at}
 use Rattle.syn_words.specs.Forms.{given_by}
 use Rattle.syn_words.specs.Scripts.{IsScript, IsFirstFault}
-use Rattle.syn_words.specs.declared.Command.TheVariants.{Read, Write, Stats, Strash, Balance, Rewrite}
+use Rattle.syn_words.specs.declared.Command.TheVariants.{Read, Write, Stats, Strash, Balance, Rewrite, Refactor, Generate}
 use Rattle.syn_words.specs.declared.ScriptFault.{ScriptFault}
 use Rattle.syn_words.specs.declared.ScriptFault.TheVariants.{BadByte, UnknownCommand, MissingWord, ExtraWord, BadNumber, OutOfRange}
 use Rattle.syn_words.specs.declared.forms.Form.{Form}
@@ -37,12 +37,21 @@ pub record WorkedScripts : Type 0 where
   pub comment_is_none : IsScript (codes "write_blif #a\\b") (Write (codes "#a\\b") ∷ [])
   pub hyphen_is_a_name : IsScript (codes "read_blif -a") (Read (codes "-a") ∷ [])
   pub rewriting : IsScript (codes "rw; rewrite -w 4 -z; rwz") (Rewrite false None ∷ Rewrite true (Some 4) ∷ Rewrite true None ∷ [])
+  pub refactoring : IsScript (codes "rf; refactor -w 4 -z; rfz -w 2") (Refactor false None ∷ Refactor true (Some 4) ∷ Refactor true (Some 2) ∷ [])
+  pub ten_commands : IsScript (codes "resyn2")
+      (Balance ∷ Rewrite false None ∷ Refactor false None ∷ Balance ∷ Rewrite false None ∷ Rewrite true None ∷ Balance ∷ Refactor true None ∷ Rewrite true None ∷ Balance ∷ [])
+  pub generated : IsScript (codes "gen 18446744073709551615 32768; ps") (Generate 18446744073709551615 32768 ∷ Stats ∷ [])
+  pub zero_refactored_already : IsFirstFault (codes "rfz -z") (ExtraWord 4)
+  pub option_of_resyn2 : IsFirstFault (codes "resyn2 -z") (ExtraWord 7)
+  pub no_tables : IsFirstFault (codes "gen 1 0") (OutOfRange 6)
+  pub size_no_number : IsFirstFault (codes "gen 1 x") (BadNumber 6)
+  pub seed_too_great : IsFirstFault (codes "gen 18446744073709551616 1") (OutOfRange 4)
   pub zero_twice : IsFirstFault (codes "rw -z -z") (ExtraWord 6)
   pub zero_set_already : IsFirstFault (codes "rwz -z") (ExtraWord 4)
   pub too_many_workers : IsFirstFault (codes "rw -w 17") (OutOfRange 6)
   pub no_number_of_workers : IsFirstFault (codes "rw -w") (MissingWord 5)
   pub unknown : IsFirstFault (codes "rewrit") (UnknownCommand 0)
-  pub not_yet : IsFirstFault (codes "ps; resyn2") (UnknownCommand 4)
+  pub other_script : IsFirstFault (codes "ps; resyn3") (UnknownCommand 4)
   pub upper_case : IsFirstFault (codes "PS") (UnknownCommand 0)
   pub cut_short : IsFirstFault (codes "read_bli a") (UnknownCommand 0)
   pub extra : IsFirstFault (codes "ps now") (ExtraWord 3)

@@ -51,6 +51,20 @@ pub enum Command {
         /// The number of workers, where one is named.
         workers: Option<u8>,
     },
+    /// `refactor [-z] [-w N]`, `rf`; `rfz` has `-z` set: refactors the graph until no cone's replacement saves a node.
+    Refactor {
+        /// Whether a replacement that saves nothing may be made too.
+        zero: bool,
+        /// The number of workers, where one is named.
+        workers: Option<u8>,
+    },
+    /// `gen SEED SIZE`: the graph of the netlist that is generated from a seed becomes the network.
+    Generate {
+        /// The seed.
+        seed: u64,
+        /// The number of tables.
+        size: u16,
+    },
 }
 
 /// Why a text is no script. A place is an offset in bytes, from 0.

@@ -1,7 +1,7 @@
 //! The table of commands: their names, what may stand behind each, and what it then says.
 
-ghost use Rattle.std.specs.Prelude.{◌≡◌, ◌⊎◌, [], ◌∷◌, Err, Ok, IfOk, OnOk, IfErr, option_map};
-ghost use Rattle.syn_words.specs.Commands.{commands_of, form_of, named_in, names, said, with_workers, words_alone, workers_of};
+ghost use Rattle.std.specs.Prelude.{◌≡◌, ◌⊎◌, [], ◌∷◌, Err, None, Ok, IfOk, OnOk, IfErr, option_map};
+ghost use Rattle.syn_words.specs.Commands.{commands_of, form_of, named_in, names, resyn2, said, size_of, with_workers, words_alone, workers_of};
 ghost use Rattle.syn_words.specs.Scripts.{said_onto};
 
 use crate::forms::{Form, NumberRange, Numbered, Operands};
@@ -21,6 +21,10 @@ pub enum Keyword {
     Balance,
     Rewrite,
     RewriteZero,
+    Refactor,
+    RefactorZero,
+    Resyn2,
+    Generate,
 }
 
 // The keyword that a word names.
@@ -41,6 +45,14 @@ fn keyword_of(word: &[u8]) -> Option<Keyword>
         Some(Keyword::Rewrite)
     } else if b"rwz".as_slice() == word {
         Some(Keyword::RewriteZero)
+    } else if b"refactor".as_slice() == word || b"rf".as_slice() == word {
+        Some(Keyword::Refactor)
+    } else if b"rfz".as_slice() == word {
+        Some(Keyword::RefactorZero)
+    } else if b"resyn2".as_slice() == word {
+        Some(Keyword::Resyn2)
+    } else if b"gen".as_slice() == word {
+        Some(Keyword::Generate)
     } else {
         None
     }
@@ -56,6 +68,21 @@ const WORKERS: Numbered = Numbered {
         least: 1,
         most: MOST_WORKERS as u64,
     },
+};
+
+// A seed.
+const SEEDS: NumberRange = NumberRange {
+    least: 0,
+    most: u64::MAX,
+};
+
+// So many generated tables at most.
+const MOST_TABLES: u16 = 32_768;
+
+// A number of generated tables.
+const SIZES: NumberRange = NumberRange {
+    least: 1,
+    most: MOST_TABLES as u64,
 };
 
 // No option, and these words.
@@ -86,9 +113,12 @@ fn form_of(keyword: Keyword) -> Form
 {
     match keyword {
         Keyword::ReadBlif | Keyword::WriteBlif => words_alone(Operands::Name),
-        Keyword::PrintStats | Keyword::Strash | Keyword::Balance => words_alone(Operands::Nothing),
-        Keyword::Rewrite => with_workers(Some(b'z')),
-        Keyword::RewriteZero => with_workers(None),
+        Keyword::PrintStats | Keyword::Strash | Keyword::Balance | Keyword::Resyn2 => {
+            words_alone(Operands::Nothing)
+        }
+        Keyword::Rewrite | Keyword::Refactor => with_workers(Some(b'z')),
+        Keyword::RewriteZero | Keyword::RefactorZero => with_workers(None),
+        Keyword::Generate => words_alone(Operands::TwoNumbers(SEEDS, SIZES)),
     }
 }
 
@@ -113,24 +143,113 @@ fn given_workers(number: Option<u64>) -> Option<u8>
     }
 }
 
-// The command that a keyword spells with what was given behind it.
-fn command_of(alloc: Global, keyword: Keyword, given: Given<'_>) -> Result<Command, AllocError>
-    ensures { IfOk result (λ command. command ∷ [] ≡ commands_of keyword given.entry) }
+// A number of generated tables, at most the most.
+fn size_of(number: u64) -> u16
+    ensures { result ≡ size_of number }
 {
+    if number < MOST_TABLES as u64 {
+        number as u16
+    } else {
+        MOST_TABLES
+    }
+}
+
+// One command.
+fn one(alloc: Global, command: Command) -> Result<Vec<Command>, AllocError>
+    ensures { IfOk result (λ v. v.items ≡ command ∷ []) }
+{
+    Ok(vec![in alloc; command]?)
+}
+
+// Rewriting by as many workers as the session has.
+fn rewriting(zero: bool) -> Command
+    ensures { result ≡ Command.Rewrite zero None }
+{
+    Command::Rewrite {
+        zero,
+        workers: None,
+    }
+}
+
+// Refactoring by as many workers as the session has.
+fn refactoring(zero: bool) -> Command
+    ensures { result ≡ Command.Refactor zero None }
+{
+    Command::Refactor {
+        zero,
+        workers: None,
+    }
+}
+
+// The commands of `resyn2`.
+fn resyn2(alloc: Global) -> Result<Vec<Command>, AllocError>
+    ensures { IfOk result (λ v. v.items ≡ resyn2) }
+{
+    Ok(vec![in alloc;
+        Command::Balance,
+        rewriting(false),
+        refactoring(false),
+        Command::Balance,
+        rewriting(false),
+        rewriting(true),
+        Command::Balance,
+        refactoring(true),
+        rewriting(true),
+        Command::Balance,
+    ]?)
+}
+
+// The commands that a keyword spells with what was given behind it.
+fn commands_of(
+    alloc: Global,
+    keyword: Keyword,
+    given: Given<'_>,
+) -> Result<Vec<Command>, AllocError>
+    ensures { IfOk result (λ v. v.items ≡ commands_of keyword given.entry) }
+{
+    let workers = given_workers(given.number);
     match keyword {
-        Keyword::ReadBlif => Ok(Command::Read(FileName::of(alloc, given.name)?)),
-        Keyword::WriteBlif => Ok(Command::Write(FileName::of(alloc, given.name)?)),
-        Keyword::PrintStats => Ok(Command::Stats),
-        Keyword::Strash => Ok(Command::Strash),
-        Keyword::Balance => Ok(Command::Balance),
-        Keyword::Rewrite => Ok(Command::Rewrite {
-            zero: given.flag,
-            workers: given_workers(given.number),
-        }),
-        Keyword::RewriteZero => Ok(Command::Rewrite {
-            zero: true,
-            workers: given_workers(given.number),
-        }),
+        Keyword::ReadBlif => one(alloc, Command::Read(FileName::of(alloc, given.name)?)),
+        Keyword::WriteBlif => one(alloc, Command::Write(FileName::of(alloc, given.name)?)),
+        Keyword::PrintStats => one(alloc, Command::Stats),
+        Keyword::Strash => one(alloc, Command::Strash),
+        Keyword::Balance => one(alloc, Command::Balance),
+        Keyword::Rewrite => one(
+            alloc,
+            Command::Rewrite {
+                zero: given.flag,
+                workers,
+            },
+        ),
+        Keyword::RewriteZero => one(
+            alloc,
+            Command::Rewrite {
+                zero: true,
+                workers,
+            },
+        ),
+        Keyword::Refactor => one(
+            alloc,
+            Command::Refactor {
+                zero: given.flag,
+                workers,
+            },
+        ),
+        Keyword::RefactorZero => one(
+            alloc,
+            Command::Refactor {
+                zero: true,
+                workers,
+            },
+        ),
+        Keyword::Resyn2 => resyn2(alloc),
+        Keyword::Generate => one(
+            alloc,
+            Command::Generate {
+                seed: given.numbers.0,
+                size: size_of(given.numbers.1),
+            },
+        ),
     }
 }
 
@@ -148,6 +267,7 @@ pub fn push_commands(
         return Err(ScriptFault::UnknownCommand(name.at));
     };
     let given = given_by(form_of(keyword), further, end)?;
-    commands.push(command_of(alloc, keyword, given)?)?;
+    let mut spelled = commands_of(alloc, keyword, given)?;
+    commands.append(&mut spelled)?;
     Ok(())
 }

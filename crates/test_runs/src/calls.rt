@@ -33,7 +33,7 @@ fn answers_the_first_fault(rt: HostRuntime) -> Result<(), Fail> {
             "script 4: unknown command",
         ),
         (
-            b"ps; resyn2",
+            b"ps; resyn3",
             ScriptFault::UnknownCommand(4),
             "script 4: unknown command",
         ),

@@ -22,4 +22,6 @@ mod networks;
 #[cfg(test)]
 mod outside;
 #[cfg(test)]
+mod refactoring;
+#[cfg(test)]
 mod scripts;

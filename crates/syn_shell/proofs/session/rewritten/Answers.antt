@@ -1,5 +1,6 @@
 use Rattle.syn_netlist.specs.Frames.{frame_in}
-use Rattle.syn_shell.proofs.Staying as staying
+use Rattle.syn_rewrite.specs.Rewriting.{rewritings}
+use Rattle.syn_shell.proofs.Staying.{closed_for}
 use Rattle.syn_shell.proofs.session.rewritten.Goals as goal
 
 pub returns-in-Ok-clause-rewritten : goal.returns-in-Ok-clause-rewritten
@@ -7,5 +8,5 @@ returns-in-Ok-clause-rewritten g c =
     let graph = c.args.graph in
     let new = c.in-Ok.new in
     let h = c.in-Ok.ensures in
-    staying.rewritten c.network_of_graph.ensures c.graph_has_function.ensures c.same_from_function.ensures (frame_in graph.frame) (frame_in new.frame) graph.rows new.rows graph.observed new.observed h.frame
+    closed_for c.network_of_graph.ensures c.graph_has_function.ensures c.same_from_function.ensures rewritings (frame_in graph.frame) (frame_in new.frame) graph.rows new.rows graph.observed new.observed h.frame
     graph.frame.clocks_once graph.frame.sources_once graph.graph new.graph h.values h.count h.closed
