@@ -1,0 +1,6 @@
+use Rattle.std.proofs.Common.{◌≡◌, max, drop}
+use Rattle.syn_lutshapes.specs.Luts.{depth_in, greatest}
+use Rattle.syn_lutnet.proofs.depths.greatest_depth.Given as goal
+
+abbrev pub invariant-loop-signal : goal.invariant-loop-signal
+invariant-loop-signal l = max l.most (greatest (depth_in l.depths) (drop l.signal-index l.signals)) ≡ greatest (depth_in l.depths) l.signals

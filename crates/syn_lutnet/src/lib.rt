@@ -1,0 +1,10 @@
+//! Networks of lookup tables.
+#![tactic(auto)]
+
+mod depths;
+mod luts;
+mod nets;
+
+pub use depths::greatest_depth;
+pub use luts::{Lut, MOST_INPUTS};
+pub use nets::LutNet;

@@ -1,0 +1,60 @@
+use Rattle.std.proofs.Common.{◌≡◌, ◌+◌, ◌<◌, ◌≤◌, ◌^◌, ℕ, List, length, refl, sym, ap, ap₂, ◌∙◌, subst, arith}
+use Rattle.std.proofs.lemmas.List.{length-map}
+use Rattle.syn_rows.specs.declared.Lit.{Lit}
+use Rattle.syn_netlist.specs.Frames.{frame_in}
+use Rattle.syn_netlist.specs.Lists as lists
+use Rattle.syn_lutshapes.specs.Luts as spelled
+use Rattle.syn_lutshapes.specs.Luts.{IsLutNet}
+use Rattle.syn_lutnet.specs.declared.luts.Lut.{Lut}
+use Rattle.syn_lutnet.specs.Data.{lut_data, luts_data}
+use Rattle.syn_map.specs.Making.{IsMapped}
+use Rattle.syn_map.specs.Mappings.{IsMapping}
+use Rattle.syn_map.specs.Needs.{marked_from}
+use Rattle.syn_map.proofs.Assembled.{marked_gates, mapped, mapped_net, mapped_few}
+use Rattle.syn_map.proofs.mapping.make_net.Goals as goal
+
+pub make_luts-requires-clause-nodes : goal.make_luts-requires-clause-nodes
+make_luts-requires-clause-nodes g c =
+    let l = c.in_ok-labelled.labelled in
+    marked_gates l.k l.rows.now c.as_slice-observed.result.now c.in_ok-marks.marks.items c.in_ok-marks.ensures c.as_slice-2.result.now (c.as_slice-2.ensures.value ∙ c.in_ok-numbering.ensures.nodes ∙ ap (marked_from 0) c.as_slice.ensures.value)
+
+pub invariant_of-result : goal.invariant_of-result
+invariant_of-result g c =
+    let gr = c.args.graph.now in
+    let l = c.in_ok-labelled.labelled in
+    let n = c.in_ok-numbering.numbering in
+    let luts : List Lut = c.in_ok-luts.luts.items in
+    let outs : List Lit = c.in_ok-outs.outs.items in
+    let frame = c.in_ok-copy_frame.ensures in
+    let mapping : IsMapping c.args.k (length (lists.sources (frame_in gr.frame))) gr.rows gr.observed n.nodes.items (luts_data luts) outs =
+    mapped gr c.args.k l.k gr.source_count l.rows.now c.as_slice-observed.result.now c.in_ok-marks.marks.items c.as_slice.result.now n.nodes.items c.as_slice-2.result.now n.signals.items c.as_slice-signals.result.now (luts_data luts) outs
+    c.in_ok-labelled.ensures.k c.in_ok-labelled.ensures.rows c.as_slice-observed.ensures refl c.in_ok-marks.ensures c.as_slice.ensures.value c.in_ok-numbering.ensures.nodes c.as_slice-2.ensures.value c.as_slice-signals.ensures.value c.in_ok-numbering.ensures.signals
+    c.in_ok-luts.ensures c.in_ok-outs.ensures in
+    let made : IsLutNet (frame_in gr.frame) (luts_data luts) outs = mapped_net c.args.k gr n.nodes.items (luts_data luts) outs c.requires.many mapping in
+    let few = mapped_few c.args.k gr n.nodes.items (luts_data luts) outs mapping in
+    let count = length-map luts lut_data in
+    let same = ap (λ (ls : List Lut). length ls) c.of-2.ensures in
+    record {
+      source_count_is = gr.source_count_is ∙ sym (ap (λ (f : lists.Frame). length (lists.sources f)) frame.same);
+      net = subst (λ (f : lists.Frame). IsLutNet f (luts_data c.of-2.result) c.of-3.result) (sym frame.same)
+          (subst (λ (ls : List Lut). IsLutNet (frame_in gr.frame) (luts_data ls) c.of-3.result) (sym c.of-2.ensures) (subst (λ (os : List Lit). IsLutNet (frame_in gr.frame) (luts_data luts) os) (sym c.of-3.ensures) made));
+      few = omega (arith, few, count, same, gr.source_count_is, gr.few);
+      few_names = omega (arith, ap (λ (ws : List (List ℕ)). length ws) frame.names, gr.few_names);
+    }
+
+pub returns-clause-mapping : goal.returns-clause-mapping
+unfolding IsMapped
+returns-clause-mapping g c =
+    let gr = c.args.graph.now in
+    let l = c.in_ok-labelled.labelled in
+    let n = c.in_ok-numbering.numbering in
+    let luts : List Lut = c.in_ok-luts.luts.items in
+    let outs : List Lit = c.in_ok-outs.outs.items in
+    let mapping : IsMapping c.args.k (length (lists.sources (frame_in gr.frame))) gr.rows gr.observed n.nodes.items (luts_data luts) outs =
+    mapped gr c.args.k l.k gr.source_count l.rows.now c.as_slice-observed.result.now c.in_ok-marks.marks.items c.as_slice.result.now n.nodes.items c.as_slice-2.result.now n.signals.items c.as_slice-signals.result.now (luts_data luts) outs
+    c.in_ok-labelled.ensures.k c.in_ok-labelled.ensures.rows c.as_slice-observed.ensures refl c.in_ok-marks.ensures c.as_slice.ensures.value c.in_ok-numbering.ensures.nodes c.as_slice-2.ensures.value c.as_slice-signals.ensures.value c.in_ok-numbering.ensures.signals
+    c.in_ok-luts.ensures c.in_ok-outs.ensures in (
+      n.nodes.items,
+      subst (λ (ls : List Lut). IsMapping c.args.k (length (lists.sources (frame_in gr.frame))) gr.rows gr.observed n.nodes.items (luts_data ls) c.of-3.result) (sym c.of-2.ensures)
+          (subst (λ (os : List Lit). IsMapping c.args.k (length (lists.sources (frame_in gr.frame))) gr.rows gr.observed n.nodes.items (luts_data luts) os) (sym c.of-3.ensures) mapping),
+    )

@@ -1,0 +1,5 @@
+pub mod Labels
+pub mod Mappings
+pub mod Needs
+pub mod Making
+pub mod Worked
