@@ -45,7 +45,7 @@ same_nat n = search rules
 not_same : (n m : ℕ) → (n == m) ≡ true → n ≡ m
 not_same n m h = search rules
 
-has_of : (r : Counted) (rows : List Counted) → IsOf r rows → has r.node (counted_nodes rows) ≡ true
+pub has_of : (r : Counted) (rows : List Counted) → IsOf r rows → has r.node (counted_nodes rows) ≡ true
 has_of r [] h = absurd h
 has_of r (q ∷ rows) (inl e) = ap (λ (z : Counted). (z.node == r.node) || has r.node (counted_nodes rows)) e ∙ ap (λ b. b || has r.node (counted_nodes rows)) (same_nat r.node)
 has_of r (q ∷ rows) (inr h) = ap (λ b. (q.node == r.node) || b) (has_of r rows h) ∙ or_true (q.node == r.node)
@@ -69,7 +69,7 @@ refs_grow (r ∷ rows) set other m h = let rest = refs_grow rows set other m h i
     go false true k l = omega arith
     go false false k l = omega arith
 
-distinct_parts : (n : ℕ) (ns : List ℕ) → are_distinct (n ∷ ns) ≡ true → (has n ns ≡ false) × (are_distinct ns ≡ true)
+pub distinct_parts : (n : ℕ) (ns : List ℕ) → are_distinct (n ∷ ns) ≡ true → (has n ns ≡ false) × (are_distinct ns ≡ true)
 distinct_parts n ns h = go (has n ns) (and_parts (not (has n ns)) (are_distinct ns) h)
   where
     go : (b : Bool) → (not b ≡ true) × (are_distinct ns ≡ true) → (b ≡ false) × (are_distinct ns ≡ true)
@@ -129,7 +129,7 @@ chosen_some : (b : Bool) (x : Counted) (o : Option Counted) (r : Counted) → (i
 chosen_some true x o r e = inl (refl, ap (λ o. unwrap_or o x) e)
 chosen_some false x o r e = inr e
 
-first_some : (hits : List ℕ) (dying rows : List Counted) (r : Counted) → first_dying hits dying rows ≡ Some r → IsOf r rows × (dies hits dying r ≡ true)
+pub first_some : (hits : List ℕ) (dying rows : List Counted) (r : Counted) → first_dying hits dying rows ≡ Some r → IsOf r rows × (dies hits dying r ≡ true)
 first_some hits dying [] r e = absurd (none-some r e)
 first_some hits dying (q ∷ rows) r e =
     elim (chosen_some (dies hits dying q) q (first_dying hits dying rows) r e) [
@@ -217,7 +217,7 @@ not_true true h = absurd (cc)
 not_true false h = refl
 
 -- what it takes to go
-dies_parts : (hits : List ℕ) (dying : List Counted) (r : Counted) → dies hits dying r ≡ true
+pub dies_parts : (hits : List ℕ) (dying : List Counted) (r : Counted) → dies hits dying r ≡ true
     → (has r.node (counted_nodes dying) ≡ false) × (has r.node hits ≡ false) × (nat_le r.others (refs_by_counted dying r.node) ≡ true)
 dies_parts hits dying r h =
     let first = and_parts (not (has r.node (counted_nodes dying)) && not (has r.node hits)) (nat_le r.others (refs_by_counted dying r.node)) h in
@@ -315,3 +315,11 @@ dying_are_least hits root rows d = record {
           | inl there ↦ there
           | inr h ↦ decided _ _ _ h free (le_true _ _ (let same = all.0.refs_are r.node in omega (arith, same, l)))
         ]
+
+-- no further row dies
+pub none_left : (hits : List ℕ) (root : Counted) (rows : List Counted) → are_distinct (counted_nodes (root ∷ rows)) ≡ true → (r : Counted) → IsOf r rows → dies hits (dying_of hits (root ∷ rows)) r ≡ false
+none_left hits root rows d r o =
+    elim ((settled (length rows) hits root rows (root ∷ []) d (begun hits root rows d) (open_most (root ∷ []) rows)).1 r o) [
+      | inl there ↦ ap (λ b. (not b && not (has r.node hits)) && nat_le r.others (refs_by_counted (dying_of hits (root ∷ rows)) r.node)) there
+      | inr h ↦ h
+    ]

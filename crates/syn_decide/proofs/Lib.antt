@@ -8,3 +8,4 @@ pub mod Ranking
 pub mod Hitting
 pub mod Counting
 pub mod LeafTables
+pub mod Steps

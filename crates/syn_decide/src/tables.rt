@@ -143,21 +143,24 @@ fn round(
     next
 }
 
-// The tables of the inner rows after as many rounds as there are rows.
-fn rounds(vars: u8, leaves: &[u32], inner: &[NodeRow]) -> ArrayVec<NodeTable, MOST_INNER>
+// The table of the root by the inner rows: after at most as many rounds as there are rows it has one, or never.
+fn root_table(vars: u8, leaves: &[u32], inner: &[NodeRow], root: u32) -> Option<Truth>
     requires few { vars ≤ MOST_VARS }
     requires within { length leaves.now ≤ vars }
     requires inner { length inner.now ≤ MOST_INNER }
-    ensures vars { spec.AllVars vars result.items }
-    ensures round { spec.IsRound vars leaves.now inner.now (length inner.now) result.items }
+    ensures vars { spec.HasVars vars result }
+    ensures values { spec.IsNodeTable vars leaves.now inner.now (length inner.now) root result }
 {
     let mut tables = ArrayVec::new();
     let mut steps = 0;
     while steps < inner.len() {
+        if let Some(table) = node_table(vars, leaves, tables.as_slice(), root) {
+            return Some(table);
+        }
         tables = round(vars, leaves, inner, tables.as_slice());
         steps += 1;
     }
-    tables
+    node_table(vars, leaves, tables.as_slice(), root)
 }
 
 fn greater(a: u8, b: u8) -> u8
@@ -183,8 +186,7 @@ pub(crate) fn compare(attempt: &Attempt<'_>, inner: &[NodeRow]) -> Comparison
 {
     let leaves = attempt.candidate.leaves;
     let vars = greater(leaves.len() as u8, attempt.candidate.plan.leaves);
-    let tables = rounds(vars, leaves, inner);
-    let Some(now) = node_table(vars, leaves, tables.as_slice(), attempt.candidate.root) else {
+    let Some(now) = root_table(vars, leaves, inner, attempt.candidate.root) else {
         return Comparison::Circle;
     };
     let was = was_table(attempt.candidate.plan, vars);
