@@ -16,7 +16,7 @@ loop-steps-preserved c = record {
   within = search rules;
   vars = search rules;
   round = next_round c.args.vars c.args.leaves.now c.args.inner.now c.loop-steps.steps (c.loop-steps.steps + 1) c.round-tables.result.items
-      (c.round-tables.ensures.entries c.args.inner.now c.loop-steps.steps (subst (λ z. IsRound c.args.vars c.args.leaves.now c.args.inner.now c.loop-steps.steps z) (sym c.as_slice-2.ensures.value) c.loop-steps.invariant.round))
+      (c.round-tables.ensures.entries c.args.inner.now c.loop-steps.steps (subst (λ z. IsRound c.args.vars c.args.leaves.now c.args.inner.now c.loop-steps.steps z) (sym c.as_slice-in-loop-steps.ensures.value) c.loop-steps.invariant.round))
       (omega arith);
 }
 
