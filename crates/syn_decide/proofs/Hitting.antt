@@ -1,5 +1,5 @@
 -- Hits, gate by gate.
-use Rattle.std.proofs.Common.{◌≡◌, ◌≢◌, ◌⊎◌, ℕ, ◌+◌, ◌<◌, Bool, true, false, not, nat_lt, ◌==◌, ◌&&◌, ◌||◌, if◌then◌else◌, List, [], ◌∷◌, ◌++◌, length, Option, Some, None, refl, sym, ap, ap₂, ◌∙◌, subst, rules, arith, inl, inr}
+use Rattle.std.proofs.Common.{◌≡◌, ℕ, ◌+◌, Bool, true, false, not, nat_lt, ◌==◌, ◌&&◌, ◌||◌, if◌then◌else◌, List, [], ◌∷◌, ◌++◌, length, Option, Some, None, refl, sym, ap, ap₂, ◌∙◌, subst, rules}
 use Rattle.std.specs.List.{list_any}
 use Rattle.std.proofs.lemmas.Bool.{and_parts}
 use Rattle.std.proofs.lemmas.Option.{none-some}
@@ -9,7 +9,7 @@ use Rattle.syn_rows.specs.declared.Row.TheVariants as row
 use Rattle.syn_plan.specs.declared.PLit.{PLit}
 use Rattle.syn_decide.specs.declared.decisions.NodeRow.{NodeRow}
 use Rattle.syn_rows.specs.Joining.{lit_of, ordered_and, same_pair, simple_and}
-use Rattle.syn_gain.specs.Placing.{Met, Placed, literal_for, literal_met, or_else, place_gate, place_gates, place_pair, with_gate}
+use Rattle.syn_gain.specs.Placing.{Placed, literal_for, literal_met, or_else, place_gate, place_pair}
 use Rattle.syn_decide.specs.Hints.{first_new, is_asked, is_new_gate, is_pair, is_pair_of, literal_hit, literal_listed}
 use Rattle.syn_decide.specs.Hitting.{IsOpen, after_gates}
 

@@ -1,5 +1,5 @@
 -- The table of a leaf, sought along the list of leaves.
-use Rattle.std.proofs.Common.{◌≡◌, ℕ, suc, ◌+◌, ◌<◌, ◌==◌, ◌||◌, Bool, true, false, if◌then◌else◌, List, ◌∷◌, length, drop, get_or, refl, sym, ap, ap₂, ◌∙◌, arith, rules, drop-cons}
+use Rattle.std.proofs.Common.{◌≡◌, ℕ, suc, ◌+◌, ◌<◌, ◌==◌, ◌||◌, Bool, true, false, if◌then◌else◌, List, length, drop, get_or, refl, sym, ap, ap₂, ◌∙◌, arith, rules, drop-cons}
 use Rattle.syn_core_laws.specs.Lists.{has}
 use Rattle.syn_decide.specs.Functions.{leaf_value}
 

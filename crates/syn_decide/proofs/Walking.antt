@@ -1,5 +1,5 @@
 -- The inner rows after any reads.
-use Rattle.std.proofs.Common.{◌≡◌, ◌⊎◌, ℕ, Bool, true, false, not, nat_lt, ◌==◌, ◌&&◌, ◌||◌, if◌then◌else◌, List, [], ◌∷◌, ◌++◌, length, map, Option, Some, None, refl, sym, ap, ap₂, ◌∙◌, subst, rules, inl, inr}
+use Rattle.std.proofs.Common.{◌≡◌, ◌⊎◌, ℕ, Bool, true, false, not, nat_lt, ◌==◌, ◌&&◌, ◌||◌, if◌then◌else◌, List, [], ◌∷◌, ◌++◌, length, Option, Some, None, refl, sym, ap, ◌∙◌, subst, rules, inl, inr}
 use Rattle.std.specs.List.{AllByRecursion}
 use Rattle.std.proofs.lemmas.Bool.{and_parts, and_from}
 use Rattle.syn_rows.specs.declared.Row.{Row}
@@ -17,8 +17,8 @@ use Rattle.syn_decide.specs.Walk.{enters, from_entered, nodes_of}
 use Rattle.syn_decide.specs.Functions.{in_circle, is_same_function, now_table, used_leaves, was_table}
 use Rattle.syn_decide.specs.Hints.{is_asked, may_hit, most_hits}
 use Rattle.syn_decide.specs.Dying.{are_distinct}
-use Rattle.syn_decide.specs.Fold.{State, Stage, Walking, Keying, Hinting, Counting, Ended, Failed, after_reads, after_walk, answered, at, begin, compared, count_on, failed, first_unmet, key_loaded, placed_now, read_at, read_count, read_one, row_loaded, uncounted, walk_on, with_count, with_hit, with_inner}
-use Rattle.syn_decide.specs.Walked.{AreGates, FirstEnters, HasRoot, IsClosedAt, IsKnown, IsWalked, RefersToKnown}
+use Rattle.syn_decide.specs.Fold.{State, Stage, Walking, Keying, Hinting, Counting, Ended, Failed, after_reads, after_walk, answered, at, begin, count_on, failed, first_unmet, key_loaded, placed_now, read_at, read_count, read_one, row_loaded, uncounted, walk_on, with_count, with_hit, with_inner}
+use Rattle.syn_decide.specs.Walked.{AreGates, FirstEnters, HasRoot, IsKnown, IsWalked, RefersToKnown}
 
 same_nat : (n : ℕ) → (n == n) ≡ true
 same_nat n = search rules

@@ -1,5 +1,5 @@
 -- Hits, as a commit finds them: gate by gate, in order.
-use Rattle.std.specs.Prelude.{◌≡◌, ℕ, false, true, List, [], ◌∷◌, ◌++◌, Option, None, Some}
+use Rattle.std.specs.Prelude.{◌≡◌, ℕ, false, true, List, [], ◌∷◌, ◌++◌, None}
 use Rattle.syn_rows.specs.declared.Lit.{Lit}
 use Rattle.syn_plan.specs.declared.PLit.{PLit}
 use Rattle.syn_decide.specs.declared.decisions.NodeRow.{NodeRow}
