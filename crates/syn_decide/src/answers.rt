@@ -70,11 +70,11 @@ fn may_hit(leaves: &[u32], high: u64, n: u32, key: u64) -> bool
 }
 
 // What the gates of a proposal become with these hits.
-fn place(attempt: &Attempt<'_>, hits: &[NodeRow]) -> Placing
+fn place(attempt: &Attempt<'_>, hits: &[NodeRow], placing: &mut Placing)
     requires { All (λ h. h.node < NODE_LIMIT) hits.now }
-    ensures { result ≡ hints.placed_by_hits (task_of attempt.now) hits.now }
+    ensures { placing.new ≡ hints.placed_by_hits (task_of attempt.now) hits.now }
 {
-    Placing::of(attempt.candidate.plan, attempt.candidate.leaves, hits)
+    placing.fill(attempt.candidate.plan, attempt.candidate.leaves, hits);
 }
 
 // Whether a hint is asked for the pair of a row.
@@ -82,7 +82,9 @@ fn is_asked(attempt: &Attempt<'_>, hits: &[NodeRow], row: Row) -> bool
     requires { All (λ h. h.node < NODE_LIMIT) hits.now }
     ensures { result ≡ hints.is_asked (hints.placed_by_hits (task_of attempt.now) hits.now).extra row }
 {
-    place(attempt, hits).asks(row)
+    let mut placing = Placing::new();
+    place(attempt, hits, &mut placing);
+    placing.asks(row)
 }
 
 // Whether the node is that of the row load, and there is room for a hit.
@@ -209,7 +211,8 @@ fn conclude(
         → told_answer result ≡ fold.concluded (task_of attempt.now) (state_with stage inner.now low high hits.now counts.now) }
 {
     let freed = freed_by(inner, hits, counts);
-    let placing = place(attempt, hits);
+    let mut placing = Placing::new();
+    place(attempt, hits, &mut placing);
     let added = placing.added();
     if freed < added + least_gain(attempt.zero_gain) {
         return Outcome::NoGain { freed, added };

@@ -59,6 +59,20 @@ impl Deciding {
         }
     }
 
+    /// Begins anew in the same room, which costs less than to make it.
+    pub fn restart(&mut self, attempt: &Attempt<'_>)
+        ensures { self.new ≡ fold.begin (task_of attempt.now) }
+    {
+        self.phase = Phase::Walking;
+        self.waiting.clear();
+        self.waiting.push(attempt.candidate.root);
+        self.inner.clear();
+        self.low = 0;
+        self.high = 0;
+        self.hits.clear();
+        self.counts.clear();
+    }
+
     /// One read.
     pub fn read(&mut self, attempt: &Attempt<'_>, read: Seen)
         ensures { self.new ≡ fold.read_one (task_of attempt.now) self.old read }

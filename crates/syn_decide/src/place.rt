@@ -50,20 +50,19 @@ fn node_at(nodes: &[u32], place: usize) -> u32
     if place < nodes.len() { nodes[place] } else { 0 }
 }
 
-// The literals of the constant and of a plan's leaves, of which there are so many.
-fn leaf_literals(count: u8, leaves: &[u32]) -> ArrayVec<Lit, MOST_INDEXES>
+// Begins the literals: the constant, and a plan's leaves, of which there are so many.
+fn leaf_literals(literals: &mut ArrayVec<Lit, MOST_INDEXES>, count: u8, leaves: &[u32])
     requires few { count ≤ MOST_LEAVES }
     requires low { (i : ℕ) → slice_index_or leaves.now i 0 < 2 ^ 31 }
-    ensures literals { result.items ≡ joining.constant ∷ placing.leaf_literals count leaves.now }
-    ensures len { array_vec_len result ≡ 1 + count }
+    ensures literals { literals.new.items ≡ joining.constant ∷ placing.leaf_literals count leaves.now }
+    ensures len { array_vec_len literals.new ≡ 1 + count }
 {
-    let mut literals = ArrayVec::new();
+    literals.clear();
     literals.push(FALSE);
     for i in 0..count {
         let leaf = node_at(leaves, i as usize);
         literals.push(Lit::of(leaf, false));
     }
-    literals
 }
 
 fn is_new_gate(l: Lit) -> bool
@@ -162,6 +161,12 @@ impl Pairs {
         }
     }
 
+    fn clear(&mut self)
+        ensures { self.new ≡ [] }
+    {
+        self.items.clear();
+    }
+
     fn push(&mut self, pair: MetPair)
         requires { length self.old < MOST_GATES }
         ensures { self.new ≡ as_met pair ∷ self.old }
@@ -194,18 +199,25 @@ impl Model for Placing {
 }
 
 impl Placing {
-    // The constant and the leaves.
-    fn begun(count: u8, leaves: &[u32]) -> Placing
-        requires few { count ≤ MOST_LEAVES }
-        requires low { (i : ℕ) → slice_index_or leaves.now i 0 < 2 ^ 31 }
-        ensures begun { result ≡ placing.begun count leaves.now }
-        ensures len { length result.literals ≡ 1 + count }
-    {
+    /// Room for the gates of a plan. It is some ten thousand bytes, so it is filled in place and lent.
+    pub(crate) fn new() -> Placing {
         Placing {
-            literals: leaf_literals(count, leaves),
+            literals: ArrayVec::new(),
             met: Pairs::new(),
             extra: ArrayVec::new(),
         }
+    }
+
+    // The constant and the leaves.
+    fn begin(&mut self, count: u8, leaves: &[u32])
+        requires few { count ≤ MOST_LEAVES }
+        requires low { (i : ℕ) → slice_index_or leaves.now i 0 < 2 ^ 31 }
+        ensures begun { self.new ≡ placing.begun count leaves.now }
+        ensures len { length self.new.literals ≡ 1 + count }
+    {
+        leaf_literals(&mut self.literals, count, leaves);
+        self.met.clear();
+        self.extra.clear();
     }
 
     // The literal of a pair that needs no new gate.
@@ -268,17 +280,16 @@ impl Placing {
     }
 
     /// What a plan becomes over these leaves, with these hits.
-    pub(crate) fn of(plan: &Plan, leaves: &[u32], hits: &[NodeRow]) -> Placing
+    pub(crate) fn fill(&mut self, plan: &Plan, leaves: &[u32], hits: &[NodeRow])
         requires low { (i : ℕ) → slice_index_or leaves.now i 0 < 2 ^ 31 }
         requires hits { All (λ h. h.node < NODE_LIMIT) hits.now }
-        ensures { result ≡ placing.placed_with (spec.literal_hit hits.now) spec.first_new plan.now.leaves leaves.now plan.now.gates.items }
+        ensures { self.new ≡ placing.placed_with (spec.literal_hit hits.now) spec.first_new plan.now.leaves leaves.now plan.now.gates.items }
     {
-        let mut placing = Placing::begun(plan.leaves, leaves);
+        self.begin(plan.leaves, leaves);
         let gates = plan.gates.as_slice();
         for gate in gates {
-            placing.place(hits, *gate);
+            self.place(hits, *gate);
         }
-        placing
     }
 
     /// Whether a hint is asked for a row's pair.

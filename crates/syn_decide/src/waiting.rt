@@ -35,6 +35,13 @@ impl Waiting {
         }
     }
 
+    /// No node waits any more.
+    pub fn clear(&mut self)
+        ensures { self.new ≡ [] }
+    {
+        self.nodes.clear();
+    }
+
     /// This node is the next.
     pub fn push(&mut self, node: u32)
         requires { length self.old < 64 }
