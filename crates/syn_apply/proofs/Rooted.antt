@@ -11,7 +11,8 @@ use Rattle.syn_netlist.specs.Frames.{frame_in}
 use Rattle.syn_netlist.specs.Lists.{sources}
 use Rattle.syn_hashed.specs.Hashed.{is_gate}
 use Rattle.syn_graph.specs.declared.Graph.{Graph}
-use Rattle.syn_cones.specs.Cones.{has_node, is_end, IsCut}
+use Rattle.syn_rows.specs.Nodes.{has_node}
+use Rattle.syn_cones.specs.Cones.{is_end, IsCut}
 use Rattle.syn_gain.specs.Leaves.{are_below}
 use Rattle.syn_gain.specs.Replacements.{Replacement}
 use Rattle.syn_gain.proofs.Owning.{IsBelow}

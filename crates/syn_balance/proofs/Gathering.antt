@@ -1,5 +1,6 @@
 -- The leaves of both fan-ins stand for an AND.
 use Rattle.std.proofs.Common.{◌≡◌, ◌≢◌, ℕ, suc, ◌+◌, ◌^◌, ◌<◌, ◌≤◌, Bool, false, List, [], ◌∷◌, length, set, sym, ap, ◌∙◌, subst, arith, inl, inr, Option, Some, length-append}
+use Rattle.syn_rows.specs.declared.TheConstants.{NODE_LIMIT}
 use Rattle.syn_rows.specs.declared.Lit.{Lit}
 use Rattle.syn_rows.specs.declared.Row.{Row}
 use Rattle.syn_rows.specs.declared.Row.TheVariants.{And}
@@ -70,7 +71,7 @@ gathered count rows lits roots n literals waiting new a b leaves left h r s abov
 
 -- room for the rows that join the leaves
 pub room_for : (count : ℕ) (rows : List Row) (roots : List Bool) (n : ℕ) (literals : List (Option Lit)) (waiting left : List (List Lit)) (new : List Row) (a b : Lit) (leaves : List Lit)
-    → IsBalancing count rows roots n literals waiting new → IsGathered rows new n a b waiting left leaves → n < length rows → length rows < 2 ^ 29 → length new + length leaves ≤ 2 ^ 29
+    → IsBalancing count rows roots n literals waiting new → IsGathered rows new n a b waiting left leaves → n < length rows → length rows < NODE_LIMIT → length new + length leaves ≤ NODE_LIMIT
 room_for count rows roots n literals waiting left new a b leaves s g lt few = let j = g.taken.joins_left in let f = s.few in let l = g.few in omega (arith, j, f, l)
 
 -- leaves wait, or are joined

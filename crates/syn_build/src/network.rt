@@ -1,9 +1,10 @@
 //! From a netlist to its graph.
 
 ghost use Rattle.std.specs.Prelude.{◌≡◌, ◌+◌, ◌<◌, ◌≤◌, ◌^◌, length, IfOk, true};
+ghost use Rattle.syn_rows.specs.declared.TheConstants.{NODE_LIMIT};
 ghost use Rattle.syn_rows.specs.Values.{rows_function};
 ghost use Rattle.syn_netlist.specs.Frames.{frame_in};
-ghost use Rattle.syn_netlist.specs.Lists.{sources};
+ghost use Rattle.syn_netlist.specs.Lists.{own_names, sources};
 ghost use Rattle.syn_netlist.specs.Views.{netlist_in};
 ghost use Rattle.syn_netlist.specs.Faults.{IsChecked, PutsInOrder};
 ghost use Rattle.syn_netlist.specs.Costs.{cost_of};
@@ -13,48 +14,55 @@ ghost use Rattle.syn_build.specs.Building.{IsGraphOf};
 
 use crate::tables::{Built, build_tables};
 use std::alloc::{AllocError, Global};
-use syn_graph::{Graph, copy_frame};
+use syn_graph::Graph;
 use syn_netlist::{CheckedNetlist, NetFault, Netlist};
 
 /// The graph of a netlist without a fault: its tables are built in file order, each after the tables of its inputs in
-/// input order, and the rows that no observed signal reaches are dropped. The only error is want of memory.
+/// input order, and the rows that no observed signal reaches are dropped. Of the names the graph keeps those of its
+/// sources and observed signals. The only error is want of memory.
 ///
-/// The frame is copied, and the order of the tables is looked for; `build_checked` does neither.
+/// The order of the tables is looked for; `build_checked` takes it from beside the netlist.
 pub fn build(alloc: Global, netlist: &Netlist) -> Result<Graph, AllocError>
     requires checked { IsChecked (netlist_in netlist.now) }
+    requires room { length (sources (frame_in netlist.now.frame)) + cost_of (netlist_in netlist.now) + 2 < NODE_LIMIT }
+    requires names { length netlist.now.frame.names < 2 ^ 31 }
+    ensures network { IfOk result (λ graph. IsGraphOf (netlist_in netlist.now) (network_of graph)) }
+    ensures function { IfOk result (λ graph. HasFunction (netlist_in netlist.now) (rows_function graph.rows graph.observed)) }
+    ensures few { IfOk result (λ graph. length graph.rows ≤ length (sources (frame_in netlist.now.frame)) + 1 + cost_of (netlist_in netlist.now)) }
+    ensures names { IfOk result (λ graph. graph.frame.names ≡ own_names (frame_in netlist.now.frame)) }
+{
+    let order = making_order(alloc, netlist)?;
+    build_in_order(alloc, netlist, order.as_slice())
+}
+
+/// The graph of a checked netlist, as `build` makes it. The tables are built in the order that stands beside the netlist.
+pub fn build_checked(alloc: Global, checked: CheckedNetlist) -> Result<Graph, AllocError>
+    requires room { length (sources (frame_in checked.netlist.frame)) + cost_of (netlist_in checked.netlist) + 2 < NODE_LIMIT }
+    requires names { length checked.netlist.frame.names < 2 ^ 31 }
+    ensures network { IfOk result (λ graph. IsGraphOf (netlist_in checked.netlist) (network_of graph)) }
+    ensures function { IfOk result (λ graph. HasFunction (netlist_in checked.netlist) (rows_function graph.rows graph.observed)) }
+    ensures few { IfOk result (λ graph. length graph.rows ≤ length (sources (frame_in checked.netlist.frame)) + 1 + cost_of (netlist_in checked.netlist)) }
+    ensures names { IfOk result (λ graph. graph.frame.names ≡ own_names (frame_in checked.netlist.frame)) }
+{
+    checked.is_in_order();
+    build_in_order(alloc, &checked.netlist, checked.order.as_slice())
+}
+
+// The graph of a netlist whose tables are built in this order.
+fn build_in_order(alloc: Global, netlist: &Netlist, order: &[u32]) -> Result<Graph, AllocError>
+    requires order { PutsInOrder (netlist_in netlist.now) order.now }
     requires room { length (sources (frame_in netlist.now.frame)) + cost_of (netlist_in netlist.now) + 2 < 2 ^ 29 }
     requires names { length netlist.now.frame.names < 2 ^ 31 }
     ensures network { IfOk result (λ graph. IsGraphOf (netlist_in netlist.now) (network_of graph)) }
     ensures function { IfOk result (λ graph. HasFunction (netlist_in netlist.now) (rows_function graph.rows graph.observed)) }
     ensures few { IfOk result (λ graph. length graph.rows ≤ length (sources (frame_in netlist.now.frame)) + 1 + cost_of (netlist_in netlist.now)) }
+    ensures names { IfOk result (λ graph. graph.frame.names ≡ own_names (frame_in netlist.now.frame)) }
 {
     syn_shapes::network_of_graph();
     syn_shapes::graph_has_function();
     syn_netlist::same_from_function();
-    let order = making_order(alloc, netlist)?;
-    let built = build_tables(alloc, netlist, order.as_slice())?;
-    let frame = copy_frame(alloc, &netlist.frame)?;
-    let Built { hashed, observed } = built;
-    let graph = syn_strash::finish(alloc, frame, hashed, observed.as_slice())?;
-    Ok(graph)
-}
-
-/// The graph of a checked netlist, as `build` makes it. The frame is moved, and the tables are built in the order that
-/// stands beside the netlist.
-pub fn build_checked(alloc: Global, checked: CheckedNetlist) -> Result<Graph, AllocError>
-    requires room { length (sources (frame_in checked.netlist.frame)) + cost_of (netlist_in checked.netlist) + 2 < 2 ^ 29 }
-    requires names { length checked.netlist.frame.names < 2 ^ 31 }
-    ensures network { IfOk result (λ graph. IsGraphOf (netlist_in checked.netlist) (network_of graph)) }
-    ensures function { IfOk result (λ graph. HasFunction (netlist_in checked.netlist) (rows_function graph.rows graph.observed)) }
-    ensures few { IfOk result (λ graph. length graph.rows ≤ length (sources (frame_in checked.netlist.frame)) + 1 + cost_of (netlist_in checked.netlist)) }
-{
-    syn_shapes::network_of_graph();
-    syn_shapes::graph_has_function();
-    syn_netlist::same_from_function();
-    checked.is_in_order();
-    let built = build_tables(alloc, &checked.netlist, checked.order.as_slice())?;
-    let CheckedNetlist { netlist, order: _ } = checked;
-    let Netlist { frame, tables: _ } = netlist;
+    let built = build_tables(alloc, netlist, order)?;
+    let frame = netlist.frame.over_own_names(alloc)?;
     let Built { hashed, observed } = built;
     let graph = syn_strash::finish(alloc, frame, hashed, observed.as_slice())?;
     Ok(graph)

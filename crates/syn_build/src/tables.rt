@@ -2,6 +2,7 @@
 
 ghost use Rattle.std.specs.Prelude.{◌≡◌, ◌≢◌, ℕ, ◌+◌, ◌^◌, ◌<◌, ◌≤◌, ◌&&◌, not, All, Bool, false, true, length, map, count_by, if◌then◌else◌, slice_index, IfOk, OnOk};
 ghost use Rattle.std.specs.List.{sum_by};
+ghost use Rattle.syn_rows.specs.declared.TheConstants.{NODE_LIMIT};
 ghost use Rattle.syn_rows.specs.Rows.{node_of};
 ghost use Rattle.syn_rows.specs.Values.{lit_value, rows_function};
 ghost use Rattle.syn_netlist.specs.Covers.{fits_bit};
@@ -36,7 +37,7 @@ pub struct Built {
 /// The rows and observed literals that the tables give, made in this order.
 pub fn build_tables(alloc: Global, netlist: &Netlist, order: &[u32]) -> Result<Built, AllocError>
     requires order { PutsInOrder (netlist_in netlist.now) order.now }
-    requires room { length (sources (frame_in netlist.now.frame)) + cost_of (netlist_in netlist.now) + 1 < 2 ^ 29 }
+    requires room { length (sources (frame_in netlist.now.frame)) + cost_of (netlist_in netlist.now) + 1 < NODE_LIMIT }
     ensures sources { IfOk result (λ b. b.hashed.source_count ≡ length (sources (frame_in netlist.now.frame))) }
     ensures few { IfOk result (λ b. length b.hashed.rows.items ≤ length (sources (frame_in netlist.now.frame)) + 1 + cost_of (netlist_in netlist.now)) }
     ensures count { IfOk result (λ b. length b.observed.items ≡ length (observed (frame_in netlist.now.frame))) }
@@ -65,10 +66,10 @@ fn named_literals(
     requires order { PutsInOrder (netlist_in netlist.now) order.now }
     requires words { words_at netlist.now.frame.names numbers.now ≡ sources (frame_in netlist.now.frame) }
     requires below { all_below (length netlist.now.frame.names) numbers.now ≡ true }
-    requires few { length numbers.now + 1 < 2 ^ 29 }
+    requires few { length numbers.now + 1 < NODE_LIMIT }
     requires count { hashed.old.source_count ≡ length numbers.now }
     requires rows { length hashed.old.rows.items ≡ length numbers.now + 1 }
-    requires room { length hashed.old.rows.items + cost_of (netlist_in netlist.now) < 2 ^ 29 }
+    requires room { length hashed.old.rows.items + cost_of (netlist_in netlist.now) < NODE_LIMIT }
     ensures sources { hashed.new.source_count ≡ hashed.old.source_count }
     ensures few { length hashed.new.rows.items ≤ length hashed.old.rows.items + cost_of (netlist_in netlist.now) }
     ensures named { IfOk result (λ v. IsNamed (in_order (netlist_in netlist.now) order.now) netlist.now.frame.names (defined (in_order (netlist_in netlist.now) order.now)) hashed.new.rows.items v.items) }
@@ -83,7 +84,7 @@ fn named_literals(
 fn source_literals(alloc: Global, count: u32, numbers: &[u32]) -> Result<Vec<Lit>, AllocError>
     requires below { all_below count numbers.now ≡ true }
     requires once { (i j : ℕ) → i < j → j < length numbers.now → slice_index numbers.now i ≢ slice_index numbers.now j }
-    requires few { length numbers.now + 1 < 2 ^ 29 }
+    requires few { length numbers.now + 1 < NODE_LIMIT }
     ensures count { IfOk result (λ v. length v.items ≡ count) }
     ensures there { IfOk result (λ v. All (λ l. node_of l ≤ length numbers.now) v.items) }
     ensures own { IfOk result (λ v. (i : ℕ) → i < length numbers.now → lit_at v.items (slice_index numbers.now i) ≡ source_lit i) }
@@ -105,7 +106,7 @@ fn constants(alloc: Global, count: u32) -> Result<Vec<Lit>, AllocError>
 fn give_sources(literals: &mut [Lit], numbers: &[u32])
     requires below { all_below (length literals.old) numbers.now ≡ true }
     requires once { (i j : ℕ) → i < j → j < length numbers.now → slice_index numbers.now i ≢ slice_index numbers.now j }
-    requires few { length numbers.now + 1 < 2 ^ 29 }
+    requires few { length numbers.now + 1 < NODE_LIMIT }
     requires none { All (λ l. node_of l ≡ 0) literals.old }
     ensures there { All (λ l. node_of l ≤ length numbers.now) literals.new }
     ensures own { (i : ℕ) → i < length numbers.now → lit_at literals.new (slice_index numbers.now i) ≡ source_lit i }
@@ -138,7 +139,7 @@ fn name_tables(
     requires order { PutsInOrder (netlist_in netlist.now) order.now }
     requires names { distinct netlist.now.frame.names ≡ true }
     requires named { IsNamed (in_order (netlist_in netlist.now) order.now) netlist.now.frame.names (sources (frame_in netlist.now.frame)) hashed.old.rows.items literals.old }
-    requires room { length hashed.old.rows.items + cost_of (netlist_in netlist.now) < 2 ^ 29 }
+    requires room { length hashed.old.rows.items + cost_of (netlist_in netlist.now) < NODE_LIMIT }
     ensures sources { hashed.new.source_count ≡ hashed.old.source_count }
     ensures few { length hashed.new.rows.items ≤ length hashed.old.rows.items + cost_of (netlist_in netlist.now) }
     ensures named { OnOk result (IsNamed (in_order (netlist_in netlist.now) order.now) netlist.now.frame.names (defined (in_order (netlist_in netlist.now) order.now)) hashed.new.rows.items literals.new) }
@@ -161,7 +162,7 @@ fn literal_of(
 ) -> Result<Lit, AllocError>
     requires inputs { all_below (length literals.now) table.now.inputs ≡ true }
     requires there { AllThere hashed.old.rows.items literals.now }
-    requires room { length hashed.old.rows.items + sum_by row_cost table.now.rows < 2 ^ 29 }
+    requires room { length hashed.old.rows.items + sum_by row_cost table.now.rows < NODE_LIMIT }
     ensures sources { hashed.new.source_count ≡ hashed.old.source_count }
     ensures grows { Extends hashed.old.rows.items hashed.new.rows.items }
     ensures few { length hashed.new.rows.items ≤ length hashed.old.rows.items + sum_by row_cost table.now.rows }
@@ -196,7 +197,7 @@ fn and_character(
 ) -> Result<Lit, AllocError>
     requires all { node_of all < length hashed.old.rows.items }
     requires input { node_of input < length hashed.old.rows.items }
-    requires room { length hashed.old.rows.items + 1 < 2 ^ 29 }
+    requires room { length hashed.old.rows.items + 1 < NODE_LIMIT }
     ensures sources { hashed.new.source_count ≡ hashed.old.source_count }
     ensures grows { Extends hashed.old.rows.items hashed.new.rows.items }
     ensures few { length hashed.new.rows.items ≤ length hashed.old.rows.items + (if is_sign character then 1 else 0) }
@@ -209,7 +210,7 @@ fn and_character(
 // The AND of the fits of a row's characters, from constant 1, in the order of the inputs.
 fn row_literal(hashed: &mut HashedRows, inputs: &[Lit], row: &[u8]) -> Result<Lit, AllocError>
     requires inputs { AllThere hashed.old.rows.items inputs.now }
-    requires room { length hashed.old.rows.items + row_cost row.now < 2 ^ 29 }
+    requires room { length hashed.old.rows.items + row_cost row.now < NODE_LIMIT }
     ensures sources { hashed.new.source_count ≡ hashed.old.source_count }
     ensures grows { Extends hashed.old.rows.items hashed.new.rows.items }
     ensures few { length hashed.new.rows.items + 1 ≤ length hashed.old.rows.items + row_cost row.now }
@@ -230,7 +231,7 @@ fn row_literal(hashed: &mut HashedRows, inputs: &[Lit], row: &[u8]) -> Result<Li
 fn or_row(hashed: &mut HashedRows, any: Lit, inputs: &[Lit], row: &[u8]) -> Result<Lit, AllocError>
     requires any { node_of any < length hashed.old.rows.items }
     requires inputs { AllThere hashed.old.rows.items inputs.now }
-    requires room { length hashed.old.rows.items + row_cost row.now < 2 ^ 29 }
+    requires room { length hashed.old.rows.items + row_cost row.now < NODE_LIMIT }
     ensures sources { hashed.new.source_count ≡ hashed.old.source_count }
     ensures grows { Extends hashed.old.rows.items hashed.new.rows.items }
     ensures few { length hashed.new.rows.items ≤ length hashed.old.rows.items + row_cost row.now }
@@ -249,7 +250,7 @@ fn table_literal(
     on: bool,
 ) -> Result<Lit, AllocError>
     requires inputs { AllThere hashed.old.rows.items inputs.now }
-    requires room { length hashed.old.rows.items + sum_by row_cost rows.now < 2 ^ 29 }
+    requires room { length hashed.old.rows.items + sum_by row_cost rows.now < NODE_LIMIT }
     ensures sources { hashed.new.source_count ≡ hashed.old.source_count }
     ensures grows { Extends hashed.old.rows.items hashed.new.rows.items }
     ensures few { length hashed.new.rows.items ≤ length hashed.old.rows.items + sum_by row_cost rows.now }

@@ -7,9 +7,11 @@ use Rattle.syn_rows.specs.declared.Row.{Row}
 use Rattle.syn_rows.specs.declared.Row.TheVariants.{And}
 use Rattle.syn_rows.specs.Rows.{node_of, row_at, refs_of}
 use Rattle.syn_rows.specs.Values.{Fits, is_open}
-use Rattle.syn_cones.specs.Cones.{has_node, is_end, Refers, LeadsToSource, FitsAt, FitsBetween, IsCut}
+use Rattle.syn_rows.specs.Nodes.{has_node}
+use Rattle.syn_cones.specs.Cones.{is_end, Refers, LeadsToSource, FitsAt}
 use Rattle.syn_cones.specs.Laws.{FanInsAreCut, LeafMayBeReplaced, AllFitBetween}
-use Rattle.syn_cones.proofs.Walking.{has_here, has_one, refers_row, same_node}
+use Rattle.syn_rows.proofs.Nodes.{has_here, has_one, same_node}
+use Rattle.syn_cones.proofs.Walking.{refers_row}
 
 -- an end's row is open
 end_open : (rows : List Row) (n : ℕ) → is_end rows n ≡ true → is_open (row_at rows n) ≡ true

@@ -5,9 +5,11 @@ use Rattle.std.proofs.lemmas.List.{length-append, get_or_append_left, get_or_pus
 use Rattle.syn_rows.specs.declared.Row.{Row}
 use Rattle.syn_truth.specs.declared.Truth.{Truth}
 use Rattle.syn_truth.specs.Truth.{value_of}
-use Rattle.syn_cones.specs.Cones.{has_node, is_end, LeadsTo, IsCut, IsFunctionOf}
+use Rattle.syn_rows.specs.Nodes.{has_node}
+use Rattle.syn_cones.specs.Cones.{is_end, LeadsTo, IsCut, IsFunctionOf}
 use Rattle.syn_cones.specs.Walk.{AreFunctions, FitsInside, TablesAgree, have_vars}
-use Rattle.syn_cones.proofs.Walking.{cut_led, node_same}
+use Rattle.syn_rows.proofs.Nodes.{node_same}
+use Rattle.syn_cones.proofs.Walking.{cut_led}
 
 -- a node that is led to and isn't a leaf is no end of a path
 no_end : (rows : List Row) (leaves : List ℕ) (root : ℕ) (path : List ℕ) (n : ℕ) → IsCut rows leaves root → LeadsTo rows leaves root path n → has_node leaves n ≡ false → is_end rows n ≡ false

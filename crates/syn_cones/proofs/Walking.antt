@@ -1,46 +1,15 @@
 -- The walk from a root down to the leaves of a cut.
 use Rattle.std.proofs.Common.{◌≡◌, ℕ, zero, suc, ◌<◌, ◌≤◌, nat_lt, nat_eq, Bool, true, false, if◌then◌else◌, List, [], ◌∷◌, ◌++◌, refl, sym, subst, inl, inr, ◌⊎◌, arith}
 use Rattle.std.specs.List.{list_any, list_all}
-use Rattle.std.proofs.lemmas.Bool.{and_parts, and_from, or_cases, or_left, or_right, both_ways, eqb-true, ltb-true, lt-ltb}
-use Rattle.std.proofs.lemmas.Bool.Decides.{nat_tests, eqb_tells}
+use Rattle.std.proofs.lemmas.Bool.{and_parts, and_from, or_cases, or_left, both_ways, ltb-true, lt-ltb}
+use Rattle.std.proofs.lemmas.Bool.Decides.{nat_tests}
 use Rattle.syn_rows.specs.declared.Row.{Row}
 use Rattle.syn_rows.specs.declared.Row.TheVariants.{Free, Source, And, Alias}
+use Rattle.syn_rows.proofs.Nodes.{same_node, has_here, has_there, has_cases, has_left, has_right, has_one}
 use Rattle.syn_rows.specs.Rows.{row_at, refs_of, node_of, AllRefs, InOrder}
-use Rattle.syn_cones.specs.Cones.{has_node, refs_at, Refers, LeadsTo, IsCut}
-use Rattle.syn_cones.specs.Walk.{put_node, put_nodes, inner_refs, has_all, is_closed, rises, top, IsWalk}
-
-pub same_node : (m n : ℕ) → nat_eq m n ≡ true → m ≡ n
-same_node m n e = eqb-true m n e
-
-pub node_same : (n : ℕ) → nat_eq n n ≡ true
-node_same n = elim (eqb_tells n n) [ inl p ↦ p.0 | inr p ↦ absurd (p.1 refl) ]
-
-pub has_here : (n : ℕ) (ms : List ℕ) → has_node (n ∷ ms) n ≡ true
-has_here n ms = or_left (nat_eq n n) (has_node ms n) (node_same n)
-
-pub has_there : (m n : ℕ) (ms : List ℕ) → has_node ms n ≡ true → has_node (m ∷ ms) n ≡ true
-has_there m n ms h = or_right (nat_eq m n) (has_node ms n) h
-
-pub has_cases : (xs ys : List ℕ) (n : ℕ) → has_node (xs ++ ys) n ≡ true → (has_node xs n ≡ true) ⊎ (has_node ys n ≡ true)
-has_cases [] ys n h = inr h
-has_cases (x ∷ xs) ys n h = elim (or_cases (nat_eq x n) (has_node (xs ++ ys) n) h) [
-  | inl e ↦ inl (or_left (nat_eq x n) (has_node xs n) e)
-  | inr t ↦ elim (has_cases xs ys n t) [ inl a ↦ inl (has_there x n xs a) | inr b ↦ inr b ]
-]
-
-pub has_left : (xs ys : List ℕ) (n : ℕ) → has_node xs n ≡ true → has_node (xs ++ ys) n ≡ true
-has_left [] ys n h = absurd (both_ways false refl h)
-has_left (x ∷ xs) ys n h = elim (or_cases (nat_eq x n) (has_node xs n) h) [
-  | inl e ↦ or_left (nat_eq x n) (has_node (xs ++ ys) n) e
-  | inr t ↦ has_there x n (xs ++ ys) (has_left xs ys n t)
-]
-
-pub has_right : (xs ys : List ℕ) (n : ℕ) → has_node ys n ≡ true → has_node (xs ++ ys) n ≡ true
-has_right [] ys n h = h
-has_right (x ∷ xs) ys n h = has_there x n (xs ++ ys) (has_right xs ys n h)
-
-pub has_one : (m n : ℕ) → has_node (m ∷ []) n ≡ true → m ≡ n
-has_one m n h = elim (or_cases (nat_eq m n) false h) [ inl e ↦ same_node m n e | inr z ↦ absurd (both_ways false refl z) ]
+use Rattle.syn_rows.specs.Nodes.{has_node}
+use Rattle.syn_cones.specs.Cones.{refs_at, Refers, LeadsTo, IsCut}
+use Rattle.syn_cones.specs.Walk.{put_node, put_nodes, inner_refs, has_all, is_closed, rises, top, IsConeWalk}
 
 -- a node put among others
 
@@ -194,8 +163,8 @@ inner_less rows leaves n m order h = go (has_node leaves n) refl h
     go false e h = (e, h)
 
 -- one step of the walk
-pub walk_on : (rows : List Row) (leaves : List ℕ) (root : ℕ) (done front : List ℕ) (n : ℕ) → InOrder rows → IsWalk rows leaves root done (front ++ n ∷ [])
-    → IsWalk rows leaves root (done ++ n ∷ []) (put_nodes (inner_refs rows leaves n) front)
+pub walk_on : (rows : List Row) (leaves : List ℕ) (root : ℕ) (done front : List ℕ) (n : ℕ) → InOrder rows → IsConeWalk rows leaves root done (front ++ n ∷ [])
+    → IsConeWalk rows leaves root (done ++ n ∷ []) (put_nodes (inner_refs rows leaves n) front)
 walk_on rows leaves root done front n order w =
     let refs = inner_refs rows leaves n in
     let now = put_nodes refs front in
@@ -317,7 +286,7 @@ pub rises_on : (rows : List Row) (leaves front : List ℕ) (n : ℕ) → rises (
 rises_on rows leaves front n h = rises_puts (inner_refs rows leaves n) front (rises_front front n h)
 
 -- the last that is done is found
-pub found_on : (rows : List Row) (leaves : List ℕ) (root : ℕ) (front others : List ℕ) (n : ℕ) → IsWalk rows leaves root (front ++ n ∷ []) others → IsWalk rows leaves root front (others ++ n ∷ [])
+pub found_on : (rows : List Row) (leaves : List ℕ) (root : ℕ) (front others : List ℕ) (n : ℕ) → IsConeWalk rows leaves root (front ++ n ∷ []) others → IsConeWalk rows leaves root front (others ++ n ∷ [])
 found_on rows leaves root front others n w = record {
   there = onward root w.there;
   led = λ k h. w.led k (back k h);
@@ -342,5 +311,5 @@ found_on rows leaves root front others n w = record {
       ]
     ]
 
-pub last_led : (rows : List Row) (leaves : List ℕ) (root : ℕ) (front others : List ℕ) (n : ℕ) → IsWalk rows leaves root (front ++ n ∷ []) others → (path : List ℕ) × LeadsTo rows leaves root path n
+pub last_led : (rows : List Row) (leaves : List ℕ) (root : ℕ) (front others : List ℕ) (n : ℕ) → IsConeWalk rows leaves root (front ++ n ∷ []) others → (path : List ℕ) × LeadsTo rows leaves root path n
 last_led rows leaves root front others n w = w.led n (has_left (front ++ n ∷ []) others n (has_right front (n ∷ []) n (has_here n [])))

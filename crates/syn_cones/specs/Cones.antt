@@ -1,15 +1,12 @@
 -- Cuts by paths, and the function of a node over a cut. Node 0 is the constant 0: it refers to no node, and no path ends in it.
-use Rattle.std.specs.Prelude.{◌≡◌, ℕ, zero, suc, ◌==◌, Bool, true, false, List, [], ◌∷◌, length, map}
+use Rattle.std.specs.Prelude.{◌≡◌, ℕ, zero, suc, Bool, true, false, List, [], ◌∷◌, length, map}
 use Rattle.std.specs.List.{list_any}
 use Rattle.syn_rows.specs.declared.Row.{Row}
+use Rattle.syn_rows.specs.Nodes.{has_node}
 use Rattle.syn_rows.specs.Rows.{row_at, refs_of}
 use Rattle.syn_rows.specs.Values.{RowFits, is_open}
 use Rattle.syn_truth.specs.declared.Truth.{Truth}
 use Rattle.syn_truth.specs.Truth.{AtEach, value_of}
-
--- the node is in the list
-abbrev pub has_node : List ℕ → ℕ → Bool
-has_node nodes n = list_any (λ m. m == n) nodes
 
 -- the nodes that the row of a node refers to, none of the constant
 abbrev pub refs_at : List Row → ℕ → List ℕ

@@ -5,7 +5,8 @@ use Rattle.syn_rows.specs.declared.Row.{Row}
 use Rattle.syn_rows.specs.declared.Row.TheVariants.{And}
 use Rattle.syn_rows.specs.Rows.{node_of, row_at}
 use Rattle.syn_rows.specs.Values.{Fits}
-use Rattle.syn_cones.specs.Cones.{has_node, FitsBetween, IsCut}
+use Rattle.syn_rows.specs.Nodes.{has_node}
+use Rattle.syn_cones.specs.Cones.{FitsBetween, IsCut}
 
 -- The two fan-ins of an AND are a cut of it.
 abbrev pub FanInsAreCut : Type 0

@@ -4,7 +4,8 @@ use Rattle.std.specs.List.{list_all}
 use Rattle.syn_rows.specs.declared.Row.{Row}
 use Rattle.syn_truth.specs.declared.Truth.{Truth}
 use Rattle.syn_truth.specs.Truth.{value_of}
-use Rattle.syn_cones.specs.Cones.{has_node, refs_at, is_end, LeadsTo, FitsAt, IsFunctionOf}
+use Rattle.syn_rows.specs.Nodes.{has_node}
+use Rattle.syn_cones.specs.Cones.{refs_at, is_end, LeadsTo, FitsAt, IsFunctionOf}
 
 -- a node put in its place among rising nodes, where it isn't there yet
 abbrev pub put_node : ℕ → List ℕ → List ℕ
@@ -45,7 +46,7 @@ abbrev pub AreLedTo : List Row → List ℕ → ℕ → List ℕ → Type 0
 AreLedTo rows leaves root nodes = (n : ℕ) → has_node nodes n ≡ true → (path : List ℕ) × LeadsTo rows leaves root path n
 
 -- The nodes that are done, and those that wait: the root is among them, each of them is led to from it, and those that are done refer only to nodes behind them or waiting.
-pub record IsWalk (rows : List Row) (leaves : List ℕ) (root : ℕ) (done waiting : List ℕ) : Type 0 where
+pub record IsConeWalk (rows : List Row) (leaves : List ℕ) (root : ℕ) (done waiting : List ℕ) : Type 0 where
   pub there : has_node (done ++ waiting) root ≡ true
   pub led : AreLedTo rows leaves root (done ++ waiting)
   pub closed : is_closed rows leaves done waiting ≡ true

@@ -6,16 +6,19 @@ ghost use Rattle.syn_rows.specs.Rows.{InOrder, node_of, refs_of, row_at};
 ghost use Rattle.syn_rows.specs.Values.{RowFits, is_open, lit_value};
 ghost use Rattle.syn_truth.specs.declared.TheConstants.{MOST_VARS};
 ghost use Rattle.syn_truth.specs.Truth.{value_of};
-ghost use Rattle.syn_cones.specs.Cones.{IsCut, IsTruthOver, has_node};
-ghost use Rattle.syn_cones.specs.Walk.{FitsInside, IsWalk, TablesAgree, has_all, have_vars, inner_refs, put_node, put_nodes};
+ghost use Rattle.syn_rows.specs.Nodes.{has_node};
+ghost use Rattle.syn_cones.specs.Cones.{IsCut, IsTruthOver};
+ghost use Rattle.syn_cones.specs.Walk.{FitsInside, IsConeWalk, TablesAgree, has_all, have_vars, inner_refs, put_node, put_nodes};
 
+use crate::words::small_table;
 use smallvec::SmallVec;
 use std::alloc::{AllocError, Global};
 use syn_rows::{Lit, Row};
 use syn_truth::Truth;
 
 // The place of a node.
-fn place_of(nodes: &[u32], node: u32) -> Option<usize>
+#[inline]
+pub(crate) fn place_of(nodes: &[u32], node: u32) -> Option<usize>
     ensures some { IfSome result (λ i. (i < length nodes.now) × (slice_index_or nodes.now i 0 ≡ node)) }
     ensures none { IfNone result (has_node nodes.now node ≡ false) }
 {
@@ -27,8 +30,24 @@ fn place_of(nodes: &[u32], node: u32) -> Option<usize>
     None
 }
 
-// Where a node belongs among rising nodes: the place, or none where it is there.
-fn gap_for(nodes: &[u32], node: u32) -> Option<usize>
+// How many hints there are: a place for each number modulo this one.
+const HINTS: usize = 64;
+
+// The place of a node, which probably stands where the hint for its number says.
+#[inline]
+fn place_near(nodes: &[u32], hints: &[u8; HINTS], node: u32) -> Option<usize>
+    ensures some { IfSome result (λ i. (i < length nodes.now) × (slice_index_or nodes.now i 0 ≡ node)) }
+    ensures none { IfNone result (has_node nodes.now node ≡ false) }
+{
+    let guess = hints[node as usize % HINTS] as usize;
+    if guess < nodes.len() && nodes[guess] == node {
+        return Some(guess);
+    }
+    place_of(nodes, node)
+}
+
+/// Where a node belongs among rising nodes: the place, or none where it is there.
+pub fn gap_for(nodes: &[u32], node: u32) -> Option<usize>
     ensures some { IfSome result (λ i. (i ≤ length nodes.now) × (put_node node nodes.now ≡ insert nodes.now i node)) }
     ensures none { IfNone result (put_node node nodes.now ≡ nodes.now) }
 {
@@ -96,7 +115,7 @@ fn cone_of(
 ) -> Result<SmallVec<u32, 32>, AllocError>
     requires order { InOrder rows.now }
     requires root { root < length rows.now }
-    ensures { IfOk result (λ cone. IsWalk rows.now leaves.now root cone.items []) }
+    ensures { IfOk result (λ cone. IsConeWalk rows.now leaves.now root cone.items []) }
 {
     let mut cone = SmallVec::new(alloc);
     let mut waiting = SmallVec::new(alloc);
@@ -109,13 +128,13 @@ fn cone_of(
 }
 
 // The table of a literal, from those of nodes among which its node is.
-fn lit_table(nodes: &[u32], tables: &[Truth], lit: Lit) -> Truth
+fn lit_table(nodes: &[u32], hints: &[u8; HINTS], tables: &[Truth], lit: Lit) -> Truth
     requires count { length tables.now ≡ length nodes.now }
     requires there { has_node nodes.now (node_of lit) ≡ true }
     ensures vars { (vars : ℕ) → have_vars vars tables.now ≡ true → result.vars ≡ vars }
     ensures values { (v : ℕ → Bool) (xs : List Bool) → have_vars (length xs) tables.now ≡ true → TablesAgree v xs nodes.now tables.now → lit_value v lit ≡ value_of result xs }
 {
-    match place_of(nodes, lit.node()) {
+    match place_near(nodes, hints, lit.node()) {
         Some(i) if lit.complemented() => tables[i].not(),
         Some(i) => tables[i],
         None => Truth::default(),
@@ -123,7 +142,7 @@ fn lit_table(nodes: &[u32], tables: &[Truth], lit: Lit) -> Truth
 }
 
 // The table that a row gives its node, from those of nodes among which are all that it refers to.
-fn row_table(nodes: &[u32], tables: &[Truth], row: Row, vars: u8) -> Truth
+fn row_table(nodes: &[u32], hints: &[u8; HINTS], tables: &[Truth], row: Row, vars: u8) -> Truth
     requires few { vars ≤ MOST_VARS }
     requires count { length tables.now ≡ length nodes.now }
     requires vars { have_vars vars tables.now ≡ true }
@@ -132,14 +151,24 @@ fn row_table(nodes: &[u32], tables: &[Truth], row: Row, vars: u8) -> Truth
     ensures values { (n : ℕ) (v : ℕ → Bool) (xs : List Bool) → length xs ≡ vars → TablesAgree v xs nodes.now tables.now → is_open row ≡ false → RowFits v n row → v n ≡ value_of result xs }
 {
     match row {
-        Row::And(a, b) => lit_table(nodes, tables, a).and(lit_table(nodes, tables, b)),
-        Row::Alias(a) => lit_table(nodes, tables, a),
+        Row::And(a, b) => {
+            let first = lit_table(nodes, hints, tables, a);
+            first.and(lit_table(nodes, hints, tables, b))
+        }
+        Row::Alias(a) => lit_table(nodes, hints, tables, a),
         _ => Truth::constant(vars, false),
     }
 }
 
 // The table of a node over leaves, from those of nodes among which are all that it refers to.
-fn node_table(rows: &[Row], leaves: &[u32], nodes: &[u32], tables: &[Truth], node: u32) -> Truth
+fn node_table(
+    rows: &[Row],
+    leaves: &[u32],
+    nodes: &[u32],
+    hints: &[u8; HINTS],
+    tables: &[Truth],
+    node: u32,
+) -> Truth
     requires few { length leaves.now ≤ MOST_VARS }
     requires node { node < length rows.now }
     requires count { length tables.now ≡ length nodes.now }
@@ -151,7 +180,13 @@ fn node_table(rows: &[Row], leaves: &[u32], nodes: &[u32], tables: &[Truth], nod
     match place_of(leaves, node) {
         Some(i) => Truth::var(leaves.len() as u8, i as u8),
         None if node == 0 => Truth::constant(leaves.len() as u8, false),
-        None => row_table(nodes, tables, rows[node as usize], leaves.len() as u8),
+        None => row_table(
+            nodes,
+            hints,
+            tables,
+            rows[node as usize],
+            leaves.len() as u8,
+        ),
     }
 }
 
@@ -167,14 +202,23 @@ fn cone_table(
     requires order { InOrder rows.now }
     requires root { root < length rows.now }
     requires cut { IsCut rows.now leaves.now root }
-    requires walk { IsWalk rows.now leaves.now root cone.items [] }
+    requires walk { IsConeWalk rows.now leaves.now root cone.items [] }
     ensures { IfOk result (IsTruthOver rows.now leaves.now root) }
 {
     let mut cone = cone;
     let mut nodes: SmallVec<u32, 32> = SmallVec::new(alloc);
-    let mut tables: SmallVec<Truth, 16> = SmallVec::new(alloc);
+    let mut tables: SmallVec<Truth, 32> = SmallVec::new(alloc);
+    let mut hints = [0; HINTS];
     while let Some(node) = cone.pop() {
-        let table = node_table(rows, leaves, nodes.as_slice(), tables.as_slice(), node);
+        let table = node_table(
+            rows,
+            leaves,
+            nodes.as_slice(),
+            &hints,
+            tables.as_slice(),
+            node,
+        );
+        hints[node as usize % HINTS] = (nodes.len() % 256) as u8;
         nodes.push(node)?;
         tables.push(table)?;
     }
@@ -196,6 +240,9 @@ pub fn function(alloc: Global, rows: &[Row], root: u32, leaves: &[u32]) -> Resul
     requires cut { IsCut rows.now leaves.now root }
     ensures { IfOk result (IsTruthOver rows.now leaves.now root) }
 {
+    if let Some(table) = small_table(rows, root, leaves) {
+        return Ok(table);
+    }
     let cone = cone_of(alloc, rows, leaves, root)?;
     cone_table(alloc, rows, leaves, root, cone)
 }

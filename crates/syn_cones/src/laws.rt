@@ -1,6 +1,7 @@
 //! What holds of all cuts.
 
 ghost use Rattle.syn_cones.specs.Laws.{AllFitBetween, FanInsAreCut, LeafMayBeReplaced};
+ghost use Rattle.syn_cones.specs.Values.{TruthIsValueOver};
 
 /// The two fan-ins of an AND are a cut of it.
 pub fn fan_ins_are_cut()
@@ -15,4 +16,9 @@ pub fn leaf_may_be_replaced()
 /// A valuation that fits all rows fits those between a root and leaves.
 pub fn all_fit_between()
     ensures { AllFitBetween }
+{}
+
+/// The truth of a node over rising leaves below it has the values that are computed row by row.
+pub fn truth_is_value_over()
+    ensures { TruthIsValueOver }
 {}

@@ -3,6 +3,7 @@
 
 mod cones;
 mod laws;
+mod words;
 
-pub use cones::function;
-pub use laws::{all_fit_between, fan_ins_are_cut, leaf_may_be_replaced};
+pub use cones::{function, gap_for};
+pub use laws::{all_fit_between, fan_ins_are_cut, leaf_may_be_replaced, truth_is_value_over};

@@ -1,4 +1,4 @@
--- A seat read by its place.
+-- A seat read by its index.
 use Rattle.std.proofs.Common.{◌≡◌, ℕ, zero, suc, ◌<◌, List, [], ◌∷◌, length, get_or, refl, sym, subst, arith}
 use mathlib.Core.Option.{some, some-injective, some-ne-none}
 use lib.ListN.{get_elem?}
@@ -26,6 +26,6 @@ seats_are_read c id event = (
   (λ b. (view_at c id, at_index c.seats id (empty_view 64) b.0, b.1, b.2, b.3)),
 )
 
--- an event that is allowed by places steps
+-- an event that is allowed by indexes steps
 pub steps_read : (c : Core) (e : Event) (d : Core) → IsAllowedAt c e.seat e.kind → d ≡ after c e.seat (view_at c e.seat) e.kind → Steps c e d
 steps_read c e d b is = (view_at c e.seat, at_index c.seats e.seat (empty_view 64) b.0, b.1, b.2, b.3, is)

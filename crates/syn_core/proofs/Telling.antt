@@ -5,7 +5,8 @@ use Rattle.syn_rows.specs.declared.Row.{Row}
 use Rattle.syn_rows.specs.declared.Row.TheVariants.{Free, Source, And, Alias}
 use Rattle.syn_rows.specs.declared.Lit.{Lit}
 use Rattle.syn_rows.specs.Rows.{node_of}
-use Rattle.syn_core_laws.specs.Lists.{has, look}
+use Rattle.syn_rows.specs.Nodes.{has_node}
+use Rattle.syn_core_laws.specs.Lists.{look}
 use Rattle.syn_core_laws.specs.SameValue.{turned_by, both, value_of_row, known_value, value_by, HasValue, SameFor, SameValue}
 use Rattle.syn_core_laws.specs.declared.View.{View}
 use Rattle.syn_core.specs.Told.{IsTold, if_untold, new_value, IsFull, or_next, first_new, if_missing, untold, SameTold, Covers, Agrees, SameForAll}
@@ -37,13 +38,13 @@ known_more at at' more (Some r) b h = row_more at at' more r b h
 module _ (known : ℕ → Option Row) (over : List ℕ) (choice : ℕ → Bool) where
   -- ---- more steps
   step_more : (k n : ℕ) (b : Bool) → value_by known over choice k n ≡ Some b → value_by known over choice (suc k) n ≡ Some b
-  step_more zero n b h = go (has n over) (nat_eq n 0) h
+  step_more zero n b h = go (has_node over n) (nat_eq n 0) h
     where
       go : (p q : Bool) → (if p then Some (choice n) else if q then Some false else None) ≡ Some b → (if p then Some (choice n) else if q then Some false else known_value (value_by known over choice zero) (known n)) ≡ Some b
       go true q h = h
       go false true h = h
       go false false h = absurd (cc)
-  step_more (suc k) n b h = go (has n over) (nat_eq n 0) (step_more k) h
+  step_more (suc k) n b h = go (has_node over n) (nat_eq n 0) (step_more k) h
     where
       go : (p q : Bool) → ((m : ℕ) (c : Bool) → value_by known over choice k m ≡ Some c → value_by known over choice (suc k) m ≡ Some c)
           → (if p then Some (choice n) else if q then Some false else known_value (value_by known over choice k) (known n)) ≡ Some b
@@ -93,13 +94,13 @@ module _ (known : ℕ → Option Row) (over : List ℕ) (choice : ℕ → Bool) 
 
     -- ---- a new value
     value_new : (n : ℕ) (b : Bool) (s : ℕ) → look n told ≡ None → known_value (value_by known over choice s) (known n) ≡ Some b → value_by known over choice (suc s) n ≡ Some b
-    value_new n b s none h = go (has n over) refl (nat_eq n 0) refl
+    value_new n b s none h = go (has_node over n) refl (nat_eq n 0) refl
       where
-        go : (p : Bool) → has n over ≡ p → (q : Bool) → nat_eq n 0 ≡ q → (if p then Some (choice n) else if q then Some false else known_value (value_by known over choice s) (known n)) ≡ Some b
+        go : (p : Bool) → has_node over n ≡ p → (q : Bool) → nat_eq n 0 ≡ q → (if p then Some (choice n) else if q then Some false else known_value (value_by known over choice s) (known n)) ≡ Some b
         go true e q f = let is : look n told ≡ Some (choice n) = t.named n e in absurd (cc)
         go false e true f =
             let z : n ≡ 0 = eqb-true n 0 f in
-            let is : look 0 told ≡ Some false = t.constant (subst (λ k. has k over ≡ false) z e) in
+            let is : look 0 told ≡ Some false = t.constant (subst (λ k. has_node over k ≡ false) z e) in
             let no : look 0 told ≡ None = subst (λ k. look k told ≡ None) z none in
             absurd (cc)
         go false e false f = h
@@ -135,15 +136,15 @@ module _ (known : ℕ → Option Row) (over : List ℕ) (choice : ℕ → Bool) 
 
     -- ---- where nothing can be added, each value is told
     pub all_told : IsFull known told → (s n : ℕ) (b : Bool) → value_by known over choice s n ≡ Some b → look n told ≡ Some b
-    all_told full zero n b h = go (has n over) refl (nat_eq n 0) refl h
+    all_told full zero n b h = go (has_node over n) refl (nat_eq n 0) refl h
       where
-        go : (p : Bool) → has n over ≡ p → (q : Bool) → nat_eq n 0 ≡ q → (if p then Some (choice n) else if q then Some false else None) ≡ Some b → look n told ≡ Some b
+        go : (p : Bool) → has_node over n ≡ p → (q : Bool) → nat_eq n 0 ≡ q → (if p then Some (choice n) else if q then Some false else None) ≡ Some b → look n told ≡ Some b
         go true e q f h = t.named n e ∙ h
         go false e true f h =
             let z : n ≡ 0 = eqb-true n 0 f in
-            subst (λ k. look k told ≡ Some b) (sym z) (t.constant (subst (λ k. has k over ≡ false) z e) ∙ h)
+            subst (λ k. look k told ≡ Some b) (sym z) (t.constant (subst (λ k. has_node over k ≡ false) z e) ∙ h)
         go false e false f h = absurd (cc)
-    all_told full (suc s) n b h = go (has n over) refl (nat_eq n 0) refl (all_told full s) h
+    all_told full (suc s) n b h = go (has_node over n) refl (nat_eq n 0) refl (all_told full s) h
       where
         by_row : (o : Option Bool) → look n told ≡ o → ((m : ℕ) (c : Bool) → value_by known over choice s m ≡ Some c → look m told ≡ Some c) → known_value (value_by known over choice s) (known n) ≡ Some b
             → value_by known over choice (suc s) n ≡ Some b → look n told ≡ Some b
@@ -154,12 +155,12 @@ module _ (known : ℕ → Option Row) (over : List ℕ) (choice : ℕ → Bool) 
             absurd (cc)
         by_row (Some c) e ih v whole = let by = t.each n c e in e ∙ ap Some (one_value by.0 (suc s) n c b by.1 whole)
 
-        go : (p : Bool) → has n over ≡ p → (q : Bool) → nat_eq n 0 ≡ q → ((m : ℕ) (c : Bool) → value_by known over choice s m ≡ Some c → look m told ≡ Some c)
+        go : (p : Bool) → has_node over n ≡ p → (q : Bool) → nat_eq n 0 ≡ q → ((m : ℕ) (c : Bool) → value_by known over choice s m ≡ Some c → look m told ≡ Some c)
             → (if p then Some (choice n) else if q then Some false else known_value (value_by known over choice s) (known n)) ≡ Some b → look n told ≡ Some b
         go true e q f ih h = t.named n e ∙ h
         go false e true f ih h =
             let z : n ≡ 0 = eqb-true n 0 f in
-            subst (λ k. look k told ≡ Some b) (sym z) (t.constant (subst (λ k. has k over ≡ false) z e) ∙ h)
+            subst (λ k. look k told ≡ Some b) (sym z) (t.constant (subst (λ k. has_node over k ≡ false) z e) ∙ h)
         go false e false f ih v = by_row (look n told) refl ih v (ap (λ p. if p then Some (choice n) else if nat_eq n 0 then Some false else known_value (value_by known over choice s) (known n)) e ∙ (ap (λ q. if q then Some false else known_value (value_by known over choice s) (known n)) f ∙ v))
 
     pub same_told : IsFull known told → (old new : Row) → (SameTold told old new → SameFor known over choice old new) × (SameFor known over choice old new → SameTold told old new)
@@ -298,11 +299,11 @@ module _ (known : ℕ → Option Row) (over : List ℕ) (chosen : List (ℕ × B
     each = λ n b h. by_value n b h (look n chosen) refl (covers n);
   }
     where
-      by_name : (n : ℕ) → has n over ≡ true → (o : Option Bool) → look n chosen ≡ o → has n over ≡ is_some o → look n (chosen ++ (0, false) ∷ []) ≡ Some (choice n)
+      by_name : (n : ℕ) → has_node over n ≡ true → (o : Option Bool) → look n chosen ≡ o → has_node over n ≡ is_some o → look n (chosen ++ (0, false) ∷ []) ≡ Some (choice n)
       by_name n e None is c = absurd (cc)
       by_name n e (Some b) is c = look_front n b chosen ((0, false) ∷ []) is ∙ ap Some (sym (agrees n b is))
 
-      at_zero : has 0 over ≡ false → (o : Option Bool) → look 0 chosen ≡ o → has 0 over ≡ is_some o → look 0 (chosen ++ (0, false) ∷ []) ≡ Some false
+      at_zero : has_node over 0 ≡ false → (o : Option Bool) → look 0 chosen ≡ o → has_node over 0 ≡ is_some o → look 0 (chosen ++ (0, false) ∷ []) ≡ Some false
       at_zero e None is c = look_back 0 chosen ((0, false) ∷ []) is
       at_zero e (Some b) is c = absurd (cc)
 
@@ -310,7 +311,7 @@ module _ (known : ℕ → Option Row) (over : List ℕ) (chosen : List (ℕ × B
       last n b true e h = (sym (eqb-true 0 n e), cc)
       last n b false e h = absurd (cc)
 
-      by_value : (n : ℕ) (b : Bool) → look n (chosen ++ (0, false) ∷ []) ≡ Some b → (o : Option Bool) → look n chosen ≡ o → has n over ≡ is_some o → (steps : ℕ) × (value_by known over choice steps n ≡ Some b)
+      by_value : (n : ℕ) (b : Bool) → look n (chosen ++ (0, false) ∷ []) ≡ Some b → (o : Option Bool) → look n chosen ≡ o → has_node over n ≡ is_some o → (steps : ℕ) × (value_by known over choice steps n ≡ Some b)
       by_value n b h None is c =
           let t = last n b (nat_eq 0 n) refl (sym (look_back n chosen ((0, false) ∷ []) is) ∙ h) in
           (0, ap (λ p. if p then Some (choice n) else if nat_eq n 0 then Some false else None) c ∙ (ap (λ q. if q then Some false else None) (eq-eqb n 0 t.0) ∙ ap Some t.1))
@@ -341,7 +342,7 @@ module _ (known : ℕ → Option Row) (over : List ℕ) (chosen : List (ℕ × B
 -- ---- one node more
 module _ (over rest : List ℕ) (chosen : List (ℕ × Bool)) (x : ℕ) where
   pub covers_skip : (b : Bool) → look x chosen ≡ Some b → Covers over (x ∷ rest) chosen → Covers over rest chosen
-  covers_skip b is covers n = covers n ∙ go (nat_eq x n) refl (has n rest)
+  covers_skip b is covers n = covers n ∙ go (nat_eq x n) refl (has_node rest n)
     where
       go : (q : Bool) → nat_eq x n ≡ q → (r : Bool) → ((q || r) || is_some (look n chosen)) ≡ (r || is_some (look n chosen))
       go false e r = refl
@@ -349,7 +350,7 @@ module _ (over rest : List ℕ) (chosen : List (ℕ × Bool)) (x : ℕ) where
       go true e false = ap is_some (sym (subst (λ k. look k chosen ≡ Some b) (eqb-true x n e) is))
 
   pub covers_more : (b : Bool) → Covers over (x ∷ rest) chosen → Covers over rest ((x, b) ∷ chosen)
-  covers_more b covers n = covers n ∙ go (nat_eq x n) (has n rest)
+  covers_more b covers n = covers n ∙ go (nat_eq x n) (has_node rest n)
     where
       go : (q r : Bool) → ((q || r) || is_some (look n chosen)) ≡ (r || is_some (if q then Some b else look n chosen))
       go false r = refl
@@ -379,7 +380,7 @@ module _ (over rest : List ℕ) (chosen : List (ℕ × Bool)) (x : ℕ) where
 
 -- at the start all nodes are left, and no value is chosen
 pub covers_first : (over : List ℕ) → Covers over over []
-covers_first over n = go (has n over)
+covers_first over n = go (has_node over n)
   where
     go : (b : Bool) → b ≡ (b || false)
     go true = refl

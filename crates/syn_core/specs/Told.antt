@@ -1,13 +1,14 @@
 -- The search for the values of nodes by known rows: what has been told so far.
 use Rattle.std.specs.Prelude.{◌≡◌, ℕ, ◌+◌, ◌||◌, Bool, true, false, List, [], ◌∷◌, Option, Some, None, is_some}
 use Rattle.syn_rows.specs.declared.Row.{Row}
-use Rattle.syn_core_laws.specs.Lists.{has, look}
+use Rattle.syn_rows.specs.Nodes.{has_node}
+use Rattle.syn_core_laws.specs.Lists.{look}
 use Rattle.syn_core_laws.specs.SameValue.{value_of_row, known_value, value_by, SameFor}
 
 -- each value that is told is one by some number of known rows; the nodes of `over` and node 0 are told
 pub record IsTold (known : ℕ → Option Row) (over : List ℕ) (choice : ℕ → Bool) (told : List (ℕ × Bool)) : Type 0 where
-  pub named : (n : ℕ) → has n over ≡ true → look n told ≡ Some (choice n)
-  pub constant : has 0 over ≡ false → look 0 told ≡ Some false
+  pub named : (n : ℕ) → has_node over n ≡ true → look n told ≡ Some (choice n)
+  pub constant : has_node over 0 ≡ false → look 0 told ≡ Some false
   pub each : (n : ℕ) (b : Bool) → look n told ≡ Some b → (steps : ℕ) × (value_by known over choice steps n ≡ Some b)
 
 -- the value, where nothing is told yet
@@ -49,7 +50,7 @@ SameTold told old new = (b : Bool) × (value_of_row (λ n. look n told) old ≡ 
 
 -- the nodes of `over` are those that stand in `rest` and those with a chosen value
 abbrev pub Covers : List ℕ → List ℕ → List (ℕ × Bool) → Type 0
-Covers over rest chosen = (n : ℕ) → has n over ≡ (has n rest || is_some (look n chosen))
+Covers over rest chosen = (n : ℕ) → has_node over n ≡ (has_node rest n || is_some (look n chosen))
 
 -- the choice gives the chosen values
 abbrev pub Agrees : (ℕ → Bool) → List (ℕ × Bool) → Type 0

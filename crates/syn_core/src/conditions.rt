@@ -5,19 +5,20 @@ ghost use Rattle.syn_rows.specs.declared.Row.{Row};
 ghost use Rattle.syn_rows.specs.declared.Row.TheVariants as RowIs;
 ghost use Rattle.syn_rows.specs.References.{refs};
 ghost use Rattle.syn_rows.specs.Rows.{AllRefs, refs_of, is_derived};
-ghost use Rattle.syn_core_laws.specs.Lists.{has, look};
+ghost use Rattle.syn_rows.specs.Nodes.{has_node};
+ghost use Rattle.syn_core_laws.specs.Lists.{look};
 ghost use Rattle.syn_core_laws.specs.Views.{is_mine, known_row, known_key, own_pins, pins_after};
 ghost use Rattle.syn_core.specs.Conditions.{refers_by, any_node, is_served};
 ghost use Rattle.syn_core_laws.specs.Events.{Refers, KnowsUsed, MayPin, KeyBelow, MayRest, MayRedefine, MayFree, IsAnd};
 ghost use Rattle.syn_core_laws.specs.SameValue.{SameValue};
 
-use crate::lists::{has, look, refs, times, with_each, without_each};
-use crate::places::Place;
+use crate::lists::{has_node, look, refs, times, with_each, without_each};
+use crate::seat_views::SeatView;
 use crate::values::same_value;
 use std::alloc::{AllocError, Global};
 use syn_rows::{Lit, Row};
 
-impl Place {
+impl SeatView {
     pub(crate) fn knows_used(&self, node: u32) -> bool
         ensures { IsTrue result ↔ (KnowsUsed self.now node) }
     {
@@ -40,7 +41,7 @@ impl Place {
     pub(crate) fn is_mine(&self, node: u32) -> bool
         ensures { result ≡ is_mine self.now node }
     {
-        has(self.held.as_slice(), node) || has(self.pins.as_slice(), node)
+        has_node(self.held.as_slice(), node) || has_node(self.pins.as_slice(), node)
     }
 
     pub(crate) fn known_key(&self, node: u32) -> Option<u64>
@@ -71,7 +72,7 @@ impl Place {
     pub(crate) fn may_pin(&self, node: u32) -> bool
         ensures { IsTrue result ↔ (MayPin self.now node) }
     {
-        self.knows_used(node) || self.refers(node) || has(self.pins.as_slice(), node)
+        self.knows_used(node) || self.refers(node) || has_node(self.pins.as_slice(), node)
     }
 
     /// Whether there is a pin for each place of the row.
@@ -187,8 +188,8 @@ impl Place {
         ensures { IsTrue result ↔ (MayFree self.now node) }
     {
         match look(self.rows.as_slice(), node) {
-            None => has(self.idle.as_slice(), node),
-            Some(old) => has(self.idle.as_slice(), node) && self.has_room(old),
+            None => has_node(self.idle.as_slice(), node),
+            Some(old) => has_node(self.idle.as_slice(), node) && self.has_room(old),
         }
     }
 }

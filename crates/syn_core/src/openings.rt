@@ -1,13 +1,14 @@
 //! The state at the start, and lists of events.
 
 ghost use Rattle.std.specs.Prelude.{◌≡◌, ℕ, ◌+◌, ◌*◌, ◌<◌, ◌≤◌, ◌^◌, ◌++◌, length, replicate, IfOk};
+ghost use Rattle.syn_rows.specs.declared.TheConstants.{NODE_LIMIT};
 ghost use Rattle.syn_rows.specs.Rows.{row_at};
 ghost use Rattle.syn_rows.specs.References.{refs, refs_by_rows, refs_by_literals, sum_below};
 ghost use Rattle.syn_core_laws.specs.Openings.{empty_view, seats_from, counts_from, opening_of, IsStart};
 ghost use Rattle.syn_core_laws.specs.Sound.{IsSound};
 
 use crate::lists::{copied, refs};
-use crate::places::Place;
+use crate::seat_views::SeatView;
 use crate::states::{State, row_in};
 use std::alloc::{AllocError, Global};
 use syn_rows::{Lit, Row};
@@ -23,7 +24,7 @@ pub fn opening(
     spare: u32,
     seats: u8,
 ) -> Result<State, AllocError>
-    requires nodes { length rows.now + spare < 2 ^ 29 }
+    requires nodes { length rows.now + spare < NODE_LIMIT }
     requires literals { length observed.now < 2 ^ 30 }
     ensures opened { IfOk result (λ s. s ≡ opening_of rows.now observed.now keys.now spare seats) }
     ensures sound { IsStart rows.now observed.now keys.now → seats ≤ 64 → IfOk result (λ s. IsSound s) }
@@ -39,7 +40,7 @@ fn opened(
     spare: u32,
     seats: u8,
 ) -> Result<State, AllocError>
-    requires nodes { length rows.now + spare < 2 ^ 29 }
+    requires nodes { length rows.now + spare < NODE_LIMIT }
     requires literals { length observed.now < 2 ^ 30 }
     ensures { IfOk result (λ s. s ≡ opening_of rows.now observed.now keys.now spare seats) }
 {
@@ -87,7 +88,7 @@ fn zeros(alloc: Global, count: usize) -> Result<Vec<u32>, AllocError>
 }
 
 fn refs_by_rows(rows: &[Row], node: u32) -> usize
-    requires { length rows.now < 2 ^ 29 }
+    requires { length rows.now < NODE_LIMIT }
     ensures number { result ≡ refs_by_rows node rows.now }
     ensures few { result ≤ 2 * length rows.now }
 {
@@ -111,7 +112,7 @@ fn refs_by_literals(literals: &[Lit], node: u32) -> usize
 
 #[tactic(auto, using(crate::proofs::Spreading::counts_step))]
 fn counts_of(alloc: Global, rows: &[Row], observed: &[Lit]) -> Result<Vec<u32>, AllocError>
-    requires nodes { length rows.now < 2 ^ 29 }
+    requires nodes { length rows.now < NODE_LIMIT }
     requires literals { length observed.now < 2 ^ 30 }
     ensures { IfOk result (λ r. r.items ≡ counts_from rows.now observed.now 0 (length rows.now)) }
 {
@@ -127,10 +128,10 @@ fn counts_of(alloc: Global, rows: &[Row], observed: &[Lit]) -> Result<Vec<u32>, 
     Ok(out)
 }
 
-fn empty_seat(alloc: Global, number: u32) -> Place
+fn empty_seat(alloc: Global, number: u32) -> SeatView
     ensures { result ≡ empty_view number }
 {
-    Place {
+    SeatView {
         number,
         held: Vec::new(alloc),
         rows: Vec::new(alloc),
@@ -146,7 +147,7 @@ fn empty_seat(alloc: Global, number: u32) -> Place
 }
 
 #[tactic(auto, using(crate::proofs::Spreading::seats_step))]
-fn empty_seats(alloc: Global, count: u8) -> Result<Vec<Place>, AllocError>
+fn empty_seats(alloc: Global, count: u8) -> Result<Vec<SeatView>, AllocError>
     ensures { IfOk result (λ r. r.items ≡ seats_from 0 count) }
 {
     let mut out = Vec::new(alloc);

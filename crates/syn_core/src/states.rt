@@ -7,7 +7,7 @@ ghost use Rattle.syn_core_laws.specs.Events.{sits};
 ghost use Rattle.syn_core_laws.specs.Openings.{view_at};
 
 use crate::lists::copied;
-use crate::places::Place;
+use crate::seat_views::SeatView;
 use std::alloc::{AllocError, Global};
 use std::marker::Model;
 use syn_core_laws::Seen;
@@ -23,7 +23,7 @@ pub struct State {
     pub(crate) keys: Vec<u64>,
     pub(crate) observed: Vec<Lit>,
     pub(crate) opening: Vec<Row>,
-    pub(crate) seats: Vec<Place>,
+    pub(crate) seats: Vec<SeatView>,
 }
 
 impl Model for State {
@@ -108,22 +108,22 @@ impl State {
             keys: copied(alloc, self.keys.as_slice())?,
             observed: copied(alloc, self.observed.as_slice())?,
             opening: copied(alloc, self.opening.as_slice())?,
-            seats: copied_places(alloc, self.seats.as_slice())?,
+            seats: copied_views(alloc, self.seats.as_slice())?,
         })
     }
 
-    pub(crate) fn view(&self, seat: usize) -> &Place
+    pub(crate) fn view(&self, seat: usize) -> &SeatView
         requires { seat < length self.now.seats }
         ensures { result.now ≡ view_at self.now seat }
     {
         &self.seats[seat]
     }
 
-    pub(crate) fn sit(&mut self, seat: usize, place: Place)
+    pub(crate) fn sit(&mut self, seat: usize, view: SeatView)
         requires { seat < length self.old.seats }
-        ensures { self.new ≡ sits self.old seat place }
+        ensures { self.new ≡ sits self.old seat view }
     {
-        self.seats[seat] = place;
+        self.seats[seat] = view;
     }
 
     pub(crate) fn store_claim(&mut self, node: u32, claim: u32)
@@ -155,12 +155,12 @@ impl State {
     }
 }
 
-fn copied_places(alloc: Global, places: &[Place]) -> Result<Vec<Place>, AllocError>
-    ensures { IfOk result (λ r. r.items ≡ places.now) }
+fn copied_views(alloc: Global, views: &[SeatView]) -> Result<Vec<SeatView>, AllocError>
+    ensures { IfOk result (λ r. r.items ≡ views.now) }
 {
     let mut out = Vec::new(alloc);
-    for place in places {
-        out.push(place.copied(alloc)?)?;
+    for view in views {
+        out.push(view.copied(alloc)?)?;
     }
     Ok(out)
 }

@@ -11,7 +11,7 @@ ghost use Rattle.syn_core_laws.specs.Sound.{IsSound};
 
 use crate::StepFault;
 use crate::conditions::is_and;
-use crate::lists::has;
+use crate::lists::has_node;
 use crate::states::State;
 use arrayvec::ArrayVec;
 use std::alloc::AllocError;
@@ -23,7 +23,7 @@ impl State {
         requires { seat < length self.now.seats }
         ensures { IsTrue result ↔ MayAt self.now seat (Kind.Claim node) }
     {
-        self.claim(node) == 0 && !has(self.view(seat).held.as_slice(), node)
+        self.claim(node) == 0 && !has_node(self.view(seat).held.as_slice(), node)
     }
 
     fn step_claim(&mut self, seat: usize, node: u32) -> Result<(), StepFault>
@@ -37,9 +37,9 @@ impl State {
             return Err(StepFault::NotAllowed);
         }
         let number = self.view(seat).number;
-        let place = self.view(seat).claimed(self.alloc, node)?;
+        let view = self.view(seat).claimed(self.alloc, node)?;
         self.store_claim(node, number + 1);
-        self.sit(seat, place);
+        self.sit(seat, view);
         Ok(())
     }
 
@@ -47,7 +47,7 @@ impl State {
         requires { seat < length self.now.seats }
         ensures { IsTrue result ↔ MayAt self.now seat (Kind.ClaimFailed node) }
     {
-        self.claim(node) != 0 && !has(self.view(seat).held.as_slice(), node)
+        self.claim(node) != 0 && !has_node(self.view(seat).held.as_slice(), node)
     }
 
     fn step_miss(&mut self, seat: usize, node: u32) -> Result<(), StepFault>
@@ -59,8 +59,8 @@ impl State {
         if !self.may_miss(seat, node) {
             return Err(StepFault::NotAllowed);
         }
-        let place = self.view(seat).missed(self.alloc, node)?;
-        self.sit(seat, place);
+        let view = self.view(seat).missed(self.alloc, node)?;
+        self.sit(seat, view);
         Ok(())
     }
 
@@ -68,7 +68,8 @@ impl State {
         requires { seat < length self.now.seats }
         ensures { IsTrue result ↔ MayAt self.now seat (Kind.Release node) }
     {
-        has(self.view(seat).held.as_slice(), node) && !has(self.view(seat).idle.as_slice(), node)
+        has_node(self.view(seat).held.as_slice(), node)
+            && !has_node(self.view(seat).idle.as_slice(), node)
     }
 
     fn step_release(&mut self, seat: usize, node: u32) -> Result<(), StepFault>
@@ -80,9 +81,9 @@ impl State {
         if !self.may_release(seat, node) {
             return Err(StepFault::NotAllowed);
         }
-        let place = self.view(seat).released(self.alloc, node)?;
+        let view = self.view(seat).released(self.alloc, node)?;
         self.store_claim(node, 0);
-        self.sit(seat, place);
+        self.sit(seat, view);
         Ok(())
     }
 
@@ -90,7 +91,7 @@ impl State {
         requires { seat < length self.now.seats }
         ensures { IsTrue result ↔ MayAt self.now seat (Kind.LoadRow node) }
     {
-        has(self.view(seat).held.as_slice(), node)
+        has_node(self.view(seat).held.as_slice(), node)
     }
 
     fn step_load_row(&mut self, seat: usize, node: u32) -> Result<(), StepFault>
@@ -103,8 +104,8 @@ impl State {
             return Err(StepFault::NotAllowed);
         }
         let row = self.row(node);
-        let place = self.view(seat).row_loaded(self.alloc, node, row)?;
-        self.sit(seat, place);
+        let view = self.view(seat).row_loaded(self.alloc, node, row)?;
+        self.sit(seat, view);
         Ok(())
     }
 
@@ -127,9 +128,9 @@ impl State {
         let Some(count) = self.count(node).checked_add(1) else {
             return Err(StepFault::NoMemory)
         };
-        let place = self.view(seat).pinned(self.alloc, node)?;
+        let view = self.view(seat).pinned(self.alloc, node)?;
         self.store_count(node, count);
-        self.sit(seat, place);
+        self.sit(seat, view);
         Ok(())
     }
 
@@ -137,7 +138,7 @@ impl State {
         requires { seat < length self.now.seats }
         ensures { IsTrue result ↔ MayAt self.now seat (Kind.Unpin node) }
     {
-        has(self.view(seat).pins.as_slice(), node)
+        has_node(self.view(seat).pins.as_slice(), node)
     }
 
     fn step_unpin(&mut self, seat: usize, node: u32) -> Result<(), StepFault>
@@ -150,9 +151,9 @@ impl State {
             return Err(StepFault::NotAllowed);
         }
         let count = self.count(node);
-        let place = self.view(seat).unpinned(self.alloc, node, count)?;
+        let view = self.view(seat).unpinned(self.alloc, node, count)?;
         self.store_count(node, count.saturating_sub(1));
-        self.sit(seat, place);
+        self.sit(seat, view);
         Ok(())
     }
 
@@ -160,7 +161,7 @@ impl State {
         requires { seat < length self.now.seats }
         ensures { IsTrue result ↔ MayAt self.now seat (Kind.LoadCount node) }
     {
-        has(self.view(seat).held.as_slice(), node)
+        has_node(self.view(seat).held.as_slice(), node)
     }
 
     fn step_load_count(&mut self, seat: usize, node: u32) -> Result<(), StepFault>
@@ -177,10 +178,10 @@ impl State {
             return Err(StepFault::NoMemory);
         }
         let count = self.count(node);
-        let place = self
+        let view = self
             .view(seat)
             .count_loaded(self.alloc, nodes, node, count)?;
-        self.sit(seat, place);
+        self.sit(seat, view);
         Ok(())
     }
 
@@ -201,8 +202,8 @@ impl State {
             return Err(StepFault::NotAllowed);
         }
         let key = self.key(node);
-        let place = self.view(seat).key_loaded(self.alloc, node, key)?;
-        self.sit(seat, place);
+        let view = self.view(seat).key_loaded(self.alloc, node, key)?;
+        self.sit(seat, view);
         Ok(())
     }
 
@@ -223,9 +224,9 @@ impl State {
         if !self.may_set_key(seat, node, key) {
             return Err(StepFault::NotAllowed);
         }
-        let place = self.view(seat).key_set(self.alloc, node, key)?;
+        let view = self.view(seat).key_set(self.alloc, node, key)?;
         self.store_key(node, key);
-        self.sit(seat, place);
+        self.sit(seat, view);
         Ok(())
     }
 
@@ -246,9 +247,9 @@ impl State {
         if !self.may_make(seat, node, row) {
             return Err(StepFault::NotAllowed);
         }
-        let place = self.view(seat).made(self.alloc, node, row)?;
+        let view = self.view(seat).made(self.alloc, node, row)?;
         self.store_row(node, row);
-        self.sit(seat, place);
+        self.sit(seat, view);
         Ok(())
     }
 
@@ -282,9 +283,9 @@ impl State {
             return Err(StepFault::NotAllowed);
         }
         let old = self.row(node);
-        let place = self.view(seat).redefined(self.alloc, node, old, row)?;
+        let view = self.view(seat).redefined(self.alloc, node, old, row)?;
         self.store_row(node, row);
-        self.sit(seat, place);
+        self.sit(seat, view);
         Ok(())
     }
 
@@ -305,9 +306,9 @@ impl State {
             return Err(StepFault::NotAllowed);
         }
         let row = self.row(node);
-        let place = self.view(seat).freed(self.alloc, node, row)?;
+        let view = self.view(seat).freed(self.alloc, node, row)?;
         self.store_row(node, Row::Free);
-        self.sit(seat, place);
+        self.sit(seat, view);
         Ok(())
     }
 

@@ -8,12 +8,14 @@ use Rattle.syn_rows.specs.declared.Row.{Row}
 use Rattle.syn_rows.specs.Rows.{row_at}
 use Rattle.syn_rows.specs.References.{refs, sum_below}
 use Rattle.syn_core_laws.specs.declared.View.{View}
-use Rattle.syn_core_laws.specs.Lists.{has, only, look, kept}
+use Rattle.syn_rows.specs.Nodes.{has_node}
+use Rattle.syn_core_laws.specs.Lists.{only, look, kept}
 use Rattle.syn_core_laws.specs.Views.{is_mine, known_row, refs_known, own_refs, differs, stays_sole, claimed, missed, released, row_loaded}
 use Rattle.syn_core_laws.specs.Cores.{Core}
 use Rattle.syn_core_laws.specs.Sound.{IsSeatSound, IsSound}
 use Rattle.syn_core_laws.specs.Events.{sits, claim_stored}
-use Rattle.syn_core_laws.proofs.Listing.{and_left, and_right, or_cases, or_left, or_right, other_test, other_is, has_first, has_more, has_cases, has_only, only_has, look_here, look_there, look_kept, look_dropped, kept_look, same_test, number_there, set_there}
+use Rattle.syn_rows.proofs.Nodes.{has_here, has_there, here_or_there}
+use Rattle.syn_core_laws.proofs.Listing.{and_left, and_right, or_cases, or_left, or_right, other_test, other_is, has_only, only_has, look_here, look_there, look_kept, look_dropped, kept_look, same_test, number_there, set_there}
 use Rattle.syn_core_laws.proofs.Counting.{sum_same}
 use Rattle.syn_core_laws.proofs.Seating.{claims_after, claimant_after, sole_unknown}
 
@@ -41,13 +43,13 @@ module _ (c : Core) (id : ℕ) (v : View) (s : IsSound c) (at : get_elem? c.seat
   pub other_number : v.number < 64 → (j : ℕ) (u : View) → j ≢ id → get_elem? c.seats j ≡ some u → u.number ≢ v.number
   other_number small j u ne there same = ne (sym (s.apart id j v u at there (sym same) small))
 
-  claim_claimant : (n m : ℕ) → get_or (set c.claims n (suc v.number)) m 0 ≢ 0 → (j : ℕ) × (u : View) × (get_elem? (set c.seats id (claimed v n)) j ≡ some u) × (has m u.held ≡ true)
+  claim_claimant : (n m : ℕ) → get_or (set c.claims n (suc v.number)) m 0 ≢ 0 → (j : ℕ) × (u : View) × (get_elem? (set c.seats id (claimed v n)) j ≡ some u) × (has_node u.held m ≡ true)
   claim_claimant n m e = elim (cases_eq m n) [
-    | inl same ↦ (id, claimed v n, set_there c.seats id v (claimed v n) at, subst (λ k. has k (n ∷ v.held) ≡ true) (sym same) (has_first n v.held))
-    | inr ne ↦ claimant_after c.seats id v (claimed v n) m at (has_more m n v.held) (s.claimant m (λ z. e (get_or-set_other c.claims n m (suc v.number) 0 ne ∙ z)))
+    | inl same ↦ (id, claimed v n, set_there c.seats id v (claimed v n) at, subst (λ k. has_node (n ∷ v.held) k ≡ true) (sym same) (has_here n v.held))
+    | inr ne ↦ claimant_after c.seats id v (claimed v n) m at (has_there n m v.held) (s.claimant m (λ z. e (get_or-set_other c.claims n m (suc v.number) 0 ne ∙ z)))
   ]
 
-  release_claimant : (n m : ℕ) → n < length c.claims → get_or (set c.claims n 0) m 0 ≢ 0 → (j : ℕ) × (u : View) × (get_elem? (set c.seats id (released v n)) j ≡ some u) × (has m u.held ≡ true)
+  release_claimant : (n m : ℕ) → n < length c.claims → get_or (set c.claims n 0) m 0 ≢ 0 → (j : ℕ) × (u : View) × (get_elem? (set c.seats id (released v n)) j ≡ some u) × (has_node u.held m ≡ true)
   release_claimant n m inside e = elim (cases_eq m n) [
     | inl same ↦ absurd (e (subst (λ k. get_or (set c.claims n 0) k 0 ≡ 0) (sym same) (get_or-set_same c.claims n 0 0 inside)))
     | inr ne ↦ claimant_after c.seats id v (released v n) m at (λ h. only_has (differs n) m v.held h (other_test n m ne)) (s.claimant m (λ z. e (get_or-set_other c.claims n m 0 0 ne ∙ z)))
@@ -64,27 +66,27 @@ module _ (c : Core) (id : ℕ) (v : View) (s : IsSound c) (at : get_elem? c.seat
       record {
         holds = λ m held. elim (cases_eq m n) [
           | inl e ↦ subst (λ k. get_or (set c.claims n (suc v.number)) k 0 ≡ suc v.number) (sym e) here
-          | inr ne ↦ elim (has_cases m n v.held held) [
+          | inr ne ↦ elim (here_or_there n m v.held held) [
             | inl e ↦ absurd (ne e)
             | inr was ↦ get_or-set_other c.claims n m (suc v.number) 0 ne ∙ t.holds m was
           ]
         ];
         holder = λ less m mine. elim (cases_eq m n) [
-          | inl e ↦ subst (λ k. has k (n ∷ v.held) ≡ true) (sym e) (has_first n v.held)
-          | inr ne ↦ has_more m n v.held (t.holder less m (sym (get_or-set_other c.claims n m (suc v.number) 0 ne) ∙ mine))
+          | inl e ↦ subst (λ k. has_node (n ∷ v.held) k ≡ true) (sym e) (has_here n v.held)
+          | inr ne ↦ has_there n m v.held (t.holder less m (sym (get_or-set_other c.claims n m (suc v.number) 0 ne) ∙ mine))
         ];
-        knows_rows = λ m r e. let was = t.knows_rows m r e in (has_more m n v.held was.0, was.1);
+        knows_rows = λ m r e. let was = t.knows_rows m r e in (has_there n m v.held was.0, was.1);
         knows_keys = λ m k e.
             let was = t.knows_keys m k e in (
-              elim (or_cases (has m v.held) (has m v.pins) was.0) [
-                | inl h ↦ or_left (has m (n ∷ v.held)) (has m v.pins) (has_more m n v.held h)
-                | inr h ↦ or_right (has m (n ∷ v.held)) (has m v.pins) h
+              elim (or_cases (has_node v.held m) (has_node v.pins m) was.0) [
+                | inl h ↦ or_left (has_node (n ∷ v.held) m) (has_node v.pins m) (has_there n m v.held h)
+                | inr h ↦ or_right (has_node (n ∷ v.held) m) (has_node v.pins m) h
               ],
               was.1,
             );
         idles = t.idles;
         few = t.few;
-        soles = λ m e. let was = t.soles m e in (has_more m n v.held was.0, was.1, was.2);
+        soles = λ m e. let was = t.soles m e in (has_there n m v.held was.0, was.1, was.2);
       }
 
   -- a claim that found the node taken
@@ -95,7 +97,7 @@ module _ (c : Core) (id : ℕ) (v : View) (s : IsSound c) (at : get_elem? c.seat
       record { holds = t.holds; holder = t.holder; knows_rows = t.knows_rows; knows_keys = t.knows_keys; idles = t.idles; few = t.few; soles = t.soles }
 
   -- a node that its holder lets go
-  pub release_sound : (n : ℕ) → v.number < 64 → has n v.held ≡ true → has n v.idle ≡ false → IsSound (claim_stored c id (released v n) n 0)
+  pub release_sound : (n : ℕ) → v.number < 64 → has_node v.held n ≡ true → has_node v.idle n ≡ false → IsSound (claim_stored c id (released v n) n 0)
   release_sound n small mine busy =
       let t : IsSeatSound c.claims c.rows c.counts c.keys v = s.seats id v at in
       let was : get_or c.claims n 0 ≡ suc v.number = t.holds n mine in
@@ -119,7 +121,7 @@ module _ (c : Core) (id : ℕ) (v : View) (s : IsSound c) (at : get_elem? c.seat
             (h.1, (t.knows_keys m k h.0).1);
         idles = λ m e.
             let h = t.idles m e in
-            let ne : m ≢ n = λ same. let no : has m v.idle ≡ false = subst (λ k. has k v.idle ≡ false) (sym same) busy in absurd (cc) in
+            let ne : m ≢ n = λ same. let no : has_node v.idle m ≡ false = subst (λ k. has_node v.idle k ≡ false) (sym same) busy in absurd (cc) in
             ((h.0.0, look_kept (differs n) m v.rows (other_test n m ne) ∙ h.0.1, h.0.2), h.1);
         few = t.few;
         soles = λ m e.
@@ -136,12 +138,12 @@ module _ (c : Core) (id : ℕ) (v : View) (s : IsSound c) (at : get_elem? c.seat
       }
 
   -- a load tells nothing new of a sole node
-  load_same : (m n : ℕ) → has m v.sole ≡ true → (o : Option Row) → known_row v n ≡ o → refs m (row_at c.rows n) ≡ refs_known m o
+  load_same : (m n : ℕ) → has_node v.sole m ≡ true → (o : Option Row) → known_row v n ≡ o → refs m (row_at c.rows n) ≡ refs_known m o
   load_same m n sole None e = sole_unknown c id v s at m n sole e
   load_same m n sole (Some r) e = ap (refs m) ((s.seats id v at).knows_rows n r e).1
 
   -- the row of a held node is loaded
-  pub load_row_sound : (n : ℕ) → has n v.held ≡ true → IsSound (sits c id (row_loaded v n (row_at c.rows n)))
+  pub load_row_sound : (n : ℕ) → has_node v.held n ≡ true → IsSound (sits c id (row_loaded v n (row_at c.rows n)))
   load_row_sound n mine =
       let t : IsSeatSound c.claims c.rows c.counts c.keys v = s.seats id v at in
       let row : Row = row_at c.rows n in
@@ -153,7 +155,7 @@ module _ (c : Core) (id : ℕ) (v : View) (s : IsSound c) (at : get_elem? c.seat
           | inl same ↦
               let is : look m ((n, row) ∷ v.rows) ≡ Some row = subst (λ k. look k ((n, row) ∷ v.rows) ≡ Some row) (sym same) (look_here n row v.rows) in
               let equal : row ≡ r = let x : Some row ≡ Some r = sym is ∙ e in cc in
-              (subst (λ k. has k v.held ≡ true) (sym same) mine, ap (row_at c.rows) same ∙ equal)
+              (subst (λ k. has_node v.held k ≡ true) (sym same) mine, ap (row_at c.rows) same ∙ equal)
           | inr ne ↦ t.knows_rows m r (sym (look_there m n row v.rows ne) ∙ e)
         ];
         knows_keys = t.knows_keys;

@@ -6,9 +6,10 @@ use mathlib.Core.Option.{some, some-injective, some-ne-none}
 use lib.ListN.{get_elem?}
 use Rattle.syn_core_laws.specs.declared.View.{View}
 use Rattle.syn_rows.specs.References.{hits, times, sum_below}
-use Rattle.syn_core_laws.specs.Lists.{has, without_one, without_each}
+use Rattle.syn_rows.specs.Nodes.{has_node}
+use Rattle.syn_core_laws.specs.Lists.{without_one, without_each}
 use Rattle.syn_core_laws.specs.Cores.{all_pins, differences}
-use Rattle.syn_core_laws.proofs.Listing.{has_cases}
+use Rattle.syn_rows.proofs.Nodes.{here_or_there}
 
 -- ---- sums over nodes
 pub sum_same : (n : ℕ) (f g : ℕ → ℕ) → ((i : ℕ) → i < n → f i ≡ g i) → sum_below n f ≡ sum_below n g
@@ -58,18 +59,18 @@ hits_few m n = go (nat_eq m n)
     go true = omega arith
     go false = omega arith
 
-pub times_has : (m : ℕ) (xs : List ℕ) → has m xs ≡ true → 1 ≤ times m xs
+pub times_has : (m : ℕ) (xs : List ℕ) → has_node xs m ≡ true → 1 ≤ times m xs
 times_has m [] h = absurd (cc)
-times_has m (x ∷ xs) h = elim (has_cases m x xs h) [
+times_has m (x ∷ xs) h = elim (here_or_there x m xs h) [
   | inl e ↦ let one : hits m x ≡ 1 = subst (λ k. hits m k ≡ 1) e (hits_same m) in omega arith
   | inr r ↦ let more : 1 ≤ times m xs = times_has m xs r in omega arith
 ]
 
-pub has_times : (m : ℕ) (xs : List ℕ) → 1 ≤ times m xs → has m xs ≡ true
+pub has_times : (m : ℕ) (xs : List ℕ) → 1 ≤ times m xs → has_node xs m ≡ true
 has_times m [] h = absurd (omega arith)
 has_times m (x ∷ xs) h = go (nat_eq x m) refl (has_times m xs)
   where
-    go : (b : Bool) → nat_eq x m ≡ b → (1 ≤ times m xs → has m xs ≡ true) → (b || has m xs) ≡ true
+    go : (b : Bool) → nat_eq x m ≡ b → (1 ≤ times m xs → has_node xs m ≡ true) → (b || has_node xs m) ≡ true
     go true e ih = refl
     go false e ih = let none : hits m x ≡ 0 = hits_other m x (λ same. eqb-false x m e (sym same)) in ih (omega arith)
 

@@ -8,7 +8,7 @@ use Rattle.syn_rows.specs.Rows.{node_of, AllRefs}
 use Rattle.syn_rows.specs.Values.{lit_value, RowFits}
 use Rattle.syn_rows.specs.References.{hits, refs, refs_by_literals}
 use Rattle.syn_core_laws.specs.declared.View.{View}
-use Rattle.syn_core_laws.specs.Lists.{has}
+use Rattle.syn_rows.specs.Nodes.{has_node}
 use Rattle.syn_core_laws.specs.Views.{known_row}
 use Rattle.syn_core_laws.specs.Sound.{Agree}
 use Rattle.syn_core_laws.specs.SameValue.{turned_by, both, value_of_row, known_value, value_by, SameValue}
@@ -60,13 +60,13 @@ module _ (keys : List ℕ) (v : View) (over : List ℕ) (x : ℕ → Bool) (n : 
     (rests : (m : ℕ) (r : Row) → known_row v m ≡ Some r → AllRefs (λ i. get_or keys i 0 < get_or keys m 0) r) where
   -- what known rows below n's key tell of a node is its value
   pub value_is : (steps m : ℕ) (b : Bool) → get_or keys m 0 < get_or keys n 0 → value_by (known_row v) over x steps m ≡ Some b → x m ≡ b
-  value_is zero m b lt h = go (has m over) (nat_eq m 0) refl h
+  value_is zero m b lt h = go (has_node over m) (nat_eq m 0) refl h
     where
       go : (p q : Bool) → nat_eq m 0 ≡ q → (if p then Some (x m) else if q then Some false else None) ≡ Some b → x m ≡ b
       go true q e h = cc
       go false true e h = let z : false ≡ b = cc in ap x (eqb-true m 0 e) ∙ (constant ∙ z)
       go false false e h = absurd (cc)
-  value_is (suc steps) m b lt h = go (has m over) (nat_eq m 0) refl (known_row v m) refl (value_is steps) h
+  value_is (suc steps) m b lt h = go (has_node over m) (nat_eq m 0) refl (known_row v m) refl (value_is steps) h
     where
       go : (p q : Bool) → nat_eq m 0 ≡ q → (o : Option Row) → known_row v m ≡ o → ((i : ℕ) (c : Bool) → get_or keys i 0 < get_or keys n 0 → value_by (known_row v) over x steps i ≡ Some c → x i ≡ c)
           → (if p then Some (x m) else if q then Some false else known_value (value_by (known_row v) over x steps) o) ≡ Some b → x m ≡ b

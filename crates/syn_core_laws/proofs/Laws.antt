@@ -10,7 +10,7 @@ use Rattle.syn_rows.specs.Values.{lit_value, RowFits, Fits, SameSources}
 use Rattle.syn_core_laws.specs.declared.View.{View}
 use Rattle.syn_core_laws.specs.declared.EventKind.{EventKind}
 use Rattle.syn_core_laws.specs.declared.EventKind.TheVariants as Kind
-use Rattle.syn_core_laws.specs.Lists.{has}
+use Rattle.syn_rows.specs.Nodes.{has_node}
 use Rattle.syn_core_laws.specs.Views.{redefined, freed}
 use Rattle.syn_core_laws.specs.Cores.{Core}
 use Rattle.syn_core_laws.specs.Events.{event_node, May, after, row_stored}
@@ -55,7 +55,7 @@ runs_stay_sound c (e ∷ es) s = (s, λ next step. runs_stay_sound next es (even
 
 -- ---- a sole node's count
 counts_stay : (c : Core) (id : ℕ) (v : View) → IsSound c → get_elem? c.seats id ≡ some v → v.number < 64 → (e : EventKind) → May c v e
-    → (j : ℕ) (u : View) (m : ℕ) → j ≢ id → get_elem? c.seats j ≡ some u → has m u.sole ≡ true → get_or (after c id v e).counts m 0 ≡ get_or c.counts m 0
+    → (j : ℕ) (u : View) (m : ℕ) → j ≢ id → get_elem? c.seats j ≡ some u → has_node u.sole m ≡ true → get_or (after c id v e).counts m 0 ≡ get_or c.counts m 0
 counts_stay c id v s at small (Kind.Claim n) may j u m ne there h = refl
 counts_stay c id v s at small (Kind.ClaimFailed n) may j u m ne there h = refl
 counts_stay c id v s at small (Kind.Release n) may j u m ne there h = refl

@@ -1,9 +1,11 @@
 -- Lists of nodes, lists that tell of nodes, and seats read by their places.
 use Rattle.std.proofs.Common.{◌≡◌, ◌≢◌, ◌⊎◌, ℕ, zero, suc, ◌<◌, ◌&&◌, ◌||◌, not, Bool, true, false, nat_eq, if◌then◌else◌, List, [], ◌∷◌, length, set, get_or, Some, None, refl, sym, ap, ◌∙◌, subst, arith, inl, inr, ⊎_elim}
-use Rattle.std.proofs.lemmas.Bool.{eq-eqb, ne_eqb, eqb-true, eqb-false}
+use Rattle.std.proofs.lemmas.Bool.{eq-eqb, ne_eqb, eqb-false}
 use mathlib.Core.Option.{some, some-injective, some-ne-none}
 use lib.ListN.{get_elem?}
-use Rattle.syn_core_laws.specs.Lists.{has, only, look, kept}
+use Rattle.syn_rows.specs.Nodes.{has_node}
+use Rattle.syn_core_laws.specs.Lists.{only, look, kept}
+use Rattle.syn_rows.proofs.Nodes.{has_here, has_there, here_or_there}
 
 -- ---- tests
 pub and_left : (a b : Bool) → (a && b) ≡ true → a ≡ true
@@ -55,39 +57,27 @@ number_there (x ∷ xs) zero h = omega arith
 number_there (x ∷ xs) (suc n) h = let rest : n < length xs = number_there xs n h in omega arith
 
 -- ---- lists of nodes
-pub has_first : (n : ℕ) (xs : List ℕ) → has n (n ∷ xs) ≡ true
-has_first n xs = or_left (nat_eq n n) (has n xs) (eq-eqb n n refl)
-
-pub has_more : (m n : ℕ) (xs : List ℕ) → has m xs ≡ true → has m (n ∷ xs) ≡ true
-has_more m n xs h = or_right (nat_eq n m) (has m xs) h
-
-pub has_cases : (m n : ℕ) (xs : List ℕ) → has m (n ∷ xs) ≡ true → (m ≡ n) ⊎ (has m xs ≡ true)
-has_cases m n xs h = elim (or_cases (nat_eq n m) (has m xs) h) [ inl e ↦ inl (sym (eqb-true n m e)) | inr r ↦ inr r ]
-
-pub has_rest : (m n : ℕ) (xs : List ℕ) → m ≢ n → has m (n ∷ xs) ≡ true → has m xs ≡ true
-has_rest m n xs ne h = elim (has_cases m n xs h) [ inl e ↦ absurd (ne e) | inr r ↦ r ]
-
-pub has_only : (p : ℕ → Bool) (m : ℕ) (xs : List ℕ) → has m (only p xs) ≡ true → (has m xs ≡ true) × (p m ≡ true)
+pub has_only : (p : ℕ → Bool) (m : ℕ) (xs : List ℕ) → has_node (only p xs) m ≡ true → (has_node xs m ≡ true) × (p m ≡ true)
 has_only p m [] h = absurd (cc)
 has_only p m (x ∷ xs) h = go (p x) refl (has_only p m xs) h
   where
-    go : (b : Bool) → p x ≡ b → (has m (only p xs) ≡ true → (has m xs ≡ true) × (p m ≡ true)) → has m (if b then x ∷ only p xs else only p xs) ≡ true → (has m (x ∷ xs) ≡ true) × (p m ≡ true)
-    go true e ih h = elim (has_cases m x (only p xs) h) [
-      | inl same ↦ (subst (λ k. has k (x ∷ xs) ≡ true) (sym same) (has_first x xs), subst (λ k. p k ≡ true) (sym same) e)
-      | inr r ↦ let t = ih r in (has_more m x xs t.0, t.1)
+    go : (b : Bool) → p x ≡ b → (has_node (only p xs) m ≡ true → (has_node xs m ≡ true) × (p m ≡ true)) → has_node (if b then x ∷ only p xs else only p xs) m ≡ true → (has_node (x ∷ xs) m ≡ true) × (p m ≡ true)
+    go true e ih h = elim (here_or_there x m (only p xs) h) [
+      | inl same ↦ (subst (λ k. has_node (x ∷ xs) k ≡ true) (sym same) (has_here x xs), subst (λ k. p k ≡ true) (sym same) e)
+      | inr r ↦ let t = ih r in (has_there x m xs t.0, t.1)
     ]
-    go false e ih h = let t = ih h in (has_more m x xs t.0, t.1)
+    go false e ih h = let t = ih h in (has_there x m xs t.0, t.1)
 
-pub only_has : (p : ℕ → Bool) (m : ℕ) (xs : List ℕ) → has m xs ≡ true → p m ≡ true → has m (only p xs) ≡ true
+pub only_has : (p : ℕ → Bool) (m : ℕ) (xs : List ℕ) → has_node xs m ≡ true → p m ≡ true → has_node (only p xs) m ≡ true
 only_has p m [] h pass = h
 only_has p m (x ∷ xs) h pass = go (p x) refl (only_has p m xs)
   where
-    go : (b : Bool) → p x ≡ b → (has m xs ≡ true → p m ≡ true → has m (only p xs) ≡ true) → has m (if b then x ∷ only p xs else only p xs) ≡ true
-    go true e ih = elim (has_cases m x xs h) [
-      | inl same ↦ subst (λ k. has k (x ∷ only p xs) ≡ true) (sym same) (has_first x (only p xs))
-      | inr r ↦ has_more m x (only p xs) (ih r pass)
+    go : (b : Bool) → p x ≡ b → (has_node xs m ≡ true → p m ≡ true → has_node (only p xs) m ≡ true) → has_node (if b then x ∷ only p xs else only p xs) m ≡ true
+    go true e ih = elim (here_or_there x m xs h) [
+      | inl same ↦ subst (λ k. has_node (x ∷ only p xs) k ≡ true) (sym same) (has_here x (only p xs))
+      | inr r ↦ has_there x m (only p xs) (ih r pass)
     ]
-    go false e ih = elim (has_cases m x xs h) [
+    go false e ih = elim (here_or_there x m xs h) [
       | inl same ↦ let no : p m ≡ false = subst (λ k. p k ≡ false) (sym same) e in absurd (cc)
       | inr r ↦ ih r pass
     ]

@@ -9,20 +9,22 @@ use Rattle.syn_rows.specs.declared.Row.TheVariants.{Free, Source, And, Alias}
 use Rattle.syn_rows.specs.Rows.{row_at, is_derived}
 use Rattle.syn_rows.specs.References.{hits, times, refs, refs_by_rows}
 use Rattle.syn_core_laws.specs.declared.View.{View}
-use Rattle.syn_core_laws.specs.Lists.{has, without_one, look}
+use Rattle.syn_rows.specs.Nodes.{has_node}
+use Rattle.syn_core_laws.specs.Lists.{without_one, look}
 use Rattle.syn_core_laws.specs.Views.{is_derived_known, is_mine, known_row, refs_known, own_refs, own_pins, differs, is_sole, pinned, unpinned, count_loaded, key_loaded}
 use Rattle.syn_core_laws.specs.Cores.{Core}
 use Rattle.syn_core_laws.specs.Sound.{KnowsDerived, IsSeatSound, IsSound}
 use Rattle.syn_core_laws.specs.Events.{sits, count_stored, MayPin}
-use Rattle.syn_core_laws.proofs.Listing.{and_left, and_right, or_cases, or_left, or_right, other_is, has_more, has_cases, has_only, look_here, look_there, kept_look, number_there}
+use Rattle.syn_rows.proofs.Nodes.{has_there, here_or_there}
+use Rattle.syn_core_laws.proofs.Listing.{and_left, and_right, or_cases, or_left, or_right, other_is, has_only, look_here, look_there, kept_look, number_there}
 use Rattle.syn_core_laws.proofs.Counting.{sum_at, hits_same, hits_other, times_has, times_less, length_less, pins_at}
 use Rattle.syn_core_laws.proofs.Seating.{row_there, claimant_after, claims_after, counts_after, own_le, sole_alone, sole_pins}
 use Rattle.syn_core_laws.proofs.Claiming.{other_number}
 
 -- another seat has the node neither on its zero list nor among its sole nodes
 pub record IsUntouched (u : View) (n : ℕ) : Type 0 where
-  pub idle : has n u.idle ≢ true
-  pub sole : has n u.sole ≢ true
+  pub idle : has_node u.idle n ≢ true
+  pub sole : has_node u.sole n ≢ true
 
 -- a count that changes is of no node that the other seat watches
 other_count : (claims : List ℕ) (rows : List Row) (counts keys : List ℕ) (u : View) (n x : ℕ) → IsUntouched u n → IsSeatSound claims rows counts keys u → IsSeatSound claims rows (set counts n x) keys u
@@ -33,11 +35,11 @@ other_count claims rows counts keys u n x free t = record {
   knows_keys = t.knows_keys;
   idles = λ m e.
       let was = t.idles m e in
-      (was.0, get_or-set_other counts n m x 0 (λ same. free.idle (subst (λ k. has k u.idle ≡ true) same e)) ∙ was.1);
+      (was.0, get_or-set_other counts n m x 0 (λ same. free.idle (subst (λ k. has_node u.idle k ≡ true) same e)) ∙ was.1);
   few = t.few;
   soles = λ m e.
       let was = t.soles m e in
-      (was.0, was.1, get_or-set_other counts n m x 0 (λ same. free.sole (subst (λ k. has k u.sole ≡ true) same e)) ∙ was.2);
+      (was.0, was.1, get_or-set_other counts n m x 0 (λ same. free.sole (subst (λ k. has_node u.sole k ≡ true) same e)) ∙ was.2);
 }
 
 gate_is_used : (r : Row) → is_derived r ≡ true → r ≢ Source
@@ -56,7 +58,7 @@ module _ (c : Core) (id : ℕ) (v : View) (s : IsSound c) (at : get_elem? c.seat
       let some_there : refs n (row_at c.rows m) ≤ refs_by_rows n c.rows = sum_at (length c.rows) m (λ k. refs n (row_at c.rows k)) lt in
       omega (arith, s.counted n)
 
-  pub pins_count : (n : ℕ) → has n v.pins ≡ true → 1 ≤ get_or c.counts n 0
+  pub pins_count : (n : ℕ) → has_node v.pins n ≡ true → 1 ≤ get_or c.counts n 0
   pins_count n h = omega (arith, s.counted n, times_has n v.pins h, pins_at n c.seats id v at)
 
   -- a seat may pin only what is there
@@ -86,13 +88,13 @@ module _ (c : Core) (id : ℕ) (v : View) (s : IsSound c) (at : get_elem? c.seat
       k : IsSeatSound c.claims c.rows c.counts c.keys u
       k = s.seats j u there
 
-      idle_none : (n ≡ 0) ⊎ (1 ≤ refs n from.1) → has n u.idle ≡ true → ⊥
+      idle_none : (n ≡ 0) ⊎ (1 ≤ refs n from.1) → has_node u.idle n ≡ true → ⊥
       idle_none (inl e) h =
           let gate = (k.idles n h).0 in
           gate_is_used gate.0 gate.2 (sym (k.knows_rows n gate.0 gate.1).1 ∙ (ap (row_at c.rows) e ∙ s.constant))
       idle_none (inr le) h = let none : get_or c.counts n 0 ≡ 0 = (k.idles n h).1 in absurd (omega (arith, refs_count n from.0 from.1 from.2 le))
 
-      sole_none : (n ≡ 0) ⊎ (1 ≤ refs n from.1) → has n u.sole ≡ true → ⊥
+      sole_none : (n ≡ 0) ⊎ (1 ≤ refs n from.1) → has_node u.sole n ≡ true → ⊥
       sole_none (inl e) h = (k.soles n h).1 e
       sole_none (inr le) h =
           let mine : refs_known n (known_row v from.0) ≡ refs n from.1 = ap (refs_known n) from.2 in
@@ -138,9 +140,9 @@ module _ (c : Core) (id : ℕ) (v : View) (s : IsSound c) (at : get_elem? c.seat
         knows_rows = t.knows_rows;
         knows_keys = λ m k e.
             let was = t.knows_keys m k e in (
-              elim (or_cases (has m v.held) (has m v.pins) was.0) [
-                | inl h ↦ or_left (has m v.held) (has m (n ∷ v.pins)) h
-                | inr h ↦ or_right (has m v.held) (has m (n ∷ v.pins)) (has_more m n v.pins h)
+              elim (or_cases (has_node v.held m) (has_node v.pins m) was.0) [
+                | inl h ↦ or_left (has_node v.held m) (has_node (n ∷ v.pins) m) h
+                | inr h ↦ or_right (has_node v.held m) (has_node (n ∷ v.pins) m) (has_there n m v.pins h)
               ],
               was.1,
             );
@@ -164,7 +166,7 @@ module _ (c : Core) (id : ℕ) (v : View) (s : IsSound c) (at : get_elem? c.seat
       }
 
   -- a pin is taken back
-  pub unpin_sound : (n : ℕ) → v.number < 64 → has n v.pins ≡ true → IsSound (count_stored c id (unpinned v n (get_or c.counts n 0)) n (get_or c.counts n 0 - 1))
+  pub unpin_sound : (n : ℕ) → v.number < 64 → has_node v.pins n ≡ true → IsSound (count_stored c id (unpinned v n (get_or c.counts n 0)) n (get_or c.counts n 0 - 1))
   unpin_sound n small own =
       let t : IsSeatSound c.claims c.rows c.counts c.keys v = s.seats id v at in
       let count : ℕ = get_or c.counts n 0 in
@@ -199,7 +201,7 @@ module _ (c : Core) (id : ℕ) (v : View) (s : IsSound c) (at : get_elem? c.seat
       }
     where
       old_idle : (n m count : ℕ) → count ≡ get_or c.counts n 0 → 1 ≤ count → ((k : ℕ) → k ≢ n → get_or (set c.counts n (count - 1)) k 0 ≡ get_or c.counts k 0)
-          → IsSeatSound c.claims c.rows c.counts c.keys v → has m v.idle ≡ true → KnowsDerived v m × (get_or (set c.counts n (count - 1)) m 0 ≡ 0)
+          → IsSeatSound c.claims c.rows c.counts c.keys v → has_node v.idle m ≡ true → KnowsDerived v m × (get_or (set c.counts n (count - 1)) m 0 ≡ 0)
       old_idle n m count is le there t e =
           let was = t.idles m e in
           (was.0, there m (λ same. let zero_there : get_or c.counts n 0 ≡ 0 = ap (λ k. get_or c.counts k 0) (sym same) ∙ was.1 in absurd (omega arith)) ∙ was.1)
@@ -207,9 +209,9 @@ module _ (c : Core) (id : ℕ) (v : View) (s : IsSound c) (at : get_elem? c.seat
       new_idle : (n m count : ℕ) (r : Row) (g : Bool) → is_derived r ≡ g → count ≡ get_or c.counts n 0 → known_row v n ≡ Some r → nat_eq count 1 ≡ true → 1 ≤ count
           → get_or (set c.counts n (count - 1)) n 0 ≡ count - 1 → ((k : ℕ) → k ≢ n → get_or (set c.counts n (count - 1)) k 0 ≡ get_or c.counts k 0)
           → IsSeatSound c.claims c.rows c.counts c.keys v
-          → has m (if g then n ∷ v.idle else v.idle) ≡ true → KnowsDerived v m × (get_or (set c.counts n (count - 1)) m 0 ≡ 0)
+          → has_node (if g then n ∷ v.idle else v.idle) m ≡ true → KnowsDerived v m × (get_or (set c.counts n (count - 1)) m 0 ≡ 0)
       new_idle n m count r false eg is eo eb le here there t e = old_idle n m count is le there t e
-      new_idle n m count r true eg is eo eb le here there t e = elim (has_cases m n v.idle e) [
+      new_idle n m count r true eg is eo eb le here there t e = elim (here_or_there n m v.idle e) [
         | inl same ↦
             let one : count ≡ 1 = eqb-true count 1 eb in
             let none : get_or (set c.counts n (count - 1)) n 0 ≡ 0 = omega arith in
@@ -220,13 +222,13 @@ module _ (c : Core) (id : ℕ) (v : View) (s : IsSound c) (at : get_elem? c.seat
       unpin_idles : (n m count : ℕ) → count ≡ get_or c.counts n 0 → (o : Option Row) → known_row v n ≡ o → (b : Bool) → nat_eq count 1 ≡ b → 1 ≤ count
           → get_or (set c.counts n (count - 1)) n 0 ≡ count - 1 → ((k : ℕ) → k ≢ n → get_or (set c.counts n (count - 1)) k 0 ≡ get_or c.counts k 0)
           → IsSeatSound c.claims c.rows c.counts c.keys v
-          → has m (if b && is_derived_known o then n ∷ v.idle else v.idle) ≡ true → KnowsDerived v m × (get_or (set c.counts n (count - 1)) m 0 ≡ 0)
+          → has_node (if b && is_derived_known o then n ∷ v.idle else v.idle) m ≡ true → KnowsDerived v m × (get_or (set c.counts n (count - 1)) m 0 ≡ 0)
       unpin_idles n m count is o eo false eb le here there t e = old_idle n m count is le there t e
       unpin_idles n m count is None eo true eb le here there t e = old_idle n m count is le there t e
       unpin_idles n m count is (Some r) eo true eb le here there t e = new_idle n m count r (is_derived r) refl is eo eb le here there t e
 
   -- the count of a held node is loaded
-  pub load_count_sound : (n : ℕ) → has n v.held ≡ true → IsSound (sits c id (count_loaded (length c.rows) v n (get_or c.counts n 0)))
+  pub load_count_sound : (n : ℕ) → has_node v.held n ≡ true → IsSound (sits c id (count_loaded (length c.rows) v n (get_or c.counts n 0)))
   load_count_sound n mine =
       let t : IsSeatSound c.claims c.rows c.counts c.keys v = s.seats id v at in
       claims_after c id v (count_loaded (length c.rows) v n (get_or c.counts n 0)) s at refl c.claims refl (λ m e. claimant_after c.seats id v (count_loaded (length c.rows) v n (get_or c.counts n 0)) m at (λ h. h) (s.claimant m e)) refl refl (λ j u ne there. s.seats j u there)
@@ -240,15 +242,15 @@ module _ (c : Core) (id : ℕ) (v : View) (s : IsSound c) (at : get_elem? c.seat
         soles = λ m e. load_soles n m mine (is_sole (length c.rows) v n (get_or c.counts n 0)) refl t e;
       }
     where
-      load_soles : (n m : ℕ) → has n v.held ≡ true → (b : Bool) → is_sole (length c.rows) v n (get_or c.counts n 0) ≡ b → IsSeatSound c.claims c.rows c.counts c.keys v
-          → has m (if b then n ∷ v.sole else v.sole) ≡ true → (has m v.held ≡ true) × (m ≢ 0) × (get_or c.counts m 0 ≡ own_refs (length c.rows) v m + own_pins v m)
+      load_soles : (n m : ℕ) → has_node v.held n ≡ true → (b : Bool) → is_sole (length c.rows) v n (get_or c.counts n 0) ≡ b → IsSeatSound c.claims c.rows c.counts c.keys v
+          → has_node (if b then n ∷ v.sole else v.sole) m ≡ true → (has_node v.held m ≡ true) × (m ≢ 0) × (get_or c.counts m 0 ≡ own_refs (length c.rows) v m + own_pins v m)
       load_soles n m mine false eb t e = t.soles m e
-      load_soles n m mine true eb t e = elim (has_cases m n v.sole e) [
+      load_soles n m mine true eb t e = elim (here_or_there n m v.sole e) [
         | inl same ↦
             let nonzero : n ≢ 0 = other_is 0 n (and_left (differs 0 n) (nat_eq (get_or c.counts n 0) (own_refs (length c.rows) v n + own_pins v n)) eb) in
             let equal : get_or c.counts n 0 ≡ own_refs (length c.rows) v n + own_pins v n =
             eqb-true (get_or c.counts n 0) (own_refs (length c.rows) v n + own_pins v n) (and_right (differs 0 n) (nat_eq (get_or c.counts n 0) (own_refs (length c.rows) v n + own_pins v n)) eb) in
-            subst (λ k. (has k v.held ≡ true) × (k ≢ 0) × (get_or c.counts k 0 ≡ own_refs (length c.rows) v k + own_pins v k)) (sym same) (mine, nonzero, equal)
+            subst (λ k. (has_node v.held k ≡ true) × (k ≢ 0) × (get_or c.counts k 0 ≡ own_refs (length c.rows) v k + own_pins v k)) (sym same) (mine, nonzero, equal)
         | inr was ↦ t.soles m was
       ]
 
@@ -275,7 +277,7 @@ module _ (c : Core) (id : ℕ) (v : View) (s : IsSound c) (at : get_elem? c.seat
       }
 
   -- ---- a sole node's count is no other seat's to change
-  pub count_stays : (n m j x : ℕ) (u : View) → v.number < 64 → MayPin v n → j ≢ id → get_elem? c.seats j ≡ some u → has m u.sole ≡ true → get_or (set c.counts n x) m 0 ≡ get_or c.counts m 0
+  pub count_stays : (n m j x : ℕ) (u : View) → v.number < 64 → MayPin v n → j ≢ id → get_elem? c.seats j ≡ some u → has_node u.sole m ≡ true → get_or (set c.counts n x) m 0 ≡ get_or c.counts m 0
   count_stays n m j x u small may ne there h =
       let free : IsUntouched u n = pin_untouched n small may j u ne there in
-      get_or-set_other c.counts n m x 0 (λ same. free.sole (subst (λ k. has k u.sole ≡ true) same h))
+      get_or-set_other c.counts n m x 0 (λ same. free.sole (subst (λ k. has_node u.sole k ≡ true) same h))

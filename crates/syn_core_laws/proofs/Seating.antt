@@ -9,7 +9,7 @@ use Rattle.syn_rows.specs.declared.Row.TheVariants.{Free, Source, And, Alias}
 use Rattle.syn_rows.specs.Rows.{row_at, node_of}
 use Rattle.syn_rows.specs.References.{hits, times, refs, sum_below, refs_by_rows, refs_by_literals}
 use Rattle.syn_core_laws.specs.declared.View.{View}
-use Rattle.syn_core_laws.specs.Lists.{has}
+use Rattle.syn_rows.specs.Nodes.{has_node}
 use Rattle.syn_core_laws.specs.Views.{known_row, refs_known, own_refs}
 use Rattle.syn_core_laws.specs.Cores.{Core, all_pins, differences}
 use Rattle.syn_core_laws.specs.Sound.{RowRests, IsSeatSound, IsSound}
@@ -66,10 +66,10 @@ module _ (l : List View) (id : ℕ) (v w : View) where
       ]
 
 -- each holder has its place afterwards
-pub claimant_after : (l : List View) (id : ℕ) (v w : View) (n : ℕ) → get_elem? l id ≡ some v → (has n v.held ≡ true → has n w.held ≡ true)
-    → (j : ℕ) × (u : View) × (get_elem? l j ≡ some u) × (has n u.held ≡ true) → (j : ℕ) × (u : View) × (get_elem? (set l id w) j ≡ some u) × (has n u.held ≡ true)
+pub claimant_after : (l : List View) (id : ℕ) (v w : View) (n : ℕ) → get_elem? l id ≡ some v → (has_node v.held n ≡ true → has_node w.held n ≡ true)
+    → (j : ℕ) × (u : View) × (get_elem? l j ≡ some u) × (has_node u.held n ≡ true) → (j : ℕ) × (u : View) × (get_elem? (set l id w) j ≡ some u) × (has_node u.held n ≡ true)
 claimant_after l id v w n at keeps t = elim (cases_eq t.0 id) [
-  | inl e ↦ (id, w, set_there l id v w at, keeps (subst (λ (z : View). has n z.held ≡ true) (at_one l id t.1 v (subst (λ k. get_elem? l k ≡ some t.1) e t.2) at) t.3))
+  | inl e ↦ (id, w, set_there l id v w at, keeps (subst (λ (z : View). has_node z.held n ≡ true) (at_one l id t.1 v (subst (λ k. get_elem? l k ≡ some t.1) e t.2) at) t.3))
   | inr ne ↦ (t.0, t.1, set_else l id t.0 w ne ∙ t.2, t.3)
 ]
 
@@ -77,7 +77,7 @@ claimant_after l id v w n at keeps t = elim (cases_eq t.0 id) [
 module _ (c : Core) (id : ℕ) (v w : View) (s : IsSound c) (at : get_elem? c.seats id ≡ some v) (number : w.number ≡ v.number) where
   -- claims may change: rows, counts and keys stay, and so do the seat's pins and difference
   pub claims_after : (claims : List ℕ) → length claims ≡ length c.claims
-      → ((n : ℕ) → get_or claims n 0 ≢ 0 → (j : ℕ) × (u : View) × (get_elem? (set c.seats id w) j ≡ some u) × (has n u.held ≡ true)) → w.pins ≡ v.pins → w.difference ≡ v.difference
+      → ((n : ℕ) → get_or claims n 0 ≢ 0 → (j : ℕ) × (u : View) × (get_elem? (set c.seats id w) j ≡ some u) × (has_node u.held n ≡ true)) → w.pins ≡ v.pins → w.difference ≡ v.difference
       → ((j : ℕ) (u : View) → j ≢ id → get_elem? c.seats j ≡ some u → IsSeatSound claims c.rows c.counts c.keys u)
       → IsSeatSound claims c.rows c.counts c.keys w
       → IsSound (record c { claims = claims; seats = set c.seats id w })
@@ -118,7 +118,7 @@ module _ (c : Core) (id : ℕ) (v w : View) (s : IsSound c) (at : get_elem? c.se
     counts_count = count ∙ s.counts_count;
     keys_count = s.keys_count;
     apart = apart_after c.seats id v w at number s.apart;
-    claimant = λ n e. claimant_after c.seats id v w n at (λ h. subst (λ l. has n l ≡ true) (sym held) h) (s.claimant n e);
+    claimant = λ n e. claimant_after c.seats id v w n at (λ h. subst (λ l. has_node l n ≡ true) (sym held) h) (s.claimant n e);
     constant = s.constant;
     source_stays = s.source_stays;
     source_was = s.source_was;
@@ -149,7 +149,7 @@ module _ (c : Core) (id : ℕ) (v : View) (s : IsSound c) (at : get_elem? c.seat
   own_le m i = known_le m i (known_row v i) refl
 
   -- references beside the seat's own are none
-  pub sole_alone : (m : ℕ) (g : ℕ → ℕ) → has m v.sole ≡ true → ((i : ℕ) → i < length c.rows → refs_known m (known_row v i) + g i ≤ refs m (row_at c.rows i)) → (i : ℕ) → i < length c.rows → g i ≡ 0
+  pub sole_alone : (m : ℕ) (g : ℕ → ℕ) → has_node v.sole m ≡ true → ((i : ℕ) → i < length c.rows → refs_known m (known_row v i) + g i ≤ refs m (row_at c.rows i)) → (i : ℕ) → i < length c.rows → g i ≡ 0
   sole_alone m g sole each i lt =
       let is : get_or c.counts m 0 ≡ own_refs (length c.rows) v m + times m v.pins = ((s.seats id v at).soles m sole).2 in
       let was : get_or c.counts m 0 ≡ refs_by_rows m c.rows + refs_by_literals m c.observed + all_pins m c.seats = s.counted m in
@@ -160,7 +160,7 @@ module _ (c : Core) (id : ℕ) (v : View) (s : IsSound c) (at : get_elem? c.seat
       omega arith
 
   -- no other seat pins it
-  pub sole_pins : (m j : ℕ) (u : View) → has m v.sole ≡ true → j ≢ id → get_elem? c.seats j ≡ some u → times m u.pins ≡ 0
+  pub sole_pins : (m j : ℕ) (u : View) → has_node v.sole m ≡ true → j ≢ id → get_elem? c.seats j ≡ some u → times m u.pins ≡ 0
   sole_pins m j u sole ne there =
       let is : get_or c.counts m 0 ≡ own_refs (length c.rows) v m + times m v.pins = ((s.seats id v at).soles m sole).2 in
       let was : get_or c.counts m 0 ≡ refs_by_rows m c.rows + refs_by_literals m c.observed + all_pins m c.seats = s.counted m in
@@ -170,7 +170,7 @@ module _ (c : Core) (id : ℕ) (v : View) (s : IsSound c) (at : get_elem? c.seat
       omega arith
 
   -- no row that the seat doesn't know refers to it
-  pub sole_unknown : (m i : ℕ) → has m v.sole ≡ true → known_row v i ≡ None → refs m (row_at c.rows i) ≡ 0
+  pub sole_unknown : (m i : ℕ) → has_node v.sole m ≡ true → known_row v i ≡ None → refs m (row_at c.rows i) ≡ 0
   sole_unknown m i sole none = elim (eq-zero-or-pos (refs m (row_at c.rows i))) [
     | inl e ↦ e
     | inr some_there ↦

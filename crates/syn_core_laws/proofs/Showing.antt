@@ -8,7 +8,7 @@ use Rattle.syn_rows.specs.declared.Row.TheVariants.{Free}
 use Rattle.syn_rows.specs.Rows.{row_at}
 use Rattle.syn_rows.specs.References.{refs, refs_by_rows, sum_below}
 use Rattle.syn_core_laws.specs.declared.View.{View}
-use Rattle.syn_core_laws.specs.Lists.{has}
+use Rattle.syn_rows.specs.Nodes.{has_node}
 use Rattle.syn_core_laws.specs.Views.{known_row, is_derived_known, refs_known, own_refs}
 use Rattle.syn_core_laws.specs.Cores.{Core}
 use Rattle.syn_core_laws.specs.Sound.{IsSound}
@@ -69,7 +69,7 @@ seats_are_shown c id v s at =
           let some_there : 1 ≤ get_or c.counts n 0 = pins_count c id v s at n mine in
           let none : get_or c.counts n 0 ≡ 0 = s.unused n (t.knows_rows n Free free).1 in
           absurd (omega arith);
-      rows = λ n r e. let held : has n v.held ≡ true = (t.knows_rows n r e).0 in (held_there c id v s at n held, held);
+      rows = λ n r e. let held : has_node v.held n ≡ true = (t.knows_rows n r e).0 in (held_there c id v s at n held, held);
       keys = λ n key e. (t.knows_keys n key e).0;
       idles = λ n h.
           let known = (t.idles n h).0 in

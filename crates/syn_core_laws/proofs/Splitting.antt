@@ -6,11 +6,11 @@ use mathlib.Core.Option.{some, some-injective, some-ne-none}
 use lib.ListN.{get_elem?}
 use Rattle.syn_rows.specs.References.{times}
 use Rattle.syn_core_laws.specs.declared.View.{View}
-use Rattle.syn_core_laws.specs.Lists.{has}
+use Rattle.syn_rows.specs.Nodes.{has_node}
 use Rattle.syn_core_laws.specs.Cores.{Core, all_pins, differences}
 use Rattle.syn_core_laws.specs.Openings.{empty_view}
 use Rattle.syn_core_laws.specs.Sound.{IsSeatSound}
-use Rattle.syn_core_laws.specs.Splits.{joined, SplitsKeepSound, JoinsKeepSound}
+use Rattle.syn_core_laws.specs.Splits.{view_after_join, SplitsKeepSound, JoinsKeepSound}
 use Rattle.syn_core_laws.proofs.Listing.{at_set, set_else, set_there}
 use Rattle.syn_core_laws.proofs.Counting.{pins_set, differences_set}
 use Rattle.syn_core_laws.proofs.Seating.{number_was}
@@ -87,7 +87,7 @@ splits_keep_sound c number s new = record {
 -- ---- one seat joins another
 -- the seats when the keeper has taken over what the other knows
 abbrev taken_over : Core → ℕ → View → View → List View
-taken_over c id v w = set c.seats id (joined v w)
+taken_over c id v w = set c.seats id (view_after_join v w)
 
 pub joins_keep_sound : JoinsKeepSound
 joins_keep_sound c id other v w s ne at at_other none_held none_pinned = record {
@@ -106,19 +106,19 @@ joins_keep_sound c id other v w s ne at at_other none_held none_pinned = record 
   unused = s.unused;
   rests = s.rests;
   counted = λ n.
-      let first : all_pins n (taken_over c id v w) + times n v.pins ≡ all_pins n c.seats + times n v.pins = pins_set n c.seats id v (joined v w) at in
+      let first : all_pins n (taken_over c id v w) + times n v.pins ≡ all_pins n c.seats + times n v.pins = pins_set n c.seats id v (view_after_join v w) at in
       let second : all_pins n (set (taken_over c id v w) other (empty_view 64)) + times n w.pins ≡ all_pins n (taken_over c id v w) + 0 = pins_set n (taken_over c id v w) other w (empty_view 64) other_there in
       let none : times n w.pins ≡ 0 = ap (times n) none_pinned in
       omega (arith, s.counted n);
   values = s.values;
   and_rows =
-      let first : differences (taken_over c id v w) +ℤ v.difference ≡ differences c.seats +ℤ (v.difference +ℤ w.difference) = differences_set c.seats id v (joined v w) at in
+      let first : differences (taken_over c id v w) +ℤ v.difference ≡ differences c.seats +ℤ (v.difference +ℤ w.difference) = differences_set c.seats id v (view_after_join v w) at in
       let second : differences (set (taken_over c id v w) other (empty_view 64)) +ℤ w.difference ≡ differences (taken_over c id v w) +ℤ pos 0 = differences_set (taken_over c id v w) other w (empty_view 64) other_there in
       let before = s.and_rows in
       omega (arith, ints);
   seats = λ j u e. elim (at_set (taken_over c id v w) other j (empty_view 64) u e) [
     | inl last ↦ subst (IsSeatSound c.claims c.rows c.counts c.keys) last.1 (empty_sound c 64 (λ small n h. absurd (omega arith)))
-    | inr rest ↦ elim (at_set c.seats id j (joined v w) u rest.1) [
+    | inr rest ↦ elim (at_set c.seats id j (view_after_join v w) u rest.1) [
       | inl mine ↦
           let t : IsSeatSound c.claims c.rows c.counts c.keys v = s.seats id v at in
           subst (IsSeatSound c.claims c.rows c.counts c.keys) mine.1 record { holds = t.holds; holder = t.holder; knows_rows = t.knows_rows; knows_keys = t.knows_keys; idles = t.idles; few = t.few; soles = t.soles }
@@ -128,24 +128,24 @@ joins_keep_sound c id other v w s ne at at_other none_held none_pinned = record 
 }
   where
     other_there : get_elem? (taken_over c id v w) other ≡ some w
-    other_there = set_else c.seats id other (joined v w) (λ e. ne (sym e)) ∙ at_other
+    other_there = set_else c.seats id other (view_after_join v w) (λ e. ne (sym e)) ∙ at_other
 
     was : (i : ℕ) (a : View) → get_elem? (set (taken_over c id v w) other (empty_view 64)) i ≡ some a → a.number < 64 → (t : View) × (get_elem? c.seats i ≡ some t) × (t.number ≡ a.number)
     was i a e small = elim (at_set (taken_over c id v w) other i (empty_view 64) a e) [
       | inl last ↦ let is : 64 ≡ a.number = ap (λ (z : View). z.number) last.1 in absurd (omega arith)
-      | inr rest ↦ number_was c.seats id v (joined v w) at refl i a rest.1
+      | inr rest ↦ number_was c.seats id v (view_after_join v w) at refl i a rest.1
     ]
 
-    holder_after : (n j : ℕ) (u : View) → get_elem? c.seats j ≡ some u → has n u.held ≡ true → (k : ℕ) × (t : View) × (get_elem? (set (taken_over c id v w) other (empty_view 64)) k ≡ some t) × (has n t.held ≡ true)
+    holder_after : (n j : ℕ) (u : View) → get_elem? c.seats j ≡ some u → has_node u.held n ≡ true → (k : ℕ) × (t : View) × (get_elem? (set (taken_over c id v w) other (empty_view 64)) k ≡ some t) × (has_node t.held n ≡ true)
     holder_after n j u there h = elim (cases_eq j other) [
       | inl same ↦
           let is : u ≡ w = some-injective u w (sym (subst (λ k. get_elem? c.seats k ≡ some u) same there) ∙ at_other) in
-          let none : has n u.held ≡ has n [] = ap (λ (z : View). has n z.held) is ∙ ap (has n) none_held in
+          let none : has_node u.held n ≡ has_node [] n = ap (λ (z : View). has_node z.held n) is ∙ ap (λ (xs : List ℕ). has_node xs n) none_held in
           absurd (cc)
       | inr apart ↦ elim (cases_eq j id) [
         | inl same ↦
             let is : u ≡ v = some-injective u v (sym (subst (λ k. get_elem? c.seats k ≡ some u) same there) ∙ at) in
-            (id, joined v w, set_else (taken_over c id v w) other id (empty_view 64) ne ∙ set_there c.seats id v (joined v w) at, subst (λ (z : View). has n z.held ≡ true) is h)
-        | inr ne' ↦ (j, u, set_else (taken_over c id v w) other j (empty_view 64) apart ∙ (set_else c.seats id j (joined v w) ne' ∙ there), h)
+            (id, view_after_join v w, set_else (taken_over c id v w) other id (empty_view 64) ne ∙ set_there c.seats id v (view_after_join v w) at, subst (λ (z : View). has_node z.held n ≡ true) is h)
+        | inr ne' ↦ (j, u, set_else (taken_over c id v w) other j (empty_view 64) apart ∙ (set_else c.seats id j (view_after_join v w) ne' ∙ there), h)
       ]
     ]

@@ -12,13 +12,15 @@ use Rattle.syn_rows.specs.Values.{RowFits, Fits, SameSources}
 use Rattle.syn_rows.specs.References.{times, refs, and_count, all_ands, sum_below, refs_by_rows, refs_by_literals}
 use Rattle.syn_core_laws.specs.declared.View.{View}
 use Rattle.syn_core_laws.specs.declared.Change.{Change}
-use Rattle.syn_core_laws.specs.Lists.{has, only, without_each, look, kept}
+use Rattle.syn_rows.specs.Nodes.{has_node}
+use Rattle.syn_core_laws.specs.Lists.{only, without_each, look, kept}
 use Rattle.syn_core_laws.specs.Views.{is_mine, known_row, known_key, refs_known, own_refs, differs, key_set, made, redefined, freed, pins_after}
 use Rattle.syn_core_laws.specs.Cores.{Core, all_pins, differences}
 use Rattle.syn_core_laws.specs.Sound.{RowRests, KnowsDerived, Agree, IsSeatSound, IsSound}
 use Rattle.syn_core_laws.specs.Events.{key_stored, row_stored, KeyBelow, MayRest, IsAnd}
 use Rattle.syn_core_laws.specs.SameValue.{SameValue}
-use Rattle.syn_core_laws.proofs.Listing.{or_cases, or_left, or_right, other_is, has_more, has_cases, has_only, look_here, look_there, kept_look, number_there}
+use Rattle.syn_rows.proofs.Nodes.{has_right, here_or_there}
+use Rattle.syn_core_laws.proofs.Listing.{or_cases, or_left, or_right, other_is, has_only, look_here, look_there, kept_look, number_there}
 use Rattle.syn_core_laws.proofs.Counting.{sum_change, sum_at, has_times, times_append, times_less_each, length_less_each, pins_set, differences_set}
 use Rattle.syn_core_laws.proofs.Seating.{row_there, claimant_after, apart_after, each_after}
 use Rattle.syn_core_laws.proofs.Claiming.{other_number}
@@ -31,11 +33,11 @@ row_past (r ∷ rs) zero le = absurd (omega arith)
 row_past (r ∷ rs) (suc n) le = row_past rs n (omega arith)
 
 module _ (c : Core) (id : ℕ) (v : View) (s : IsSound c) (at : get_elem? c.seats id ≡ some v) where
-  pub held_there : (n : ℕ) → has n v.held ≡ true → n < length c.rows
+  pub held_there : (n : ℕ) → has_node v.held n ≡ true → n < length c.rows
   held_there n mine = let is : get_or c.claims n 0 ≡ suc v.number = (s.seats id v at).holds n mine in omega (arith, number_there c.claims n (λ e. omega arith), s.claims_count)
 
   -- no other seat holds it
-  held_alone : (n : ℕ) → v.number < 64 → has n v.held ≡ true → (j : ℕ) (u : View) → j ≢ id → get_elem? c.seats j ≡ some u → has n u.held ≢ true
+  held_alone : (n : ℕ) → v.number < 64 → has_node v.held n ≡ true → (j : ℕ) (u : View) → j ≢ id → get_elem? c.seats j ≡ some u → has_node u.held n ≢ true
   held_alone n small mine j u ne there h =
       let ours : get_or c.claims n 0 ≡ suc v.number = (s.seats id v at).holds n mine in
       let theirs : get_or c.claims n 0 ≡ suc u.number = (s.seats j u there).holds n h in
@@ -45,7 +47,7 @@ module _ (c : Core) (id : ℕ) (v : View) (s : IsSound c) (at : get_elem? c.seat
   pub set_key_sound : (n key : ℕ) → v.number < 64 → known_row v n ≡ Some Free → IsSound (key_stored c id (key_set v n key) n key)
   set_key_sound n key small known =
       let t : IsSeatSound c.claims c.rows c.counts c.keys v = s.seats id v at in
-      let mine : has n v.held ≡ true = (t.knows_rows n Free known).0 in
+      let mine : has_node v.held n ≡ true = (t.knows_rows n Free known).0 in
       let free : row_at c.rows n ≡ Free = (t.knows_rows n Free known).1 in
       let inside : n < length c.keys = omega (arith, s.keys_count, held_there n mine) in
       let here : get_or (set c.keys n key) n 0 ≡ key = get_or-set_same c.keys n key 0 inside in
@@ -83,10 +85,10 @@ module _ (c : Core) (id : ℕ) (v : View) (s : IsSound c) (at : get_elem? c.seat
               knows_keys = λ m x e.
                   let was = k.knows_keys m x e in (
                     was.0,
-                    there m (λ same. elim (or_cases (has m u.held) (has m u.pins) was.0) [
-                      | inl h ↦ held_alone n small mine j u ne at_j (subst (λ z. has z u.held ≡ true) same h)
+                    there m (λ same. elim (or_cases (has_node u.held m) (has_node u.pins m) was.0) [
+                      | inl h ↦ held_alone n small mine j u ne at_j (subst (λ z. has_node u.held z ≡ true) same h)
                       | inr h ↦
-                          let some_there : 1 ≤ get_or c.counts n 0 = pins_count c j u s at_j n (subst (λ z. has z u.pins ≡ true) same h) in
+                          let some_there : 1 ≤ get_or c.counts n 0 = pins_count c j u s at_j n (subst (λ z. has_node u.pins z ≡ true) same h) in
                           let none : get_or c.counts n 0 ≡ 0 = s.unused n free in
                           absurd (omega arith)
                     ]) ∙ was.1,
@@ -103,7 +105,7 @@ module _ (c : Core) (id : ℕ) (v : View) (s : IsSound c) (at : get_elem? c.seat
                 | inl same ↦
                     let is : look m ((n, key) ∷ v.keys) ≡ Some key = subst (λ z. look z ((n, key) ∷ v.keys) ≡ Some key) (sym same) (look_here n key v.keys) in
                     let equal : key ≡ x = let y : Some key ≡ Some x = sym is ∙ e in cc in
-                    (or_left (has m v.held) (has m v.pins) (subst (λ z. has z v.held ≡ true) (sym same) mine), ap (λ z. get_or (set c.keys n key) z 0) same ∙ (here ∙ equal))
+                    (or_left (has_node v.held m) (has_node v.pins m) (subst (λ z. has_node v.held z ≡ true) (sym same) mine), ap (λ z. get_or (set c.keys n key) z 0) same ∙ (here ∙ equal))
                 | inr ne ↦ let was = t.knows_keys m x (sym (look_there m n key v.keys ne) ∙ e) in (was.0, there m ne ∙ was.1)
               ];
               idles = t.idles;
@@ -124,13 +126,13 @@ module _ (c : Core) (id : ℕ) (v : View) (s : IsSound c) (at : get_elem? c.seat
       → ((m : ℕ) → refs m row + times m pins ≡ refs m old + times m v.pins)
       → ((x w : ℕ → Bool) → Fits (set c.rows n row) x → Fits c.opening w → SameSources c.opening x w → Agree c.observed x w)
       → pos (and_count row) +ℤ v.difference ≡ pos (and_count old) +ℤ difference
-      → ((m k : ℕ) → look m told ≡ Some k → ((has m v.held || has m pins) ≡ true) × (get_or c.keys m 0 ≡ k))
-      → ((m : ℕ) → has m idle ≡ true → ((r : Row) × (look m ((n, row) ∷ v.rows) ≡ Some r) × (is_derived r ≡ true)) × (get_or c.counts m 0 ≡ 0))
+      → ((m k : ℕ) → look m told ≡ Some k → ((has_node v.held m || has_node pins m) ≡ true) × (get_or c.keys m 0 ≡ k))
+      → ((m : ℕ) → has_node idle m ≡ true → ((r : Row) × (look m ((n, row) ∷ v.rows) ≡ Some r) × (is_derived r ≡ true)) × (get_or c.counts m 0 ≡ 0))
       → length pins ≤ 512
       → IsSound (row_stored c id storing n row)
   store_sound unused rests move values sum keys idles few =
       let t : IsSeatSound c.claims c.rows c.counts c.keys v = s.seats id v at in
-      let mine : has n v.held ≡ true = (t.knows_rows n old known).0 in
+      let mine : has_node v.held n ≡ true = (t.knows_rows n old known).0 in
       let was_old : row_at c.rows n ≡ old = (t.knows_rows n old known).1 in
       let inside : n < length c.rows = held_there c id v s at n mine in
       let long : length (set c.rows n row) ≡ length c.rows = length-set c.rows n row in
@@ -178,7 +180,7 @@ module _ (c : Core) (id : ℕ) (v : View) (s : IsSound c) (at : get_elem? c.seat
               holder = k.holder;
               knows_rows = λ m r e.
                   let was = k.knows_rows m r e in
-                  (was.0, there m (λ same. held_alone c id v s at n small mine j u ne at_j (subst (λ z. has z u.held ≡ true) same was.0)) ∙ was.1);
+                  (was.0, there m (λ same. held_alone c id v s at n small mine j u ne at_j (subst (λ z. has_node u.held z ≡ true) same was.0)) ∙ was.1);
               knows_keys = k.knows_keys;
               idles = k.idles;
               few = k.few;
@@ -194,7 +196,7 @@ module _ (c : Core) (id : ℕ) (v : View) (s : IsSound c) (at : get_elem? c.seat
                 | inl same ↦
                     let is : look m ((n, row) ∷ v.rows) ≡ Some row = subst (λ z. look z ((n, row) ∷ v.rows) ≡ Some row) (sym same) (look_here n row v.rows) in
                     let equal : row ≡ r = let y : Some row ≡ Some r = sym is ∙ e in cc in
-                    (subst (λ z. has z v.held ≡ true) (sym same) mine, ap (row_at (set c.rows n row)) same ∙ (here ∙ equal))
+                    (subst (λ z. has_node v.held z ≡ true) (sym same) mine, ap (row_at (set c.rows n row)) same ∙ (here ∙ equal))
                 | inr ne ↦ let was = t.knows_rows m r (sym (look_there m n row v.rows ne) ∙ e) in (was.0, there m ne ∙ was.1)
               ];
               knows_keys = keys;
@@ -213,10 +215,6 @@ module _ (c : Core) (id : ℕ) (v : View) (s : IsSound c) (at : get_elem? c.seat
     where
       and_sum : (after before first o r : ℕ) (d e x y : ℤ) → after + o ≡ before + r → pos before ≡ pos first +ℤ d → e +ℤ x ≡ d +ℤ y → pos r +ℤ x ≡ pos o +ℤ y → pos after ≡ pos first +ℤ e
       and_sum after before first o r d e x y h1 h2 h3 h4 = omega (arith, ints)
-
-has_behind : (m : ℕ) (xs ys : List ℕ) → has m ys ≡ true → has m (xs ++ ys) ≡ true
-has_behind m [] ys h = h
-has_behind m (x ∷ xs) ys h = has_more m x (xs ++ ys) (has_behind m xs ys h)
 
 gate_no_source : (r : Row) → is_derived r ≡ true → r ≢ Source
 gate_no_source Free h e = absurd (cc)
@@ -277,7 +275,7 @@ module _ (c : Core) (id : ℕ) (v : View) (s : IsSound c) (at : get_elem? c.seat
   pub make_sound : (n : ℕ) (row : Row) → known_row v n ≡ Some Free → IsAnd row → MayRest v (get_or c.keys n 0) row → IsSound (row_stored c id (made v n row) n row)
   make_sound n row known is_and may =
       let t : IsSeatSound c.claims c.rows c.counts c.keys v = s.seats id v at in
-      let mine : has n v.held ≡ true = (t.knows_rows n Free known).0 in
+      let mine : has_node v.held n ≡ true = (t.knows_rows n Free known).0 in
       let free : row_at c.rows n ≡ Free = (t.knows_rows n Free known).1 in
       let inside : n < length c.rows = held_there c id v s at n mine in
       let is : row ≡ And is_and.0 is_and.1 = is_and.2 in
@@ -299,7 +297,7 @@ module _ (c : Core) (id : ℕ) (v : View) (s : IsSound c) (at : get_elem? c.seat
       (λ m k e. let h = kept_look (is_mine (record v { pins = without_each (refs_of row) v.pins })) m k v.keys e in (h.1, (t.knows_keys m k h.0).1))
       (λ m e. elim (cases_eq m n) [
         | inl same ↦ ((row, subst (λ z. look z ((n, row) ∷ v.rows) ≡ Some row) (sym same) (look_here n row v.rows), gate), ap (λ z. get_or c.counts z 0) same ∙ s.unused n free)
-        | inr ne ↦ elim (has_cases m n v.idle e) [
+        | inr ne ↦ elim (here_or_there n m v.idle e) [
           | inl same ↦ absurd (ne same)
           | inr was ↦ let h = t.idles m was in (known_after n row gate m h.0, h.1)
         ]
@@ -314,7 +312,7 @@ module _ (c : Core) (id : ℕ) (v : View) (s : IsSound c) (at : get_elem? c.seat
       → length (pins_after v old row) ≤ 512 → SameValue v over old row → IsSound (row_stored c id (redefined v n old row) n row)
   redefine_sound n old row over known was_gate gate may room same_value =
       let t : IsSeatSound c.claims c.rows c.counts c.keys v = s.seats id v at in
-      let mine : has n v.held ≡ true = (t.knows_rows n old known).0 in
+      let mine : has_node v.held n ≡ true = (t.knows_rows n old known).0 in
       let was_old : row_at c.rows n ≡ old = (t.knows_rows n old known).1 in
       let inside : n < length c.rows = held_there c id v s at n mine in
       store_sound c id v s at small n old row known (gate_no_source old was_gate) (gate_no_source row gate)
@@ -354,10 +352,10 @@ module _ (c : Core) (id : ℕ) (v : View) (s : IsSound c) (at : get_elem? c.seat
           (subst (λ z. RowFits x n z) (get_or-set_same c.rows n row Free inside) (fits.each n))
 
   -- a row to which nobody refers is freed
-  pub free_sound : (n : ℕ) (old : Row) → known_row v n ≡ Some old → has n v.idle ≡ true → length (pins_after v old Free) ≤ 512 → IsSound (row_stored c id (freed v n old) n Free)
+  pub free_sound : (n : ℕ) (old : Row) → known_row v n ≡ Some old → has_node v.idle n ≡ true → length (pins_after v old Free) ≤ 512 → IsSound (row_stored c id (freed v n old) n Free)
   free_sound n old known unused_there room =
       let t : IsSeatSound c.claims c.rows c.counts c.keys v = s.seats id v at in
-      let mine : has n v.held ≡ true = (t.knows_rows n old known).0 in
+      let mine : has_node v.held n ≡ true = (t.knows_rows n old known).0 in
       let was_old : row_at c.rows n ≡ old = (t.knows_rows n old known).1 in
       let inside : n < length c.rows = held_there c id v s at n mine in
       let gone = t.idles n unused_there in
@@ -394,9 +392,9 @@ module _ (c : Core) (id : ℕ) (v : View) (s : IsSound c) (at : get_elem? c.seat
       (free_sum (and_count old) v.difference)
       (λ m k e.
       let was = t.knows_keys m k e in (
-        elim (or_cases (has m v.held) (has m v.pins) was.0) [
-          | inl h ↦ or_left (has m v.held) (has m (refs_of old ++ v.pins)) h
-          | inr h ↦ or_right (has m v.held) (has m (refs_of old ++ v.pins)) (has_behind m (refs_of old) v.pins h)
+        elim (or_cases (has_node v.held m) (has_node v.pins m) was.0) [
+          | inl h ↦ or_left (has_node v.held m) (has_node (refs_of old ++ v.pins) m) h
+          | inr h ↦ or_right (has_node v.held m) (has_node (refs_of old ++ v.pins) m) (has_right (refs_of old) v.pins m h)
         ],
         was.1,
       ))

@@ -15,6 +15,7 @@ use Rattle.syn_rows.specs.Packing.{Packs}
 use Rattle.syn_core_laws.proofs.Seating.{row_there}
 use Rattle.syn_core_laws.proofs.Pinning.{pin_there}
 use Rattle.std.proofs.lemmas.Bool.{cases_eq, eq-eqb, ne_eqb}
+use Rattle.syn_rows.specs.declared.TheConstants.{NODE_LIMIT}
 use Rattle.syn_core_laws.proofs.Storing.{held_there}
 use Rattle.syn_core_laws.proofs.Counting.{hits_few, sum_at}
 
@@ -118,7 +119,7 @@ nodes_are_there c id v n s at (inl held) = held_there c id v s at n held
 nodes_are_there c id v n s at (inr may) = row_there c.rows n (pin_there c id v s at n may)
 
 -- ---- rows fit a word
-literal_packs : (rows : List Row) (l : Lit) → length rows < 2 ^ 29 → row_at rows (node_of l) ≢ Free → l.0 < 2 ^ 30
+literal_packs : (rows : List Row) (l : Lit) → length rows < NODE_LIMIT → row_at rows (node_of l) ≢ Free → l.0 < 2 ^ 30
 literal_packs rows l small used = let lt : node_of l < length rows = row_there rows (node_of l) used in omega arith
 
 pub rows_pack : RowsPack

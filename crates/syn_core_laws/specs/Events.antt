@@ -10,7 +10,7 @@ use Rattle.syn_rows.specs.References.{refs}
 use Rattle.syn_core_laws.specs.declared.View.{View}
 use Rattle.syn_core_laws.specs.declared.EventKind.TheVariants as Kind
 use Rattle.syn_core_laws.specs.declared.EventKind.{EventKind}
-use Rattle.syn_core_laws.specs.Lists.{has}
+use Rattle.syn_rows.specs.Nodes.{has_node}
 use Rattle.syn_core_laws.specs.Views.{is_mine, known_row, known_key, own_pins, pins_after, claimed, missed, released, row_loaded, pinned, unpinned, count_loaded, key_loaded, key_set, made, redefined, freed}
 use Rattle.syn_core_laws.specs.Cores.{Core}
 use Rattle.syn_core_laws.specs.SameValue.{SameValue}
@@ -26,7 +26,7 @@ KnowsUsed v n = (r : Row) × (known_row v n ≡ Some r) × (r ≢ Free)
 
 -- what a seat may pin: a node that it holds and knows to be there, one to which a row that it knows refers, or one that it has pinned
 abbrev pub MayPin : View → ℕ → Type 0
-MayPin v n = (KnowsUsed v n ⊎ Refers v n) ⊎ (has n v.pins ≡ true)
+MayPin v n = (KnowsUsed v n ⊎ Refers v n) ⊎ (has_node v.pins n ≡ true)
 
 -- the node's key is known, and below the given one
 abbrev pub KeyBelow : View → ℕ → ℕ → Type 0
@@ -46,17 +46,17 @@ MayRedefine v n key row over old = (known_row v n ≡ Some old) × (is_derived o
 
 -- what a free asks: the node is on the zero list, and at most 512 pins are left
 abbrev pub MayFree : View → ℕ → Type 0
-MayFree v n = (has n v.idle ≡ true) × ((old : Row) → known_row v n ≡ Some old → length (pins_after v old Free) ≤ 512)
+MayFree v n = (has_node v.idle n ≡ true) × ((old : Row) → known_row v n ≡ Some old → length (pins_after v old Free) ≤ 512)
 
 -- what each kind of event asks of the words and of the seat's view
 abbrev pub May : Core → View → EventKind → Type 0
-May c v (Kind.Claim n) = (slice_index c.claims n ≡ 0) × (has n v.held ≡ false)
-May c v (Kind.ClaimFailed n) = (slice_index c.claims n ≢ 0) × (has n v.held ≡ false)
-May c v (Kind.Release n) = (has n v.held ≡ true) × (has n v.idle ≡ false)
-May c v (Kind.LoadRow n) = has n v.held ≡ true
+May c v (Kind.Claim n) = (slice_index c.claims n ≡ 0) × (has_node v.held n ≡ false)
+May c v (Kind.ClaimFailed n) = (slice_index c.claims n ≢ 0) × (has_node v.held n ≡ false)
+May c v (Kind.Release n) = (has_node v.held n ≡ true) × (has_node v.idle n ≡ false)
+May c v (Kind.LoadRow n) = has_node v.held n ≡ true
 May c v (Kind.Pin n) = MayPin v n × (length v.pins < 512)
-May c v (Kind.Unpin n) = has n v.pins ≡ true
-May c v (Kind.LoadCount n) = has n v.held ≡ true
+May c v (Kind.Unpin n) = has_node v.pins n ≡ true
+May c v (Kind.LoadCount n) = has_node v.held n ≡ true
 May c v (Kind.LoadKey n) = is_mine v n ≡ true
 May c v (Kind.SetKey n key) = known_row v n ≡ Some Free
 May c v (Kind.Make n row) = (known_row v n ≡ Some Free) × IsAnd row × MayRest v (slice_index c.keys n) row

@@ -1,10 +1,5 @@
 -- Lists of nodes, and lists that tell a row or a key of a node.
-use Rattle.std.specs.Prelude.{ℕ, ◌==◌, ◌||◌, Bool, false, if◌then◌else◌, List, [], ◌∷◌, Option, Some, None}
-
--- the node n stands in the list
-abbrev pub has : ℕ → List ℕ → Bool
-has n [] = false
-has n (x ∷ xs) = (x == n) || has n xs
+use Rattle.std.specs.Prelude.{ℕ, ◌==◌, Bool, if◌then◌else◌, List, [], ◌∷◌, Option, Some, None}
 
 -- the nodes that pass the test
 abbrev pub only : (ℕ → Bool) → List ℕ → List ℕ

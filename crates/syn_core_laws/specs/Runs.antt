@@ -7,7 +7,7 @@ use Rattle.syn_rows.specs.declared.Row.TheVariants.{Free, Source}
 use Rattle.syn_rows.specs.Values.{Fits, SameSources}
 use Rattle.syn_core_laws.specs.declared.View.{View}
 use Rattle.syn_core_laws.specs.declared.Event.{Event}
-use Rattle.syn_core_laws.specs.Lists.{has}
+use Rattle.syn_rows.specs.Nodes.{has_node}
 use Rattle.syn_core_laws.specs.Cores.{Core}
 use Rattle.syn_core_laws.specs.Events.{event_node, May, Allowed, after}
 use Rattle.syn_core_laws.specs.Sound.{IsSound}
@@ -46,12 +46,12 @@ RunsStaySound = (c : Core) (es : List Event) → IsSound c → SoundAlong c es
 
 -- the count of a seat's sole node is no other seat's to change, and it stays sole
 abbrev pub SoleCountsStay : Type 0
-SoleCountsStay = (c : Core) (e : Event) (d : Core) (j : ℕ) (u : View) (m : ℕ) → IsSound c → Steps c e d → j ≢ e.seat → get_elem? c.seats j ≡ some u → has m u.sole ≡ true
+SoleCountsStay = (c : Core) (e : Event) (d : Core) (j : ℕ) (u : View) (m : ℕ) → IsSound c → Steps c e d → j ≢ e.seat → get_elem? c.seats j ≡ some u → has_node u.sole m ≡ true
     → (slice_index d.counts m ≡ slice_index c.counts m) × (get_elem? d.seats j ≡ some u)
 
 -- so it is after each list of events of other seats
 abbrev pub SoleCountsStayAlong : Type 0
-SoleCountsStayAlong = (c : Core) (es : List Event) (d : Core) (j : ℕ) (u : View) (m : ℕ) → IsSound c → Runs c es d → All (λ e. j ≢ e.seat) es → get_elem? c.seats j ≡ some u → has m u.sole ≡ true
+SoleCountsStayAlong = (c : Core) (es : List Event) (d : Core) (j : ℕ) (u : View) (m : ℕ) → IsSound c → Runs c es d → All (λ e. j ≢ e.seat) es → get_elem? c.seats j ≡ some u → has_node u.sole m ≡ true
     → (slice_index d.counts m ≡ slice_index c.counts m) × (get_elem? d.seats j ≡ some u)
 
 -- for each choice of source values there is a valuation that fits the rows

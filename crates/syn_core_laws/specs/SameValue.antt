@@ -5,7 +5,7 @@ use Rattle.syn_rows.specs.declared.Row.TheVariants.{Free, Source, And, Alias}
 use Rattle.syn_rows.specs.declared.Lit.{Lit}
 use Rattle.syn_rows.specs.Rows.{node_of}
 use Rattle.syn_core_laws.specs.declared.View.{View}
-use Rattle.syn_core_laws.specs.Lists.{has}
+use Rattle.syn_rows.specs.Nodes.{has_node}
 use Rattle.syn_core_laws.specs.Views.{known_row}
 
 -- the value of a literal by that of its node; no value where the node has none
@@ -33,8 +33,8 @@ known_value at (Some r) = value_of_row at r
 
 -- the value of a node by at most `steps` known rows: a node of `over` has the chosen one, and node 0 is false
 abbrev pub value_by : (ℕ → Option Row) → List ℕ → (ℕ → Bool) → ℕ → ℕ → Option Bool
-value_by known over choice zero n = if has n over then Some (choice n) else if n == 0 then Some false else None
-value_by known over choice (suc steps) n = if has n over then Some (choice n) else if n == 0 then Some false else known_value (value_by known over choice steps) (known n)
+value_by known over choice zero n = if has_node over n then Some (choice n) else if n == 0 then Some false else None
+value_by known over choice (suc steps) n = if has_node over n then Some (choice n) else if n == 0 then Some false else known_value (value_by known over choice steps) (known n)
 
 -- the row has this value, by some number of steps
 abbrev pub HasValue : (ℕ → Option Row) → List ℕ → (ℕ → Bool) → Row → Bool → Type 0

@@ -5,7 +5,8 @@ use lib.ListN.{get_elem?}
 use Rattle.syn_rows.specs.declared.Row.{Row}
 use Rattle.syn_rows.specs.declared.Row.TheVariants.{Free}
 use Rattle.syn_core_laws.specs.declared.View.{View}
-use Rattle.syn_core_laws.specs.Lists.{has, look}
+use Rattle.syn_rows.specs.Nodes.{has_node}
+use Rattle.syn_core_laws.specs.Lists.{look}
 use Rattle.syn_core_laws.specs.Views.{is_mine, known_row, is_derived_known, refs_known, own_refs, own_pins}
 use Rattle.syn_core_laws.specs.Cores.{Core}
 use Rattle.syn_core_laws.specs.Sound.{IsSound}
@@ -26,11 +27,11 @@ pub record IsShown (nodes : ℕ) (v : View) : Type 0 where
   -- no known row refers to a node that is known as free
   pub used : (n m : ℕ) → 1 ≤ refs_known m (known_row v n) → known_row v m ≢ Some Free
   -- nor is a pinned node known as free
-  pub pinned : (n : ℕ) → has n v.pins ≡ true → known_row v n ≢ Some Free
+  pub pinned : (n : ℕ) → has_node v.pins n ≡ true → known_row v n ≢ Some Free
   -- known rows are of held nodes, known keys of held or pinned ones
-  pub rows : (n : ℕ) (r : Row) → known_row v n ≡ Some r → (n < nodes) × (has n v.held ≡ true)
+  pub rows : (n : ℕ) (r : Row) → known_row v n ≡ Some r → (n < nodes) × (has_node v.held n ≡ true)
   pub keys : (n key : ℕ) → look n v.keys ≡ Some key → is_mine v n ≡ true
-  pub idles : (n : ℕ) → has n v.idle ≡ true → IsUnreferred nodes v n
+  pub idles : (n : ℕ) → has_node v.idle n ≡ true → IsUnreferred nodes v n
   -- at most 512 pins
   pub few : length v.pins ≤ 512
 

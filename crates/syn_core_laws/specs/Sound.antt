@@ -9,7 +9,8 @@ use Rattle.syn_rows.specs.Rows.{row_at, AllRefs, is_derived}
 use Rattle.syn_rows.specs.Values.{lit_value, Fits, SameSources}
 use Rattle.syn_rows.specs.References.{refs_by_rows, refs_by_literals, all_ands}
 use Rattle.syn_core_laws.specs.declared.View.{View}
-use Rattle.syn_core_laws.specs.Lists.{has, look}
+use Rattle.syn_rows.specs.Nodes.{has_node}
+use Rattle.syn_core_laws.specs.Lists.{look}
 use Rattle.syn_core_laws.specs.Views.{is_mine, known_row, own_refs, own_pins}
 use Rattle.syn_core_laws.specs.Cores.{Core, all_pins, differences}
 
@@ -29,17 +30,17 @@ KnowsDerived v n = (r : Row) × (known_row v n ≡ Some r) × (is_derived r ≡ 
 -- what is true of a seat, by the words
 pub record IsSeatSound (claims : List ℕ) (rows : List Row) (counts keys : List ℕ) (v : View) : Type 0 where
   -- a claim is the seat's number plus 1 exactly where the seat holds the node
-  pub holds : (n : ℕ) → has n v.held ≡ true → slice_index claims n ≡ suc v.number
-  pub holder : v.number < 64 → (n : ℕ) → slice_index claims n ≡ suc v.number → has n v.held ≡ true
+  pub holds : (n : ℕ) → has_node v.held n ≡ true → slice_index claims n ≡ suc v.number
+  pub holder : v.number < 64 → (n : ℕ) → slice_index claims n ≡ suc v.number → has_node v.held n ≡ true
   -- known rows are of held nodes, known keys of held or pinned ones, and both are the words
-  pub knows_rows : (n : ℕ) (r : Row) → known_row v n ≡ Some r → (has n v.held ≡ true) × (row_at rows n ≡ r)
+  pub knows_rows : (n : ℕ) (r : Row) → known_row v n ≡ Some r → (has_node v.held n ≡ true) × (row_at rows n ≡ r)
   pub knows_keys : (n k : ℕ) → look n v.keys ≡ Some k → (is_mine v n ≡ true) × (slice_index keys n ≡ k)
   -- a node on the zero list is held, known as `And` or `Alias`, and has count 0
-  pub idles : (n : ℕ) → has n v.idle ≡ true → KnowsDerived v n × (slice_index counts n ≡ 0)
+  pub idles : (n : ℕ) → has_node v.idle n ≡ true → KnowsDerived v n × (slice_index counts n ≡ 0)
   -- at most 512 pins
   pub few : length v.pins ≤ 512
   -- a sole node is held and isn't node 0, and only this seat refers to it
-  pub soles : (n : ℕ) → has n v.sole ≡ true → (has n v.held ≡ true) × (n ≢ 0) × (slice_index counts n ≡ own_refs (length rows) v n + own_pins v n)
+  pub soles : (n : ℕ) → has_node v.sole n ≡ true → (has_node v.held n ≡ true) × (n ≢ 0) × (slice_index counts n ≡ own_refs (length rows) v n + own_pins v n)
 
 -- what is true of the core between any two events
 pub record IsSound (c : Core) : Type 0 where
@@ -50,7 +51,7 @@ pub record IsSound (c : Core) : Type 0 where
   -- seats that have a number have different ones
   pub apart : (i j : ℕ) (v w : View) → get_elem? c.seats i ≡ some v → get_elem? c.seats j ≡ some w → v.number ≡ w.number → v.number < 64 → i ≡ j
   -- a claim is of some seat that holds the node
-  pub claimant : (n : ℕ) → slice_index c.claims n ≢ 0 → (id : ℕ) × (v : View) × (get_elem? c.seats id ≡ some v) × (has n v.held ≡ true)
+  pub claimant : (n : ℕ) → slice_index c.claims n ≢ 0 → (id : ℕ) × (v : View) × (get_elem? c.seats id ≡ some v) × (has_node v.held n ≡ true)
   -- node 0 and the sources are `Source` with key 0, and no other row is; a `Free` row has count 0
   pub constant : row_at c.rows 0 ≡ Source
   pub source_stays : (n : ℕ) → row_at c.opening n ≡ Source → row_at c.rows n ≡ Source

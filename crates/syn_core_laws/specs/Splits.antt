@@ -16,12 +16,12 @@ abbrev pub split_off : Core → ℕ → Core
 split_off c number = record c { seats = c.seats ++ empty_view number ∷ [] }
 
 -- the view of a seat that takes over the misses and the difference of another
-abbrev pub joined : View → View → View
-joined v w = record v { misses = v.misses ++ w.misses; difference = v.difference +ℤ w.difference }
+abbrev pub view_after_join : View → View → View
+view_after_join v w = record v { misses = v.misses ++ w.misses; difference = v.difference +ℤ w.difference }
 
 -- the state after the seat `other` has joined the seat `id`: it is spent, and has no number any more
-abbrev pub joined_in : Core → ℕ → View → ℕ → View → Core
-joined_in c id v other w = record c { seats = slice_set (slice_set c.seats id (joined v w)) other (empty_view 64) }
+abbrev pub core_after_join : Core → ℕ → View → ℕ → View → Core
+core_after_join c id v other w = record c { seats = slice_set (slice_set c.seats id (view_after_join v w)) other (empty_view 64) }
 
 -- a split keeps the core sound
 abbrev pub SplitsKeepSound : Type 0
@@ -30,4 +30,4 @@ SplitsKeepSound = (c : Core) (number : ℕ) → IsSound c → IsNewNumber c numb
 -- so does the joining of a seat that holds and pins nothing
 abbrev pub JoinsKeepSound : Type 0
 JoinsKeepSound = (c : Core) (id other : ℕ) (v w : View) → IsSound c → id ≢ other → get_elem? c.seats id ≡ some v → get_elem? c.seats other ≡ some w → w.held ≡ [] → w.pins ≡ []
-    → IsSound (joined_in c id v other w)
+    → IsSound (core_after_join c id v other w)

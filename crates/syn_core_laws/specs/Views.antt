@@ -6,11 +6,12 @@ use Rattle.syn_rows.specs.Rows.{refs_of, is_derived}
 use Rattle.syn_rows.specs.References.{refs, times, and_count, sum_below}
 use Rattle.syn_core_laws.specs.declared.View.{View}
 use Rattle.syn_core_laws.specs.declared.Seen.TheVariants as Seen
-use Rattle.syn_core_laws.specs.Lists.{has, only, without_one, without_each, look, kept}
+use Rattle.syn_rows.specs.Nodes.{has_node}
+use Rattle.syn_core_laws.specs.Lists.{only, without_one, without_each, look, kept}
 
 -- the seat holds the node or has it pinned
 abbrev pub is_mine : View → ℕ → Bool
-is_mine v n = has n v.held || has n v.pins
+is_mine v n = has_node v.held n || has_node v.pins n
 
 -- the row of a held node, where the seat loaded or stored it
 abbrev pub known_row : View → ℕ → Option Row

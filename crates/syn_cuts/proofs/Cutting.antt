@@ -9,10 +9,11 @@ use Rattle.syn_rows.specs.declared.Row.TheVariants.{Free, Source, And, Alias}
 use Rattle.syn_rows.specs.Rows.{row_at, node_of, AllRefs, InOrder}
 use Rattle.syn_rows.proofs.Folds.{IsLocal, fold_step}
 use Rattle.syn_cuts.specs.Cuts.{among, union, comes_before, put, arranged, is_small, unions_with, unions, first_unions, row_cuts, listed_cuts}
-use Rattle.syn_cones.specs.Cones.{has_node, LeadsToSource, IsCut}
+use Rattle.syn_rows.specs.Nodes.{has_node}
+use Rattle.syn_cones.specs.Cones.{LeadsToSource, IsCut}
 use Rattle.syn_cuts.specs.Laws.{ListedAreCuts}
 use Rattle.syn_cuts.specs.Lists.{list_at}
-use Rattle.syn_cones.proofs.Walking.{has_here, has_there, same_node}
+use Rattle.syn_rows.proofs.Nodes.{has_here, has_there, same_node}
 use Rattle.syn_cones.proofs.Swapping.{and_no_end, and_refers}
 
 -- a union has the nodes of both lists

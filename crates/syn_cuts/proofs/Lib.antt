@@ -5,3 +5,5 @@ pub mod Filling
 pub mod Ordering
 pub mod Sorting
 pub mod Rising
+pub mod Signing
+pub mod Refusing

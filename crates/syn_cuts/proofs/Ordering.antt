@@ -1,32 +1,10 @@
 -- The rows of a graph are in order.
-use Rattle.std.proofs.Common.{◌≡◌, ℕ, ◌+◌, ◌<◌, true, not, ◌&&◌, nat_eq, nat_lt, nat_le, List, [], ◌∷◌, ◌++◌, length, sym, subst, arith, inl, inr}
+use Rattle.std.proofs.Common.{◌≡◌, ◌<◌, List, [], ◌∷◌, ◌++◌, length, sym, subst, arith, inl, inr}
 use Rattle.std.proofs.lemmas.List.{get_or_append_left, get_or_past, get_or_push, length_push}
-use Rattle.std.proofs.lemmas.Bool.{cases_lt, and_parts, ltb-true}
+use Rattle.std.proofs.lemmas.Bool.{cases_lt}
 use Rattle.syn_rows.specs.declared.Row.{Row}
-use Rattle.syn_rows.specs.declared.Row.TheVariants.{Free, Source, And, Alias}
-use Rattle.syn_rows.specs.Rows.{node_of, row_at, AllRefs, InOrder}
-use Rattle.syn_shapes.specs.Graphs.{is_gate, IsHashed}
-
-gate_refs : (n : ℕ) (row : Row) → is_gate n row ≡ true → AllRefs (λ m. m < n) row
-gate_refs n Free h = tt
-gate_refs n Source h = tt
-gate_refs n (And a b) h =
-    let low = and_parts (nat_le 2 a.0) (nat_lt a.0 b.0 && (not (nat_eq (node_of a) (node_of b)) && nat_lt (node_of b) n)) h in
-    let rest = and_parts (nat_lt a.0 b.0) (not (nat_eq (node_of a) (node_of b)) && nat_lt (node_of b) n) low.1 in
-    let last = and_parts (not (nat_eq (node_of a) (node_of b))) (nat_lt (node_of b) n) rest.1 in
-    let less : a.0 < b.0 = ltb-true a.0 b.0 rest.0 in
-    let under : node_of b < n = ltb-true (node_of b) n last.1 in
-    (omega arith, under)
-gate_refs n (Alias a) h = absurd (cc)
-
-pub hashed_in_order : (count : ℕ) (rows : List Row) → IsHashed count rows → InOrder rows
-hashed_in_order count rows h n = elim (cases_lt n (count + 1)) [
-  | inl lt ↦ subst (AllRefs (λ m. m < n)) (sym (h.front n lt)) tt
-  | inr ge ↦ elim (cases_lt n (length rows)) [
-    | inl lt ↦ gate_refs n (row_at rows n) (h.gates n (omega arith) lt)
-    | inr past ↦ subst (AllRefs (λ m. m < n)) (sym (get_or_past rows n Free past)) tt
-  ]
-]
+use Rattle.syn_rows.specs.declared.Row.TheVariants.{Free}
+use Rattle.syn_rows.specs.Rows.{AllRefs, InOrder}
 
 -- one more row
 pub in_order_push : (rows : List Row) (row : Row) → InOrder rows → AllRefs (λ m. m < length rows) row → InOrder (rows ++ row ∷ [])

@@ -1,9 +1,9 @@
 -- What the listed cuts of hashed rows are.
 use Rattle.std.proofs.Common.{◌≡◌, ◌≢◌, ℕ, zero, suc, ◌+◌, ◌<◌, ◌≤◌, ◌&&◌, nat_eq, nat_le, nat_lt, Bool, true, false, if◌then◌else◌, All, List, [], ◌∷◌, ◌++◌, length, map, filter, get_or, refl, sym, ap, ◌∙◌, subst, inl, inr, ◌⊎◌, not, arith, length-append}
 use Rattle.std.specs.List.{list_all}
-use Rattle.std.proofs.lemmas.Bool.{cases_Bool, cases_lt, and_parts, and_from, eqb-true, eqb-false, ltb-true, lt-ltb, leb-true, not-true}
+use Rattle.std.proofs.lemmas.Bool.{cases_lt, and_parts, and_from, eqb-true, eqb-false, ltb-true, lt-ltb, leb-true, not-true}
 use Rattle.std.proofs.lemmas.List.{get_or_append_left}
-use Rattle.std.proofs.lemmas.List.Elements.{All-nil, All-cons, All-head, All-tail, All-append, All-take, All-filter}
+use Rattle.std.proofs.lemmas.List.Elements.{All-nil, All-cons, All-append, All-take}
 use Rattle.syn_rows.specs.declared.Lit.{Lit}
 use Rattle.syn_rows.specs.declared.Row.{Row}
 use Rattle.syn_rows.specs.declared.Row.TheVariants.{Free, Source, And, Alias}
@@ -79,11 +79,11 @@ among_more x rest (y ∷ ys) m f = go (nat_lt x y) (nat_eq x y) (among_more x re
     go false true ih = omega (arith, f ys)
     go false false ih = omega (arith, ih)
 
-second_long : (xs ys : List ℕ) → length ys ≤ length (union xs ys)
+pub second_long : (xs ys : List ℕ) → length ys ≤ length (union xs ys)
 second_long [] ys = omega arith
 second_long (x ∷ xs) ys = among_long x (union xs) ys (λ zs. second_long xs zs)
 
-first_long : (xs ys : List ℕ) → length xs ≤ length (union xs ys)
+pub first_long : (xs ys : List ℕ) → length xs ≤ length (union xs ys)
 first_long [] ys = omega arith
 first_long (x ∷ xs) ys = among_more x (union xs) ys (length xs) (λ zs. first_long xs zs)
 

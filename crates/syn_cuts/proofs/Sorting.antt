@@ -5,7 +5,7 @@ use Rattle.std.proofs.lemmas.Bool.{and_parts, and_from, or_cases, or_left, or_ri
 use Rattle.std.proofs.lemmas.Slice.Eq.{bytes_eq-Decides}
 use Rattle.syn_cuts.specs.Cuts.{leaves_before, comes_before, put, arranged}
 use Rattle.syn_cuts.specs.Laws.{are_in_order, has_cut, ArrangedInOrder}
-use Rattle.syn_cones.proofs.Walking.{node_same}
+use Rattle.syn_rows.proofs.Nodes.{node_same}
 
 leaves_trans : (a b c : List ℕ) → leaves_before a b ≡ true → leaves_before b c ≡ true → leaves_before a c ≡ true
 leaves_trans [] b c h g = absurd (both_ways false refl h)
@@ -31,7 +31,7 @@ leaves_trans (x ∷ xs) (y ∷ ys) (z ∷ zs) h g =
           ]
     ]
 
-before_trans : (a b c : List ℕ) → comes_before a b ≡ true → comes_before b c ≡ true → comes_before a c ≡ true
+pub before_trans : (a b c : List ℕ) → comes_before a b ≡ true → comes_before b c ≡ true → comes_before a c ≡ true
 before_trans a b c h g =
     elim (or_cases (nat_lt (length a) (length b)) (nat_eq (length a) (length b) && leaves_before a b) h) [
       | inl l ↦ elim (or_cases (nat_lt (length b) (length c)) (nat_eq (length b) (length c) && leaves_before b c) g) [
@@ -73,7 +73,7 @@ leaves_total (x ∷ xs) (y ∷ ys) e h ne = elim (cases_lt x y) [
   ]
 ]
 
-before_total : (a b : List ℕ) → comes_before a b ≡ false → bytes_eq a b ≡ false → comes_before b a ≡ true
+pub before_total : (a b : List ℕ) → comes_before a b ≡ false → bytes_eq a b ≡ false → comes_before b a ≡ true
 before_total a b h ne = elim (cases_lt (length a) (length b)) [
   | inl l ↦ absurd (both_ways (comes_before a b) h (or_left (nat_lt (length a) (length b)) (nat_eq (length a) (length b) && leaves_before a b) (lt-ltb (length a) (length b) l)))
   | inr g ↦ elim (cases_lt (length b) (length a)) [
@@ -134,7 +134,7 @@ put_has c (d ∷ ds) x = go (comes_before c d) (bytes_eq c d) refl (put_has c ds
     go false true q ih = or_again (bytes_eq d x) (has_cut ds x) ∙ ap (λ y. bytes_eq y x || has_cut (d ∷ ds) x) (sym ((bytes_eq-Decides c d).0 q))
     go false false q ih = ap (λ t. bytes_eq d x || t) ih ∙ or_swap (bytes_eq d x) (bytes_eq c x) (has_cut ds x)
 
-arranged_order : (ds cs : List (List ℕ)) → are_in_order ds ≡ true → are_in_order (arranged ds cs) ≡ true
+pub arranged_order : (ds cs : List (List ℕ)) → are_in_order ds ≡ true → are_in_order (arranged ds cs) ≡ true
 arranged_order ds [] h = h
 arranged_order ds (c ∷ cs) h = arranged_order (put c ds) cs (put_in_order c ds h)
 

@@ -1,13 +1,14 @@
 -- Laws of listed cuts.
-use Rattle.std.specs.Prelude.{◌≡◌, ℕ, ◌+◌, ◌<◌, ◌≤◌, ◌&&◌, Bool, true, All, List, [], ◌∷◌, length, bytes_eq, slice_index_or}
+use Rattle.std.specs.Prelude.{◌≡◌, ℕ, ◌+◌, ◌<◌, ◌≤◌, ◌&&◌, Bool, true, All, List, [], ◌∷◌, length, bit_or, bytes_eq, count_ones, slice_index_or}
 use Rattle.std.specs.List.{list_any, list_all}
 use Rattle.syn_rows.specs.declared.Row.{Row}
 use Rattle.syn_rows.specs.Rows.{InOrder}
-use Rattle.syn_cuts.specs.Cuts.{comes_before, arranged, listed_cuts}
+use Rattle.syn_cuts.specs.Cuts.{comes_before, arranged, listed_cuts, union}
 use Rattle.syn_hashed.specs.Hashed.{IsHashed}
 use Rattle.syn_cones.specs.Cones.{IsCut}
 use Rattle.syn_cones.specs.Leaves.{are_below, rise_above}
 use Rattle.syn_cuts.specs.Lists.{list_at}
+use Rattle.syn_cuts.specs.Signatures.{signature}
 
 -- Each listed cut of a node is a cut of it.
 abbrev pub ListedAreCuts : Type 0
@@ -37,3 +38,7 @@ pub record IsListedCut (k node : ℕ) (c : List ℕ) : Type 0 where
 abbrev pub ListedCutsRise : Type 0
 ListedCutsRise = (k count : ℕ) (rows : List Row) → IsHashed count rows → (n : ℕ) → count < n → n < length rows
     → (i : ℕ) → i + 1 < length (list_at (listed_cuts k rows) n) → IsListedCut k n (slice_index_or (list_at (listed_cuts k rows) n) i [])
+
+-- Where the signatures of two cuts have together more than k bits, their union has more than k leaves.
+abbrev pub SignaturesBoundUnions : Type 0
+SignaturesBoundUnions = (k : ℕ) (c d : List ℕ) → k < count_ones (bit_or (signature c) (signature d)) → k < length (union c d)

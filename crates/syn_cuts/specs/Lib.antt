@@ -2,4 +2,5 @@ pub mod Cuts
 pub mod Worked
 pub mod Leaves
 pub mod Lists
+pub mod Signatures
 pub mod Laws

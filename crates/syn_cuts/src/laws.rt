@@ -1,6 +1,6 @@
 //! Laws of listed cuts, and worked cuts.
 
-ghost use Rattle.syn_cuts.specs.Laws.{ArrangedInOrder, ListedAreCuts, ListedCutsRise};
+ghost use Rattle.syn_cuts.specs.Laws.{ArrangedInOrder, ListedAreCuts, ListedCutsRise, SignaturesBoundUnions};
 ghost use Rattle.syn_cuts.specs.Worked.{Worked};
 
 /// The definition lists the wanted cuts of a worked graph.
@@ -21,4 +21,9 @@ pub fn arranged_in_order()
 /// Each listed cut of an AND of hashed rows rises, lies below it and has 2 to k leaves, but the last, the node alone.
 pub fn listed_cuts_rise()
     ensures { ListedCutsRise }
+{}
+
+/// Where the signatures of two cuts have together more than k bits, their union has more than k leaves.
+pub fn signatures_bound_unions()
+    ensures { SignaturesBoundUnions }
 {}

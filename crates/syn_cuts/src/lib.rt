@@ -6,6 +6,7 @@ mod laws;
 mod levels;
 mod listing;
 mod lists;
+mod signatures;
 mod unions;
 
 use arrayvec::ArrayVec;
@@ -14,5 +15,7 @@ use arrayvec::ArrayVec;
 pub type Cut = ArrayVec<u32, 8>;
 
 pub use graphs::{function, listed};
-pub use laws::{arranged_in_order, listed_are_cuts, listed_cuts_rise, worked_cuts};
+pub use laws::{
+    arranged_in_order, listed_are_cuts, listed_cuts_rise, signatures_bound_unions, worked_cuts,
+};
 pub use lists::CutLists;

@@ -1,13 +1,16 @@
 //! The first unions of two lists of cuts.
 
-ghost use Rattle.std.specs.Prelude.{◌≡◌, ◌+◌, ◌<◌, ◌≤◌, ◌∷◌, [], IfSome, IfNone, length, map, min, take};
+ghost use Rattle.std.specs.Prelude.{◌≡◌, ℕ, ◌+◌, ◌<◌, ◌≤◌, ◌∷◌, true, List, [], IfSome, IfNone, IsTrue, length, map, min, take};
 ghost use Rattle.syn_truth.specs.declared.TheConstants.{MOST_VARS};
 ghost use Rattle.std.specs.List.{insert};
 ghost use Rattle.arrayvec.specs.ArrayVec.{array_vec_len};
 ghost use Rattle.syn_cuts.specs.Cuts.{comes_before, leaves_before, put, union, arranged, unions, unions_with, first_unions};
+ghost use Rattle.syn_cuts.specs.Laws.{are_in_order};
 ghost use Rattle.syn_cuts.specs.Leaves.{leaves_of};
+ghost use Rattle.syn_cuts.specs.Signatures.{AreSignatures};
 
 use crate::Cut;
+use crate::signatures::{least_leaves, signature, signatures};
 use arrayvec::ArrayVec;
 
 /// How many unions are kept for a node.
@@ -89,11 +92,12 @@ fn place(cuts: &[Cut], cut: &[u32]) -> Option<usize>
     ensures none { IfNone result (put cut.now (leaves_of cuts.now) ≡ leaves_of cuts.now) }
 {
     for (i, other) in cuts.iter().enumerate() {
-        if comes_before(cut, other.as_slice()) {
-            return Some(i);
-        }
-        if cut == other.as_slice() {
-            return None;
+        if !comes_before(other.as_slice(), cut) {
+            return if cut == other.as_slice() {
+                None
+            } else {
+                Some(i)
+            };
         }
     }
     Some(cuts.len())
@@ -110,12 +114,25 @@ fn make_room(kept: &mut ArrayVec<Cut, KEPT>)
     }
 }
 
+// Whether a cut comes behind the last, where there are as many as are kept.
+fn is_behind(cuts: &[Cut], cut: &[u32]) -> bool
+    requires few { length cuts.now ≤ 31 }
+    requires order { are_in_order (leaves_of cuts.now) ≡ true }
+    ensures { IsTrue result → take 31 (put cut.now (leaves_of cuts.now)) ≡ leaves_of cuts.now }
+{
+    cuts.len() == KEPT && !comes_before(cut, cuts[KEPT - 1].as_slice())
+}
+
 // Puts a cut in its place among the first cuts, where it isn't there; the last one goes where there is no room.
 fn keep(kept: &mut ArrayVec<Cut, KEPT>, cut: Cut)
-    requires { array_vec_len kept.old ≤ 31 }
+    requires few { array_vec_len kept.old ≤ 31 }
+    requires order { are_in_order (leaves_of kept.old.items) ≡ true }
     ensures few { array_vec_len kept.new ≤ 31 }
     ensures kept { leaves_of kept.new.items ≡ take 31 (put cut.items (leaves_of kept.old.items)) }
 {
+    if is_behind(kept.as_slice(), cut.as_slice()) {
+        return;
+    }
     let Some(i) = place(kept.as_slice(), cut.as_slice()) else {
         return;
     };
@@ -126,28 +143,65 @@ fn keep(kept: &mut ArrayVec<Cut, KEPT>, cut: Cut)
     kept.insert(i, cut);
 }
 
-// Keeps the union of two cuts, where it has at most k leaves.
-fn keep_union(kept: &mut ArrayVec<Cut, KEPT>, left: &[u32], right: &[u32], k: usize)
+// How many leaves a cut may have that is kept beside these: at most k, and where there are as many as are kept, no more
+// than the last has.
+#[inline]
+fn most_leaves(cuts: &[Cut], k: usize) -> usize
+    requires few { length cuts.now ≤ 31 }
+    requires order { are_in_order (leaves_of cuts.now) ≡ true }
+    ensures small { result ≤ k }
+    ensures larger { (c : List ℕ) → result < length c → length c ≤ k → take 31 (put c (leaves_of cuts.now)) ≡ leaves_of cuts.now }
+{
+    if cuts.len() < KEPT {
+        return k;
+    }
+    let last = cuts[KEPT - 1].len();
+    if last < k { last } else { k }
+}
+
+// Keeps the union of two cuts, where it has at most k leaves; it has at least so many.
+fn keep_union(kept: &mut ArrayVec<Cut, KEPT>, left: &[u32], right: &[u32], least: usize, k: usize)
     requires small { k ≤ MOST_VARS }
     requires few { array_vec_len kept.old ≤ 31 }
+    requires order { are_in_order (leaves_of kept.old.items) ≡ true }
+    requires least { least ≤ length (union left.now right.now) }
     ensures few { array_vec_len kept.new ≤ 31 }
     ensures kept { leaves_of kept.new.items ≡ take 31 (arranged (leaves_of kept.old.items) (unions_with k left.now (right.now ∷ []))) }
 {
-    match union(left, right, k) {
+    let most = most_leaves(kept.as_slice(), k);
+    if most < least {
+        return;
+    }
+    match union(left, right, most) {
         Some(cut) => keep(kept, cut),
         None => {}
     }
 }
 
-// Keeps the unions of a cut with each of others.
-fn keep_unions(kept: &mut ArrayVec<Cut, KEPT>, left: &[u32], others: &[Cut], k: usize)
+// Keeps the unions of a cut with each of others, which have these signatures.
+fn keep_unions(
+    kept: &mut ArrayVec<Cut, KEPT>,
+    left: &[u32],
+    others: &[Cut],
+    words: &[u64],
+    k: usize,
+)
     requires small { k ≤ MOST_VARS }
     requires few { array_vec_len kept.old ≤ 31 }
+    requires order { are_in_order (leaves_of kept.old.items) ≡ true }
+    requires words { AreSignatures words.now (leaves_of others.now) }
     ensures few { array_vec_len kept.new ≤ 31 }
     ensures kept { leaves_of kept.new.items ≡ take 31 (arranged (leaves_of kept.old.items) (unions_with k left.now (leaves_of others.now))) }
 {
-    for other in others {
-        keep_union(kept, left, other.as_slice(), k);
+    let bits = signature(left);
+    for (i, other) in others.iter().enumerate() {
+        keep_union(
+            kept,
+            left,
+            other.as_slice(),
+            least_leaves(bits, words, i),
+            k,
+        );
     }
 }
 
@@ -156,9 +210,10 @@ pub(crate) fn first_unions(left: &[Cut], right: &[Cut], k: usize) -> ArrayVec<Cu
     requires { k ≤ MOST_VARS }
     ensures { leaves_of result.items ≡ first_unions k (leaves_of left.now) (leaves_of right.now) }
 {
+    let words = signatures(right);
     let mut kept = ArrayVec::new();
     for cut in left {
-        keep_unions(&mut kept, cut.as_slice(), right, k);
+        keep_unions(&mut kept, cut.as_slice(), right, words.as_slice(), k);
     }
     kept
 }

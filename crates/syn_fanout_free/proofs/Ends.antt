@@ -12,7 +12,7 @@ use Rattle.syn_rows.specs.Reach.{is_and, ands_in, Reached, IsReachedSet}
 use Rattle.syn_rows.specs.References.{refs, refs_by_rows, refs_by_literals, and_count, all_ands}
 use Rattle.syn_fanout_free.specs.Freed.{is_free, refers, is_new, IsKept, uses, unused, count_below, added, lost, IsReplacement, IsFreed, IsFreedByCount}
 use Rattle.syn_fanout_free.specs.Saved.{replaced, IsSaved, IsOwned, IsExtra}
-use Rattle.syn_fanout_free.specs.Nodes.{has}
+use Rattle.syn_rows.specs.Nodes.{has_node}
 use Rattle.syn_fanout_free.specs.Freeing.{AllReferred, open_to, ands_among}
 use Rattle.syn_fanout_free.specs.Keeping.{noted, IsUsed, IsKeeping}
 use Rattle.syn_fanout_free.proofs.Pointwise.{each_ref, at_ref, inside, refers_not_free, refers_some, gate_there, observes, none_observes, Observes, Closes, reached_in}
@@ -97,12 +97,12 @@ keeping_kept was n row extra marks used there full k = record {
 -- the used old nodes are those listed
 uses_same : (was : List Row) (n : ℕ) (row : Row) (extra : List Row) (marks : List Bool) (used : List ℕ)
     → n < length was → ((q : ℕ) → q < length was → is_free (row_at was q) ≡ false) → IsKeeping (length was) row extra 0 marks used
-    → (m : ℕ) → m < length was → uses was (replaced was n row extra) n (kept_rows (length was) n marks) m ≡ has m used
-uses_same was n row extra marks used there full k m old = elim (cases_Bool (has m used)) [
+    → (m : ℕ) → m < length was → uses was (replaced was n row extra) n (kept_rows (length was) n marks) m ≡ has_node used m
+uses_same was n row extra marks used there full k m old = elim (cases_Bool (has_node used m)) [
   | inl h ↦ by_list (k.using m h).1 ∙ sym h
   | inr f ↦ elim (cases_Bool (uses was now n kept m)) [
     | inr g ↦ g ∙ sym f
-    | inl g ↦ absurd (both_ways (has m used) f (by_row (any_below_some (length now) (λ p. (is_new was n p && kept p) && refers (row_at now p) m) g)))
+    | inl g ↦ absurd (both_ways (has_node used m) f (by_row (any_below_some (length now) (λ p. (is_new was n p && kept p) && refers (row_at now p) m) g)))
   ]
 ]
   where
@@ -112,7 +112,7 @@ uses_same was n row extra marks used there full k m old = elim (cases_Bool (has 
     kept : ℕ → Bool
     kept = kept_rows (length was) n marks
 
-    by_row : (p : ℕ) × (((is_new was n p && kept p) && refers (row_at now p) m) ≡ true) → has m used ≡ true
+    by_row : (p : ℕ) × (((is_new was n p && kept p) && refers (row_at now p) m) ≡ true) → has_node used m ≡ true
     by_row (p, h) =
         let parts = and_parts (is_new was n p && kept p) (refers (row_at now p) m) h in
         let first = and_parts (is_new was n p) (kept p) parts.0 in
@@ -134,7 +134,7 @@ pub unused_same : (was : List Row) (n : ℕ) (row : Row) (extra : List Row) (mar
     → (m : ℕ) → unused was (replaced was n row extra) n (kept_rows (length was) n marks) m ≡ open_to was n used m
 unused_same was n row extra marks used there full k m = elim (cases_Bool (is_derived (row_at was m))) [
   | inr f ↦ and_left (is_derived (row_at was m)) (not (m == n) && not (uses was (replaced was n row extra) n (kept_rows (length was) n marks) m)) f
-      ∙ sym (and_left (is_derived (row_at was m)) (not (m == n) && not (has m used)) f)
+      ∙ sym (and_left (is_derived (row_at was m)) (not (m == n) && not (has_node used m)) f)
   | inl g ↦ ap (λ t. is_derived (row_at was m) && (not (m == n) && not t)) (uses_same was n row extra marks used there full k m (inside was m (gate_there (row_at was m) g)))
 ]
 
@@ -149,11 +149,11 @@ lost_term true false d f = sym (zero_add_one (one_if d))
 lost_term false true d f = refl
 lost_term false false d f = refl
 
-pub lost_is : (was : List Row) (n : ℕ) (dead : List ℕ) → n < length was → has n dead ≡ false
-    → lost was n (λ m. has m dead) ≡ one_if (is_and (row_at was n)) + ands_among was dead
+pub lost_is : (was : List Row) (n : ℕ) (dead : List ℕ) → n < length was → has_node dead n ≡ false
+    → lost was n (λ m. has_node dead m) ≡ one_if (is_and (row_at was n)) + ands_among was dead
 lost_is was n dead there alive =
-    sum_both (length was) (λ p. one_if (is_and (row_at was p) && ((p == n) || has p dead))) (λ p. if p == n then one_if (is_and (row_at was p)) else 0) (λ p. one_if (is_and (row_at was p) && has p dead))
-    (λ p. lost_term (is_and (row_at was p)) (p == n) (has p dead) (λ e. ap (λ k. has k dead) (eqb-true p n e) ∙ alive))
+    sum_both (length was) (λ p. one_if (is_and (row_at was p) && ((p == n) || has_node dead p))) (λ p. if p == n then one_if (is_and (row_at was p)) else 0) (λ p. one_if (is_and (row_at was p) && has_node dead p))
+    (λ p. lost_term (is_and (row_at was p)) (p == n) (has_node dead p) (λ e. ap (λ k. has_node dead k) (eqb-true p n e) ∙ alive))
     ∙ ap₂ (λ a b. a + b) (sum_one (length was) (λ p. one_if (is_and (row_at was p))) n there) refl
 
 pub added_is : (was : List Row) (n : ℕ) (row : Row) (extra : List Row) (marks : List Bool) → n < length was → ((q : ℕ) → q < length was → is_free (row_at was q) ≡ false)
@@ -235,7 +235,7 @@ reached_referred was observed counts n owned m gate = elim (cases_eq (counts m) 
 -- THE SAVING
 pub saved_by_cone : (was : List Row) (observed : List Lit) (counts : ℕ → ℕ) (n : ℕ) (row : Row) (extra : List Row) (marks : List Bool) (used dead : List ℕ) (away come : ℕ)
     → n < length was → IsOwned was observed counts n → IsExtra (length was) row extra → IsKeeping (length was) row extra 0 marks used
-    → IsFreedByCount was counts n (open_to was n used) (λ m. has m dead)
+    → IsFreedByCount was counts n (open_to was n used) (λ m. has_node dead m)
     → away ≡ and_count (row_at was n) + ands_among was dead
     → come ≡ and_count row + count_below (length extra) (λ m. is_and (row_at extra m) && value_in marks m)
     → IsSaved was (replaced was n row extra) observed (pos away -ℤ pos come)
@@ -269,25 +269,25 @@ saved_by_cone was observed counts n row extra marks used dead away come there ow
     same : (m : ℕ) → unused was now n kept m ≡ open_to was n used m
     same = unused_same was n row extra marks used there owned.full k
 
-    by_count : IsFreedByCount was counts n (unused was now n kept) (λ m. has m dead)
+    by_count : IsFreedByCount was counts n (unused was now n kept) (λ m. has_node dead m)
     by_count = record {
       frees = λ m ok few. by.frees m (sym (same m) ∙ ok) few;
       least = λ set frees m h. by.least set (λ q ok few. frees q (same q ∙ ok) few) m h;
     }
 
-    freeing : IsFreed was observed n (unused was now n kept) (λ m. has m dead)
-    freeing = freed_from_counts was observed counts n (unused was now n kept) (λ m. has m dead) (λ m ok. owned.counted m) by_count
+    freeing : IsFreed was observed n (unused was now n kept) (λ m. has_node dead m)
+    freeing = freed_from_counts was observed counts n (unused was now n kept) (λ m. has_node dead m) (λ m ok. owned.counted m) by_count
 
-    alive : has n dead ≡ false
-    alive = elim (cases_Bool (has n dead)) [
+    alive : has_node dead n ≡ false
+    alive = elim (cases_Bool (has_node dead n)) [
       | inr g ↦ g
       | inl h ↦ absurd (both_ways (n == n)
-          (not-true (n == n) (and_parts (not (n == n)) (not (has n used)) (and_parts (is_derived (row_at was n)) (not (n == n) && not (has n used)) (by.least (open_to was n used) (λ m ok few. ok) n h)).1).0)
+          (not-true (n == n) (and_parts (not (n == n)) (not (has_node used n)) (and_parts (is_derived (row_at was n)) (not (n == n) && not (has_node used n)) (by.least (open_to was n used) (λ m ok few. ok) n h)).1).0)
           (eq-eqb n n refl))
     ]
 
-    balance : all_ands was + added was now n kept ≡ ands_in found.0 now + lost was n (λ m. has m dead)
-    balance = saved_in_set was now observed n (λ j. j) kept (λ m. has m dead) found.0 replacement (keeping_kept was n row extra marks used there owned.full k) freeing found.1
+    balance : all_ands was + added was now n kept ≡ ands_in found.0 now + lost was n (λ m. has_node dead m)
+    balance = saved_in_set was now observed n (λ j. j) kept (λ m. has_node dead m) found.0 replacement (keeping_kept was n row extra marks used there owned.full k) freeing found.1
 
     difference_is : (j k a c : ℕ) → j + c ≡ k + a → pos j ≡ (pos k +ℤ (pos a -ℤ pos c))
     difference_is j k a c h = omega (arith, ints, h)

@@ -1,16 +1,16 @@
 -- The steps of the search for freed rows.
 use Rattle.std.proofs.Common.{◌≡◌, ◌≢◌, ℕ, ◌+◌, ◌<◌, ◌≤◌, ◌||◌, ◌&&◌, ◌==◌, leb, Bool, true, false, not, List, [], ◌∷◌, ◌++◌, length, if◌then◌else◌, refl, sym, ap, ◌∙◌, arith, inl, inr}
-use Rattle.std.proofs.lemmas.Bool.{cases_Bool, cases_eq, cases_lt, eq-eqb, eqb-true, ne_eqb, both_ways, and_parts, and_from, and_right, le-leb, leb-true}
+use Rattle.std.proofs.lemmas.Bool.{cases_Bool, cases_eq, cases_lt, eq-eqb, eqb-true, ne_eqb, both_ways, and_parts, and_from, and_right, or_left, le-leb, leb-true}
 use Rattle.syn_rows.specs.declared.Row.{Row}
 use Rattle.syn_rows.specs.Rows.{row_at, InOrder, is_derived}
 use Rattle.syn_rows.specs.Reach.{is_and}
 use Rattle.syn_rows.specs.References.{refs, sum_below}
 use Rattle.syn_fanout_free.specs.Freed.{refers, refs_from, IsFreedByCount}
-use Rattle.syn_fanout_free.specs.Nodes.{has}
+use Rattle.syn_rows.specs.Nodes.{has_node}
 use Rattle.syn_fanout_free.specs.Freeing.{refs_from_dead, ands_among, AllReferred, IsFreeing, IsTaken}
 use Rattle.syn_fanout_free.proofs.Pointwise.{at_ref, refers_none}
 use Rattle.syn_fanout_free.proofs.Numbers.{one_if, sum_same, sum_none, sum_both, sum_le, sum_one}
-use Rattle.syn_fanout_free.proofs.Listing.{has-append, has_in_front, has_last, has_split}
+use Rattle.syn_rows.proofs.Nodes.{has_node-append, has_left, has_right, has_cases, has_one}
 
 -- rows refer to smaller nodes alone
 no_times : (rows : List Row) (p m : ℕ) → InOrder rows → p ≤ m → refs m (row_at rows p) ≡ 0
@@ -20,7 +20,7 @@ no_times rows p m order le = elim (cases_Bool (refers (row_at rows p) m)) [
 ]
 
 none_dead : (rows : List Row) (n m : ℕ) → refs_from_dead rows n [] m ≡ refs m (row_at rows n)
-none_dead rows n m = omega (arith, sum_none (length rows) (λ p. if has p [] && not (p == n) then refs m (row_at rows p) else 0) (λ p lt. refl))
+none_dead rows n m = omega (arith, sum_none (length rows) (λ p. if has_node [] p && not (p == n) then refs m (row_at rows p) else 0) (λ p lt. refl))
 
 -- one more dead row
 terms_more : (d root here : Bool) (c e : ℕ) → (here ≡ true → (d ≡ false) × (root ≡ false)) → (here ≡ true → c ≡ e)
@@ -42,29 +42,29 @@ turned a b = elim (cases_eq a b) [
   | inr ne ↦ ne_eqb a b ne ∙ sym (ne_eqb b a (λ e. ne (sym e)))
 ]
 
-dead_more : (rows : List Row) (n : ℕ) (dead : List ℕ) (node m : ℕ) → node < length rows → node ≢ n → has node dead ≡ false
+dead_more : (rows : List Row) (n : ℕ) (dead : List ℕ) (node m : ℕ) → node < length rows → node ≢ n → has_node dead node ≡ false
     → refs_from_dead rows n (dead ++ node ∷ []) m ≡ refs_from_dead rows n dead m + refs m (row_at rows node)
 dead_more rows n dead node m inside_list other fresh =
-    let f : ℕ → ℕ = λ p. if has p (dead ++ node ∷ []) && not (p == n) then refs m (row_at rows p) else 0 in
-    let g : ℕ → ℕ = λ p. if has p dead && not (p == n) then refs m (row_at rows p) else 0 in
+    let f : ℕ → ℕ = λ p. if has_node (dead ++ node ∷ []) p && not (p == n) then refs m (row_at rows p) else 0 in
+    let g : ℕ → ℕ = λ p. if has_node dead p && not (p == n) then refs m (row_at rows p) else 0 in
     let h : ℕ → ℕ = λ p. if node == p then refs m (row_at rows p) else 0 in
     let split : sum_below (length rows) f ≡ sum_below (length rows) g + sum_below (length rows) h = sum_both (length rows) f g h
-    (λ p. ap (λ t. if t && not (p == n) then refs m (row_at rows p) else 0) (has-append p dead (node ∷ []))
-    ∙ terms_more (has p dead) (p == n) (node == p) (refs m (row_at rows p)) (refs m (row_at rows p))
-    (λ e. let same : node ≡ p = eqb-true node p e in (ap (λ k. has k dead) (sym same) ∙ fresh, ne_eqb p n (λ is. other (same ∙ is)))) (λ e. refl)) in
+    (λ p. ap (λ t. if t && not (p == n) then refs m (row_at rows p) else 0) (has_node-append dead (node ∷ []) p)
+    ∙ terms_more (has_node dead p) (p == n) (node == p) (refs m (row_at rows p)) (refs m (row_at rows p))
+    (λ e. let same : node ≡ p = eqb-true node p e in (ap (λ k. has_node dead k) (sym same) ∙ fresh, ne_eqb p n (λ is. other (same ∙ is)))) (λ e. refl)) in
     let alone : sum_below (length rows) h ≡ refs m (row_at rows node) =
     sum_same (length rows) h (λ p. if p == node then refs m (row_at rows p) else 0) (λ p lt. ap (λ t. if t then refs m (row_at rows p) else 0) (turned node p))
     ∙ sum_one (length rows) (λ p. refs m (row_at rows p)) node inside_list in
     omega (arith, split, alone)
 
 -- references from fewer rows are fewer
-dead_le : (rows : List Row) (n : ℕ) (dead : List ℕ) (set : ℕ → Bool) (m : ℕ) → ((p : ℕ) → has p dead ≡ true → set p ≡ true)
+dead_le : (rows : List Row) (n : ℕ) (dead : List ℕ) (set : ℕ → Bool) (m : ℕ) → ((p : ℕ) → has_node dead p ≡ true → set p ≡ true)
     → refs_from_dead rows n dead m ≤ refs m (row_at rows n) + refs_from rows (λ p. set p && not (p == n)) m
 dead_le rows n dead set m all =
     omega (
       arith,
-      sum_le (length rows) (λ p. if has p dead && not (p == n) then refs m (row_at rows p) else 0) (λ p. if set p && not (p == n) then refs m (row_at rows p) else 0)
-          (λ p. term (has p dead) (set p) (p == n) (refs m (row_at rows p)) (all p)),
+      sum_le (length rows) (λ p. if has_node dead p && not (p == n) then refs m (row_at rows p) else 0) (λ p. if set p && not (p == n) then refs m (row_at rows p) else 0)
+          (λ p. term (has_node dead p) (set p) (p == n) (refs m (row_at rows p)) (all p)),
     )
   where
     term : (d s root : Bool) (c : ℕ) → (d ≡ true → s ≡ true) → (if d && not root then c else 0) ≤ (if s && not root then c else 0)
@@ -139,16 +139,16 @@ freeing_frees rows counts n may dead rest next node often order inside_list t di
   waiting = λ m lt. omega (arith, more m, t.waiting m lt, grown m);
   gone = λ m le. omega (arith, more m, t.gone m le, no_times rows node m order le);
   settled = λ m le ok few. elim (cases_eq m node) [
-    | inl e ↦ has_last m node dead (eq-eqb node m (sym e))
-    | inr ne ↦ has_in_front m dead (node ∷ []) (t.settled m (omega arith) ok (omega (arith, few, grown m, no_times rows node m order le)))
+    | inl e ↦ has_right dead (node ∷ []) m (or_left (node == m) false (eq-eqb node m (sym e)))
+    | inr ne ↦ has_left dead (node ∷ []) m (t.settled m (omega arith) ok (omega (arith, few, grown m, no_times rows node m order le)))
   ];
-  sound = λ set frees m h. elim (has_split m node dead h) [
+  sound = λ set frees m h. elim (has_cases dead (node ∷ []) m h) [
     | inl old ↦ t.sound set frees m old
-    | inr e ↦ ap set (sym (eqb-true node m e)) ∙ frees node parts.1 (omega (arith, leb-true (counts node) often parts.0, t.counted, dead_le rows n dead set node (λ p d. t.sound set frees p d)))
+    | inr e ↦ ap set (sym (has_one node m e)) ∙ frees node parts.1 (omega (arith, leb-true (counts node) often parts.0, t.counted, dead_le rows n dead set node (λ p d. t.sound set frees p d)))
   ];
-  high = λ m h. elim (has_split m node dead h) [
+  high = λ m h. elim (has_cases dead (node ∷ []) m h) [
     | inl old ↦ omega (arith, t.high m old)
-    | inr e ↦ omega (arith, eqb-true node m e)
+    | inr e ↦ omega (arith, has_one node m e)
   ];
   top = omega (arith, t.below);
 }
@@ -156,8 +156,8 @@ freeing_frees rows counts n may dead rest next node often order inside_list t di
     parts : (leb (counts node) often ≡ true) × (may node ≡ true)
     parts = and_parts (leb (counts node) often) (may node) dies
 
-    fresh : has node dead ≡ false
-    fresh = elim (cases_Bool (has node dead)) [
+    fresh : has_node dead node ≡ false
+    fresh = elim (cases_Bool (has_node dead node)) [
       | inr f ↦ f
       | inl h ↦ absurd (let lt : node < node = t.high node h in omega arith)
     ]
@@ -167,7 +167,7 @@ freeing_frees rows counts n may dead rest next node often order inside_list t di
 
 pub freeing_ends : (rows : List Row) (counts : ℕ → ℕ) (n : ℕ) (may : ℕ → Bool) (bound : ℕ) (dead : List ℕ) (waits : ℕ → ℕ)
     → AllReferred rows counts → ((m : ℕ) → may m ≡ true → is_derived (row_at rows m) ≡ true)
-    → IsFreeing rows counts n may bound dead waits → ((m : ℕ) → waits m ≡ 0) → IsFreedByCount rows counts n may (λ m. has m dead)
+    → IsFreeing rows counts n may bound dead waits → ((m : ℕ) → waits m ≡ 0) → IsFreedByCount rows counts n may (λ m. has_node dead m)
 freeing_ends rows counts n may bound dead waits referred gates f none = record {
   frees = λ m ok few. elim (cases_lt m bound) [
     | inl inner ↦ absurd (omega (arith, referred m (gates m ok), few, f.waiting m inner, none m))
@@ -188,27 +188,27 @@ tally_term true false false f = refl
 tally_term false d true f = refl
 tally_term false d false f = refl
 
-pub tally_more : (rows : List Row) (dead : List ℕ) (node : ℕ) → node < length rows → has node dead ≡ false
+pub tally_more : (rows : List Row) (dead : List ℕ) (node : ℕ) → node < length rows → has_node dead node ≡ false
     → ands_among rows (dead ++ node ∷ []) ≡ ands_among rows dead + one_if (is_and (row_at rows node))
 tally_more rows dead node within fresh =
-    let f : ℕ → Bool = λ p. is_and (row_at rows p) && has p (dead ++ node ∷ []) in
-    let g : ℕ → Bool = λ p. is_and (row_at rows p) && has p dead in
+    let f : ℕ → Bool = λ p. is_and (row_at rows p) && has_node (dead ++ node ∷ []) p in
+    let g : ℕ → Bool = λ p. is_and (row_at rows p) && has_node dead p in
     let h : ℕ → ℕ = λ p. if node == p then one_if (is_and (row_at rows p)) else 0 in
     let split : sum_below (length rows) (λ p. one_if (f p)) ≡ sum_below (length rows) (λ p. one_if (g p)) + sum_below (length rows) h =
     sum_both (length rows) (λ p. one_if (f p)) (λ p. one_if (g p)) h
-    (λ p. ap (λ t. one_if (is_and (row_at rows p) && t)) (has-append p dead (node ∷ []))
-    ∙ tally_term (is_and (row_at rows p)) (has p dead) (node == p) (λ e. ap (λ k. has k dead) (sym (eqb-true node p e)) ∙ fresh)) in
+    (λ p. ap (λ t. one_if (is_and (row_at rows p) && t)) (has_node-append dead (node ∷ []) p)
+    ∙ tally_term (is_and (row_at rows p)) (has_node dead p) (node == p) (λ e. ap (λ k. has_node dead k) (sym (eqb-true node p e)) ∙ fresh)) in
     let alone : sum_below (length rows) h ≡ one_if (is_and (row_at rows node)) =
     sum_same (length rows) h (λ p. if p == node then one_if (is_and (row_at rows p)) else 0) (λ p lt. ap (λ t. if t then one_if (is_and (row_at rows p)) else 0) (turned node p))
     ∙ sum_one (length rows) (λ p. one_if (is_and (row_at rows p))) node within in
     split ∙ ap (λ t. ands_among rows dead + t) alone
 
 pub tally_none : (rows : List Row) → ands_among rows [] ≡ 0
-tally_none rows = sum_none (length rows) (λ p. one_if (is_and (row_at rows p) && has p [])) (λ p lt. ap one_if (and_right (is_and (row_at rows p)) false refl))
+tally_none rows = sum_none (length rows) (λ p. one_if (is_and (row_at rows p) && has_node [] p)) (λ p lt. ap one_if (and_right (is_and (row_at rows p)) false refl))
 
 pub taken_fresh : (rows : List Row) (counts : ℕ → ℕ) (n : ℕ) (may : ℕ → Bool) (node often : ℕ) (dead : List ℕ) (rest : ℕ → ℕ)
-    → IsTaken rows counts n may node often dead rest → has node dead ≡ false
-taken_fresh rows counts n may node often dead rest t = elim (cases_Bool (has node dead)) [
+    → IsTaken rows counts n may node often dead rest → has_node dead node ≡ false
+taken_fresh rows counts n may node often dead rest t = elim (cases_Bool (has_node dead node)) [
   | inr f ↦ f
   | inl h ↦ absurd (let lt : node < node = t.high node h in omega arith)
 ]

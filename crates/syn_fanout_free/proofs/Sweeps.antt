@@ -1,7 +1,7 @@
 -- The sweep over the new rows.
 use Rattle.std.proofs.Common.{◌≡◌, ℕ, ◌+◌, ◌-◌, ◌<◌, ◌≤◌, ◌||◌, ◌&&◌, ◌==◌, ltb, Bool, true, false, List, [], ◌∷◌, ◌++◌, length, if◌then◌else◌, refl, sym, ap, ◌∙◌, arith, inl, inr}
 use Rattle.std.proofs.lemmas.Bool.{cases_eq, cases_lt, eq-eqb, ne_eqb, both_ways, and_parts, and_from, and_left, and_right, or_from, or_left, or_right, or_cases, lt-ltb, le-ltb, ltb-true}
-use Rattle.syn_fanout_free.proofs.Listing.{has-append}
+use Rattle.syn_rows.proofs.Nodes.{has_node-append}
 use Rattle.syn_rows.specs.declared.Lit.{Lit}
 use Rattle.syn_rows.specs.declared.Row.TheVariants.{And, Alias}
 use Rattle.syn_rows.specs.declared.Row.{Row}
@@ -12,44 +12,44 @@ use Rattle.syn_fanout_free.specs.Saved.{IsExtra}
 use Rattle.syn_rows.specs.Rows.{node_of}
 use Rattle.syn_rows.specs.References.{refs}
 use Rattle.syn_fanout_free.proofs.Pointwise.{at_ref, hits_other, refers_first, refers_second, refers_only}
-use Rattle.syn_fanout_free.specs.Nodes.{has}
+use Rattle.syn_rows.specs.Nodes.{has_node}
 use Rattle.syn_fanout_free.specs.Keeping.{noted, IsUsed, IsKeeping}
 
-pub noted_at_old : (first : ℕ) (marks : List Bool) (used : List ℕ) (m : ℕ) → m < first → noted first marks used m ≡ has m used
-noted_at_old first marks used m lt = ap (λ t. if t then has m used else value_in marks (m - first)) (lt-ltb m first lt)
+pub noted_at_old : (first : ℕ) (marks : List Bool) (used : List ℕ) (m : ℕ) → m < first → noted first marks used m ≡ has_node used m
+noted_at_old first marks used m lt = ap (λ t. if t then has_node used m else value_in marks (m - first)) (lt-ltb m first lt)
 
 pub noted_at_new : (first : ℕ) (marks : List Bool) (used : List ℕ) (m : ℕ) → first ≤ m → noted first marks used m ≡ value_in marks (m - first)
-noted_at_new first marks used m le = ap (λ t. if t then has m used else value_in marks (m - first)) (le-ltb m first le)
+noted_at_new first marks used m le = ap (λ t. if t then has_node used m else value_in marks (m - first)) (le-ltb m first le)
 
 noted_still : (first : ℕ) (r : Row) (marks after : List Bool) (used next : List ℕ)
-    → ((i : ℕ) → value_in after i ≡ (value_in marks i || refers r (first + i))) → ((m : ℕ) → has m next ≡ (has m used || (refers r m && ltb m first)))
+    → ((i : ℕ) → value_in after i ≡ (value_in marks i || refers r (first + i))) → ((m : ℕ) → has_node next m ≡ (has_node used m || (refers r m && ltb m first)))
     → (m : ℕ) → noted first marks used m ≡ true → noted first after next m ≡ true
 noted_still first r marks after used next more_marks more_used m h = elim (cases_lt m first) [
-  | inl lt ↦ noted_at_old first after next m lt ∙ more_used m ∙ or_left (has m used) (refers r m && ltb m first) (sym (noted_at_old first marks used m lt) ∙ h)
+  | inl lt ↦ noted_at_old first after next m lt ∙ more_used m ∙ or_left (has_node used m) (refers r m && ltb m first) (sym (noted_at_old first marks used m lt) ∙ h)
   | inr ge ↦ noted_at_new first after next m ge ∙ more_marks (m - first) ∙ or_left (value_in marks (m - first)) (refers r (first + (m - first))) (sym (noted_at_new first marks used m ge) ∙ h)
 ]
 
 noted_now : (first : ℕ) (r : Row) (marks after : List Bool) (used next : List ℕ)
-    → ((i : ℕ) → value_in after i ≡ (value_in marks i || refers r (first + i))) → ((m : ℕ) → has m next ≡ (has m used || (refers r m && ltb m first)))
+    → ((i : ℕ) → value_in after i ≡ (value_in marks i || refers r (first + i))) → ((m : ℕ) → has_node next m ≡ (has_node used m || (refers r m && ltb m first)))
     → (m : ℕ) → refers r m ≡ true → noted first after next m ≡ true
 noted_now first r marks after used next more_marks more_used m h = elim (cases_lt m first) [
-  | inl lt ↦ noted_at_old first after next m lt ∙ more_used m ∙ or_right (has m used) (refers r m && ltb m first) (and_from (refers r m) (ltb m first) h (lt-ltb m first lt))
+  | inl lt ↦ noted_at_old first after next m lt ∙ more_used m ∙ or_right (has_node used m) (refers r m && ltb m first) (and_from (refers r m) (ltb m first) h (lt-ltb m first lt))
   | inr ge ↦
       let back : first + (m - first) ≡ m = omega arith in
       noted_at_new first after next m ge ∙ more_marks (m - first) ∙ or_right (value_in marks (m - first)) (refers r (first + (m - first))) (ap (refers r) back ∙ h)
 ]
 
 pub keeping_begins : (first : ℕ) (row : Row) (extra : List Row) (none marks : List Bool) (nothing used : List ℕ)
-    → IsExtra first row extra → length marks ≡ length extra → ((i : ℕ) → value_in none i ≡ false) → ((m : ℕ) → has m nothing ≡ false)
-    → ((i : ℕ) → value_in marks i ≡ (value_in none i || refers row (first + i))) → ((m : ℕ) → has m used ≡ (has m nothing || (refers row m && ltb m first)))
+    → IsExtra first row extra → length marks ≡ length extra → ((i : ℕ) → value_in none i ≡ false) → ((m : ℕ) → has_node nothing m ≡ false)
+    → ((i : ℕ) → value_in marks i ≡ (value_in none i || refers row (first + i))) → ((m : ℕ) → has_node used m ≡ (has_node nothing m || (refers row m && ltb m first)))
     → IsKeeping first row extra (length extra) marks used
 keeping_begins first row extra none marks nothing used fits count no_marks no_used more_marks more_used = record {
   count = count;
   root = noted_now first row none marks nothing used more_marks more_used;
   done = λ i m le h r. absurd (omega (arith, at_ref (λ k. k < first + length extra) row fits.root (first + i) (is_row i h), le));
   sound = λ set rooted closed i h. rooted (first + i) (is_row i h) (omega arith);
-  using = λ m h. elim (or_cases (has m nothing) (refers row m && ltb m first) (sym (more_used m) ∙ h)) [
-    | inl old ↦ absurd (both_ways (has m nothing) (no_used m) old)
+  using = λ m h. elim (or_cases (has_node nothing m) (refers row m && ltb m first) (sym (more_used m) ∙ h)) [
+    | inl old ↦ absurd (both_ways (has_node nothing m) (no_used m) old)
     | inr new ↦ let parts = and_parts (refers row m) (ltb m first) new in (ltb-true m first parts.1, inl parts.0)
   ];
 }
@@ -76,7 +76,7 @@ keeping_skips first row extra i marks used k unmarked = record {
 pub keeping_notes : (first : ℕ) (row : Row) (extra : List Row) (i : ℕ) (marks after : List Bool) (used next : List ℕ)
     → IsExtra first row extra → IsKeeping first row extra (i + 1) marks used → value_in marks i ≡ true → length after ≡ length extra
     → ((j : ℕ) → value_in after j ≡ (value_in marks j || refers (row_at extra i) (first + j)))
-    → ((m : ℕ) → has m next ≡ (has m used || (refers (row_at extra i) m && ltb m first)))
+    → ((m : ℕ) → has_node next m ≡ (has_node used m || (refers (row_at extra i) m && ltb m first)))
     → IsKeeping first row extra i after next
 keeping_notes first row extra i marks after used next fits k here count more_marks more_used = record {
   count = count;
@@ -89,7 +89,7 @@ keeping_notes first row extra i marks after used next fits k here count more_mar
     | inl old ↦ k.sound set rooted closed j old
     | inr new ↦ closed i (first + j) (k.sound set rooted closed i here) new (omega arith)
   ];
-  using = λ m h. elim (or_cases (has m used) (refers (row_at extra i) m && ltb m first) (sym (more_used m) ∙ h)) [
+  using = λ m h. elim (or_cases (has_node used m) (refers (row_at extra i) m && ltb m first) (sym (more_used m) ∙ h)) [
     | inl old ↦ let u = k.using m old in (u.0, wider m u.1)
     | inr new ↦ let parts = and_parts (refers (row_at extra i) m) (ltb m first) new in (ltb-true m first parts.1, inr (i, marked i here, parts.0))
   ];
@@ -114,7 +114,7 @@ keeping_notes first row extra i marks after used next fits k here count more_mar
 
 -- the used nodes in another order
 pub keeping_sorted : (first : ℕ) (row : Row) (extra : List Row) (left : ℕ) (marks : List Bool) (used next : List ℕ)
-    → ((m : ℕ) → has m next ≡ has m used) → IsKeeping first row extra left marks used → IsKeeping first row extra left marks next
+    → ((m : ℕ) → has_node next m ≡ has_node used m) → IsKeeping first row extra left marks used → IsKeeping first row extra left marks next
 keeping_sorted first row extra left marks used next same k = record {
   count = k.count;
   root = λ m r. still m (k.root m r);
@@ -126,8 +126,8 @@ keeping_sorted first row extra left marks used next same k = record {
     still : (m : ℕ) → noted first marks used m ≡ true → noted first marks next m ≡ true
     still m h = ap (λ t. if ltb m first then t else value_in marks (m - first)) (same m) ∙ h
 
-pub used_more : (used after : List ℕ) (node first : ℕ) → after ≡ used ++ node ∷ [] → node < first → (m : ℕ) → has m after ≡ (has m used || ((m == node) && ltb m first))
-used_more used after node first e lt m = ap (has m) e ∙ has-append m used (node ∷ []) ∙ ap (λ t. has m used || t) last
+pub used_more : (used after : List ℕ) (node first : ℕ) → after ≡ used ++ node ∷ [] → node < first → (m : ℕ) → has_node after m ≡ (has_node used m || ((m == node) && ltb m first))
+used_more used after node first e lt m = ap (λ (xs : List ℕ). has_node xs m) e ∙ has_node-append used (node ∷ []) m ∙ ap (λ t. has_node used m || t) last
   where
     last : ((node == m) || false) ≡ ((m == node) && ltb m first)
     last = elim (cases_eq node m) [
@@ -135,10 +135,10 @@ used_more used after node first e lt m = ap (has m) e ∙ has-append m used (nod
       | inr ne ↦ ap (λ t. t || false) (ne_eqb node m ne) ∙ sym (ap (λ t. t && ltb m first) (ne_eqb m node (λ e. ne (sym e))))
     ]
 
-pub used_same : (used : List ℕ) (node first m : ℕ) → first ≤ node → has m used ≡ (has m used || ((m == node) && ltb m first))
+pub used_same : (used : List ℕ) (node first m : ℕ) → first ≤ node → has_node used m ≡ (has_node used m || ((m == node) && ltb m first))
 used_same used node first m le = sym (elim (cases_eq m node) [
-  | inl e ↦ ap (λ t. has m used || t) (and_right (m == node) (ltb m first) (le-ltb m first (omega (arith, e)))) ∙ or_no (has m used)
-  | inr ne ↦ ap (λ t. has m used || t) (and_left (m == node) (ltb m first) (ne_eqb m node ne)) ∙ or_no (has m used)
+  | inl e ↦ ap (λ t. has_node used m || t) (and_right (m == node) (ltb m first) (le-ltb m first (omega (arith, e)))) ∙ or_no (has_node used m)
+  | inr ne ↦ ap (λ t. has_node used m || t) (and_left (m == node) (ltb m first) (ne_eqb m node ne)) ∙ or_no (has_node used m)
 ])
   where
     or_no : (b : Bool) → (b || false) ≡ b

@@ -5,7 +5,7 @@ use Rattle.syn_rows.specs.Rows.{row_at, is_derived}
 use Rattle.syn_rows.specs.Reach.{is_and}
 use Rattle.syn_rows.specs.References.{refs}
 use Rattle.syn_fanout_free.specs.Freed.{refs_from, FreesByCount, count_below}
-use Rattle.syn_fanout_free.specs.Nodes.{has}
+use Rattle.syn_rows.specs.Nodes.{has_node}
 
 -- each AND and alias is referred to
 abbrev pub AllReferred : List Row → (ℕ → ℕ) → Type 0
@@ -13,23 +13,23 @@ AllReferred rows counts = (m : ℕ) → is_derived (row_at rows m) ≡ true → 
 
 -- the nodes that may be freed: ANDs and aliases other than n that are not used
 abbrev pub open_to : List Row → ℕ → List ℕ → ℕ → Bool
-open_to rows n used m = is_derived (row_at rows m) && (not (m == n) && not (has m used))
+open_to rows n used m = is_derived (row_at rows m) && (not (m == n) && not (has_node used m))
 
 -- the ANDs of a list of nodes
 abbrev pub ands_among : List Row → List ℕ → ℕ
-ands_among rows nodes = count_below (length rows) (λ m. is_and (row_at rows m) && has m nodes)
+ands_among rows nodes = count_below (length rows) (λ m. is_and (row_at rows m) && has_node nodes m)
 
 -- the references to m from the old row of n and from dead rows
 abbrev pub refs_from_dead : List Row → ℕ → List ℕ → ℕ → ℕ
-refs_from_dead rows n dead m = refs m (row_at rows n) + refs_from rows (λ p. has p dead && not (p == n)) m
+refs_from_dead rows n dead m = refs m (row_at rows n) + refs_from rows (λ p. has_node dead p && not (p == n)) m
 
 -- All nodes from the bound on are settled; those below wait, as often as the old row of n and dead rows refer to them.
 pub record IsFreeing (rows : List Row) (counts : ℕ → ℕ) (n : ℕ) (may : ℕ → Bool) (bound : ℕ) (dead : List ℕ) (waits : ℕ → ℕ) : Type 0 where
   pub waiting : (m : ℕ) → m < bound → waits m ≡ refs_from_dead rows n dead m
   pub gone : (m : ℕ) → bound ≤ m → waits m ≡ 0
-  pub settled : (m : ℕ) → bound ≤ m → may m ≡ true → counts m ≤ refs_from_dead rows n dead m → has m dead ≡ true
-  pub sound : (set : ℕ → Bool) → FreesByCount rows counts n may set → (m : ℕ) → has m dead ≡ true → set m ≡ true
-  pub high : (m : ℕ) → has m dead ≡ true → bound ≤ m
+  pub settled : (m : ℕ) → bound ≤ m → may m ≡ true → counts m ≤ refs_from_dead rows n dead m → has_node dead m ≡ true
+  pub sound : (set : ℕ → Bool) → FreesByCount rows counts n may set → (m : ℕ) → has_node dead m ≡ true → set m ≡ true
+  pub high : (m : ℕ) → has_node dead m ≡ true → bound ≤ m
   pub top : bound ≤ n
 
 -- A node was taken that waited so many times; what waits is below it.
@@ -38,6 +38,6 @@ pub record IsTaken (rows : List Row) (counts : ℕ → ℕ) (n : ℕ) (may : ℕ
   pub counted : often ≡ refs_from_dead rows n dead node
   pub waiting : (m : ℕ) → m < node → waits m ≡ refs_from_dead rows n dead m
   pub gone : (m : ℕ) → node ≤ m → waits m ≡ 0
-  pub settled : (m : ℕ) → node < m → may m ≡ true → counts m ≤ refs_from_dead rows n dead m → has m dead ≡ true
-  pub sound : (set : ℕ → Bool) → FreesByCount rows counts n may set → (m : ℕ) → has m dead ≡ true → set m ≡ true
-  pub high : (m : ℕ) → has m dead ≡ true → node < m
+  pub settled : (m : ℕ) → node < m → may m ≡ true → counts m ≤ refs_from_dead rows n dead m → has_node dead m ≡ true
+  pub sound : (set : ℕ → Bool) → FreesByCount rows counts n may set → (m : ℕ) → has_node dead m ≡ true → set m ≡ true
+  pub high : (m : ℕ) → has_node dead m ≡ true → node < m

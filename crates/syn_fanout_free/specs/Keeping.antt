@@ -4,11 +4,11 @@ use Rattle.syn_rows.specs.declared.Row.{Row}
 use Rattle.syn_rows.specs.Rows.{row_at}
 use Rattle.syn_rows.specs.Values.{value_in}
 use Rattle.syn_fanout_free.specs.Freed.{refers}
-use Rattle.syn_fanout_free.specs.Nodes.{has}
+use Rattle.syn_rows.specs.Nodes.{has_node}
 
 -- a new node that is marked, or an old one that is used; new nodes begin at first
 abbrev pub noted : ℕ → List Bool → List ℕ → ℕ → Bool
-noted first marks used m = if nat_lt m first then has m used else value_in marks (m - first)
+noted first marks used m = if nat_lt m first then has_node used m else value_in marks (m - first)
 
 -- m is referred to by the root's new row or by a marked new row
 abbrev pub IsUsed : Row → List Row → List Bool → ℕ → Type 0
@@ -23,4 +23,4 @@ pub record IsKeeping (first : ℕ) (row : Row) (extra : List Row) (left : ℕ) (
       → ((m : ℕ) → refers row m ≡ true → first ≤ m → set m ≡ true)
       → ((i m : ℕ) → set (first + i) ≡ true → refers (row_at extra i) m ≡ true → first ≤ m → set m ≡ true)
       → (i : ℕ) → value_in marks i ≡ true → set (first + i) ≡ true
-  pub using : (m : ℕ) → has m used ≡ true → (m < first) × IsUsed row extra marks m
+  pub using : (m : ℕ) → has_node used m ≡ true → (m < first) × IsUsed row extra marks m

@@ -7,7 +7,7 @@ ghost use Rattle.syn_rows.specs.References.{and_count, refs};
 ghost use Rattle.syn_rows.specs.Rows.{InOrder, row_at};
 ghost use Rattle.syn_fanout_free.specs.Freed.{IsFreedByCount};
 ghost use Rattle.syn_fanout_free.specs.Freeing.{AllReferred, ands_among, IsFreeing, IsTaken, open_to};
-ghost use Rattle.syn_fanout_free.specs.Nodes.{has};
+ghost use Rattle.syn_rows.specs.Nodes.{has_node};
 ghost use Rattle.syn_fanout_free.specs.Saved.{count_in};
 ghost use Rattle.syn_fanout_free.specs.Waits.{waits_in};
 
@@ -33,7 +33,7 @@ fn add_references(row: Row, waiting: &mut Waiting) -> Result<(), AllocError>
 // Whether a node stands in a list in rising order.
 fn has_node(nodes: &[u32], node: u32) -> bool
     requires { IsNonDecreasing nodes.now }
-    ensures { result ≡ has node nodes.now }
+    ensures { result ≡ has_node nodes.now node }
 {
     match nodes.binary_search(&node) {
         Ok(_) => true,
@@ -90,7 +90,7 @@ pub fn freed(
     requires order { InOrder rows.now }
     requires rises { IsNonDecreasing used.now }
     requires referred { AllReferred rows.now (count_in counts.now) }
-    ensures freed { IfOk result (λ f. IsFreedByCount rows.now (count_in counts.now) n (open_to rows.now n used.now) (λ m. has m f.nodes.items)) }
+    ensures freed { IfOk result (λ f. IsFreedByCount rows.now (count_in counts.now) n (open_to rows.now n used.now) (λ m. has_node f.nodes.items m)) }
     ensures ands { IfOk result (λ f. f.ands ≡ ands_among rows.now f.nodes.items) }
 {
     let mut waiting = Waiting::new(alloc);

@@ -8,6 +8,7 @@ pub mod LevelLaws
 mod Turns
 mod Visits
 mod Walked
+mod Renumbered
 mod Counted
 mod Kept
 pub mod Dropped

@@ -83,11 +83,11 @@ pair_row x y (And a b) rising h =
 is_ordered : (rows : List Row) → PairsOnce rows → (x y : Lit) (k : ℕ) → is_and_of x y (row_at rows k) ≡ true → row_at rows k ≡ ordered_and x y
 is_ordered rows p x y k h = pair_row x y (row_at rows k) (p.ordered k) h
 
-of_itself : (x y : Lit) → same_pair x y x y ≡ true
-of_itself x y = ap₂ (λ s t. (s && t) || (x.0 == y.0 && y.0 == x.0)) (eq-eqb x.0 x.0 refl) (eq-eqb y.0 y.0 refl)
+pub pair_itself : (x y : Lit) → same_pair x y x y ≡ true
+pair_itself x y = ap₂ (λ s t. (s && t) || (x.0 == y.0 && y.0 == x.0)) (eq-eqb x.0 x.0 refl) (eq-eqb y.0 y.0 refl)
 
 has_pair : (rows : List Row) (x y : Lit) (n : ℕ) → row_at rows n ≡ ordered_and x y → is_and_of x y (row_at rows n) ≡ true
-has_pair rows x y n e = ap (is_and_of x y) e ∙ ordered_is x y x y ∙ of_itself x y
+has_pair rows x y n e = ap (is_and_of x y) e ∙ ordered_is x y x y ∙ pair_itself x y
 
 literal_none : (rows : List Row) (bound : ℕ) (x y : Lit) → ((k : ℕ) → k < bound → is_and_of x y (row_at rows k) ≡ true → ⊥) → literal_below rows bound x y ≡ None
 literal_none rows zero x y no_row = refl
@@ -210,7 +210,7 @@ joined_turned rows x y needs = (ap (lit_or_new rows) there, ap₂ (rows_or_new r
     turned_needs = record { apart = λ e. needs.apart (sym e); first = needs.second; second = needs.first }
 
     pair : same_pair y x x y ≡ true
-    pair = first_turned x y x y ∙ of_itself x y
+    pair = first_turned x y x y ∙ pair_itself x y
 
     there : literal_there rows y x ≡ literal_there rows x y
     there = ap₂ or_else (needs_none y x turned_needs ∙ sym (needs_none x y needs)) (same_below rows (length rows) y x x y pair)

@@ -12,7 +12,7 @@ use Rattle.syn_rows.specs.Reach.{ands_in, is_and, IsReachedSet}
 use Rattle.syn_rows.specs.References.{and_count}
 use Rattle.syn_hashed.specs.Hashed.{IsHashed}
 use Rattle.syn_rows.specs.Levels.{HasLevels, level_in, levels_of, row_level}
-use Rattle.std.proofs.Common.{max, ◌^◌}
+use Rattle.std.proofs.Common.{max}
 use Rattle.syn_hashed.specs.Growing.{value_by, level_by, Extends, IsAnd, IsJoin}
 use Rattle.syn_hashed.proofs.LevelLaws.{level_kept, source_level, join_level}
 use Rattle.syn_hashed.specs.Visiting.{visited, with_sign, literal_of, both, fan_ins_of, unvisited, IsVisit, IsMade, IsReady, FirstsOf, StaysVisited, IsMadeAgain}
@@ -24,6 +24,7 @@ use Rattle.std.proofs.lemmas.List.{length-map}
 use Rattle.std.proofs.lemmas.List.Elements.{All-nil, All-cons}
 use Rattle.syn_hashed.specs.Hashed.{lit_at}
 use Rattle.std.proofs.lemmas.Bool.{eq-eqb}
+use Rattle.syn_rows.specs.declared.TheConstants.{NODE_LIMIT}
 use Rattle.syn_hashed.proofs.Rising.{extends_itself, extends_longer, literal_kept, source_value}
 use Rattle.syn_hashed.proofs.Joining.{plain_value, not_value}
 use Rattle.syn_hashed.proofs.Counted.{ands_fewer, ands_more}
@@ -46,7 +47,7 @@ signed_value w lit l x b e same h = elim (cases_Bool (nat_eq (lit.0 % 2) 0)) [
     some_same : (y z : Lit) → Some y ≡ Some z → y ≡ z
     some_same y z p = cc
 
-signed_node : (lit l x : Lit) → with_sign lit (Some l) ≡ Some x → node_of x ≡ node_of l
+pub signed_node : (lit l x : Lit) → with_sign lit (Some l) ≡ Some x → node_of x ≡ node_of l
 signed_node lit l x e = elim (cases_Bool (nat_eq (lit.0 % 2) 0)) [
   | inl t ↦
       let at : l ≡ x = some_same l x (sym (ap (λ (y : Lit). Some y) (cond-true (nat_eq (lit.0 % 2) 0) l (flipped l) t)) ∙ e) in
@@ -69,7 +70,7 @@ signed_node lit l x e = elim (cases_Bool (nat_eq (lit.0 % 2) 0)) [
     ]
 
 -- what stands for a literal was visited with it
-sign_parts : (lit : Lit) (o : Option Lit) (x : Lit) → with_sign lit o ≡ Some x → (l : Lit) × (o ≡ Some l) × (with_sign lit (Some l) ≡ Some x)
+pub sign_parts : (lit : Lit) (o : Option Lit) (x : Lit) → with_sign lit o ≡ Some x → (l : Lit) × (o ≡ Some l) × (with_sign lit (Some l) ≡ Some x)
 sign_parts lit None x e = absurd (cc)
 sign_parts lit (Some l) x e = (l, refl, e)
 
@@ -200,7 +201,7 @@ alias_all count rows literals new n a None visit is fa = tt
 alias_all count rows literals new n a (Some l) visit is fa = alias_made count rows literals new n a l visit is (sym fa)
 
 -- a node that was not visited leaves room for its row
-pub room_left : (count : ℕ) (rows : List Row) (literals : List (Option Lit)) (new : List Row) (n : ℕ) → IsVisit count rows literals new → n < length rows → visited literals n ≡ None → length rows < 2 ^ 29 → length new + 1 < 2 ^ 29
+pub room_left : (count : ℕ) (rows : List Row) (literals : List (Option Lit)) (new : List Row) (n : ℕ) → IsVisit count rows literals new → n < length rows → visited literals n ≡ None → length rows < NODE_LIMIT → length new + 1 < NODE_LIMIT
 room_left count rows literals new n visit lt none few =
     let inside : n < length literals = omega (arith, visit.all) in
     omega (arith, sum_by-set unvisited literals n (Some (record { 0 = 0 })) None inside, ap unvisited none, visit.few)
@@ -222,40 +223,44 @@ row_parts literals (Alias a) x y e = absurd (cc)
 
 -- the beginning
 
-pub visit_begins : (count : ℕ) (rows : List Row) (literals : List (Option Lit)) (new : List Row) → count < length rows → IsHashed count new → length new ≡ count + 1 → FirstsOf count (length rows) literals → IsVisit count rows literals new
-visit_begins count rows literals new wide made size firsts = record {
-  all = firsts.all;
-  there = λ n l e. let at = known n l e in omega (arith, at.0, at.1, size);
-  values = λ n l e given v fits has.
-      let at = known n l e in
-      let number : l.0 ≡ 2 * n = at.1 in
-      let node : node_of l ≡ n = omega arith in
-      plain_value (value_in (values_of given new)) l (omega arith) ∙ ap (value_in (values_of given new)) node ∙ source_value count new made given n at.0 ∙ sym (has n at.0);
-  levels = λ n l e level h.
-      let at = known n l e in
-      let number : l.0 ≡ 2 * n = at.1 in
-      let node : node_of l ≡ n = omega arith in
-      let zero_there : level_by new l ≡ 0 = ap (level_in (levels_of new)) node ∙ source_level count new made n at.0 in
-      omega (arith, zero_there);
-  front = λ n lt. firsts.each n (omega arith) ∙ cond-true (nat_le n count) (Some (record { 0 = 2 * n })) None (le-leb n count (omega arith));
-  few = omega (arith, firsts.few, size);
-  fewer = omega (arith, size);
-}
+-- before any other node is visited, node 0 and the sources alone have literals, their own
+pub first_known : (count size : ℕ) (literals : List (Option Lit)) → FirstsOf count size literals → (n : ℕ) (l : Lit) → visited literals n ≡ Some l → (n < count + 1) × (l.0 ≡ 2 * n)
+first_known count size literals firsts n l e = elim (cases_lt n size) [
+  | inl lt ↦ elim (cases_lt count n) [
+    | inl above ↦ absurd (clash l (sym (firsts.each n lt ∙ cond-false (nat_le n count) (Some (record { 0 = 2 * n })) None (lt-leb n count above)) ∙ e))
+    | inr low ↦ (omega arith, number_of l (record { 0 = 2 * n }) (sym e ∙ (firsts.each n lt ∙ cond-true (nat_le n count) (Some (record { 0 = 2 * n })) None (le-leb n count low))))
+  ]
+  | inr past ↦ absurd (clash l (sym (get_or_past literals n None (omega (arith, firsts.all))) ∙ e))
+]
   where
-    number_of : (l m : Lit) → Some l ≡ Some m → l.0 ≡ m.0
-    number_of l m e = ap (λ (z : Lit). z.0) (let same : l ≡ m = cc in same)
+    number_of : (k m : Lit) → Some k ≡ Some m → k.0 ≡ m.0
+    number_of k m h = ap (λ (z : Lit). z.0) (let same : k ≡ m = cc in same)
 
     clash : (z : Lit) → None ≡ Some z → ⊥
     clash z h = cc
 
-    known : (n : ℕ) (l : Lit) → visited literals n ≡ Some l → (n < count + 1) × (l.0 ≡ 2 * n)
-    known n l e = elim (cases_lt n (length rows)) [
-      | inl lt ↦ elim (cases_lt count n) [
-        | inl above ↦ absurd (clash l (sym (firsts.each n lt ∙ cond-false (nat_le n count) (Some (record { 0 = 2 * n })) None (lt-leb n count above)) ∙ e))
-        | inr low ↦ (omega arith, number_of l (record { 0 = 2 * n }) (sym e ∙ (firsts.each n lt ∙ cond-true (nat_le n count) (Some (record { 0 = 2 * n })) None (le-leb n count low))))
-      ]
-      | inr past ↦ absurd (clash l (sym (get_or_past literals n None (omega (arith, firsts.all))) ∙ e))
-    ]
+pub first_front : (count size : ℕ) (literals : List (Option Lit)) → FirstsOf count size literals → count < size → (n : ℕ) → n < count + 1 → visited literals n ≡ Some (record { 0 = 2 * n })
+first_front count size literals firsts wide n lt = firsts.each n (omega arith) ∙ cond-true (nat_le n count) (Some (record { 0 = 2 * n })) None (le-leb n count (omega arith))
+
+pub visit_begins : (count : ℕ) (rows : List Row) (literals : List (Option Lit)) (new : List Row) → count < length rows → IsHashed count new → length new ≡ count + 1 → FirstsOf count (length rows) literals → IsVisit count rows literals new
+visit_begins count rows literals new wide made size firsts = record {
+  all = firsts.all;
+  there = λ n l e. let at = first_known count (length rows) literals firsts n l e in omega (arith, at.0, at.1, size);
+  values = λ n l e given v fits has.
+      let at = first_known count (length rows) literals firsts n l e in
+      let number : l.0 ≡ 2 * n = at.1 in
+      let node : node_of l ≡ n = omega arith in
+      plain_value (value_in (values_of given new)) l (omega arith) ∙ ap (value_in (values_of given new)) node ∙ source_value count new made given n at.0 ∙ sym (has n at.0);
+  levels = λ n l e level h.
+      let at = first_known count (length rows) literals firsts n l e in
+      let number : l.0 ≡ 2 * n = at.1 in
+      let node : node_of l ≡ n = omega arith in
+      let zero_there : level_by new l ≡ 0 = ap (level_in (levels_of new)) node ∙ source_level count new made n at.0 in
+      omega (arith, zero_there);
+  front = first_front count (length rows) literals firsts wide;
+  few = omega (arith, firsts.few, size);
+  fewer = omega (arith, size);
+}
 
 -- all that a row refers to was visited
 
@@ -291,7 +296,7 @@ none_where (Some l) b e f = absurd (both_ways b f e)
 
 -- the rows made again
 
-one_less : (x : Option Lit) (xs : List (Option Lit)) (y : Option Lit) (ys : List (Option Lit)) → x ∷ xs ≡ y ∷ ys → (x ≡ y) × (xs ≡ ys)
+pub one_less : (x : Option Lit) (xs : List (Option Lit)) (y : Option Lit) (ys : List (Option Lit)) → x ∷ xs ≡ y ∷ ys → (x ≡ y) × (xs ≡ ys)
 one_less x xs y ys e = (cc, cc)
 
 found_there : (count : ℕ) (rows : List Row) (literals : List (Option Lit)) (new : List Row) → IsVisit count rows literals new → (found lits : List Lit) → map (λ l. Some l) found ≡ map (literal_of literals) lits → All (λ l. node_of l < length new) found
@@ -312,7 +317,7 @@ found_values count rows literals new visit given v fits has (f ∷ fs) (l ∷ ls
     let s = stands_for count rows literals new visit l f (sym parts.0) in
     ap₂ (λ (b : Bool) (bs : List Bool). b ∷ bs) (s.value given v fits has) (found_values count rows literals new visit given v fits has fs ls parts.1)
 
-found_at : (literals : List (Option Lit)) (found lits : List Lit) → map (λ l. Some l) found ≡ map (literal_of literals) lits → (i : ℕ) → i < length lits → Some (lit_at found i) ≡ literal_of literals (lit_at lits i)
+pub found_at : (literals : List (Option Lit)) (found lits : List Lit) → map (λ l. Some l) found ≡ map (literal_of literals) lits → (i : ℕ) → i < length lits → Some (lit_at found i) ≡ literal_of literals (lit_at lits i)
 found_at literals [] [] e i lt = absurd (omega arith)
 found_at literals [] (l ∷ ls) e i lt = absurd (cc)
 found_at literals (f ∷ fs) [] e i lt = absurd (omega arith)
@@ -363,7 +368,3 @@ made_again count rows lits literals new found can hashed visit reaches e = recor
       | inl above ↦ reaches n above v test is.closed is.observes
       | inr low ↦ absurd (both_ways (is_and (row_at rows n)) (ap is_and (can.front n (omega arith))) row)
     ]
-
--- node 0 and the sources were visited
-pub visited_front : (count : ℕ) (rows : List Row) (literals : List (Option Lit)) (new : List Row) → IsVisit count rows literals new → (m : ℕ) → m < count + 1 → IsSome (visited literals m)
-visited_front count rows literals new visit m lt = some_of (visited literals m) (record { 0 = 2 * m }) (visit.front m lt)

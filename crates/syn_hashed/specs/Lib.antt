@@ -4,5 +4,6 @@ pub mod Indexed
 pub mod Joined
 pub mod Growing
 pub mod Visiting
+pub mod Renumbering
 pub mod Walking
 pub mod Compacting

@@ -12,6 +12,7 @@ ghost use Rattle.syn_hashed.specs.Hashed.{IsHashed, lit_at};
 ghost use Rattle.syn_hashed.specs.Growing.{level_by};
 ghost use Rattle.syn_hashed.specs.Compacting.{CanCompact, HasValuation, IsCompacted, IsCompaction, is_kept, IsPlaces, kept_below, kept_lits, kept_rows, moved_lit, moved_row, SameValues};
 
+use crate::renumbering::renumbered;
 use crate::visit::in_visiting_order;
 use std::alloc::{AllocError, Global};
 use syn_rows::{Lit, Row};
@@ -186,7 +187,7 @@ pub fn compact_rows(
     Ok(kept)
 }
 
-/// The same of hashed rows.
+/// The same of hashed rows, whose nodes only get other numbers.
 pub fn compact_hashed(
     alloc: Global,
     source_count: u32,
@@ -199,7 +200,7 @@ pub fn compact_hashed(
     ensures compact { IfOk result (λ r. IsCompaction source_count rows.now observed.now r.rows.items r.observed.items) }
     ensures ands { IfOk result (λ r. (k : ℕ) → Ands rows.now observed.now k → length r.rows.items ≤ source_count + 1 + k) }
 {
-    let kept = compact_rows(alloc, source_count, rows, observed)?;
+    let kept = renumbered(alloc, source_count, rows, observed)?;
     syn_rows::one_valuation();
     Ok(kept)
 }

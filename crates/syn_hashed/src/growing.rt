@@ -125,8 +125,8 @@ impl HashedRows {
     }
 }
 
-// Node 0 and the sources.
-fn source_rows(alloc: Global, source_count: usize) -> Result<Vec<Row>, AllocError>
+/// Node 0 and the sources.
+pub fn source_rows(alloc: Global, source_count: usize) -> Result<Vec<Row>, AllocError>
     requires { source_count + 1 < NODE_LIMIT }
     ensures { IfOk result (λ v. v.items ≡ replicate (source_count + 1) Row.Source) }
 {

@@ -5,6 +5,7 @@ mod compaction;
 mod growing;
 mod literals;
 mod pairs;
+mod renumbering;
 mod visit;
 
 pub use compaction::{Rows, compact_hashed, compact_rows, has_level, has_valuation};

@@ -1,8 +1,10 @@
 //! The order in which the observed literals visit the rows, and the rows made again in that order.
 
-ghost use Rattle.std.specs.Prelude.{◌++◌, IsSome, IfNone, ◌≡◌, ◌≢◌, ℕ, ◌+◌, ◌^◌, ◌<◌, ◌≤◌, All, List, Option, Some, None, false, true, length, map, replicate, set, vec_len, IfOk, IfSome, IsNone, OnOk, slice_index_or};
+ghost use Rattle.std.specs.Prelude.{◌*◌, ◌++◌, IsSome, IfNone, ◌≡◌, ◌≢◌, ℕ, ◌+◌, ◌^◌, ◌<◌, ◌≤◌, All, List, Option, Some, None, false, true, length, map, replicate, set, vec_len, IfOk, IfSome, IsNone, OnOk, slice_index_or};
 ghost use Rattle.std.specs.List.{sum_by};
 ghost use Rattle.syn_rows.specs.declared.TheConstants.{NODE_LIMIT};
+ghost use Rattle.syn_rows.specs.declared.Lit.{Lit};
+ghost use Rattle.syn_rows.specs.declared.Row.{Row};
 ghost use Rattle.syn_rows.specs.Rows.{node_of, row_at};
 ghost use Rattle.syn_rows.specs.Values.{value_in};
 ghost use Rattle.syn_rows.specs.Walk.{unmarked};
@@ -46,21 +48,61 @@ pub enum Step {
     Leave(u32),
 }
 
-// Visits all nodes that the observed literals reach, the literals in their order.
-fn visit_all(
+/// What makes the nodes of a walk again, each once all that it refers to was made.
+pub trait Maker {
+    /// The number of sources.
+    ghost sources: { Self → ℕ };
+
+    /// What holds of old rows and the literals that stand for their nodes so far.
+    ghost stands: { Self → List Row → List (Option Lit) → Type 0 };
+
+    /// Visits a node. One that is ready has a literal afterwards; no other's changes. The only error is want of memory.
+    fn make(
+        &mut self,
+        rows: &[Row],
+        literals: &mut [Option<Lit>],
+        node: usize,
+    ) -> Result<(), AllocError>
+        requires there { node < length rows.now }
+        requires room { length rows.now < NODE_LIMIT }
+        requires stands { stands self.old rows.now literals.old }
+        ensures sources { sources self.new ≡ sources self.old }
+        ensures stands { OnOk result (stands self.new rows.now literals.new) }
+        ensures stays { OnOk result (StaysVisited literals.old literals.new) }
+        ensures others { OnOk result ((m : ℕ) → m ≢ node → visited literals.new m ≡ visited literals.old m) }
+        ensures made { OnOk result (IsReady literals.old (row_at rows.now node) → IsSome (visited literals.new node)) };
+}
+
+impl Maker for HashedRows {
+    ghost sources = { λ h. h.source_count };
+
+    ghost stands = { λ h rows literals. IsVisit h.source_count rows literals h.rows.items };
+
+    fn make(
+        &mut self,
+        rows: &[Row],
+        literals: &mut [Option<Lit>],
+        node: usize,
+    ) -> Result<(), AllocError> {
+        make(self, rows, literals, node)
+    }
+}
+
+/// Visits all nodes that the observed literals reach, the literals in their order.
+pub fn visit_all<M: Maker>(
     alloc: Global,
-    hashed: &mut HashedRows,
+    maker: &mut M,
     rows: &[Row],
     observed: &[Lit],
     literals: &mut [Option<Lit>],
 ) -> Result<(), AllocError>
-    requires can { CanCompact hashed.old.source_count rows.now observed.now }
-    requires firsts { FirstsOf hashed.old.source_count (length rows.now) literals.old }
-    requires size { length hashed.old.rows.items ≡ hashed.old.source_count + 1 }
+    requires can { CanCompact (M.sources maker.old) rows.now observed.now }
+    requires firsts { FirstsOf (M.sources maker.old) (length rows.now) literals.old }
+    requires stands { M.stands maker.old rows.now literals.old }
     requires room { length rows.now < NODE_LIMIT }
-    ensures sources { hashed.new.source_count ≡ hashed.old.source_count }
-    ensures visit { OnOk result (IsVisit hashed.old.source_count rows.now literals.new hashed.new.rows.items) }
-    ensures reached { OnOk result (VisitsReached hashed.old.source_count rows.now observed.now literals.new) }
+    ensures sources { M.sources maker.new ≡ M.sources maker.old }
+    ensures stands { OnOk result (M.stands maker.new rows.now literals.new) }
+    ensures reached { OnOk result (VisitsReached (M.sources maker.old) rows.now observed.now literals.new) }
     ensures observed { OnOk result (All (λ l. IsSome (visited literals.new (node_of l))) observed.now) }
 {
     let mut marks = no_marks(alloc, rows.len())?;
@@ -68,7 +110,7 @@ fn visit_all(
     while let Some(step) = stack.pop() {
         match step {
             Step::Enter(node) => enter(rows, node, marks.as_mut_slice(), &mut stack)?,
-            Step::Leave(node) => make(hashed, rows, literals, node as usize)?,
+            Step::Leave(node) => maker.make(rows, literals, node as usize)?,
         }
     }
     Ok(())
@@ -132,8 +174,8 @@ fn push_steps(row: Row, node: u32, stack: &mut Vec<Step>) -> Result<(), AllocErr
     }
 }
 
-// The literals that stand for the fan-ins of an AND, where both were visited.
-fn fan_ins(literals: &[Option<Lit>], row: Row) -> Option<(Lit, Lit)>
+/// The literals that stand for the fan-ins of an AND, where both were visited.
+pub fn fan_ins(literals: &[Option<Lit>], row: Row) -> Option<(Lit, Lit)>
     ensures { result ≡ fan_ins_of literals.now row }
 {
     let Row::And(a, b) = row else {

@@ -5,7 +5,7 @@ use Rattle.std.specs.Option.{unwrap_or}
 use Rattle.std.specs.List.{position_or_len}
 use Rattle.std.proofs.lemmas.List.Sums.{prefix_len-le-length}
 use Rattle.std.proofs.lemmas.List.Recursion.{is_position_or_len}
-use Rattle.syn_lex.specs.Runs.{before}
+use Rattle.syn_lex.specs.Pieces.{before}
 
 before_is : (test : ℕ → Bool) (bs : List ℕ) → before test bs ≡ position_or_len test bs
 before_is test = is_position_or_len (before test) test refl (λ b bs. step (test b) (before test bs))

@@ -2,7 +2,7 @@
 
 ghost use Rattle.std.specs.Prelude.{◌≡◌, ◌+◌, ◌^◌, ◌<◌, ◌≤◌, [], ◌∷◌, length, true, not, IfSome, IfNone};
 ghost use Rattle.std.specs.List.{list_all};
-ghost use Rattle.syn_lex.specs.Runs.{before};
+ghost use Rattle.syn_lex.specs.Pieces.{before};
 ghost use Rattle.syn_lex.specs.Words.{word_in, words_by};
 
 use std::marker::{Model, PhantomData};

@@ -12,7 +12,7 @@ use Rattle.syn_netlist.specs.Numbers.{word_at, words_at, all_below, kind_at}
 use Rattle.syn_netlist.specs.Words.{has_word, distinct, without, firsts}
 use Rattle.syn_netlist.proofs.Sets.{same_word, word_same, has_head, has_tail, distinct_head}
 
-has_word_at : (names : List (List ℕ)) (i : ℕ) → i < length names → has_word names (word_at names i) ≡ true
+pub has_word_at : (names : List (List ℕ)) (i : ℕ) → i < length names → has_word names (word_at names i) ≡ true
 has_word_at [] i lt = absurd (omega arith)
 has_word_at (w ∷ ws) zero lt = has_head w ws
 has_word_at (w ∷ ws) (suc i) lt = has_tail w (word_at ws i) ws (has_word_at ws i (omega arith))
@@ -109,7 +109,7 @@ words_at-outputs : (names : List (List ℕ)) (latches : List Latch) → words_at
 words_at-outputs names [] = refl
 words_at-outputs names (l ∷ ls) = ap (λ (ws : List (List ℕ)). word_at names l.output ∷ ws) (words_at-outputs names ls)
 
-words_at-control : (names : List (List ℕ)) (kind : Option (LatchKind × Option ℕ)) → words_at names (control_number kind) ≡ control_of (kind_at names kind)
+pub words_at-control : (names : List (List ℕ)) (kind : Option (LatchKind × Option ℕ)) → words_at names (control_number kind) ≡ control_of (kind_at names kind)
 words_at-control names None = refl
 words_at-control names (Some (kind, None)) = refl
 words_at-control names (Some (kind, Some i)) = refl

@@ -74,6 +74,16 @@ impl Names {
         }
     }
 
+    /// Puts a new word at the end.
+    pub(crate) fn push(&mut self, alloc: Global, word: &[u8]) -> Result<(), AllocError>
+        requires few { length self.old + 1 < 2 ^ 32 }
+        requires word { is_word word.now ≡ true }
+        requires new { has_word self.old word.now ≡ false }
+        ensures { OnOk result (self.new ≡ self.old ++ word.now ∷ []) }
+    {
+        push_word(alloc, &mut self.words, word)
+    }
+
     /// The word of a number.
     pub fn word(&self, i: u32) -> &[u8]
         requires { i < length self.now }

@@ -17,15 +17,15 @@ abbrev pub number_of : ℕ → (ℕ → Bool) → ℕ
 number_of zero test = 0
 number_of (suc n) test = number_of n test + (if test n then 2 ^ n else 0)
 
--- the number is in the list
-abbrev pub has : ℕ → List ℕ → Bool
-has n [] = false
-has n (x ∷ xs) = n == x || has n xs
+-- the number, or the function as a number, is in the list
+abbrev pub has_function : ℕ → List ℕ → Bool
+has_function n [] = false
+has_function n (x ∷ xs) = n == x || has_function n xs
 
 -- no number stands twice in the list
 abbrev pub is_distinct : List ℕ → Bool
 is_distinct [] = true
-is_distinct (x ∷ xs) = not (has x xs) && is_distinct xs
+is_distinct (x ∷ xs) = not (has_function x xs) && is_distinct xs
 
 -- four different numbers below 4
 abbrev pub is_permutation : List ℕ → Bool

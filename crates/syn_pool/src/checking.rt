@@ -1,6 +1,7 @@
 //! The check of a graph: the first proposal that saves, or that none does.
 
 ghost use Rattle.std.specs.Prelude.{◌≡◌, ℕ, ◌+◌, ◌<◌, ◌≤◌, ◌^◌, true, All, List, IfErr, IfNone, IfOk, IfSome, length};
+ghost use Rattle.syn_rows.specs.declared.TheConstants.{NODE_LIMIT};
 ghost use Rattle.syn_rows.specs.declared.Row.{Row};
 ghost use Rattle.syn_rows.specs.Rows.{row_at};
 ghost use Rattle.syn_rows.specs.Reach.{is_and};
@@ -120,13 +121,13 @@ fn find_parts<R: Threads + Sync, P: Proposer>(
 ) -> Result<Vec<Result<Part, AllocError>>, AllocError>
     requires uses { IsUsesOf uses.now graph.now }
     requires lists { P.is_lists_of proposer.now lists.now graph.now.rows }
-    requires few { length graph.now.rows < 2 ^ 29 }
+    requires few { length graph.now.rows < NODE_LIMIT }
     ensures first { IfOk result (λ parts. All (λ part. IfOk part (λ q. IfSome q.found (λ p. IsFirstFrom graph.now.rows graph.now.observed (P.proposals proposer.now graph.now.rows) q.from (replacement p)))) parts.items) }
     ensures sound { IfOk result (λ parts. All (λ part. IfOk part (λ q. IfSome q.found (IsSound graph.now.rows))) parts.items) }
     ensures none { IfOk result (λ parts. All (λ part. IfOk part (λ q. IfNone q.found (ClosedBetween graph.now.rows graph.now.observed (P.proposals proposer.now graph.now.rows) q.from q.to))) parts.items) }
 {
     let work = move |start: usize, chunk: &[Row]| -> Result<Part, AllocError>
-        requires { IsUsesOf uses.now graph.now × P.is_lists_of proposer.now lists.now graph.now.rows × (start + length chunk.now ≤ length graph.now.rows) × (length graph.now.rows < 2 ^ 29) }
+        requires { IsUsesOf uses.now graph.now × P.is_lists_of proposer.now lists.now graph.now.rows × (start + length chunk.now ≤ length graph.now.rows) × (length graph.now.rows < NODE_LIMIT) }
         ensures first { IfOk result (λ part. IfSome part.found (λ p. IsFirstFrom graph.entry.now.rows graph.entry.now.observed (P.proposals proposer.entry.now graph.entry.now.rows) part.from (replacement p))) }
         ensures sound { IfOk result (λ part. IfSome part.found (IsSound graph.entry.now.rows)) }
         ensures none { IfOk result (λ part. IfNone part.found (ClosedBetween graph.entry.now.rows graph.entry.now.observed (P.proposals proposer.entry.now graph.entry.now.rows) part.from part.to)) }
@@ -182,7 +183,7 @@ fn first_in_parts<P: Proposer>(
 ) -> Result<Option<Proposal>, AllocError>
     requires uses { IsUsesOf uses.now graph.now }
     requires lists { P.is_lists_of proposer.now lists.now graph.now.rows }
-    requires few { length graph.now.rows < 2 ^ 29 }
+    requires few { length graph.now.rows < NODE_LIMIT }
     requires first { All (λ part. IfOk part (λ q. IfSome q.found (λ p. IsFirstFrom graph.now.rows graph.now.observed (P.proposals proposer.now graph.now.rows) q.from (replacement p)))) parts.items }
     requires sound { All (λ part. IfOk part (λ q. IfSome q.found (IsSound graph.now.rows))) parts.items }
     requires none { All (λ part. IfOk part (λ q. IfNone q.found (ClosedBetween graph.now.rows graph.now.observed (P.proposals proposer.now graph.now.rows) q.from q.to))) parts.items }
@@ -211,7 +212,7 @@ fn rest<P: Proposer>(
 ) -> Result<Option<Proposal>, AllocError>
     requires uses { IsUsesOf uses.now graph.now }
     requires lists { P.is_lists_of proposer.now lists.now graph.now.rows }
-    requires few { length graph.now.rows < 2 ^ 29 }
+    requires few { length graph.now.rows < NODE_LIMIT }
     requires closed { ClosedBetween graph.now.rows graph.now.observed (P.proposals proposer.now graph.now.rows) 0 reached }
     ensures first { IfOk result (λ found. IfSome found (λ p. IsFirstFrom graph.now.rows graph.now.observed (P.proposals proposer.now graph.now.rows) 0 (replacement p))) }
     ensures sound { IfOk result (λ found. IfSome found (IsSound graph.now.rows)) }

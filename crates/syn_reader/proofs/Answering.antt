@@ -2,7 +2,7 @@
 use Rattle.std.proofs.Common.{◌≡◌, ℕ, not, Bool, true, if◌then◌else◌, List, [], ◌∷◌, map, flat_map, find, refl, sym, ap, ap₂, ◌∙◌, inl, inr, Option, Some, None, IfSome, option_map}
 use Rattle.std.specs.List.{list_all}
 use Rattle.std.specs.Option.{option_or}
-use Rattle.std.proofs.lemmas.Bool.{cond-false, and_parts, and_from, not_from_true}
+use Rattle.std.proofs.lemmas.Bool.{cond-false, and_parts, not_from_true}
 use Rattle.syn_lex.specs.Lines.{bad_byte}
 use Rattle.syn_netlist.specs.Faults as faults
 use Rattle.syn_netlist.specs.Faults.{IsChecked, ReachesCircle, OrderableReachesNoCircle, first_undefined}
@@ -11,7 +11,7 @@ use Rattle.syn_netlist.specs.Order.{defined}
 use Rattle.syn_netlist.specs.Words.{has_word}
 use Rattle.syn_netlist.proofs.Arranging.{none_found}
 use Rattle.syn_netlist.proofs.Checked.{orderable_reaches_no_circle}
-use Rattle.syn_netlist.proofs.Sets.{has_head, has_tail, all_at}
+use Rattle.syn_netlist.proofs.Sets.{all_at, all_each}
 use Rattle.syn_reader.specs.Definitions.{definitions, name_of, reads, first_undriven}
 use Rattle.syn_reader.specs.Checking.{IsGathered, AreRead, IsGatheredFault}
 use Rattle.syn_reader.specs.Faults.{Fault, BadByte, Undriven}
@@ -31,10 +31,6 @@ pub undriven_is : (ss : List Statement) (n : Netlist) (read : List (List ℕ)) �
 undriven_is ss n read spell e =
     find_same (λ name. not (has_word (map name_of (flat_map definitions ss)) name)) (λ name. not (has_word (defined n) name)) (λ w. ap not (spelled_names ss n w spell)) (flat_map reads ss)
     ∙ ap (first_undefined n) (sym e)
-
-pub all_each : (test : List ℕ → Bool) (ws : List (List ℕ)) → ((w : List ℕ) → has_word ws w ≡ true → test w ≡ true) → list_all test ws ≡ true
-all_each test [] h = refl
-all_each test (x ∷ xs) h = and_from (test x) (list_all test xs) (h x (has_head x xs)) (all_each test xs (λ w t. h w (has_tail x w xs t)))
 
 pub none_from_all : (test : List ℕ → Bool) (ws : List (List ℕ)) → list_all test ws ≡ true → find (λ w. not (test w)) ws ≡ None
 none_from_all test [] h = refl

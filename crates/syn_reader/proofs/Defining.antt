@@ -11,7 +11,7 @@ use Rattle.syn_reader.specs.Statements.{Statement}
 use Rattle.syn_reader.specs.Definitions.{Definition, definitions, name_of, names_defined}
 use Rattle.syn_reader.specs.Reading.{Adds, Spell, rows_below}
 use Rattle.syn_reader.proofs.Once.{output_is}
-use Rattle.syn_reader.proofs.ReadingPlaces.{latch_defines}
+use Rattle.syn_reader.proofs.ReadingPlaces.{first_in, latch_defines, second_in}
 
 -- the name is an input, a clock, or the output of a latch or of a table
 abbrev pub defines : Netlist → List ℕ → Bool
@@ -49,16 +49,6 @@ defined_has n w =
     ∙ ap (λ t. t || has_word (map output_of n.tables) w) (has_word-append f.inputs (without f.inputs f.clocks ++ outputs) w
     ∙ ap (λ t. has_word f.inputs w || t) (has_word-append (without f.inputs f.clocks) outputs w ∙ ap (λ t. t || has_word outputs w) (has_word-without f.inputs f.clocks w)))
     ∙ each_source (has_word f.inputs w) (has_word f.clocks w) (has_word outputs w) (has_word (map output_of n.tables) w)
-
-first_in : (a x r : Bool) → ((x || a) || r) ≡ (x || (a || r))
-first_in a true r = refl
-first_in a false r = refl
-
-second_in : (a b x r : Bool) → (a || ((x || b) || r)) ≡ (x || (a || (b || r)))
-second_in true b true r = refl
-second_in true b false r = refl
-second_in false b true r = refl
-second_in false b false r = refl
 
 third_in : (a b l x t : Bool) → (a || (b || ((x || l) || t))) ≡ ((x || false) || (a || (b || (l || t))))
 third_in true b l true t = refl

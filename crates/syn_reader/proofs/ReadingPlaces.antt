@@ -48,11 +48,11 @@ latch_reads_are words latch is =
 abbrev pub is_read : Netlist → List ℕ → Bool
 is_read n w = has_word n.frame.outputs w || (has_word (flat_map latch_reads n.frame.latches) w || has_word (flat_map inputs_of n.tables) w)
 
-first_in : (a x r : Bool) → ((x || a) || r) ≡ (x || (a || r))
+pub first_in : (a x r : Bool) → ((x || a) || r) ≡ (x || (a || r))
 first_in a true r = refl
 first_in a false r = refl
 
-second_in : (a b x r : Bool) → (a || ((x || b) || r)) ≡ (x || (a || (b || r)))
+pub second_in : (a b x r : Bool) → (a || ((x || b) || r)) ≡ (x || (a || (b || r)))
 second_in true b true r = refl
 second_in true b false r = refl
 second_in false b true r = refl

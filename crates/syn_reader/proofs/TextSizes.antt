@@ -1,17 +1,20 @@
--- The cost of a netlist is no more than the bytes of its text.
+-- The cost of a netlist is no more than the bytes of its text, and neither are the words of its statements.
 use Rattle.std.proofs.Common.{◌≡◌, ℕ, suc, ◌+◌, ◌≤◌, ◌==◌, Bool, true, false, if◌then◌else◌, List, [], ◌∷◌, ◌++◌, length, map, filter, sum_by, refl, sym, ap, subst, arith}
 use Rattle.std.specs.List.{list_all, onto_first}
-use Rattle.std.proofs.lemmas.Bool.{and_parts, eqb-true}
+use Rattle.std.proofs.lemmas.Bool.{and_parts, and_from, both_ways, eqb-true}
 use Rattle.std.proofs.lemmas.List.Sums.{count_by-le-length, sum_by-cons}
 use Rattle.syn_lex.specs.Words.{Word, text_of, is_word_byte, begins_word, grown, words_at}
 use Rattle.syn_lex.specs.Lines.{LogicalLine, physical_lines, without_comment, joins, joined, joined_lines, has_words, logical_lines}
 use Rattle.syn_netlist.specs.Costs.{is_sign, row_cost, table_cost, cost_of}
 use Rattle.syn_netlist.specs.Lists.{Table, Netlist}
+use Rattle.syn_netlist.specs.Words.{is_word}
 use Rattle.syn_reader.specs.declared.Kind.{Kind}
 use Rattle.syn_reader.specs.declared.Kind.TheVariants as kinds
+use Rattle.syn_reader.specs.Heard.{all_words, lines_words, word_count}
 use Rattle.syn_reader.specs.Shapes.{IsTable, is_input_part, row_words, output_word}
 use Rattle.syn_reader.specs.Statements.{Statement, begins_with_dot, kind_in, keywords, statement_at, statement_of, statements, is_row}
 use Rattle.syn_reader.specs.Reading.{Adds, Spell, rows_below}
+use Rattle.syn_reader.proofs.LineWords.{logical_words}
 
 -- the bytes of words
 abbrev size_words : List Word → ℕ
@@ -124,6 +127,40 @@ few_letters bytes =
     let c = lines_size 1 0 (physical_lines bytes) in
     let d = physical_size bytes in
     omega (arith, a, b, c, d)
+
+-- words of the format have a byte or more each, so there are no more words than bytes
+
+no_more_than_letters : (ws : List (List ℕ)) → list_all is_word ws ≡ true → length ws ≤ size_text ws
+no_more_than_letters [] h = omega arith
+no_more_than_letters ([] ∷ ws) h = absurd (both_ways false refl h)
+no_more_than_letters ((b ∷ bs) ∷ ws) h = let rest = no_more_than_letters ws (and_parts (is_word (b ∷ bs)) (list_all is_word ws) h).1 in omega (arith, rest)
+
+texts_are_words : (ws : List Word) → all_words ws ≡ true → list_all is_word (map text_of ws) ≡ true
+texts_are_words [] h = refl
+texts_are_words (w ∷ ws) h = let parts = and_parts (is_word w.text) (all_words ws) h in and_from (is_word w.text) (list_all is_word (map text_of ws)) parts.0 (texts_are_words ws parts.1)
+
+at_few : (line : ℕ) (words : List (List ℕ)) → list_all is_word words ≡ true → length (statement_at line words).words ≤ size_text (statement_at line words).words
+at_few line [] h = omega arith
+at_few line (w ∷ ws) h = go (begins_with_dot w)
+  where
+    go : (t : Bool) → length (let s : Statement = if t then record { line = line; kind = kind_in keywords w; words = ws } else record { line = line; kind = kinds.Row; words = w ∷ ws } in s).words
+        ≤ size_text (let s : Statement = if t then record { line = line; kind = kind_in keywords w; words = ws } else record { line = line; kind = kinds.Row; words = w ∷ ws } in s).words
+    go true = no_more_than_letters ws (and_parts (is_word w) (list_all is_word ws) h).1
+    go false = no_more_than_letters (w ∷ ws) h
+
+statements_few : (lines : List LogicalLine) → lines_words lines ≡ true → word_count (map statement_of lines) ≤ size_statements (map statement_of lines)
+statements_few [] h = omega arith
+statements_few (l ∷ ls) h =
+    let parts = and_parts (all_words l.words) (lines_words ls) h in
+    let here = at_few l.number (map text_of l.words) (texts_are_words l.words parts.0) in
+    let rest = statements_few ls parts.1 in
+    omega (arith, here, rest)
+
+pub few_words : (bytes : List ℕ) → word_count (statements bytes) ≤ length bytes
+few_words bytes =
+    let a = statements_few (logical_lines bytes) (logical_words bytes) in
+    let b = few_letters bytes in
+    omega (arith, a, b)
 
 -- the cost of a table, by the rows that spell it
 

@@ -2,6 +2,7 @@
 use Rattle.std.proofs.Common.{◌≡◌, ◌≢◌, ◌⊎◌, ℕ, zero, suc, ◌+◌, ◌*◌, ◌^◌, ◌<◌, ◌≤◌, true, All, List, [], ◌∷◌, ◌++◌, drop, length, replicate, get_or, length-append, refl, sym, ap, ◌∙◌, subst, arith, inl, inr}
 use Rattle.std.proofs.lemmas.List.{length-replicate, get_or-append-add, get_or_append_left}
 use Rattle.std.proofs.lemmas.Bool.{cases_eq}
+use Rattle.syn_rows.specs.declared.TheConstants.{NODE_LIMIT}
 use mathlib.Core.Option.{some, some-injective, some-ne-none}
 use lib.ListN.{get_elem?}
 use Rattle.atomic_table.specs.Table as Table
@@ -184,7 +185,7 @@ only_first k u (suc id) at = absurd (some-ne-none u (sym at))
 -- what a graph, its keys and the laid words have to be
 pub record CanOpen (g : Graph) (spare : ℕ) (counts keys words : List ℕ) : Type 0 where
   pub rising : AreKeys g.rows keys
-  pub few : length g.rows + spare < 2 ^ 29
+  pub few : length g.rows + spare < NODE_LIMIT
   pub few_literals : length g.observed < 2 ^ 30
   pub counted : (m : ℕ) → get_or counts m 0 ≡ refs_by_rows m g.rows + refs_by_literals m g.observed
   pub laid : AreWords words (length g.rows + spare) g.rows counts keys
@@ -244,7 +245,7 @@ module _ (o : Opening) (counts keys words : List ℕ) where
       first_view v (suc id) at = absurd (some-ne-none v (sym at))
 
 -- ---- the rows of a graph fit words
-pub rows_pack : (frame : Frame) (rows : List Row) (observed : List Lit) → IsGraph frame rows observed → length rows < 2 ^ 29 → (n : ℕ) → Packs (row_at rows n)
+pub rows_pack : (frame : Frame) (rows : List Row) (observed : List Lit) → IsGraph frame rows observed → length rows < NODE_LIMIT → (n : ℕ) → Packs (row_at rows n)
 rows_pack frame rows observed g few n = elim (side (length rows) n) [
   | inl lt ↦ go (row_at rows n) (hashed_in_order (length (sources frame)) rows g.hashed n) lt
   | inr le ↦ subst Packs (sym (row_past rows n le)) tt

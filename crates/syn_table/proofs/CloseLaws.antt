@@ -1,6 +1,7 @@
 -- A seat that has all numbers and holds and pins nothing closes the table with the rows of a sound core.
 use Rattle.std.proofs.Common.{◌≡◌, ◌≢◌, ◌↔◌, Bool, ◌^◌, ℕ, zero, suc, ◌+◌, ◌*◌, ◌<◌, ◌≤◌, All, List, [], ◌∷◌, length, get_or, refl, sym, ap, ap₂, ◌∙◌, subst, arith, pos, ◌+ℤ◌, ℤ}
 use Rattle.std.proofs.lemmas.Int.{ints}
+use Rattle.syn_rows.specs.declared.TheConstants.{NODE_LIMIT}
 use mathlib.Core.Option.{some, some-injective, some-ne-none}
 use lib.ListN.{get_elem?}
 use Rattle.atomic_table.specs.Table.{State, Final, Seen}
@@ -32,7 +33,7 @@ same_rows [] (y ∷ ys) e each = absurd (omega arith)
 same_rows (x ∷ xs) [] e each = absurd (omega arith)
 same_rows (x ∷ xs) (y ∷ ys) e each = ap₂ (λ (r : Row) (rs : List Row). r ∷ rs) (each 0 (omega arith)) (same_rows xs ys (omega arith) (λ n lt. each (suc n) (omega arith)))
 
-pub rows_read : (words : List ℕ) (c : Core) (rows : List Row) → RowsPack → IsLaid words c → IsSound c → length c.rows < 2 ^ 29 → length rows ≡ length c.rows → ReadsBack words rows → rows ≡ c.rows
+pub rows_read : (words : List ℕ) (c : Core) (rows : List Row) → RowsPack → IsLaid words c → IsSound c → length c.rows < NODE_LIMIT → length rows ≡ length c.rows → ReadsBack words rows → rows ≡ c.rows
 rows_read words c rows pack laid sound few size back =
     same_rows rows c.rows size (λ n lt. back n lt (row_at c.rows n) (pack c n sound few) (sym (laid.rows n (omega (arith, lt, size)))))
 

@@ -9,7 +9,7 @@ use Rattle.syn_rows.specs.References.{times}
 use Rattle.syn_core_laws.specs.declared.View.{View}
 use Rattle.syn_core_laws.specs.Cores.{Core}
 use Rattle.syn_core_laws.specs.Openings.{empty_view}
-use Rattle.syn_core_laws.specs.Splits.{joined_in}
+use Rattle.syn_core_laws.specs.Splits.{core_after_join}
 use Rattle.syn_core_laws.proofs.Counting.{hits_same, times_append}
 use Rattle.syn_core_laws.proofs.Splitting.{joins_keep_sound}
 use Rattle.syn_table.specs.declared.Known.{Known}
@@ -32,7 +32,7 @@ module _ (opening : Opening) (words : List ℕ) (seats : List Known) (c : Core) 
   joined_seats = set taken other spent_known
 
   abbrev after : Core
-  after = joined_in c id k.core other o.core
+  after = core_after_join c id k.core other o.core
 
   all_kept : (n : ℕ) → times n (all_numbers joined_seats) ≡ times n (all_numbers seats)
   all_kept n = omega (arith, numbers_set n taken other o spent_known still, numbers_set n seats id k (with_joined k o) at, times_append n k.numbers o.numbers)
@@ -71,7 +71,7 @@ module _ (opening : Opening) (words : List ℕ) (seats : List Known) (c : Core) 
 
 pub joins_allowed : (opening : Opening) (id other : ℕ) (k o : Known) → k.core.number < 64 → o.core.held ≡ [] → o.core.pins ≡ [] → Joins (IsCore opening) id k other o (with_joined k o) spent_known
 joins_allowed opening id other k o small held pins s (c, t) at apart there =
-    (joined_in c id k.core other o.core, join_table opening s.words s.views c id other k o t at apart (sym (set_else s.views id other (with_joined k o) apart) ∙ there) small held pins)
+    (core_after_join c id k.core other o.core, join_table opening s.words s.views c id other k o t at apart (sym (set_else s.views id other (with_joined k o) apart) ∙ there) small held pins)
 
 -- ---- a seat's numbers
 small_numbers : (xs : List ℕ) → ((n : ℕ) → 64 ≤ n → times n xs ≡ 0) → All (λ n. n < 64) xs

@@ -17,7 +17,7 @@ use Rattle.syn_table.specs.declared.Known.{Known}
 use Rattle.syn_table.specs.declared.Opening.{Opening}
 use Rattle.syn_table.specs.Numbers.{all_numbers}
 use Rattle.syn_table.specs.Rule.{views_of, HasOwnNumber, IsTied, IsTable, IsCore, IsActive}
-use Rattle.syn_core_laws.specs.Lists.{has}
+use Rattle.syn_rows.specs.Nodes.{has_node}
 use Rattle.syn_core_laws.specs.Events.{MayPin}
 use Rattle.syn_table.specs.Splitting.{last_of, all_but_last, without_last, split_from, AreNumbers}
 use Rattle.syn_table.proofs.Numbering.{numbers_set, numbers_last, numbers_in, numbers_of_two}
@@ -150,7 +150,7 @@ new_active k a numbers = record {
   shown = empty_shown (length k.opening) (last_of k.numbers);
 }
   where
-    nothing : (n : ℕ) → (has n [] ≡ true) ⊎ MayPin (empty_view (last_of k.numbers)) n → ⊥
+    nothing : (n : ℕ) → (has_node [] n ≡ true) ⊎ MayPin (empty_view (last_of k.numbers)) n → ⊥
     nothing n (inl e) = absurd (cc)
     nothing n (inr (inl (inl (r, e, used)))) = absurd (cc)
     nothing n (inr (inl (inr (m, r, e, refers)))) = absurd (cc)

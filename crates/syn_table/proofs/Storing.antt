@@ -1,5 +1,6 @@
 -- The steps that store a key or a row, each of which the rule allows.
 use Rattle.std.proofs.Common.{◌≡◌, ◌≢◌, ℕ, ◌+◌, ◌*◌, ◌^◌, ◌<◌, ◌≤◌, true, List, length, length-set, set, Option, Some, None, refl, sym, ap, ◌∙◌, subst, arith, nat_eq, if◌then◌else◌, get_or}
+use Rattle.syn_rows.specs.declared.TheConstants.{NODE_LIMIT}
 use mathlib.Core.Option.{some, none}
 use lib.ListN.{get_elem?}
 use Rattle.atomic_table.specs.Table.{Me, step, Allows}
@@ -8,10 +9,12 @@ use Rattle.syn_rows.specs.declared.Row.TheVariants.{Free, Source, And, Alias}
 use Rattle.syn_rows.specs.declared.Lit.{Lit}
 use Rattle.syn_rows.specs.Rows.{row_at, node_of}
 use Rattle.syn_rows.specs.Packing.{word_of, Packs}
+use Rattle.syn_rows.proofs.Packed.{same_packed}
 use Rattle.syn_rows.specs.References.{hits, refs}
 use Rattle.syn_core_laws.specs.declared.View.{View}
 use Rattle.syn_core_laws.specs.declared.EventKind.TheVariants as Kind
-use Rattle.syn_core_laws.specs.Lists.{has, look}
+use Rattle.syn_rows.specs.Nodes.{has_node}
+use Rattle.syn_core_laws.specs.Lists.{look}
 use Rattle.syn_core_laws.specs.Views.{is_derived_known, known_row, own_pins, key_set, made, redefined, freed}
 use Rattle.syn_core_laws.specs.Cores.{Core}
 use Rattle.syn_core_laws.specs.Shown.{IsShown}
@@ -30,32 +33,8 @@ use Rattle.syn_table.proofs.Ruling.{stepped_on, view_at}
 use Rattle.syn_table.proofs.Turning.{goes, becomes}
 
 -- ---- one word is one row's
-same_literal : (a b : Lit) → a.0 ≡ b.0 → a ≡ b
-same_literal a b e = ap (λ n. let l : Lit = record { 0 = n } in l) e
-
-same_packed : (r q : Row) → Packs r → Packs q → word_of r ≡ word_of q → r ≡ q
-same_packed Free Free p p' e = refl
-same_packed Free Source p p' e = absurd (omega arith)
-same_packed Free (And a b) p p' e = absurd (omega arith)
-same_packed Free (Alias a) p p' e = absurd (omega arith)
-same_packed Source Free p p' e = absurd (omega arith)
-same_packed Source Source p p' e = refl
-same_packed Source (And a b) p p' e = absurd (omega arith)
-same_packed Source (Alias a) p p' e = absurd (omega arith)
-same_packed (And a b) Free p p' e = absurd (omega arith)
-same_packed (And a b) Source p p' e = absurd (omega arith)
-same_packed (And a b) (And x y) p p' e =
-    let first : a ≡ x = same_literal a x (omega (arith, p.0, p.1, p'.0, p'.1)) in
-    let second : b ≡ y = same_literal b y (omega (arith, p.0, p.1, p'.0, p'.1)) in
-    ap (λ l. And l b) first ∙ ap (And x) second
-same_packed (And a b) (Alias x) p p' e = absurd (omega arith)
-same_packed (Alias a) Free p p' e = absurd (omega arith)
-same_packed (Alias a) Source p p' e = absurd (omega arith)
-same_packed (Alias a) (And x y) p p' e = absurd (omega arith)
-same_packed (Alias a) (Alias x) p p' e = ap Alias (same_literal a x (omega arith))
-
 -- a row that rests on pinned nodes of the table packs
-pub rests_pack : (v : View) (nodes : ℕ) (row : Row) → ((m : ℕ) → has m v.pins ≡ true → m < nodes) → nodes < 2 ^ 29 → ((m : ℕ) → refs m row ≤ own_pins v m) → Packs row
+pub rests_pack : (v : View) (nodes : ℕ) (row : Row) → ((m : ℕ) → has_node v.pins m ≡ true → m < nodes) → nodes < NODE_LIMIT → ((m : ℕ) → refs m row ≤ own_pins v m) → Packs row
 rests_pack v nodes Free within few served = tt
 rests_pack v nodes Source within few served = tt
 rests_pack v nodes (And a b) within few served =
@@ -70,7 +49,7 @@ rests_pack v nodes (Alias a) within few served =
     omega arith
 
 -- a row that may rest on its nodes still may once the key of a node known as free is stored
-pub rests_keyed : (v : View) (n key : ℕ) (row : Row) → known_row v n ≡ Some Free → ((m : ℕ) → has m v.pins ≡ true → known_row v m ≢ Some Free) → MayRest v key row → MayRest (key_set v n key) key row
+pub rests_keyed : (v : View) (n key : ℕ) (row : Row) → known_row v n ≡ Some Free → ((m : ℕ) → has_node v.pins m ≡ true → known_row v m ≢ Some Free) → MayRest v key row → MayRest (key_set v n key) key row
 rests_keyed v n key row free pinned may = (
   may.0,
   all_refs (KeyBelow v key) (KeyBelow (key_set v n key) key) row
@@ -81,10 +60,10 @@ rests_keyed v n key row free pinned may = (
 )
 
 -- a node on the zero list is held
-pub idle_held : (v : View) (nodes : ℕ) → IsShown nodes v → (n : ℕ) → has n v.idle ≡ true → has n v.held ≡ true
+pub idle_held : (v : View) (nodes : ℕ) → IsShown nodes v → (n : ℕ) → has_node v.idle n ≡ true → has_node v.held n ≡ true
 idle_held v nodes shown n h = go (known_row v n) refl (shown.idles n h).0
   where
-    go : (o : Option Row) → known_row v n ≡ o → is_derived_known o ≡ true → has n v.held ≡ true
+    go : (o : Option Row) → known_row v n ≡ o → is_derived_known o ≡ true → has_node v.held n ≡ true
     go None e d = absurd (cc)
     go (Some r) e d = (shown.rows n r e).1
 

@@ -11,7 +11,7 @@ use Rattle.syn_rows.specs.declared.Row.{Row}
 use Rattle.syn_rows.specs.Rows.{row_at}
 use Rattle.syn_core_laws.specs.declared.View.{View}
 use Rattle.syn_core_laws.specs.declared.EventKind.TheVariants as Kind
-use Rattle.syn_core_laws.specs.Lists.{has}
+use Rattle.syn_rows.specs.Nodes.{has_node}
 use Rattle.syn_core_laws.specs.Views.{is_mine, own_refs, own_pins, claimed, missed, released, row_loaded, pinned, unpinned, count_loaded, key_loaded}
 use Rattle.syn_core_laws.specs.Cores.{Core}
 use Rattle.syn_core_laws.specs.Events.{MayPin, after}
@@ -50,23 +50,23 @@ becomes o words seats c id me v w at small t same =
 -- ---- claim, or failed claim
 -- where one seat has all numbers, each claim is its own
 all_free : (o : Opening) (words : List ℕ) (seats : List Known) (c : Core) (id : ℕ) (k : Known) (n : ℕ) → IsTable o words seats c → get_elem? seats id ≡ some k → length k.numbers ≡ 64
-    → has n k.core.held ≡ false → get_or c.claims n 0 ≢ 0 → ⊥
+    → has_node k.core.held n ≡ false → get_or c.claims n 0 ≢ 0 → ⊥
 all_free o words seats c id k n t at full free ne =
     let holder = t.sound.claimant n ne in
     let seat = seat_of_view seats holder.0 holder.1 (ap (λ (vs : List View). get_elem? vs holder.0) (sym t.views) ∙ holder.2) in
-    let held : has n seat.0.core.held ≡ true = subst (λ (v : View). has n v.held ≡ true) (sym seat.2) holder.3 in
+    let held : has_node seat.0.core.held n ≡ true = subst (λ (v : View). has_node v.held n ≡ true) (sym seat.2) holder.3 in
     elim (cases_eq holder.0 id) [
       | inl same ↦
           let mine : seat.0 ≡ k = some-injective seat.0 k (sym seat.1 ∙ (ap (get_elem? seats) same ∙ at)) in
-          let both : has n k.core.held ≡ true = subst (λ (x : Known). has n x.core.held ≡ true) mine held in
+          let both : has_node k.core.held n ≡ true = subst (λ (x : Known). has_node x.core.held n ≡ true) mine held in
           absurd (cc)
       | inr other ↦
           let spent : seat.0.core ≡ empty_view 64 = others_spent o words seats c id holder.0 k seat.0 t at full other seat.1 in
-          let none : has n seat.0.core.held ≡ false = ap (λ (v : View). has n v.held) spent in
+          let none : has_node seat.0.core.held n ≡ false = ap (λ (v : View). has_node v.held n) spent in
           absurd (cc)
     ]
 
-claim_won : (o : Opening) (slots id : ℕ) (me : Me ℕ Known) (n x : ℕ) (s : State ℕ Known) → IsActive me.0 → x ≡ suc me.0.core.number → n < length me.0.opening → has n me.0.core.held ≡ false
+claim_won : (o : Opening) (slots id : ℕ) (me : Me ℕ Known) (n x : ℕ) (s : State ℕ Known) → IsActive me.0 → x ≡ suc me.0.core.number → n < length me.0.opening → has_node me.0.core.held n ≡ false
     → IsCore o s → get_elem? s.views id ≡ some me.0 → get_or s.words (1 + 4 * n) 0 ≡ 0
     → Goes o s id me (1 + 4 * n) x (TellsClaim (step slots (1 + 4 * n) 0 x none) me (get_or s.words (1 + 4 * n) 0))
 claim_won o slots id me n x s active is inside free core at e =
@@ -86,7 +86,7 @@ claim_won o slots id me n x s active is inside free core at e =
           (ap (λ b. if b then claimed v n else missed v n) (sym (eq-eqb found 0 e)) ∙ ap (λ m. if nat_eq found 0 then claimed v m else missed v m) (sym (claim_node n))),
     )
 
-claim_lost : (o : Opening) (slots id : ℕ) (me : Me ℕ Known) (n x : ℕ) (s : State ℕ Known) → IsActive me.0 → n < length me.0.opening → has n me.0.core.held ≡ false
+claim_lost : (o : Opening) (slots id : ℕ) (me : Me ℕ Known) (n x : ℕ) (s : State ℕ Known) → IsActive me.0 → n < length me.0.opening → has_node me.0.core.held n ≡ false
     → IsCore o s → get_elem? s.views id ≡ some me.0 → get_or s.words (1 + 4 * n) 0 ≢ 0
     → Goes o s id me (1 + 4 * n) (get_or s.words (1 + 4 * n) 0) (TellsClaim (step slots (1 + 4 * n) 0 x none) me (get_or s.words (1 + 4 * n) 0))
 claim_lost o slots id me n x s active inside free core at ne =
@@ -106,7 +106,7 @@ claim_lost o slots id me n x s active inside free core at ne =
           (ap (λ b. if b then claimed v n else missed v n) (sym (ne_eqb found 0 ne)) ∙ ap (λ m. if nat_eq found 0 then claimed v m else missed v m) (sym (claim_node n))),
     )
 
-claims_turn : (o : Opening) (slots id : ℕ) (me : Me ℕ Known) (n x : ℕ) → IsActive me.0 → x ≡ suc me.0.core.number → n < length me.0.opening → has n me.0.core.held ≡ false
+claims_turn : (o : Opening) (slots id : ℕ) (me : Me ℕ Known) (n x : ℕ) → IsActive me.0 → x ≡ suc me.0.core.number → n < length me.0.opening → has_node me.0.core.held n ≡ false
     → Allows (IsCore o) slots id me (1 + 4 * n) (λ k. either (nat_eq k 0) x k) (TellsClaim (step slots (1 + 4 * n) 0 x none) me)
 claims_turn o slots id me n x active is inside free s core homes at fits =
     let found : ℕ = get_or s.words (1 + 4 * n) 0 in
@@ -114,7 +114,7 @@ claims_turn o slots id me n x active is inside free s core homes at fits =
     (λ e. claim_won o slots id me n x s active is inside free core at e) (λ ne. claim_lost o slots id me n x s active inside free core at ne)
 
 -- ---- release
-releases_turn : (o : Opening) (slots id : ℕ) (me : Me ℕ Known) (n : ℕ) → IsActive me.0 → has n me.0.core.held ≡ true → has n me.0.core.idle ≡ false
+releases_turn : (o : Opening) (slots id : ℕ) (me : Me ℕ Known) (n : ℕ) → IsActive me.0 → has_node me.0.core.held n ≡ true → has_node me.0.core.idle n ≡ false
     → Allows (IsCore o) slots id me (1 + 4 * n) (λ _. 0) (λ _. TellsRelease (step slots (1 + 4 * n) 0 0 none) me 0)
 releases_turn o slots id me n active held idle s core homes at fits =
     let c : Core = core.0 in
@@ -129,7 +129,7 @@ releases_turn o slots id me n active held idle s core homes at fits =
     (becomes o (set s.words (1 + 4 * n) 0) s.views next id me (released v n) _ at active.number table (ap (released v) (sym (claim_node n))))
 
 -- ---- loads
-rows_turn : (o : Opening) (slots id : ℕ) (me : Me ℕ Known) (n : ℕ) → IsActive me.0 → has n me.0.core.held ≡ true
+rows_turn : (o : Opening) (slots id : ℕ) (me : Me ℕ Known) (n : ℕ) → IsActive me.0 → has_node me.0.core.held n ≡ true
     → Allows (IsCore o) slots id me (2 + 4 * n) (λ k. k) (TellsRow (step slots (2 + 4 * n) 0 0 none) me)
 rows_turn o slots id me n active held s core homes at fits =
     let c : Core = core.0 in
@@ -149,7 +149,7 @@ rows_turn o slots id me n active held s core homes at fits =
       becomes o (set s.words (2 + 4 * n) found) s.views next id me (row_loaded v n row) _ at active.number table (ap (λ m. row_loaded v m row) (sym (row_node n))),
     )
 
-counts_turn : (o : Opening) (slots id : ℕ) (me : Me ℕ Known) (n : ℕ) → IsActive me.0 → has n me.0.core.held ≡ true
+counts_turn : (o : Opening) (slots id : ℕ) (me : Me ℕ Known) (n : ℕ) → IsActive me.0 → has_node me.0.core.held n ≡ true
     → Allows (IsCore o) slots id me (3 + 4 * n) (λ k. k) (TellsCount (step slots (3 + 4 * n) 0 0 none) me)
 counts_turn o slots id me n active held s core homes at fits =
     let c : Core = core.0 in
@@ -173,8 +173,8 @@ counts_turn o slots id me n active held s core homes at fits =
     )
 
 -- what a seat holds or has pinned is in its reach
-pub reached : (v : View) (n : ℕ) → is_mine v n ≡ true → (has n v.held ≡ true) ⊎ MayPin v n
-reached v n mine = elim (or_cases (has n v.held) (has n v.pins) mine) [ inl held ↦ inl held | inr pinned ↦ inr (inr pinned) ]
+pub reached : (v : View) (n : ℕ) → is_mine v n ≡ true → (has_node v.held n ≡ true) ⊎ MayPin v n
+reached v n mine = elim (or_cases (has_node v.held n) (has_node v.pins n) mine) [ inl held ↦ inl held | inr pinned ↦ inr (inr pinned) ]
 
 keys_turn : (o : Opening) (slots id : ℕ) (me : Me ℕ Known) (n : ℕ) → IsActive me.0 → is_mine me.0.core n ≡ true
     → Allows (IsCore o) slots id me (4 + 4 * n) (λ k. k) (TellsKey (step slots (4 + 4 * n) 0 0 none) me)
@@ -214,7 +214,7 @@ pins_turn o slots id me n active may room s core homes at fits =
     goes o s id me (3 + 4 * n) ((found + 1) % 2 ^ 64) (TellsPin (step slots (3 + 4 * n) 1 0 none) me found) (pinned v n) next table
     (becomes o (set s.words (3 + 4 * n) ((found + 1) % 2 ^ 64)) s.views next id me (pinned v n) _ at active.number table (ap (pinned v) (sym (count_node n))))
 
-unpins_turn : (o : Opening) (slots id : ℕ) (me : Me ℕ Known) (n : ℕ) → IsActive me.0 → has n me.0.core.pins ≡ true
+unpins_turn : (o : Opening) (slots id : ℕ) (me : Me ℕ Known) (n : ℕ) → IsActive me.0 → has_node me.0.core.pins n ≡ true
     → Allows (IsCore o) slots id me (3 + 4 * n) (λ k. (k + (2 ^ 64 - 1)) % 2 ^ 64) (TellsUnpin (step slots (3 + 4 * n) 1 0 none) me)
 unpins_turn o slots id me n active mine s core homes at fits =
     let c : Core = core.0 in
@@ -240,22 +240,22 @@ unpins_turn o slots id me n active mine s core homes at fits =
     )
 
 -- ---- the same, wherever the index of the word comes from
-pub claims_allowed : (o : Opening) (slots id : ℕ) (me : Me ℕ Known) (n x : ℕ) (i : ℕ) → i ≡ 1 + 4 * n → IsActive me.0 → x ≡ suc me.0.core.number → n < length me.0.opening → has n me.0.core.held ≡ false
+pub claims_allowed : (o : Opening) (slots id : ℕ) (me : Me ℕ Known) (n x : ℕ) (i : ℕ) → i ≡ 1 + 4 * n → IsActive me.0 → x ≡ suc me.0.core.number → n < length me.0.opening → has_node me.0.core.held n ≡ false
     → Allows (IsCore o) slots id me i (λ k. either (nat_eq k 0) x k) (TellsClaim (step slots i 0 x none) me)
 claims_allowed o slots id me n x i e active is inside free =
     subst (λ w. Allows (IsCore o) slots id me w (λ k. either (nat_eq k 0) x k) (TellsClaim (step slots w 0 x none) me)) (sym e) (claims_turn o slots id me n x active is inside free)
 
-pub releases_allowed : (o : Opening) (slots id : ℕ) (me : Me ℕ Known) (n : ℕ) (i : ℕ) → i ≡ 1 + 4 * n → IsActive me.0 → has n me.0.core.held ≡ true → has n me.0.core.idle ≡ false
+pub releases_allowed : (o : Opening) (slots id : ℕ) (me : Me ℕ Known) (n : ℕ) (i : ℕ) → i ≡ 1 + 4 * n → IsActive me.0 → has_node me.0.core.held n ≡ true → has_node me.0.core.idle n ≡ false
     → Allows (IsCore o) slots id me i (λ _. 0) (λ _. TellsRelease (step slots i 0 0 none) me 0)
 releases_allowed o slots id me n i e active held busy =
     subst (λ w. Allows (IsCore o) slots id me w (λ _. 0) (λ _. TellsRelease (step slots w 0 0 none) me 0)) (sym e) (releases_turn o slots id me n active held busy)
 
-pub rows_allowed : (o : Opening) (slots id : ℕ) (me : Me ℕ Known) (n : ℕ) (i : ℕ) → i ≡ 2 + 4 * n → IsActive me.0 → has n me.0.core.held ≡ true
+pub rows_allowed : (o : Opening) (slots id : ℕ) (me : Me ℕ Known) (n : ℕ) (i : ℕ) → i ≡ 2 + 4 * n → IsActive me.0 → has_node me.0.core.held n ≡ true
     → Allows (IsCore o) slots id me i (λ k. k) (TellsRow (step slots i 0 0 none) me)
 rows_allowed o slots id me n i e active held =
     subst (λ w. Allows (IsCore o) slots id me w (λ k. k) (TellsRow (step slots w 0 0 none) me)) (sym e) (rows_turn o slots id me n active held)
 
-pub counts_allowed : (o : Opening) (slots id : ℕ) (me : Me ℕ Known) (n : ℕ) (i : ℕ) → i ≡ 3 + 4 * n → IsActive me.0 → has n me.0.core.held ≡ true
+pub counts_allowed : (o : Opening) (slots id : ℕ) (me : Me ℕ Known) (n : ℕ) (i : ℕ) → i ≡ 3 + 4 * n → IsActive me.0 → has_node me.0.core.held n ≡ true
     → Allows (IsCore o) slots id me i (λ k. k) (TellsCount (step slots i 0 0 none) me)
 counts_allowed o slots id me n i e active held =
     subst (λ w. Allows (IsCore o) slots id me w (λ k. k) (TellsCount (step slots w 0 0 none) me)) (sym e) (counts_turn o slots id me n active held)
@@ -270,14 +270,14 @@ pub pins_allowed : (o : Opening) (slots id : ℕ) (me : Me ℕ Known) (n : ℕ) 
 pins_allowed o slots id me n i e active may room =
     subst (λ w. Allows (IsCore o) slots id me w (λ k. (k + 1) % 2 ^ 64) (TellsPin (step slots w 1 0 none) me)) (sym e) (pins_turn o slots id me n active may room)
 
-pub unpins_allowed : (o : Opening) (slots id : ℕ) (me : Me ℕ Known) (n : ℕ) (i : ℕ) → i ≡ 3 + 4 * n → IsActive me.0 → has n me.0.core.pins ≡ true
+pub unpins_allowed : (o : Opening) (slots id : ℕ) (me : Me ℕ Known) (n : ℕ) (i : ℕ) → i ≡ 3 + 4 * n → IsActive me.0 → has_node me.0.core.pins n ≡ true
     → Allows (IsCore o) slots id me i (λ k. (k + (2 ^ 64 - 1)) % 2 ^ 64) (TellsUnpin (step slots i 1 0 none) me)
 unpins_allowed o slots id me n i e active mine =
     subst (λ w. Allows (IsCore o) slots id me w (λ k. (k + (2 ^ 64 - 1)) % 2 ^ 64) (TellsUnpin (step slots w 1 0 none) me)) (sym e) (unpins_turn o slots id me n active mine)
 
 -- ---- the answer of an unpin
 -- a sole node's count was 1 exactly where no reference of the seat and no pin of it is left
-pub last_pin : (k new : Known) (n found : ℕ) → has n k.core.pins ≡ true → IsSoleCount k n found → new ≡ with_view k (unpinned k.core n found) → has n k.core.sole ≡ true
+pub last_pin : (k new : Known) (n found : ℕ) → has_node k.core.pins n ≡ true → IsSoleCount k n found → new ≡ with_view k (unpinned k.core n found) → has_node k.core.sole n ≡ true
     → IsTrue (nat_eq found 1) ↔ IsAlone new n
 last_pin k new n found mine counted is sole = subst (λ z. IsTrue (nat_eq found 1) ↔ IsAlone z n) (sym is) (gone, last)
   where

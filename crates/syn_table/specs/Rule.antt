@@ -8,7 +8,7 @@ use Rattle.syn_rows.specs.declared.Lit.{Lit}
 use Rattle.syn_rows.specs.References.{times}
 use Rattle.syn_core_laws.specs.declared.View.{View}
 use Rattle.syn_core_laws.specs.Cores.{Core}
-use Rattle.syn_core_laws.specs.Lists.{has}
+use Rattle.syn_rows.specs.Nodes.{has_node}
 use Rattle.syn_core_laws.specs.Events.{MayPin}
 use Rattle.syn_core_laws.specs.Openings.{empty_view}
 use Rattle.syn_core_laws.specs.Bounds.{IsSmall}
@@ -69,5 +69,5 @@ first_known opening = first_seat (opened_rows opening) (opened_literals opening)
 pub record IsActive (k : Known) : Type 0 where
   pub number : k.core.number < 64
   pub own : HasOwnNumber k
-  pub within : (n : ℕ) → (has n k.core.held ≡ true) ⊎ MayPin k.core n → n < length k.opening
+  pub within : (n : ℕ) → (has_node k.core.held n ≡ true) ⊎ MayPin k.core n → n < length k.opening
   pub shown : IsShown (length k.opening) k.core

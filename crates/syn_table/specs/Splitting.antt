@@ -2,7 +2,7 @@
 use Rattle.std.specs.Prelude.{◌≡◌, ℕ, ◌<◌, ◌≤◌, All, List, [], ◌∷◌, ◌++◌, length}
 use Rattle.atomic_table.specs.Table.{Step, Me}
 use Rattle.syn_core_laws.specs.Openings.{empty_view}
-use Rattle.syn_core_laws.specs.Splits.{joined}
+use Rattle.syn_core_laws.specs.Splits.{view_after_join}
 use Rattle.syn_table.specs.declared.Known.{Known}
 
 -- the last of the numbers, 0 where there is none
@@ -27,7 +27,7 @@ split_from k = record { core = empty_view (last_of k.numbers); numbers = last_of
 
 -- the seat that takes in another has both seats' numbers, misses and differences
 abbrev pub with_joined : Known → Known → Known
-with_joined k other = record k { core = joined k.core other.core; numbers = k.numbers ++ other.numbers }
+with_joined k other = record k { core = view_after_join k.core other.core; numbers = k.numbers ++ other.numbers }
 
 -- a seat that is spent: it has no number and knows nothing, and its difference is 0
 abbrev pub spent_known : Known

@@ -4,7 +4,7 @@ use Rattle.atomic_table.specs.Table.{Step, Me}
 use Rattle.syn_rows.specs.declared.Row.{Row}
 use Rattle.syn_rows.specs.Packing.{word_of, Packs}
 use Rattle.syn_core_laws.specs.declared.View.{View}
-use Rattle.syn_core_laws.specs.Lists.{has}
+use Rattle.syn_rows.specs.Nodes.{has_node}
 use Rattle.syn_core_laws.specs.Views.{known_row, known_key, own_refs, own_pins, claimed, missed, released, row_loaded, pinned, unpinned, count_loaded, key_loaded, key_set, made, redefined, freed}
 use Rattle.syn_core_laws.specs.Events.{MayRedefine}
 use Rattle.syn_table.specs.declared.Known.{Known}
@@ -41,7 +41,7 @@ TellsPin s me found = Becomes me (pinned me.0.core (node_at s.word))
 
 -- the count of a sole node is that of the seat's own references and pins
 abbrev pub IsSoleCount : Known → ℕ → ℕ → Type 0
-IsSoleCount k n count = has n k.core.sole ≡ true → count ≡ own_refs (length k.opening) k.core n + own_pins k.core n
+IsSoleCount k n count = has_node k.core.sole n ≡ true → count ≡ own_refs (length k.opening) k.core n + own_pins k.core n
 
 -- the number found is the count before it fell by 1
 abbrev pub TellsUnpin : Step ℕ → Me ℕ Known → ℕ → Me ℕ Known → Type 0

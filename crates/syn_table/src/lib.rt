@@ -2,6 +2,7 @@
 #![tactic(auto)]
 
 ghost use Rattle.std.specs.Prelude.{◌≡◌, ◌+◌, ◌*◌, ◌^◌, ◌<◌, [], length};
+ghost use Rattle.syn_rows.specs.declared.TheConstants.{NODE_LIMIT};
 ghost use Rattle.syn_table.specs.Openings.{opened_literals};
 ghost use Rattle.syn_table.specs.Rule.{IsActive, IsCore, first_known};
 
@@ -62,7 +63,7 @@ pub struct Shared {
     observed: Items<Lit>,
     ghost words: { table.shared.table_id.words ≡ 1 + 4 * nodes },
     ghost slots: { table.shared.table_id.slots ≡ 0 },
-    ghost few: { nodes < 2 ^ 29 },
+    ghost few: { nodes < NODE_LIMIT },
     ghost literals: { observed ≡ opened_literals table.shared.key },
 }
 

@@ -1,6 +1,7 @@
 //! The start of a table: the words of a graph's nodes and the first seat.
 
 ghost use Rattle.std.specs.Prelude.{◌≡◌, ℕ, suc, ◌+◌, ◌*◌, ◌^◌, ◌<◌, ◌≤◌, ◌++◌, [], ◌∷◌, length, slice_index_or, IfOk, OnOk};
+ghost use Rattle.syn_rows.specs.declared.TheConstants.{NODE_LIMIT};
 ghost use Rattle.syn_rows.specs.Packing.{word_of, Packs};
 ghost use Rattle.syn_rows.specs.Rows.{row_at};
 ghost use Rattle.syn_table.specs.Laying.{AreWords};
@@ -28,7 +29,7 @@ impl Shared {
         spare: u32,
     ) -> Result<(Shared, Seat), AllocError>
         requires keys { AreKeys graph.now.rows keys.now }
-        requires nodes { length graph.now.rows + spare < 2 ^ 29 }
+        requires nodes { length graph.now.rows + spare < NODE_LIMIT }
         requires literals { length graph.now.observed < 2 ^ 30 }
         ensures graph { IfOk result (λ t. graph_of t.0 ≡ graph.now) }
         ensures spare { IfOk result (λ t. spare_of t.0 ≡ spare) }

@@ -4,7 +4,7 @@ ghost use Rattle.std.specs.Prelude.{◌≡◌, ◌≢◌, ◌⊎◌, ℕ, suc, �
 ghost use Rattle.syn_rows.specs.declared.Row.{Row};
 ghost use Rattle.syn_rows.specs.Packing.{word_of, Packs};
 ghost use Rattle.syn_core_laws.specs.Events.{MayPin};
-ghost use Rattle.syn_core_laws.specs.Lists.{has};
+ghost use Rattle.syn_rows.specs.Nodes.{has_node};
 ghost use Rattle.syn_core_laws.specs.Views.{is_mine, own_refs, own_pins, claimed, missed, released, row_loaded, pinned, count_loaded, key_loaded};
 ghost use Rattle.syn_core_laws.specs.Shown.{IsShown};
 ghost use Rattle.syn_table.specs.Seating.{IsOf, known_of, nodes_of, view_of};
@@ -39,7 +39,7 @@ impl Shared {
     #[inline]
     pub fn seats_reach_nodes(&self, seat: &Seat)
         requires { IsOf seat.now self.now }
-        ensures reach { (n : ℕ) → (has n (view_of seat.now).held ≡ true) ⊎ MayPin (view_of seat.now) n → n < nodes_of self.now }
+        ensures reach { (n : ℕ) → (has_node (view_of seat.now).held n ≡ true) ⊎ MayPin (view_of seat.now) n → n < nodes_of self.now }
         ensures opening { length (known_of seat.now).opening ≡ nodes_of self.now }
         ensures number { (view_of seat.now).number < 64 }
         ensures shown { IsShown (nodes_of self.now) (view_of seat.now) }
@@ -67,7 +67,7 @@ impl Shared {
     pub fn claim(&self, seat: &mut Seat, node: u32) -> bool
         requires table { IsOf seat.old self.now }
         requires node { node < nodes_of self.now }
-        requires free { has node (view_of seat.old).held ≡ false }
+        requires free { has_node (view_of seat.old).held node ≡ false }
         ensures table { IsOf seat.new self.now }
         ensures known { known_of seat.new ≡ with_view (known_of seat.old) (if result then claimed (view_of seat.old) node else missed (view_of seat.old) node) }
         ensures alone { length (known_of seat.old).numbers ≡ 64 → result ≡ true }
@@ -84,8 +84,8 @@ impl Shared {
     #[inline]
     pub fn release(&self, seat: &mut Seat, node: u32)
         requires table { IsOf seat.old self.now }
-        requires held { has node (view_of seat.old).held ≡ true }
-        requires busy { has node (view_of seat.old).idle ≡ false }
+        requires held { has_node (view_of seat.old).held node ≡ true }
+        requires busy { has_node (view_of seat.old).idle node ≡ false }
         ensures table { IsOf seat.new self.now }
         ensures known { known_of seat.new ≡ with_view (known_of seat.old) (released (view_of seat.old) node) }
     {
@@ -98,7 +98,7 @@ impl Shared {
     #[inline]
     pub fn row_of(&self, seat: &mut Seat, node: u32) -> Row
         requires table { IsOf seat.old self.now }
-        requires held { has node (view_of seat.old).held ≡ true }
+        requires held { has_node (view_of seat.old).held node ≡ true }
         ensures table { IsOf seat.new self.now }
         ensures known { known_of seat.new ≡ with_view (known_of seat.old) (row_loaded (view_of seat.old) node result) }
     {
@@ -129,10 +129,10 @@ impl Shared {
     #[inline]
     pub fn unpin(&self, seat: &mut Seat, node: u32) -> bool
         requires table { IsOf seat.old self.now }
-        requires pinned { has node (view_of seat.old).pins ≡ true }
+        requires pinned { has_node (view_of seat.old).pins node ≡ true }
         ensures table { IsOf seat.new self.now }
         ensures known { Unpins (known_of seat.old) node result (known_of seat.new) }
-        ensures sole { has node (view_of seat.old).sole ≡ true → IsTrue result ↔ IsAlone (known_of seat.new) node }
+        ensures sole { has_node (view_of seat.old).sole node ≡ true → IsTrue result ↔ IsAlone (known_of seat.new) node }
     {
         let found = self
             .table
@@ -145,7 +145,7 @@ impl Shared {
     #[inline]
     pub fn refs_of(&self, seat: &mut Seat, node: u32) -> u32
         requires table { IsOf seat.old self.now }
-        requires held { has node (view_of seat.old).held ≡ true }
+        requires held { has_node (view_of seat.old).held node ≡ true }
         ensures table { IsOf seat.new self.now }
         ensures known { known_of seat.new ≡ with_view (known_of seat.old) (count_loaded (nodes_of self.now) (view_of seat.old) node result) }
         ensures own { own_refs (nodes_of self.now) (view_of seat.old) node + own_pins (view_of seat.old) node ≤ result }

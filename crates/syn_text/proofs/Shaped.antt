@@ -8,9 +8,9 @@ use Rattle.syn_netlist.specs.Faults.{inputs_of, reads}
 use Rattle.syn_netlist.specs.Lists.{Table, Netlist, output_of, latch_reads, sources, observed}
 use Rattle.syn_netlist.specs.Order.{Ordered, defined, reads_known}
 use Rattle.syn_netlist.specs.Words.{has_word, without, firsts}
-use Rattle.syn_netlist.proofs.Sets.{has_word-append, has_left, has_right, all_at}
+use Rattle.syn_netlist.proofs.Sets.{has_word-append, has_left, has_right, all_at, all_each}
 use Rattle.syn_shapes.specs.GraphShape.{GraphShape, and_tables, end_tables}
-use Rattle.syn_reader.proofs.Answering.{all_each, none_from_all}
+use Rattle.syn_reader.proofs.Answering.{none_from_all}
 use Rattle.syn_reader.proofs.Defining.{has_word-without}
 use Rattle.syn_text.specs.WellFormed.{ShapedIsChecked}
 

@@ -1,8 +1,8 @@
 -- The netlist in words that one by numbers stands for can be written.
-use Rattle.std.proofs.Common.{◌≡◌, ℕ, zero, suc, ◌<◌, ◌&&◌, not, nat_lt, true, List, [], ◌∷◌, length, map, bytes_eq, refl, ap, ◌∙◌, Option, Some, None, arith}
+use Rattle.std.proofs.Common.{◌≡◌, ℕ, ◌<◌, ◌&&◌, not, nat_lt, true, List, [], ◌∷◌, length, map, bytes_eq, refl, ap, ◌∙◌, Option, Some, None, arith}
 use Rattle.std.specs.List.{list_all}
 use Rattle.std.proofs.lemmas.Bool.Decides.{nat_tests}
-use Rattle.std.proofs.lemmas.Bool.{and_parts, and_from}
+use Rattle.std.proofs.lemmas.Bool.{and_parts, and_from, ltb-true}
 use Rattle.std.proofs.lemmas.List.{length-map}
 use Rattle.syn_netlist.specs.Words.{is_word}
 use Rattle.syn_netlist.specs.Numbers.{word_at, words_at, kind_at, all_below}
@@ -14,21 +14,18 @@ use Rattle.syn_netlist.specs.Lists.{control_of}
 use Rattle.syn_netlist.specs.Kept.{latch_in, control_number, latch_numbers, latches_below, nil_word, no_nil_control, rows_fit, polarity_fits}
 use Rattle.syn_netlist.specs.Tables.{table_in, tables_below}
 use Rattle.syn_netlist.specs.Views.{netlist_in}
+use Rattle.syn_netlist.proofs.Places.{has_word_at}
+use Rattle.syn_netlist.proofs.Sets.{all_at}
 use Rattle.syn_text.specs.WellFormed.{latch_fits, table_fits, IsWellFormed}
 
 at_is_word : (names : List (List ℕ)) (i : ℕ) → list_all is_word names ≡ true → i < length names → is_word (word_at names i) ≡ true
-at_is_word [] i a l = absurd (omega arith)
-at_is_word (w ∷ ws) zero a l = (and_parts (is_word w) (list_all is_word ws) a).0
-at_is_word (w ∷ ws) (suc i) a l = at_is_word ws i (and_parts (is_word w) (list_all is_word ws) a).1 (omega arith)
-
-below : (i n : ℕ) → nat_lt i n ≡ true → i < n
-below i n h = grind (arith, nat_tests)
+at_is_word names i a l = all_at is_word names (word_at names i) a (has_word_at names i l)
 
 are_words : (names : List (List ℕ)) (is : List ℕ) → list_all is_word names ≡ true → all_below (length names) is ≡ true → list_all is_word (words_at names is) ≡ true
 are_words names [] a h = refl
 are_words names (i ∷ is) a h =
     let p = and_parts (nat_lt i (length names)) (all_below (length names) is) h in
-    and_from (is_word (word_at names i)) (list_all is_word (words_at names is)) (at_is_word names i a (below i (length names) p.0)) (are_words names is a p.1)
+    and_from (is_word (word_at names i)) (list_all is_word (words_at names is)) (at_is_word names i a (ltb-true i (length names) p.0)) (are_words names is a p.1)
 
 -- latches
 control_words : (names : List (List ℕ)) (kind : Option (LatchKind × Option ℕ)) → list_all is_word names ≡ true → all_below (length names) (control_number kind) ≡ true → list_all is_word (control_of (kind_at names kind)) ≡ true
@@ -50,8 +47,8 @@ latch_in_fits names l a h s =
     let q = and_parts (nat_lt l.output (length names)) (all_below (length names) (control_number l.kind)) p.1 in
     and_from _ (nat_lt l.init 4)
     (and_from _ (list_all (λ w. not (bytes_eq nil_word w)) (control_of (kind_at names l.kind)))
-    (and_from (is_word (word_at names l.output)) _ (at_is_word names l.output a (below l.output (length names) q.0))
-    (and_from (is_word (word_at names l.feed)) (list_all is_word (control_of (kind_at names l.kind))) (at_is_word names l.feed a (below l.feed (length names) p.0)) (control_words names l.kind a q.1)))
+    (and_from (is_word (word_at names l.output)) _ (at_is_word names l.output a (ltb-true l.output (length names) q.0))
+    (and_from (is_word (word_at names l.feed)) (list_all is_word (control_of (kind_at names l.kind))) (at_is_word names l.feed a (ltb-true l.feed (length names) p.0)) (control_words names l.kind a q.1)))
     (no_nil names l.kind s))
     (small l.init l.init_small)
 
@@ -68,7 +65,7 @@ table_in_fits names t a h =
     let p = and_parts (nat_lt t.output (length names)) (all_below (length names) t.inputs) h in
     and_from _ (polarity_fits t.rows t.on)
     (and_from _ (rows_fit (length (words_at names t.inputs)) t.rows)
-    (and_from (is_word (word_at names t.output)) (list_all is_word (words_at names t.inputs)) (at_is_word names t.output a (below t.output (length names) p.0)) (are_words names t.inputs a p.1))
+    (and_from (is_word (word_at names t.output)) (list_all is_word (words_at names t.inputs)) (at_is_word names t.output a (ltb-true t.output (length names) p.0)) (are_words names t.inputs a p.1))
     (ap (λ n. rows_fit n t.rows) (length-map t.inputs (word_at names)) ∙ t.rows_fit))
     t.polarity
 

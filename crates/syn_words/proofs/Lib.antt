@@ -1,4 +1,2 @@
-pub mod Splits
-pub mod Pieces
 pub mod Values
 pub mod Deciding

@@ -1,5 +1,5 @@
 -- A number with more digits behind it is no smaller.
-use Rattle.std.proofs.Common.{◌≡◌, ℕ, ◌+◌, ◌-◌, ◌*◌, ◌^◌, ◌<◌, ◌≤◌, List, [], ◌∷◌, length, drop, get_or, ap, sym, ◌∙◌, arith}
+use Rattle.std.proofs.Common.{◌≡◌, ℕ, ◌+◌, ◌-◌, ◌*◌, ◌^◌, ◌<◌, ◌≤◌, List, [], ◌∷◌, length, drop, get_or, ap, arith}
 use Rattle.std.proofs.lemmas.List.{drop_more}
 use Rattle.syn_words.specs.Numbers.{number_after, number_of}
 

@@ -1,6 +1,6 @@
 -- Forms: what may stand behind a command's name, read word by word.
 use Rattle.std.specs.Prelude.{ℕ, true, false, Bool, is_some, if◌then◌else◌, List, [], ◌∷◌, Option, Some, None, Result, Ok, Err, bytes_eq}
-use Rattle.syn_words.specs.declared.words.Word.{Word}
+use Rattle.syn_lex.specs.Words.{Word}
 use Rattle.syn_words.specs.Numbers.{number_at}
 use Rattle.syn_words.specs.declared.forms.Form.{Form}
 use Rattle.syn_words.specs.declared.forms.Numbered.{Numbered}

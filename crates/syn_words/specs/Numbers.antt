@@ -1,7 +1,7 @@
 -- Numbers in scripts: one or more digits, of which leading ones may be zeros.
 use Rattle.std.specs.Prelude.{ℕ, ◌+◌, ◌-◌, ◌*◌, nat_le, nat_lt, ◌&&◌, Bool, if◌then◌else◌, List, [], ◌∷◌, length, Option, Some, None, Result, Ok, Err}
 use Rattle.std.specs.List.{list_all}
-use Rattle.syn_words.specs.declared.words.Word.{Word}
+use Rattle.syn_lex.specs.Words.{Word}
 use Rattle.syn_words.specs.declared.forms.NumberRange.{NumberRange}
 use Rattle.syn_words.specs.declared.ScriptFault.{ScriptFault}
 use Rattle.syn_words.specs.declared.ScriptFault.TheVariants.{BadNumber, OutOfRange}

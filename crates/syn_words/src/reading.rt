@@ -7,7 +7,7 @@ use crate::ScriptFault;
 use crate::forms::{Form, NumberRange, Numbered, Operands};
 use crate::names::WordText;
 use crate::numbers::number_at;
-use crate::words::{Word, Words};
+use crate::words::{CommandWords, Word, next_word};
 
 /// What was given behind a command's name.
 #[derive(Debug, Drop)]
@@ -166,11 +166,15 @@ impl<'a> Progress<'a> {
 }
 
 /// What the words behind a name give by a form, or their first fault.
-pub fn given_by<'a>(form: Form, mut further: Words<'a>, end: u32) -> Result<Given<'a>, ScriptFault>
+pub fn given_by<'a>(
+    form: Form,
+    mut further: CommandWords<'a>,
+    end: u32,
+) -> Result<Given<'a>, ScriptFault>
     ensures { result ≡ given_by form end further.entry }
 {
     let mut progress = Given::nothing().before(Awaits::Options);
-    while let Some(word) = further.take_word() {
+    while let Some(word) = next_word(&mut further) {
         progress = progress.after_word(form, word)?;
     }
     let Progress { given, awaits } = progress;

@@ -1,13 +1,12 @@
 //! The words of a script, and its commands as words.
 
-ghost use Rattle.std.specs.Prelude.{◌≡◌, ◌+◌, ◌^◌, ◌<◌, ◌≤◌, [], ◌∷◌, length, true, IfSome, IfNone};
-ghost use Rattle.std.specs.List.{list_all};
-ghost use Rattle.syn_words.specs.Bytes.{bad_byte, is_word_byte, may_stand};
-ghost use Rattle.syn_words.specs.Phrases.{IsCut, phrases, phrases_at, piece_len, pieces};
-ghost use Rattle.syn_words.specs.Words.{blank_len, word_len, words_at};
+ghost use Rattle.std.specs.Prelude.{◌≡◌, ◌+◌, ◌^◌, ◌<◌, [], ◌∷◌, length, IfSome, IfNone};
+ghost use Rattle.syn_words.specs.Bytes.{bad_byte, may_stand};
+ghost use Rattle.syn_words.specs.Phrases.{phrases, phrases_at, pieces};
 
 use crate::names::WordText;
 use std::marker::Model;
+use syn_lex::{WordBytes, Words, cut_piece};
 
 fn may_stand(byte: u8) -> bool
     ensures { result ≡ may_stand byte }
@@ -28,129 +27,54 @@ pub fn bad_byte(text: &[u8]) -> Option<u32>
     None
 }
 
-fn is_word_byte(byte: u8) -> bool
-    ensures { result ≡ is_word_byte byte }
-{
-    byte > 32 && byte < 127
-}
+/// The bytes of words in a script: 33 to 126.
+pub struct ScriptBytes;
 
-// The length of the word in front.
-fn word_len(bytes: &[u8]) -> usize
-    ensures value { result ≡ word_len bytes.now }
-    ensures within { result ≤ length bytes.now }
-{
-    for (i, byte) in bytes.iter().enumerate() {
-        if !is_word_byte(*byte) {
-            return i;
-        }
+impl WordBytes for ScriptBytes {
+    ghost use Rattle.syn_words.specs.Bytes.{is_word_byte};
+
+    ghost holds = { is_word_byte };
+
+    fn holds(byte: u8) -> bool {
+        byte > 32 && byte < 127
     }
-    bytes.len()
 }
 
-// The number of bytes before the first word.
-fn blank_len(bytes: &[u8]) -> usize
-    ensures value { result ≡ blank_len bytes.now }
-    ensures within { result ≤ length bytes.now }
-{
-    for (i, byte) in bytes.iter().enumerate() {
-        if is_word_byte(*byte) {
-            return i;
-        }
-    }
-    bytes.len()
-}
+/// The words that are left of a command.
+pub type CommandWords<'a> = Words<'a, ScriptBytes>;
 
-// The number of bytes before the first semicolon.
-fn piece_len(bytes: &[u8]) -> usize
-    ensures value { result ≡ piece_len bytes.now }
-    ensures within { result ≤ length bytes.now }
-{
-    for (i, byte) in bytes.iter().enumerate() {
-        if *byte == b';' {
-            return i;
-        }
-    }
-    bytes.len()
-}
-
-// The first piece, and what stands behind its semicolon.
-fn cut_piece(bytes: &[u8]) -> (&[u8], &[u8])
-    requires { 0 < length bytes.now }
-    ensures { IsCut bytes.now result.0.now result.1.now }
-{
-    let (piece, rest) = bytes.split_at(piece_len(bytes));
-    if rest.is_empty() {
-        return (piece, rest);
-    }
-    let (_, behind) = rest.split_at(1);
-    (piece, behind)
-}
-
-// A word: the offset of its first byte in the text, and its bytes.
+// A word: the offset of its first byte in the text, and its bytes. Contracts see it as the lexer's.
 #[derive(Debug, Drop)]
 pub struct Word<'a> {
     pub at: u32,
     pub text: WordText<'a>,
 }
 
-// The words that are left of a command, in order. Contracts see their list.
-#[derive(Drop)]
-pub struct Words<'a> {
-    rest: &'a [u8],
-    at: usize,
+impl<'a> Model for Word<'a> {
+    ghost use Rattle.syn_lex.specs.Words.{Word};
+
+    ghost Value = { Word };
+
+    ghost view = { λ w. record { at = w.at; text = w.text } };
 }
 
-impl<'a> Model for Words<'a> {
-    ghost use Rattle.std.specs.Prelude.{List, ◌+◌, ◌<◌, ◌^◌, length};
-    ghost use Rattle.syn_words.specs.Words.{words_at};
-    ghost use Rattle.syn_words.specs.declared.words.Word.{Word};
-
-    ghost Value = { List Word };
-
-    ghost view = { λ w. words_at w.at w.rest.now };
-
-    ghost invariant = { λ w. w.at + length w.rest.now < 2 ^ 32 };
-}
-
-// The first word, and the words behind it.
-fn cut_word<'a>(text: &'a [u8], start: usize) -> Option<(Word<'a>, Words<'a>)>
-    requires { start + length text.now < 2 ^ 32 }
-    ensures none { IfNone result (words_at start text.now ≡ []) }
-    ensures some { IfSome result (λ cut. words_at start text.now ≡ cut.0 ∷ cut.1) }
+// Takes the next word.
+pub fn next_word<'a>(words: &mut CommandWords<'a>) -> Option<Word<'a>>
+    ensures none { IfNone result (words.old ≡ []) }
+    ensures some { IfSome result (λ word. words.old ≡ word ∷ words.new) }
 {
-    let blanks = blank_len(text);
-    let (_, rest) = text.split_at(blanks);
-    if rest.is_empty() {
-        return None;
-    }
-    let at = start + blanks;
-    let len = word_len(rest);
-    let (word, rest) = rest.split_at(len);
-    let first = Word {
-        at: at as u32,
-        text: WordText::of(word),
-    };
-    let behind = Words { rest, at: at + len };
-    Some((first, behind))
-}
-
-impl<'a> Words<'a> {
-    // Takes the next word.
-    pub fn take_word(&mut self) -> Option<Word<'a>>
-        ensures none { IfNone result (self.old ≡ []) }
-        ensures some { IfSome result (λ word. self.old ≡ word ∷ self.new) }
-    {
-        let (word, behind) = cut_word(self.rest, self.at)?;
-        *self = behind;
-        Some(word)
-    }
+    let (at, text) = words.take_word()?;
+    Some(Word {
+        at,
+        text: WordText::of(text),
+    })
 }
 
 // A command as it is written: its first word, the words behind it, and the offset at which it ends.
 #[derive(Drop)]
 pub struct Phrase<'a> {
     pub name: Word<'a>,
-    pub further: Words<'a>,
+    pub further: CommandWords<'a>,
     pub end: u32,
 }
 
@@ -182,12 +106,13 @@ fn cut_phrase<'a>(text: &'a [u8], start: usize) -> Option<(Phrase<'a>, Phrases<'
     let mut rest = text;
     let mut at = start;
     while !rest.is_empty() {
-        let (piece, behind) = cut_piece(rest);
+        let (piece, behind) = cut_piece(rest, b';');
         let end = (at + piece.len()) as u32;
-        let first = cut_word(piece, at);
+        let mut further = Words::of(piece, at);
+        let first = next_word(&mut further);
         at += rest.len() - behind.len();
         rest = behind;
-        if let Some((name, further)) = first {
+        if let Some(name) = first {
             return Some((Phrase { name, further, end }, Phrases { rest, at }));
         }
     }

@@ -5,10 +5,12 @@ use Rattle.syn_rows.specs.declared.Row.{Row}
 use Rattle.syn_rows.specs.declared.Row.TheVariants.{Free}
 use Rattle.syn_rows.specs.Rows.{refs_of}
 use Rattle.syn_core_laws.specs.declared.View.{View}
-use Rattle.syn_core_laws.specs.Lists.{has, only, look}
+use Rattle.syn_rows.specs.Nodes.{has_node}
+use Rattle.syn_core_laws.specs.Lists.{only, look}
 use Rattle.syn_core_laws.specs.Views.{differs, known_row, freed}
 use Rattle.syn_core_laws.specs.Events.{MayPin, MayFree}
-use Rattle.syn_core_laws.proofs.Listing.{look_here, has_first}
+use Rattle.syn_rows.proofs.Nodes.{has_here}
+use Rattle.syn_core_laws.proofs.Listing.{look_here}
 use Rattle.syn_table.specs.declared.Known.{Known}
 use Rattle.syn_table.specs.Steps.{Frees}
 use Rattle.test_table.specs.Rewriting.{and, taken}
@@ -38,7 +40,7 @@ module _ (v : View) (n : ℕ) where
 
   pub may_free : HoldsOne n (remade n) [] (n ∷ []) v → MayFree v n
   may_free h = (
-    ap (has n) h.zeros ∙ has_first n [],
+    ap (λ (xs : List ℕ). has_node xs n) h.zeros ∙ has_here n [],
     λ old known.
         let same : old ≡ and 0 1 = let e : Some old ≡ Some (and 0 1) = sym known ∙ knows_made h in cc in
         subst (λ (r : Row). length (refs_of r ++ v.pins) ≤ 512) (sym same) (subst (λ (l : List ℕ). length (refs_of (and 0 1) ++ l) ≤ 512) (sym h.own) (omega arith)),

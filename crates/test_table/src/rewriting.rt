@@ -2,7 +2,7 @@
 
 ghost use Rattle.std.specs.Prelude.{◌≡◌, ◌<◌, [], true, false, length, None, Some};
 ghost use Rattle.syn_core_laws.specs.Events.{MayFree, MayPin};
-ghost use Rattle.syn_core_laws.specs.Lists.{has};
+ghost use Rattle.syn_rows.specs.Nodes.{has_node};
 ghost use Rattle.syn_core_laws.specs.Openings.{empty_view};
 ghost use Rattle.syn_core_laws.specs.Views.{freed, known_row, unpinned};
 ghost use Rattle.test_table.specs.Rewriting.{taken, keyed, all_taken, neither_made, product_made, root_redefined, both_dropped, all_released};
@@ -17,7 +17,7 @@ use syn_table::{Seat, Shared};
 pub(crate) fn take(shared: &Shared, seat: &mut Seat, node: u32, row: Row) -> bool
     requires table { IsOf seat.old shared.now }
     requires node { node < nodes_of shared.now }
-    requires free { has node (view_of seat.old).held ≡ false }
+    requires free { has_node (view_of seat.old).held node ≡ false }
     ensures table { IsOf seat.new shared.now }
     ensures taken { result ≡ true → known_of seat.new ≡ with_view (known_of seat.old) (taken (view_of seat.old) node row) }
 {
@@ -39,7 +39,7 @@ fn pin_keyed(shared: &Shared, seat: &mut Seat, node: u32, key: u64) -> bool
 // Takes a pin back: whether it was the last reference.
 fn unpin_last(shared: &Shared, seat: &mut Seat, node: u32) -> bool
     requires table { IsOf seat.old shared.now }
-    requires pinned { has node (view_of seat.old).pins ≡ true }
+    requires pinned { has_node (view_of seat.old).pins node ≡ true }
     ensures table { IsOf seat.new shared.now }
     ensures unpinned { result ≡ true → known_of seat.new ≡ with_view (known_of seat.old) (unpinned (view_of seat.old) node 1) }
 {
@@ -49,7 +49,7 @@ fn unpin_last(shared: &Shared, seat: &mut Seat, node: u32) -> bool
 // Takes a pin of a node back whose row the seat doesn't know.
 fn unpin_input(shared: &Shared, seat: &mut Seat, node: u32)
     requires table { IsOf seat.old shared.now }
-    requires pinned { has node (view_of seat.old).pins ≡ true }
+    requires pinned { has_node (view_of seat.old).pins node ≡ true }
     requires unknown { known_row (view_of seat.old) node ≡ None }
     ensures table { IsOf seat.new shared.now }
     ensures unpinned { known_of seat.new ≡ with_view (known_of seat.old) (unpinned (view_of seat.old) node 0) }

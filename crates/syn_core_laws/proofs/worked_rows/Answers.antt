@@ -2,7 +2,7 @@ use Rattle.std.proofs.Common.{◌≡◌, true, false, [], ◌∷◌, Option, Som
 use mathlib.Core.Option.{some-injective}
 use Rattle.syn_core_laws.specs.declared.View.{View}
 use Rattle.syn_core_laws.specs.declared.EventKind.TheVariants as Kind
-use Rattle.syn_core_laws.specs.Lists.{has}
+use Rattle.syn_rows.specs.Nodes.{has_node}
 use Rattle.syn_core_laws.specs.Views.{known_row}
 use Rattle.syn_rows.specs.declared.Row.{Row}
 use Rattle.syn_rows.specs.declared.Row.TheVariants.{Alias}
@@ -13,7 +13,7 @@ use Rattle.syn_core_laws.specs.Worked.{lit, and, start}
 use Rattle.syn_core_laws.proofs.worked_rows.Goals as goal
 
 release_forbidden : Allowed start 0 (Kind.Release 6) → ⊥
-release_forbidden h = let is : empty_view 0 ≡ h.0 = some-injective (empty_view 0) h.0 h.1 in let differs : false ≡ true = ap (λ (v : View). has 6 v.held) is ∙ h.4.0 in absurd (cc)
+release_forbidden h = let is : empty_view 0 ≡ h.0 = some-injective (empty_view 0) h.0 h.1 in let differs : false ≡ true = ap (λ (v : View). has_node v.held 6) is ∙ h.4.0 in absurd (cc)
 
 -- seat 0's view when it holds 6
 abbrev holding : View

@@ -6,7 +6,7 @@ use Rattle.syn_rows.specs.Reach.{is_and}
 use Rattle.syn_rows.specs.Values.{value_in}
 use Rattle.syn_fanout_free.specs.Freed.{IsFreedByCount, count_below}
 use Rattle.syn_fanout_free.specs.Freeing.{open_to}
-use Rattle.syn_fanout_free.specs.Nodes.{has}
+use Rattle.syn_rows.specs.Nodes.{has_node}
 use Rattle.syn_fanout_free.specs.Saved.{IsSaved, replaced, count_in}
 use Rattle.syn_fanout_free.proofs.Numbers.{one_if-le, count-le}
 use Rattle.syn_fanout_free.proofs.Ends.{saved_by_cone}
@@ -20,7 +20,7 @@ overflow_add-lost c =
       one_if-le (is_and (row_at c.args.was.now c.args.n)),
       c.in_ok-dead.ensures.ands,
       c.requires.few,
-      count-le (length c.args.was.now) (λ m. is_and (row_at c.args.was.now m) && has m c.in_ok-dead.dead.nodes.items),
+      count-le (length c.args.was.now) (λ m. is_and (row_at c.args.was.now m) && has_node c.in_ok-dead.dead.nodes.items m),
     )
 
 pub overflow_add-added : goal.overflow_add-added
@@ -38,7 +38,7 @@ pub returns : goal.returns
 returns c observed owned =
     let f : SFits w64 c.difference.result = search rules in
     let dead : List ℕ = c.in_ok-dead.dead.nodes.items in
-    let free = subst (λ (u : List ℕ). IsFreedByCount c.args.was.now (count_in c.args.counts.now) c.args.n (open_to c.args.was.now c.args.n u) (λ m. has m dead))
+    let free = subst (λ (u : List ℕ). IsFreedByCount c.args.was.now (count_in c.args.counts.now) c.args.n (open_to c.args.was.now c.args.n u) (λ m. has_node dead m))
     c.as_slice.ensures c.in_ok-dead.ensures.freed in
     subst (IsSaved c.args.was.now (replaced c.args.was.now c.args.n c.args.row c.args.extra.now) observed)
     (sym (to_z-of_z w64 c.difference.result f ∙ c.difference.ensures))

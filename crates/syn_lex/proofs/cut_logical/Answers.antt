@@ -9,7 +9,7 @@ use Rattle.syn_lex.proofs.cut_logical.Goals.{then-is_empty-via-then-is_empty, th
 
 pub returns-then-is_empty : goal.returns-then-is_empty
 returns-then-is_empty c =
-    goes_on_here c.args.bytes.now c.lines.rest.now c.cut_line.result.0.now c.cut_line.result.1.now c.split_at.result.0.now c.lines.joined c.lines.count c.lines.invariant.joined c.cut_line.ensures
+    goes_on_here c.args.bytes.now c.lines.rest.now c.cut_piece.result.0.now c.cut_piece.result.1.now c.split_at.result.0.now c.lines.joined c.lines.count c.lines.invariant.joined c.cut_piece.ensures
     (elim c.then-is_empty.branch [
       | then-is_empty-via-then-is_empty w ↦ inl (nil_from_length _ (eqb-true _ 0 (sym c.is_empty.ensures ∙ w.if-is_empty.true)))
       | then-is_empty-via-else-is_empty+then-not-joins w ↦ inr (ap joins (sym w.without_comment.ensures.value) ∙ (sym w.joins.ensures ∙ w.if-not-joins.true))
@@ -18,10 +18,10 @@ returns-then-is_empty c =
 
 pub lines-preserved : goal.lines-preserved
 lines-preserved c =
-    let some = some_left c.cut_line.result.1.now (sym c.is_empty.ensures ∙ c.if-is_empty.false) in
-    let full = c.cut_line.ensures.full some in
+    let some = some_left c.cut_piece.result.1.now (sym c.is_empty.ensures ∙ c.if-is_empty.false) in
+    let full = c.cut_piece.ensures.full some in
     record {
-      joined = goes_on_below c.args.bytes.now c.lines.rest.now c.cut_line.result.0.now c.cut_line.result.1.now c.lines.joined c.lines.count c.lines.invariant.joined c.cut_line.ensures some
+      joined = goes_on_below c.args.bytes.now c.lines.rest.now c.cut_piece.result.0.now c.cut_piece.result.1.now c.lines.joined c.lines.count c.lines.invariant.joined c.cut_piece.ensures some
           (ap joins (sym c.without_comment.ensures.value) ∙ (sym c.joins.ensures ∙ c.if-not-joins.false));
       some = some;
       sizes = omega (arith, full, c.lines.invariant.sizes);

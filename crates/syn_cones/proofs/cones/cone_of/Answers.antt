@@ -1,6 +1,7 @@
 use Rattle.std.proofs.Common.{◌≡◌, ◌++◌, ◌∷◌, [], ap, subst, true, arith}
-use Rattle.syn_cones.specs.Walk.{IsWalk, rises, top}
-use Rattle.syn_cones.proofs.Walking.{has_here, has_right, led_below, walk_on, rises_on, top_falls}
+use Rattle.syn_cones.specs.Walk.{IsConeWalk, rises, top}
+use Rattle.syn_rows.proofs.Nodes.{has_here, has_right}
+use Rattle.syn_cones.proofs.Walking.{led_below, walk_on, rises_on, top_falls}
 use Rattle.syn_cones.proofs.cones.cone_of.Goals as goal
 
 pub visit-requires : goal.visit-requires
@@ -9,7 +10,7 @@ visit-requires c =
     let front = c.pop.new.self.items in
     let done = c.loop-node.cone.items in
     let rows = c.args.rows.now in
-    let walk = subst (IsWalk rows c.args.leaves.now c.args.root done) c.in-Some.ensures.items c.loop-node.invariant.walk in
+    let walk = subst (IsConeWalk rows c.args.leaves.now c.args.root done) c.in-Some.ensures.items c.loop-node.invariant.walk in
     let here = walk.led n (has_right done (front ++ n ∷ []) n (has_right front (n ∷ []) n (has_here n []))) in
     let low = led_below rows c.args.leaves.now c.args.root here.0 n c.requires.order here.1 in
     omega (arith, low, c.requires.root)
@@ -32,6 +33,6 @@ loop-node-preserved c =
     let leaves = c.args.leaves.now in
     record {
       walk = rw (c.in_ok-push-2.ensures.ok, c.in_ok-visit.ensures)
-          (walk_on rows leaves c.args.root done front n c.requires.order (subst (IsWalk rows leaves c.args.root done) c.in-Some.ensures.items c.loop-node.invariant.walk));
+          (walk_on rows leaves c.args.root done front n c.requires.order (subst (IsConeWalk rows leaves c.args.root done) c.in-Some.ensures.items c.loop-node.invariant.walk));
       rising = rw c.in_ok-visit.ensures (rises_on rows leaves front n (subst (λ l. rises l ≡ true) c.in-Some.ensures.items c.loop-node.invariant.rising));
     }

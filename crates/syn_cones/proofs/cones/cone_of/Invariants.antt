@@ -1,10 +1,10 @@
 use Rattle.std.proofs.Common.{◌≡◌, true}
-use Rattle.syn_cones.specs.Walk.{IsWalk, rises, top}
+use Rattle.syn_cones.specs.Walk.{IsConeWalk, rises, top}
 use Rattle.syn_cones.proofs.cones.cone_of.Given as goal
 
 abbrev pub invariant-loop-node : goal.invariant-loop-node
 invariant-loop-node l = record {
-  walk : IsWalk l.rows l.leaves l.root l.cone.items l.waiting.items;
+  walk : IsConeWalk l.rows l.leaves l.root l.cone.items l.waiting.items;
   rising : rises l.waiting.items ≡ true;
 }
 

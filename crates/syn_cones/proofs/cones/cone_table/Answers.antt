@@ -1,5 +1,5 @@
 use Rattle.std.proofs.Common.{length, ap, ◌∙◌, subst, arith}
-use Rattle.syn_cones.specs.Walk.{IsWalk, inner_refs, has_all}
+use Rattle.syn_cones.specs.Walk.{IsConeWalk, inner_refs, has_all}
 use Rattle.syn_cones.proofs.Walking.{closed_found, found_on, last_led, led_below}
 use Rattle.syn_cones.proofs.Tabling.{function_from, functions_on, vars_on}
 use Rattle.syn_cones.proofs.cones.cone_table.Goals as goal
@@ -9,7 +9,7 @@ node_table-table-requires-clause-node c =
     let rows = c.args.rows.now in
     let leaves = c.args.leaves.now in
     let nodes = c.loop-node.nodes.items in
-    let walk = subst (λ l. IsWalk rows leaves c.args.root l nodes) c.in-Some.ensures.items c.loop-node.invariant.walk in
+    let walk = subst (λ l. IsConeWalk rows leaves c.args.root l nodes) c.in-Some.ensures.items c.loop-node.invariant.walk in
     let led = last_led rows leaves c.args.root c.pop.new.self.items nodes c.in-Some.node walk in
     let low = led_below rows leaves c.args.root led.0 c.in-Some.node c.requires.order led.1 in
     omega (arith, low, c.requires.root)
@@ -19,7 +19,7 @@ node_table-table-requires-clause-there c =
     let rows = c.args.rows.now in
     let leaves = c.args.leaves.now in
     let nodes = c.loop-node.nodes.items in
-    let walk = subst (λ l. IsWalk rows leaves c.args.root l nodes) c.in-Some.ensures.items c.loop-node.invariant.walk in
+    let walk = subst (λ l. IsConeWalk rows leaves c.args.root l nodes) c.in-Some.ensures.items c.loop-node.invariant.walk in
     ap (λ l. has_all l (inner_refs rows leaves c.in-Some.node)) c.as_slice.ensures
     ∙ (closed_found rows leaves c.pop.new.self.items nodes c.in-Some.node walk.closed).1
 
@@ -33,7 +33,7 @@ loop-node-preserved c =
     let nodes = c.loop-node.nodes.items in
     let tables = c.loop-node.tables.items in
     let t = c.node_table-table.result in
-    let walk = subst (λ l. IsWalk rows leaves root l nodes) c.in-Some.ensures.items c.loop-node.invariant.walk in
+    let walk = subst (λ l. IsConeWalk rows leaves root l nodes) c.in-Some.ensures.items c.loop-node.invariant.walk in
     let led = last_led rows leaves root front nodes n walk in
     let values = rw (c.as_slice.ensures, c.as_slice-in-Some.ensures) at c.node_table-table.ensures.values in
     let new = function_from rows leaves root nodes tables n t led.0 c.loop-node.invariant.functions c.requires.cut led.1 c.node_table-table.ensures.vars values in

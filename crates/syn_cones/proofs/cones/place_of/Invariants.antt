@@ -1,5 +1,5 @@
 use Rattle.std.proofs.Common.{◌≡◌, drop}
-use Rattle.syn_cones.specs.Cones.{has_node}
+use Rattle.syn_rows.specs.Nodes.{has_node}
 use Rattle.syn_cones.proofs.cones.place_of.Given as goal
 
 abbrev pub invariant-loop-i : goal.invariant-loop-i

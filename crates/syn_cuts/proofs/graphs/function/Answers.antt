@@ -1,6 +1,6 @@
 use Rattle.std.proofs.Common.{sym, subst}
 use Rattle.syn_rows.specs.Rows.{InOrder}
-use Rattle.syn_cuts.proofs.Ordering.{hashed_in_order}
+use Rattle.syn_hashed.proofs.Orders.{hashed_in_order}
 use Rattle.syn_cuts.proofs.graphs.function.Goals as goal
 
 pub function-requires-clause-order : goal.function-requires-clause-order

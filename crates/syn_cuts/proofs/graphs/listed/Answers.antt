@@ -5,7 +5,7 @@ use Rattle.syn_cones.specs.Cones.{IsCut}
 use Rattle.syn_cuts.specs.Cuts.{listed_cuts}
 use Rattle.syn_cuts.specs.Lists.{list_at}
 use Rattle.syn_cuts.proofs.Cutting.{listed_are_cuts}
-use Rattle.syn_cuts.proofs.Ordering.{hashed_in_order}
+use Rattle.syn_hashed.proofs.Orders.{hashed_in_order}
 use Rattle.syn_cuts.proofs.graphs.listed.Goals as goal
 
 pub listed_rows-requires-clause-order : goal.listed_rows-requires-clause-order

@@ -2,6 +2,7 @@ use Rattle.std.proofs.Common.{◌+◌, take, drop, sym, ap, ◌∙◌}
 use Rattle.syn_cuts.specs.Cuts.{arranged, unions, unions_with, first_unions}
 use Rattle.syn_cuts.specs.Leaves.{leaves, leaves_of}
 use Rattle.syn_cuts.proofs.Putting.{step_unions, kept_short, drop_leaves, drop_all_leaves}
+use Rattle.syn_cuts.proofs.Refusing.{order_on}
 use Rattle.syn_cuts.proofs.unions.first_unions.Goals as goal
 
 pub loop-cut-preserved : goal.loop-cut-preserved
@@ -16,6 +17,7 @@ loop-cut-preserved c =
           (drop i all) (drop_leaves c.args.left.now i d c.loop-cut-test.true c.cut-item.is) c.loop-cut.invariant.rest
           (c.keep_unions.ensures.kept ∙ ap (λ l. take 31 (arranged (leaves_of c.loop-cut.kept.items) (unions_with c.args.k l right))) c.as_slice.ensures.value);
       few = c.keep_unions.ensures.few;
+      order = order_on (leaves_of c.loop-cut.kept.items) (leaves_of c.keep_unions.new.kept.items) (unions_with c.args.k c.as_slice.result.now right) c.loop-cut.invariant.order c.keep_unions.ensures.kept;
     }
 
 pub returns : goal.returns

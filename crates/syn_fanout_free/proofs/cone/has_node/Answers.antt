@@ -2,7 +2,7 @@ use Rattle.std.proofs.Common.{◌≡◌, ◌<◌, ◌≤◌, ℕ, length, get_or
 use Rattle.std.proofs.lemmas.Bool.{cases_lt}
 use Rattle.std.proofs.lemmas.List.Sorted.{searched}
 use Rattle.std.proofs.lemmas.Result.{MatchResult-at_err}
-use Rattle.syn_fanout_free.proofs.Listing.{has_none}
+use Rattle.syn_rows.proofs.Nodes.{has_none}
 use Rattle.syn_fanout_free.proofs.cone.has_node.Goals as goal
 
 pub returns-in-Err : goal.returns-in-Err

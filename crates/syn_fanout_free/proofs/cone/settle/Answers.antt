@@ -1,7 +1,7 @@
 use Rattle.std.proofs.Common.{◌<◌, ◌+◌, ◌&&◌, List, ℕ, length, subst, sym, ap, ap₂, ◌∙◌, arith}
 use Rattle.syn_rows.specs.Reach.{is_and}
 use Rattle.syn_rows.specs.Rows.{row_at}
-use Rattle.syn_fanout_free.specs.Nodes.{has}
+use Rattle.syn_rows.specs.Nodes.{has_node}
 use Rattle.syn_fanout_free.specs.Freeing.{IsFreeing, open_to, ands_among}
 use Rattle.syn_fanout_free.specs.Saved.{count_in}
 use Rattle.syn_fanout_free.specs.Waits.{waits_in}
@@ -17,7 +17,7 @@ overflow_add-dead c =
       c.and_count.ensures,
       one_if-le (is_and (row_at c.args.rows.now c.args.node)),
       c.requires.few,
-      count-le (length c.args.rows.now) (λ m. is_and (row_at c.args.rows.now m) && has m c.args.dead.now.nodes.items),
+      count-le (length c.args.rows.now) (λ m. is_and (row_at c.args.rows.now m) && has_node c.args.dead.now.nodes.items m),
     )
 
 pub returns-clause-freeing : goal.returns-clause-freeing

@@ -1,8 +1,5 @@
-use Rattle.syn_hashed.proofs.Compacted.{compacted_hashed, hashed_can_compact}
+use Rattle.syn_hashed.proofs.Compacted.{compacted_hashed}
 use Rattle.syn_hashed.proofs.compaction.compact_hashed.Goals as goal
-
-pub compact_rows-requires-clause-can : goal.compact_rows-requires-clause-can
-compact_rows-requires-clause-can c = hashed_can_compact c.args.source_count c.args.rows.now c.args.observed.now c.requires.hashed c.requires.within
 
 pub returns-clause-compact : goal.returns-clause-compact
 returns-clause-compact c = compacted_hashed c.one_valuation.ensures c.args.source_count c.args.rows.now c.in_ok-kept.kept.rows.items c.args.observed.now c.in_ok-kept.kept.observed.items c.requires.hashed c.in_ok-kept.ensures

@@ -3,19 +3,30 @@ use Rattle.std.proofs.lemmas.List.{take_at}
 use Rattle.syn_rows.specs.declared.Lit.{Lit}
 use Rattle.syn_rows.specs.declared.Row.{Row}
 use Rattle.syn_hashed.specs.Hashed.{IsHashed}
-use Rattle.syn_hashed.specs.Visiting.{IsMadeAgain, IsVisit, literal_of}
+use Rattle.syn_hashed.specs.Visiting.{FirstsOf, IsMadeAgain, IsVisit, literal_of}
 use Rattle.syn_hashed.specs.Walking.{VisitsReached}
-use Rattle.syn_hashed.proofs.Visits.{made_again}
+use Rattle.syn_hashed.proofs.Visits.{made_again, visit_begins}
+use Rattle.syn_hashed.proofs.Walked.{source_below}
 use Rattle.syn_hashed.proofs.visit.in_visiting_order.Goals as goal
+
+pub visit_all-requires-clause-stands : goal.visit_all-requires-clause-stands
+visit_all-requires-clause-stands c =
+    let hashed = c.in_ok-hashed.hashed in
+    let rows = c.args.rows.now in
+    let sources : hashed.source_count ≡ c.args.source_count = c.in_ok-hashed.ensures.sources in
+    let firsts : FirstsOf hashed.source_count (length rows) c.as_mut_slice.result.now =
+    subst (λ (k : ℕ). FirstsOf k (length rows) c.as_mut_slice.result.now) (sym sources) (subst (FirstsOf c.args.source_count (length rows)) (sym c.as_mut_slice.ensures.value) c.in_ok-literals.ensures) in
+    let wide = source_below c.args.source_count rows c.args.observed.now c.requires.can in
+    visit_begins hashed.source_count rows c.as_mut_slice.result.now hashed.rows.items (omega (arith, sources, wide)) hashed.hashed (omega (arith, c.in_ok-hashed.ensures.rows, sources)) firsts
 
 pub returns : goal.returns
 returns c =
     let rows = c.args.rows.now in
     let lits = c.args.observed.now in
-    let new = c.visit_all.new.hashed in
+    let new = c.visit_all.new.maker in
     let start = c.in_ok-hashed.ensures.sources in
     let sources : new.source_count ≡ c.args.source_count = c.in_ok-visit_all.ensures.sources ∙ start in
-    let visit : IsVisit c.args.source_count rows c.visit_all.new.literals new.rows.items = subst (λ (k : ℕ). IsVisit k rows c.visit_all.new.literals new.rows.items) start c.in_ok-visit_all.ensures.visit in
+    let visit : IsVisit c.args.source_count rows c.visit_all.new.literals new.rows.items = subst (λ (k : ℕ). IsVisit k rows c.visit_all.new.literals new.rows.items) sources c.in_ok-visit_all.ensures.stands in
     let reached : VisitsReached c.args.source_count rows lits c.visit_all.new.literals = subst (λ (k : ℕ). VisitsReached k rows lits c.visit_all.new.literals) start c.in_ok-visit_all.ensures.reached in
     let size : length c.visit_all.new.literals ≡ vec_len c.in_ok-literals.literals = omega (arith, visit.all, c.in_ok-literals.ensures.all, ap length c.as_mut_slice.ensures.value, c.as_mut_slice.ensures.len) in
     let same : c.as_slice.result.now ≡ c.visit_all.new.literals = c.as_slice.ensures.value ∙ take_at c.visit_all.new.literals _ (vec_len c.in_ok-literals.literals) size in

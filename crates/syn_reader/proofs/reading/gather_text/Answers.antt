@@ -2,7 +2,8 @@ use Rattle.std.proofs.Common.{◌≤◌, length, map, ap, ◌∙◌, arith}
 use Rattle.std.proofs.lemmas.Result.{IfOk-weaker}
 use Rattle.syn_reader.specs.Heard.{lines_words, word_count}
 use Rattle.syn_reader.specs.Statements.{statement_of}
-use Rattle.syn_reader.proofs.LineWords.{logical_words, few_words}
+use Rattle.syn_reader.proofs.LineWords.{logical_words}
+use Rattle.syn_reader.proofs.TextSizes.{few_words}
 use Rattle.syn_reader.proofs.reading.gather_text.Goals as goal
 
 pub of-requires : goal.of-requires

@@ -1,0 +1,4 @@
+pub mod Named
+pub mod Drawing
+pub mod Checking
+pub mod Whole

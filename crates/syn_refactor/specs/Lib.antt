@@ -1,0 +1,4 @@
+pub mod Growing
+pub mod Cones
+pub mod Refactoring
+pub mod Laws

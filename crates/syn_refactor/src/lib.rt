@@ -1,0 +1,12 @@
+//! Refactoring: each node's function over a cone of at most eight leaves, factored.
+#![tactic(auto)]
+
+mod growing;
+mod laws;
+mod leaves;
+mod proposing;
+mod refactoring;
+
+pub use laws::chooses_next_leaf;
+pub use proposing::{Cones, NoLists};
+pub use refactoring::refactor;

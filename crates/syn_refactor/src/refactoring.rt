@@ -1,0 +1,37 @@
+//! Refactoring until nothing is left to save.
+
+ghost use Rattle.std.specs.Prelude.{◌≡◌, ◌≤◌, Bool, List, IfErr, IfOk, length};
+ghost use Rattle.syn_rows.specs.Values.{rows_function};
+ghost use Rattle.syn_netlist.specs.Frames.{frame_in};
+ghost use Rattle.syn_pool.specs.Closing.{Closed};
+ghost use Rattle.syn_refactor.specs.Refactoring.{refactorings};
+
+use crate::Cones;
+use std::alloc::{AllocError, Global};
+use std::thread::Threads;
+use syn_graph::Graph;
+use syn_pool::{Unimproved, pass};
+
+/// Refactors a graph until no proposal of refactoring for any of its ANDs saves: the same frame, the same values of the
+/// observed signals, and no more ANDs. Up to `workers` threads look at proposals; the graph is the same for every number
+/// of them. With `zero` proposals that save nothing would be let through before the graph is checked; here all that is
+/// applied saves, and it changes nothing. Where memory is refused, the same graph comes back.
+pub fn refactor<R: Threads + Sync>(
+    rt: &R,
+    alloc: Global,
+    graph: Graph,
+    workers: u8,
+    _zero: bool,
+) -> Result<Graph, (Graph, AllocError)>
+    ensures frame { IfOk result (λ g. frame_in g.frame ≡ frame_in graph.frame) }
+    ensures names { IfOk result (λ g. g.frame.names ≡ graph.frame.names) }
+    ensures values { IfOk result (λ g. (bits : List Bool) → rows_function g.rows g.observed bits ≡ rows_function graph.rows graph.observed bits) }
+    ensures count { IfOk result (λ g. length g.rows ≤ length graph.rows) }
+    ensures closed { IfOk result (λ g. Closed g.rows g.observed (refactorings g.rows)) }
+    ensures refused { IfErr result (λ e. e.0 ≡ graph) }
+{
+    match pass(rt, alloc, graph, &Cones, &Unimproved, workers) {
+        Ok((refactored, _report)) => Ok(refactored),
+        Err(refused) => Err(refused),
+    }
+}
