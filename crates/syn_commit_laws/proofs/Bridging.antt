@@ -2,9 +2,10 @@
 use Rattle.std.proofs.Common.{◌≡◌, ℕ, zero, suc, ◌+◌, ◌-◌, ◌<◌, ◌≤◌, ◌==◌, ◌&&◌, ◌||◌, not, nat_le, Bool, true, false, List, [], ◌∷◌, ◌++◌, length, Option, Some, None, refl, sym, ap, ap₂, ◌∙◌, subst, arith, rules, inl, inr}
 use Rattle.std.specs.List.{AllByRecursion}
 use Rattle.std.proofs.lemmas.Bool.{and_from, and_parts}
+use Rattle.syn_rows.proofs.Nodes.{same_node}
 use Rattle.syn_rows.specs.References.{and_count, refs}
 use Rattle.syn_core_laws.specs.declared.View.{View}
-use Rattle.syn_core_laws.specs.Lists.{has}
+use Rattle.syn_rows.specs.Nodes.{has_node}
 use Rattle.syn_core_laws.specs.Views.{known_row, own_pins, refs_known}
 use Rattle.syn_decide.specs.declared.decisions.Counted.{Counted}
 use Rattle.syn_decide.specs.Dying.{ands_of, and_more, are_distinct, counted_nodes, dies, dying_after, dying_of, first_dying, refs_by_counted}
@@ -12,9 +13,6 @@ use Rattle.syn_decide.proofs.Least.{IsOf, dies_parts, distinct_parts, first_some
 use Rattle.syn_commit_laws.specs.Dying.{AreFound, IsDying, ands_among, ands_in, ands_known, explained_by, refs_among}
 use Rattle.syn_commit_laws.specs.Counted.{AreCounted, CountedRowsDie, dead_of, may_die}
 use Rattle.syn_commit_laws.proofs.Deaths.{finding_begins, finding_ends, finding_goes_on}
-
-same_if : (a b : ℕ) → (a == b) ≡ true → a ≡ b
-same_if a b h = search rules
 
 le_if : (a b : ℕ) → nat_le a b ≡ true → a ≤ b
 le_if a b h = search rules
@@ -28,12 +26,12 @@ at_row P (q ∷ rows) a r (inl e) = subst P e a.0
 at_row P (q ∷ rows) a r (inr o) = at_row P rows a.1 r o
 
 -- the row of a node that is there
-row_of : (rows : List Counted) (m : ℕ) → has m (counted_nodes rows) ≡ true → (r : Counted) × IsOf r rows × (r.node ≡ m)
+row_of : (rows : List Counted) (m : ℕ) → has_node (counted_nodes rows) m ≡ true → (r : Counted) × IsOf r rows × (r.node ≡ m)
 row_of [] m h = absurd (cc)
 row_of (q ∷ rows) m h = go (q.node == m) refl h (row_of rows m)
   where
-    go : (b : Bool) → (q.node == m) ≡ b → (b || has m (counted_nodes rows)) ≡ true → (has m (counted_nodes rows) ≡ true → (r : Counted) × IsOf r rows × (r.node ≡ m)) → (r : Counted) × IsOf r (q ∷ rows) × (r.node ≡ m)
-    go true e k next = (q, inl refl, same_if q.node m e)
+    go : (b : Bool) → (q.node == m) ≡ b → (b || has_node (counted_nodes rows) m) ≡ true → (has_node (counted_nodes rows) m ≡ true → (r : Counted) × IsOf r rows × (r.node ≡ m)) → (r : Counted) × IsOf r (q ∷ rows) × (r.node ≡ m)
+    go true e k next = (q, inl refl, same_node q.node m e)
     go false e k next = let t = next k in (t.0, inr t.1, t.2)
 
 nodes_more : (rows : List Counted) (r : Counted) → counted_nodes rows ++ r.node ∷ [] ≡ counted_nodes (rows ++ r ∷ [])
@@ -87,9 +85,9 @@ module _ (nodes : ℕ) (v : View) (counts : ℕ → ℕ) (hits : List ℕ) (root
         found = subst (λ ns. AreFound nodes v counts root.node (may_die hits rows) ns) (nodes_more rest r)
             (finding_goes_on nodes v counts root.node (may_die hits rows) (counted_nodes rest) r.node b.found
             (at_row (λ q. q.node < nodes) rows c.there.1 r o)
-            (and_from (has r.node (counted_nodes rows)) (not (has r.node hits)) (has_of r rows o) (not_false _ parts.1))
+            (and_from (has_node (counted_nodes rows) r.node) (not (has_node hits r.node)) (has_of r rows o) (not_false _ parts.1))
             (omega (arith, explains, low, less))
-            (right_false (root.node == r.node) (has r.node (counted_nodes rest)) parts.0));
+            (right_false (root.node == r.node) (has_node (counted_nodes rest) r.node) parts.0));
         known = all_more (λ q. known_row v q.node ≡ Some q.row) rest r b.known (at_row (λ q. known_row v q.node ≡ Some q.row) rows c.known.1 r o);
       }
 
@@ -105,11 +103,11 @@ module _ (nodes : ℕ) (v : View) (counts : ℕ → ℕ) (hits : List ℕ) (root
 
   -- where no further row dies, what is explained was found
   full : (out : List Counted) → AreBoth out → ((r : Counted) → IsOf r rows → dies hits (root ∷ out) r ≡ false)
-      → (m : ℕ) → may_die hits rows m ≡ true → counts m ≤ explained_by v root.node (counted_nodes out) m → has m (counted_nodes out) ≡ true
+      → (m : ℕ) → may_die hits rows m ≡ true → counts m ≤ explained_by v root.node (counted_nodes out) m → has_node (counted_nodes out) m ≡ true
   full out b none m can le =
-      let parts = and_parts (has m (counted_nodes rows)) (not (has m hits)) can in
+      let parts = and_parts (has_node (counted_nodes rows) m) (not (has_node hits m)) can in
       let t = row_of rows m parts.0 in
-      subst (λ n. has n (counted_nodes out) ≡ true) t.2 (at_node t.0 t.1 (subst (λ n. has n hits ≡ false) (sym t.2) (not_true _ parts.1)) (subst (λ n. counts n ≤ explained_by v root.node (counted_nodes out) n) (sym t.2) le))
+      subst (λ n. has_node (counted_nodes out) n ≡ true) t.2 (at_node t.0 t.1 (subst (λ n. has_node hits n ≡ false) (sym t.2) (not_true _ parts.1)) (subst (λ n. counts n ≤ explained_by v root.node (counted_nodes out) n) (sym t.2) le))
     where
       settled : (a b c : Bool) → ((not a && not b) && c) ≡ false → b ≡ false → c ≡ true → a ≡ true
       settled true b c h k l = refl
@@ -122,28 +120,28 @@ module _ (nodes : ℕ) (v : View) (counts : ℕ → ℕ) (hits : List ℕ) (root
         where
           go : (b : Bool) → (root.node == r.node) ≡ b → b ≡ false
           go true e =
-              let same : r.node ≡ root.node = sym (same_if root.node r.node e) in
-              let yes : has root.node (counted_nodes rows) ≡ true = subst (λ n. has n (counted_nodes rows) ≡ true) same (has_of r rows o) in
-              let no : has root.node (counted_nodes rows) ≡ false = (distinct_parts root.node (counted_nodes rows) c.distinct).0 in
+              let same : r.node ≡ root.node = sym (same_node root.node r.node e) in
+              let yes : has_node (counted_nodes rows) root.node ≡ true = subst (λ n. has_node (counted_nodes rows) n ≡ true) same (has_of r rows o) in
+              let no : has_node (counted_nodes rows) root.node ≡ false = (distinct_parts root.node (counted_nodes rows) c.distinct).0 in
               absurd (cc)
           go false e = refl
 
-      at_node : (r : Counted) → IsOf r rows → has r.node hits ≡ false → counts r.node ≤ explained_by v root.node (counted_nodes out) r.node → has r.node (counted_nodes out) ≡ true
+      at_node : (r : Counted) → IsOf r rows → has_node hits r.node ≡ false → counts r.node ≤ explained_by v root.node (counted_nodes out) r.node → has_node (counted_nodes out) r.node ≡ true
       at_node r o free le =
           let explains = explained_is out b r.node in
           let less : r.others ≡ counts r.node - own_pins v r.node = at_row (λ q. q.others ≡ counts q.node - own_pins v q.node) rows c.others.1 r o in
-          let there : ((root.node == r.node) || has r.node (counted_nodes out)) ≡ true =
+          let there : ((root.node == r.node) || has_node (counted_nodes out) r.node) ≡ true =
           settled _ _ _ (none r o) free (le_test r.others (refs_by_counted (root ∷ out) r.node) (omega (arith, explains, less, le))) in
-          sym (ap (λ a. a || has r.node (counted_nodes out)) (other r o)) ∙ there
+          sym (ap (λ a. a || has_node (counted_nodes out) r.node) (other r o)) ∙ there
 
-  both : IsDying nodes v counts root.node (may_die hits rows) (λ n. has n (dead_of (dying_of hits (root ∷ rows))))
-      × (and_count root.row + ands_in nodes v (λ n. has n (dead_of (dying_of hits (root ∷ rows)))) ≡ ands_of (dying_of hits (root ∷ rows)))
+  both : IsDying nodes v counts root.node (may_die hits rows) (λ n. has_node (dead_of (dying_of hits (root ∷ rows))) n)
+      × (and_count root.row + ands_in nodes v (λ n. has_node (dead_of (dying_of hits (root ∷ rows))) n) ≡ ands_of (dying_of hits (root ∷ rows)))
   both =
       let all = along (length rows) [] begun in
       let none : (r : Counted) → IsOf r rows → dies hits (root ∷ all.0) r ≡ false = λ r o. subst (λ ds. dies hits ds r ≡ false) all.1 (none_left hits root rows c.distinct r o) in
       let ends = finding_ends nodes v counts root.node (may_die hits rows) (counted_nodes all.0) all.2.found (full all.0 all.2 none) in
       subst
-      (λ ds. IsDying nodes v counts root.node (may_die hits rows) (λ n. has n (dead_of ds)) × (and_count root.row + ands_in nodes v (λ n. has n (dead_of ds)) ≡ ands_of ds))
+      (λ ds. IsDying nodes v counts root.node (may_die hits rows) (λ n. has_node (dead_of ds) n) × (and_count root.row + ands_in nodes v (λ n. has_node (dead_of ds) n) ≡ ands_of ds))
       (sym all.1) (ends.0, ap (λ k. and_count root.row + k) (ends.1 ∙ ands_are all.0 all.2.known))
 
 pub counted_rows_die : CountedRowsDie

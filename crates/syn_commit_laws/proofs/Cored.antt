@@ -11,7 +11,7 @@ use Rattle.syn_core_laws.specs.declared.Change.{Change}
 use Rattle.syn_core_laws.specs.declared.Event.{Event}
 use Rattle.syn_core_laws.specs.declared.EventKind.{EventKind}
 use Rattle.syn_core_laws.specs.declared.EventKind.TheVariants as Kind
-use Rattle.syn_core_laws.specs.Lists.{has}
+use Rattle.syn_rows.specs.Nodes.{has_node}
 use Rattle.syn_rows.specs.Rows.{is_derived}
 use Rattle.syn_core_laws.specs.Views.{is_derived_known, known_row, refs_known, own_refs, own_pins, claimed, missed, released, row_loaded, pinned, unpinned, count_loaded, key_loaded, key_set, made, redefined, freed}
 use Rattle.syn_core_laws.specs.Cores.{Core}
@@ -196,6 +196,6 @@ committed_rows_are_freed b c d before after id root ns counts may dying u v w re
     let is : l.2 ≡ reads = append_cancel_left u.reads l.2 reads (sym l.3 ∙ is_read) in
     let all : All (HasCount (length b.rows) v) reads = subst (λ (rs : List Seen). All (HasCount (length b.rows) v) rs) is l.4 in
     let doom : AreDoomed (length b.rows) root dying v = dying_are_doomed (length b.rows) v counts root may dying walk (λ m can. counts_loaded (length b.rows) v reads all m (counts m) (told m can)) dies in
-    let ends : (changes : List Change) × IsTold v (makes (own id after)) changes w × IsFreed (length c.rows) dying v changes w × ((m : ℕ) → dying m ≡ true → (row_at d.rows m ≡ Free) ⊎ (has m w.held ≡ false)) =
+    let ends : (changes : List Change) × IsTold v (makes (own id after)) changes w × IsFreed (length c.rows) dying v changes w × ((m : ℕ) → dying m ≡ true → (row_at d.rows m ≡ Free) ⊎ (has_node w.held m ≡ false)) =
     dying_rows_are_freed c after d id root dying v w sound commits at_v at_w (subst (λ k. AreDoomed k root dying v) (sym size) doom) pins idle spares in
     (ends.0, ends.1, subst (λ k. IsFreed k dying v ends.0 w) size ends.2, ends.3)

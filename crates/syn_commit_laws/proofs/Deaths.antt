@@ -4,10 +4,11 @@ use Rattle.std.proofs.lemmas.Bool.{cases_Bool, cases_eq, eq-eqb, ne_eqb, leb-tru
 use Rattle.syn_rows.specs.References.{times, sum_below}
 use Rattle.syn_core_laws.specs.declared.View.{View}
 use Rattle.syn_core_laws.specs.declared.Seen.{Seen}
-use Rattle.syn_core_laws.specs.Lists.{has}
+use Rattle.syn_rows.specs.Nodes.{has_node}
 use Rattle.syn_core_laws.specs.Views.{is_derived_known, known_row, refs_known, own_refs, own_pins, is_sole, differs, count_loaded}
 use Rattle.syn_core_laws.proofs.Counting.{sum_at}
-use Rattle.syn_core_laws.proofs.Listing.{and_left, and_right, and_both, other_test, has_first, has_more}
+use Rattle.syn_rows.proofs.Nodes.{has_here, has_there}
+use Rattle.syn_core_laws.proofs.Listing.{and_left, and_right, and_both, other_test}
 use Rattle.syn_commit_laws.specs.Dying.{refs_from, ands_known, ands_in, explained, Dies, IsDying, refs_among, ands_among, AreFound, explained_by, IsLoaded, OnlyThese, AreDoomed, IsWalk, AreLoaded}
 use Rattle.syn_commit_laws.specs.Turning.{TurnsAll, loads, HasCount}
 use Rattle.syn_commit_laws.specs.Laws.{DyingAreExplained, NewRowsSpare, FindingBegins, FindingGoesOn, FindingEnds, CountsLoad, LoadsTell, DyingAreDoomed, FreeNodesLive}
@@ -52,7 +53,7 @@ finding_begins nodes v counts root may = record {
   ands = sum_none nodes (λ n. 0) (λ n. refl);
 }
 
-has_behind : (n m : ℕ) (xs : List ℕ) → has n (xs ++ m ∷ []) ≡ (has n xs || nat_eq m n)
+has_behind : (n m : ℕ) (xs : List ℕ) → has_node (xs ++ m ∷ []) n ≡ (has_node xs n || nat_eq m n)
 has_behind n m [] = go (nat_eq m n)
   where
     go : (b : Bool) → (b || false) ≡ b
@@ -60,19 +61,19 @@ has_behind n m [] = go (nat_eq m n)
     go false = refl
 has_behind n m (x ∷ xs) = ap (λ b. nat_eq x n || b) (has_behind n m xs) ∙ go (nat_eq x n)
   where
-    go : (a : Bool) → (a || (has n xs || nat_eq m n)) ≡ ((a || has n xs) || nat_eq m n)
+    go : (a : Bool) → (a || (has_node xs n || nat_eq m n)) ≡ ((a || has_node xs n) || nat_eq m n)
     go true = refl
     go false = refl
 
-behind_else : (n m : ℕ) (xs : List ℕ) → n ≢ m → has n (xs ++ m ∷ []) ≡ has n xs
-behind_else n m xs ne = has_behind n m xs ∙ (ap (λ b. has n xs || b) (ne_eqb m n (λ e. ne (sym e))) ∙ go (has n xs))
+behind_else : (n m : ℕ) (xs : List ℕ) → n ≢ m → has_node (xs ++ m ∷ []) n ≡ has_node xs n
+behind_else n m xs ne = has_behind n m xs ∙ (ap (λ b. has_node xs n || b) (ne_eqb m n (λ e. ne (sym e))) ∙ go (has_node xs n))
   where
     go : (b : Bool) → (b || false) ≡ b
     go true = refl
     go false = refl
 
-behind_here : (m : ℕ) (xs : List ℕ) → has m (xs ++ m ∷ []) ≡ true
-behind_here m xs = has_behind m m xs ∙ (ap (λ b. has m xs || b) (eq-eqb m m refl) ∙ go (has m xs))
+behind_here : (m : ℕ) (xs : List ℕ) → has_node (xs ++ m ∷ []) m ≡ true
+behind_here m xs = has_behind m m xs ∙ (ap (λ b. has_node xs m || b) (eq-eqb m m refl) ∙ go (has_node xs m))
   where
     go : (b : Bool) → (b || true) ≡ true
     go true = refl
@@ -87,42 +88,42 @@ ands_behind v [] m = omega arith
 ands_behind v (x ∷ xs) m = let rest : ands_among v (xs ++ m ∷ []) ≡ ands_among v xs + ands_known (known_row v m) = ands_behind v xs m in omega arith
 
 found_bound : (nodes : ℕ) (v : View) (counts : ℕ → ℕ) (root : ℕ) (may : ℕ → Bool) (dead : List ℕ) → AreFound nodes v counts root may dead
-    → (m : ℕ) → explained nodes v root (λ n. has n dead) m ≡ explained_by v root dead m
+    → (m : ℕ) → explained nodes v root (λ n. has_node dead n) m ≡ explained_by v root dead m
 found_bound nodes v counts root may dead f m = ap (λ k. own_pins v m + (refs_known m (known_row v root) + k)) (f.refs m)
 
 pub finding_goes_on : FindingGoesOn
 finding_goes_on nodes v counts root may dead m f lt can le new = record {
   sound = λ set closed k h. elim (cases_eq k m) [
     | inl e ↦
-        let more : explained nodes v root (λ n. has n dead) m ≤ explained nodes v root set m = explained_more nodes v root (λ n. has n dead) set m (λ n d. f.sound set closed n d) in
-        let same : explained nodes v root (λ n. has n dead) m ≡ explained_by v root dead m = found_bound nodes v counts root may dead f m in
+        let more : explained nodes v root (λ n. has_node dead n) m ≤ explained nodes v root set m = explained_more nodes v root (λ n. has_node dead n) set m (λ n d. f.sound set closed n d) in
+        let same : explained nodes v root (λ n. has_node dead n) m ≡ explained_by v root dead m = found_bound nodes v counts root may dead f m in
         ap set e ∙ closed m can (omega arith)
     | inr ne ↦ f.sound set closed k (sym (behind_else k m dead ne) ∙ h)
   ];
   refs = λ k.
-      let more : refs_from nodes v (λ n. has n (dead ++ m ∷ [])) k ≡ refs_from nodes v (λ n. has n dead) k + refs_known k (known_row v m) =
-      sum_more nodes m (λ n. refs_known k (known_row v n)) (λ n. has n dead) (λ n. has n (dead ++ m ∷ [])) lt new (behind_here m dead) (λ n ne. behind_else n m dead ne) in
-      let was : refs_from nodes v (λ n. has n dead) k ≡ refs_among v dead k = f.refs k in
+      let more : refs_from nodes v (λ n. has_node (dead ++ m ∷ []) n) k ≡ refs_from nodes v (λ n. has_node dead n) k + refs_known k (known_row v m) =
+      sum_more nodes m (λ n. refs_known k (known_row v n)) (λ n. has_node dead n) (λ n. has_node (dead ++ m ∷ []) n) lt new (behind_here m dead) (λ n ne. behind_else n m dead ne) in
+      let was : refs_from nodes v (λ n. has_node dead n) k ≡ refs_among v dead k = f.refs k in
       omega (arith, refs_behind v dead m k);
   ands =
-      let more : ands_in nodes v (λ n. has n (dead ++ m ∷ [])) ≡ ands_in nodes v (λ n. has n dead) + ands_known (known_row v m) =
-      sum_more nodes m (λ n. ands_known (known_row v n)) (λ n. has n dead) (λ n. has n (dead ++ m ∷ [])) lt new (behind_here m dead) (λ n ne. behind_else n m dead ne) in
-      let was : ands_in nodes v (λ n. has n dead) ≡ ands_among v dead = f.ands in
+      let more : ands_in nodes v (λ n. has_node (dead ++ m ∷ []) n) ≡ ands_in nodes v (λ n. has_node dead n) + ands_known (known_row v m) =
+      sum_more nodes m (λ n. ands_known (known_row v n)) (λ n. has_node dead n) (λ n. has_node (dead ++ m ∷ []) n) lt new (behind_here m dead) (λ n ne. behind_else n m dead ne) in
+      let was : ands_in nodes v (λ n. has_node dead n) ≡ ands_among v dead = f.ands in
       omega (arith, ands_behind v dead m);
 }
 
 pub finding_ends : FindingEnds
 finding_ends nodes v counts root may dead f full = (
   record {
-    closed = λ m can le. let same : explained nodes v root (λ n. has n dead) m ≡ explained_by v root dead m = found_bound nodes v counts root may dead f m in full m can (omega arith);
+    closed = λ m can le. let same : explained nodes v root (λ n. has_node dead n) m ≡ explained_by v root dead m = found_bound nodes v counts root may dead f m in full m can (omega arith);
     least = λ set closed m h. f.sound set closed m h;
   },
   f.ands,
 )
 
 -- ---- loads of counts
-has_if : (m n : ℕ) (b : Bool) (xs : List ℕ) → has m xs ≡ true → has m (if b then n ∷ xs else xs) ≡ true
-has_if m n true xs h = has_more m n xs h
+has_if : (m n : ℕ) (b : Bool) (xs : List ℕ) → has_node xs m ≡ true → has_node (if b then n ∷ xs else xs) m ≡ true
+has_if m n true xs h = has_there n m xs h
 has_if m n false xs h = h
 
 pub loaded_here : (nodes : ℕ) (v : View) (m x : ℕ) → own_refs nodes v m + own_pins v m ≤ x → IsLoaded nodes (count_loaded nodes v m x) m x
@@ -130,7 +131,7 @@ loaded_here nodes v m x le = record {
   lower = le;
   sole = λ ne e.
       let test : is_sole nodes v m x ≡ true = and_both (differs 0 m) (x == own_refs nodes v m + own_pins v m) (other_test 0 m ne) (eq-eqb x (own_refs nodes v m + own_pins v m) e) in
-      ap (λ b. has m (if b then m ∷ v.sole else v.sole)) test ∙ has_first m v.sole;
+      ap (λ b. has_node (if b then m ∷ v.sole else v.sole) m) test ∙ has_here m v.sole;
 }
 
 pub loaded_more : (nodes : ℕ) (v : View) (m x n y : ℕ) → IsLoaded nodes v m x → IsLoaded nodes (count_loaded nodes v n y) m x

@@ -10,7 +10,8 @@ use Rattle.syn_core_laws.specs.declared.View.{View}
 use Rattle.syn_core_laws.specs.declared.Change.{Change}
 use Rattle.syn_core_laws.specs.declared.EventKind.{EventKind}
 use Rattle.syn_core_laws.specs.declared.EventKind.TheVariants as Kind
-use Rattle.syn_core_laws.specs.Lists.{has, only, without_one, look, kept}
+use Rattle.syn_rows.specs.Nodes.{has_node}
+use Rattle.syn_core_laws.specs.Lists.{only, without_one, look, kept}
 use Rattle.syn_rows.specs.Rows.{is_derived}
 use Rattle.syn_core_laws.specs.Views.{is_derived_known, known_row, refs_known, own_refs, own_pins, differs, trimmed, released, pinned, unpinned, count_loaded, key_loaded, freed}
 use Rattle.syn_core_laws.proofs.Listing.{and_both, not_false, has_only, other_test, same_test, look_there, look_here, look_kept, look_dropped}
@@ -46,11 +47,11 @@ roots_are_out nodes root inner v no_circle there referred n lt yes_inner = elim 
 
 -- ---- the root stays out
 module _ (nodes : ℕ) (v : View) (root : ℕ) (out : IsOut nodes v root) where
-  out_still : (w : View) → own_refs nodes w root ≡ own_refs nodes v root → own_pins w root ≡ own_pins v root → has root w.idle ≡ has root v.idle → IsOut nodes w root
+  out_still : (w : View) → own_refs nodes w root ≡ own_refs nodes v root → own_pins w root ≡ own_pins v root → has_node w.idle root ≡ has_node v.idle root → IsOut nodes w root
   out_still w refs pins idle = record { refs = refs ∙ out.refs; pins = pins ∙ out.pins; idle = idle ∙ out.idle }
 
-  less_idle : (n : ℕ) → has root (only (differs n) v.idle) ≡ false
-  less_idle n = false_from_ne_true (has root (only (differs n) v.idle)) (λ h. both_ways (has root v.idle) out.idle (has_only (differs n) root v.idle h).0)
+  less_idle : (n : ℕ) → has_node (only (differs n) v.idle) root ≡ false
+  less_idle n = false_from_ne_true (has_node (only (differs n) v.idle) root) (λ h. both_ways (has_node v.idle root) out.idle (has_only (differs n) root v.idle h).0)
 
   out_pinned : (n : ℕ) → n ≢ root → IsOut nodes (pinned v n) root
   out_pinned n ne =
@@ -58,7 +59,7 @@ module _ (nodes : ℕ) (v : View) (root : ℕ) (out : IsOut nodes v root) where
       let was : times root v.pins ≡ 0 = out.pins in
       record { refs = out.refs; pins = omega arith; idle = less_idle n }
 
-  out_unpinned : (n count : ℕ) → has n v.pins ≡ true → IsOut nodes (unpinned v n count) root
+  out_unpinned : (n count : ℕ) → has_node v.pins n ≡ true → IsOut nodes (unpinned v n count) root
   out_unpinned n count own =
       let less : times root (without_one n v.pins) + hits root n ≡ times root v.pins = times_less root n v.pins (times_has n v.pins own) in
       let was : times root v.pins ≡ 0 = out.pins in
@@ -69,8 +70,8 @@ module _ (nodes : ℕ) (v : View) (root : ℕ) (out : IsOut nodes v root) where
         idle = go ((count == 1) && is_derived_known (known_row v n)) (ne_eqb n root ne);
       }
     where
-      go : (b : Bool) → (n == root) ≡ false → has root (if b then n ∷ v.idle else v.idle) ≡ false
-      go true e = ap (λ t. t || has root v.idle) e ∙ out.idle
+      go : (b : Bool) → (n == root) ≡ false → has_node (if b then n ∷ v.idle else v.idle) root ≡ false
+      go true e = ap (λ t. t || has_node v.idle root) e ∙ out.idle
       go false e = out.idle
 
   out_released : (n : ℕ) → known_row v n ≡ Some Free → IsOut nodes (released v n) root
@@ -169,7 +170,7 @@ module _ (nodes root : ℕ) (dying : ℕ → Bool) (start v : View) (changes : L
       let f : IsFreeing nodes root dying start 0 (changes ++ (record { node = n; old = t.0; new = Free }) ∷ []) w =
       subst (λ cs. IsFreeing nodes root dying start 0 (changes ++ cs) w) stored (freeing_goes_on nodes root dying start v w 0 changes (Kind.Free n) doom g.freeing t tt) in
       let none : own_refs nodes v n + own_pins v n ≡ 0 = t.4 in
-      let other : root ≢ n = λ e. both_ways (has root v.idle) g.root_out.idle (ap (λ k. has k v.idle) e ∙ t.5) in
+      let other : root ≢ n = λ e. both_ways (has_node v.idle root) g.root_out.idle (ap (λ k. has_node v.idle k) e ∙ t.5) in
       subst (λ cs. IsGivenUp nodes root dying start (changes ++ cs) w) (sym stored)
       (gives_freed w n t.0 f (subst (λ (z : View). known_row z root ≡ known_row v root) (sym t.6) (look_there root n Free v.rows other))
       (subst (λ z. IsOut nodes z root) (sym t.6) (out_freed nodes v root g.root_out n t.0 t.1 t.2)) (omega arith))
@@ -237,7 +238,7 @@ abbrev unpinned_by : View → ℕ → Bool → View
 unpinned_by v n last = trimmed (record v { pins = without_one n v.pins; idle = if last && is_derived_known (known_row v n) then n ∷ v.idle else v.idle })
 
 pub unpins_turn : UnpinsTurn
-unpins_turn nodes v n last w u = go (has n v.sole) refl
+unpins_turn nodes v n last w u = go (has_node v.sole n) refl
   where
     fewer : own_pins w n + 1 ≡ own_pins v n
     fewer =
@@ -257,8 +258,8 @@ unpins_turn nodes v n last w u = go (has n v.sole) refl
     same_test_of false e to from =
         ne_eqb (own_refs nodes v n + own_pins v n) 1 (λ is. both_ways last e (from (omega (arith, is, fewer, refs_same), omega (arith, is, fewer, refs_same)))) ∙ sym e
 
-    go : (s : Bool) → has n v.sole ≡ s → Turns nodes v (Kind.Unpin n) w
-    go false e = (u.found.0, u.own, (λ h. absurd (both_ways (has n v.sole) e h)), u.found.2)
+    go : (s : Bool) → has_node v.sole n ≡ s → Turns nodes v (Kind.Unpin n) w
+    go false e = (u.found.0, u.own, (λ h. absurd (both_ways (has_node v.sole n) e h)), u.found.2)
     go true e = (
       own_refs nodes v n + own_pins v n,
       u.own,

@@ -6,18 +6,20 @@ use Rattle.syn_rows.specs.declared.Row.TheVariants.{Free}
 use Rattle.syn_rows.specs.Rows.{refs_of}
 use Rattle.syn_rows.specs.References.{hits, refs, times}
 use Rattle.syn_core_laws.specs.declared.View.{View}
-use Rattle.syn_core_laws.specs.Lists.{has, only, without_one, without_each, look, kept}
+use Rattle.syn_rows.specs.Nodes.{has_node}
+use Rattle.syn_core_laws.specs.Lists.{only, without_one, without_each, look, kept}
 use Rattle.syn_rows.specs.Rows.{is_derived}
 use Rattle.syn_core_laws.specs.Views.{is_derived_known, known_row, refs_known, own_refs, own_pins, differs, stays_sole, is_sole, released, pinned, unpinned, count_loaded, key_loaded, key_set, made, redefined, freed}
-use Rattle.syn_core_laws.proofs.Listing.{and_both, other_test, same_test, has_first, has_more, has_only, only_has, look_here, look_there, look_kept, look_dropped}
+use Rattle.syn_rows.proofs.Nodes.{has_here, has_there}
+use Rattle.syn_core_laws.proofs.Listing.{and_both, other_test, same_test, has_only, only_has, look_here, look_there, look_kept, look_dropped}
 use Rattle.syn_core_laws.proofs.Counting.{sum_same, sum_change, hits_same, hits_other, times_has, times_append, times_less, times_less_each}
 use Rattle.syn_commit_laws.specs.Dying.{AreDoomed}
 use Rattle.syn_commit_laws.specs.Turning.{IsServed, Spares}
 use Rattle.syn_commit_laws.specs.Freeing.{AreLeft, IsGone}
 use Rattle.syn_commit_laws.proofs.Sums.{sum_some}
 
-has_if : (m n : ℕ) (b : Bool) (xs : List ℕ) → has m xs ≡ true → has m (if b then n ∷ xs else xs) ≡ true
-has_if m n true xs h = has_more m n xs h
+has_if : (m n : ℕ) (b : Bool) (xs : List ℕ) → has_node xs m ≡ true → has_node (if b then n ∷ xs else xs) m ≡ true
+has_if m n true xs h = has_there n m xs h
 has_if m n false xs h = h
 
 gate_known : (o : Option Row) (r : Row) → o ≡ Some r → is_derived_known o ≡ is_derived r
@@ -35,13 +37,13 @@ module _ (nodes root : ℕ) (dying still : ℕ → Bool) (start v : View) (doom 
   not_free m n h free e = both_ways (is_derived_known (known_row v m)) (ap (λ k. is_derived_known (known_row v k)) e ∙ ap is_derived_known free) (left_gate m h)
 
   -- what is gone stays so where neither its row nor whether it is held changes
-  gone_still : (w : View) (m : ℕ) → has m w.held ≡ has m v.held → known_row w m ≡ known_row v m → IsGone v m → IsGone w m
+  gone_still : (w : View) (m : ℕ) → has_node w.held m ≡ has_node v.held m → known_row w m ≡ known_row v m → IsGone v m → IsGone w m
   gone_still w m held row (inl free) = inl (row ∙ free)
   gone_still w m held row (inr off) = inr (row ∙ off.0, held ∙ off.1)
 
   -- known rows stay
-  rows_stay : (w : View) → w.held ≡ v.held → ((n : ℕ) → known_row w n ≡ known_row v n) → ((m : ℕ) → has m v.sole ≡ true → has m w.sole ≡ true)
-      → ((m : ℕ) → still m ≡ true → own_refs nodes v m + own_pins w m ≡ 0 → has m w.idle ≡ true)
+  rows_stay : (w : View) → w.held ≡ v.held → ((n : ℕ) → known_row w n ≡ known_row v n) → ((m : ℕ) → has_node v.sole m ≡ true → has_node w.sole m ≡ true)
+      → ((m : ℕ) → still m ≡ true → own_refs nodes v m + own_pins w m ≡ 0 → has_node w.idle m ≡ true)
       → AreLeft nodes root dying still start w
   rows_stay w held rows soles idles = record {
     among = a.among;
@@ -51,7 +53,7 @@ module _ (nodes root : ℕ) (dying still : ℕ → Bool) (start v : View) (doom 
     idles = λ m h e.
         let same : own_refs nodes w m ≡ own_refs nodes v m = sum_same nodes (λ n. refs_known m (known_row w n)) (λ n. refs_known m (known_row v n)) (λ n lt. ap (refs_known m) (rows n)) in
         idles m h (omega arith);
-    gone = λ m d g. gone_still w m (ap (has m) held) (rows m) (a.gone m d g);
+    gone = λ m d g. gone_still w m (ap (λ ns. has_node ns m) held) (rows m) (a.gone m d g);
   }
 
   pub left_pinned : (n : ℕ) → AreLeft nodes root dying still start (pinned v n)
@@ -59,17 +61,17 @@ module _ (nodes root : ℕ) (dying still : ℕ → Bool) (start v : View) (doom 
       let ne : m ≢ n = λ same. let one : hits m n ≡ 1 = subst (λ k. hits m k ≡ 1) same (hits_same m) in absurd (omega arith) in
       only_has (differs n) m v.idle (a.idles m h (omega arith)) (other_test n m ne))
 
-  pub left_unpinned : (n count : ℕ) → has n v.pins ≡ true → (has n v.sole ≡ true → count ≡ own_refs nodes v n + own_pins v n) → AreLeft nodes root dying still start (unpinned v n count)
+  pub left_unpinned : (n count : ℕ) → has_node v.pins n ≡ true → (has_node v.sole n ≡ true → count ≡ own_refs nodes v n + own_pins v n) → AreLeft nodes root dying still start (unpinned v n count)
   left_unpinned n count own told = rows_stay (unpinned v n count) refl (λ k. refl) (λ m s. s) (λ m h e.
       let fewer : times m (without_one n v.pins) + hits m n ≡ times m v.pins = times_less m n v.pins (times_has n v.pins own) in
       elim (cases_eq m n) [
         | inl same ↦
             let one : hits m n ≡ 1 = subst (λ k. hits m k ≡ 1) same (hits_same m) in
             let all : own_refs nodes v m + own_pins v m ≡ 1 = omega arith in
-            let here : count ≡ 1 = told (subst (λ k. has k v.sole ≡ true) same (a.soles m h)) ∙ subst (λ k. own_refs nodes v k + own_pins v k ≡ 1) same all in
+            let here : count ≡ 1 = told (subst (λ k. has_node v.sole k ≡ true) same (a.soles m h)) ∙ subst (λ k. own_refs nodes v k + own_pins v k ≡ 1) same all in
             let gate : is_derived_known (known_row v n) ≡ true = subst (λ k. is_derived_known (known_row v k) ≡ true) same (left_gate m h) in
-            ap (λ b. has m (if b then n ∷ v.idle else v.idle)) (and_both (count == 1) (is_derived_known (known_row v n)) (eq-eqb count 1 here) gate)
-            ∙ subst (λ k. has k (n ∷ v.idle) ≡ true) (sym same) (has_first n v.idle)
+            ap (λ b. has_node (if b then n ∷ v.idle else v.idle) m) (and_both (count == 1) (is_derived_known (known_row v n)) (eq-eqb count 1 here) gate)
+            ∙ subst (λ k. has_node (n ∷ v.idle) k ≡ true) (sym same) (has_here n v.idle)
         | inr ne ↦
             let none : hits m n ≡ 0 = hits_other m n ne in
             has_if m n ((count == 1) && is_derived_known (known_row v n)) v.idle (a.idles m h (omega arith))
@@ -100,13 +102,13 @@ module _ (nodes root : ℕ) (dying still : ℕ → Bool) (start v : View) (doom 
       | inl e ↦ inr (subst (λ k. look k (kept (differs n) v.rows) ≡ None) (sym e) (look_dropped (differs n) n v.rows (same_test n)), not_held m (λ h. both_ways (differs n m) (ap (differs n) e ∙ same_test n) (has_only (differs n) m v.held h).1))
       | inr ne ↦ elim (a.gone m d g) [
         | inl is ↦ inl (look_kept (differs n) m v.rows (other_test n m ne) ∙ is)
-        | inr off ↦ inr (look_kept (differs n) m v.rows (other_test n m ne) ∙ off.0, not_held m (λ h. both_ways (has m v.held) off.1 (has_only (differs n) m v.held h).0))
+        | inr off ↦ inr (look_kept (differs n) m v.rows (other_test n m ne) ∙ off.0, not_held m (λ h. both_ways (has_node v.held m) off.1 (has_only (differs n) m v.held h).0))
       ]
     ];
   }
     where
-      not_held : (m : ℕ) → (has m (only (differs n) v.held) ≡ true → ⊥) → has m (only (differs n) v.held) ≡ false
-      not_held m h = false_from_ne_true (has m (only (differs n) v.held)) h
+      not_held : (m : ℕ) → (has_node (only (differs n) v.held) m ≡ true → ⊥) → has_node (only (differs n) v.held) m ≡ false
+      not_held m h = false_from_ne_true (has_node (only (differs n) v.held) m) h
 
       refs_stay : (m k : ℕ) → refs_known m (look k (kept (differs n) v.rows)) ≡ refs_known m (known_row v k)
       refs_stay m k = elim (cases_eq k n) [
@@ -141,7 +143,7 @@ module _ (nodes root : ℕ) (dying still : ℕ → Bool) (start v : View) (doom 
         let refs_move : own_refs nodes (made v n row) m + refs m Free ≡ own_refs nodes v m + refs m row = stored_refs n m Free row (made v n row) lt free (look_here n row v.rows) (λ k ne. look_there k n row v.rows ne) in
         let pins_move : times m (without_each (refs_of row) v.pins) + times m (refs_of row) ≡ times m v.pins = times_less_each m (refs_of row) v.pins served in
         let none : times m (refs_of row) ≡ 0 = spares m (a.among m h) in
-        has_more m n v.idle (a.idles m h (omega arith));
+        has_there n m v.idle (a.idles m h (omega arith));
     gone = λ m d g. gone_still (made v n row) m refl (look_there m n row v.rows (λ e. both_ways (dying m) (ap dying e ∙ live) d)) (a.gone m d g);
   }
 
@@ -202,7 +204,7 @@ module _ (nodes root : ℕ) (dying still : ℕ → Bool) (start v : View) (doom 
   next_left pins idle spares m h = elim (eq-zero-or-pos (own_refs nodes v m)) [
     | inl none ↦
         let no_pins : own_pins v m ≡ 0 = ap (times m) pins in
-        absurd (both_ways (has m v.idle) (ap (has m) idle) (a.idles m h (omega arith)))
+        absurd (both_ways (has_node v.idle m) (ap (λ ns. has_node ns m) idle) (a.idles m h (omega arith)))
     | inr some_there ↦
         let t : (n : ℕ) × (n < nodes) × (1 ≤ refs_known m (known_row v n)) = sum_some nodes (λ n. refs_known m (known_row v n)) some_there in
         elim (a.only m h t.0 t.1 t.2) [

@@ -3,7 +3,7 @@ use Rattle.std.specs.Prelude.{◌≡◌, ◌≢◌, ◌⊎◌, ℕ, ◌+◌, ◌
 use Rattle.syn_rows.specs.declared.Row.{Row}
 use Rattle.syn_rows.specs.References.{and_count, sum_below}
 use Rattle.syn_core_laws.specs.declared.View.{View}
-use Rattle.syn_core_laws.specs.Lists.{has}
+use Rattle.syn_rows.specs.Nodes.{has_node}
 use Rattle.syn_core_laws.specs.Views.{known_row, refs_known, own_refs, own_pins, is_derived_known}
 
 -- the references to the node m from known rows of the set
@@ -43,9 +43,9 @@ ands_among v (n ∷ ns) = ands_known (known_row v n) + ands_among v ns
 
 -- Some dying rows were found, as a list: each is in every set that obeys the rule, and sums over the list are those over the set.
 pub record AreFound (nodes : ℕ) (v : View) (counts : ℕ → ℕ) (root : ℕ) (may : ℕ → Bool) (dead : List ℕ) : Type 0 where
-  pub sound : (set : ℕ → Bool) → Dies nodes v counts root may set → (m : ℕ) → has m dead ≡ true → set m ≡ true
-  pub refs : (m : ℕ) → refs_from nodes v (λ n. has n dead) m ≡ refs_among v dead m
-  pub ands : ands_in nodes v (λ n. has n dead) ≡ ands_among v dead
+  pub sound : (set : ℕ → Bool) → Dies nodes v counts root may set → (m : ℕ) → has_node dead m ≡ true → set m ≡ true
+  pub refs : (m : ℕ) → refs_from nodes v (λ n. has_node dead n) m ≡ refs_among v dead m
+  pub ands : ands_in nodes v (λ n. has_node dead n) ≡ ands_among v dead
 
 -- as many references to m as the rows found can explain
 abbrev pub explained_by : View → ℕ → List ℕ → ℕ → ℕ
@@ -54,7 +54,7 @@ explained_by v root dead m = own_pins v m + (refs_known m (known_row v root) + r
 -- The count x was loaded of m: it is at least the seat's references and pins, and where it is no more than these, the node is sole.
 pub record IsLoaded (nodes : ℕ) (v : View) (m x : ℕ) : Type 0 where
   pub lower : own_refs nodes v m + own_pins v m ≤ x
-  pub sole : m ≢ 0 → x ≡ own_refs nodes v m + own_pins v m → has m v.sole ≡ true
+  pub sole : m ≢ 0 → x ≡ own_refs nodes v m + own_pins v m → has_node v.sole m ≡ true
 
 -- only the root and nodes of the set are known to refer to m
 abbrev pub OnlyThese : ℕ → View → ℕ → (ℕ → Bool) → ℕ → Type 0
@@ -66,7 +66,7 @@ pub record AreDoomed (nodes root : ℕ) (dying : ℕ → Bool) (v : View) : Type
   pub there : (m : ℕ) → dying m ≡ true → m < nodes
   pub gates : (m : ℕ) → dying m ≡ true → is_derived_known (known_row v m) ≡ true
   pub referred : (m : ℕ) → dying m ≡ true → 1 ≤ own_refs nodes v m
-  pub soles : (m : ℕ) → dying m ≡ true → has m v.sole ≡ true
+  pub soles : (m : ℕ) → dying m ≡ true → has_node v.sole m ≡ true
   pub only : (m : ℕ) → dying m ≡ true → OnlyThese nodes v root dying m
 
 -- What a walk from the root leaves: the root is a node; what may die is another node that isn't 0, known as a gate, to which a known row refers.

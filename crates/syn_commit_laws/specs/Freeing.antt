@@ -6,7 +6,7 @@ use Rattle.syn_rows.specs.References.{and_count}
 use Rattle.syn_fanout_free.specs.Freed.{is_free}
 use Rattle.syn_core_laws.specs.declared.View.{View}
 use Rattle.syn_core_laws.specs.declared.Change.{Change}
-use Rattle.syn_core_laws.specs.Lists.{has}
+use Rattle.syn_rows.specs.Nodes.{has_node}
 use Rattle.syn_core_laws.specs.Views.{known_row, own_refs, own_pins, is_derived_known}
 use Rattle.syn_commit_laws.specs.Dying.{OnlyThese, ands_in}
 
@@ -44,16 +44,16 @@ ands_after (c ∷ cs) = and_count c.new + ands_after cs
 
 -- the node is known as free, or was let go
 abbrev pub IsGone : View → ℕ → Type 0
-IsGone v n = (known_row v n ≡ Some Free) ⊎ ((known_row v n ≡ None) × (has n v.held ≡ false))
+IsGone v n = (known_row v n ≡ Some Free) ⊎ ((known_row v n ≡ None) × (has_node v.held n ≡ false))
 
 -- Of the dying rows, these are left: each is still the seat's alone and has the row that it had; only the root and rows that are left are known to refer to it; when nothing
 -- of the seat's refers to it, it is on the zero list. The others are gone.
 pub record AreLeft (nodes root : ℕ) (dying still : ℕ → Bool) (start v : View) : Type 0 where
   pub among : (m : ℕ) → still m ≡ true → dying m ≡ true
-  pub soles : (m : ℕ) → still m ≡ true → has m v.sole ≡ true
+  pub soles : (m : ℕ) → still m ≡ true → has_node v.sole m ≡ true
   pub stays : (m : ℕ) → still m ≡ true → known_row v m ≡ known_row start m
   pub only : (m : ℕ) → still m ≡ true → OnlyThese nodes v root still m
-  pub idles : (m : ℕ) → still m ≡ true → own_refs nodes v m + own_pins v m ≡ 0 → has m v.idle ≡ true
+  pub idles : (m : ℕ) → still m ≡ true → own_refs nodes v m + own_pins v m ≡ 0 → has_node v.idle m ≡ true
   pub gone : (m : ℕ) → dying m ≡ true → still m ≡ false → IsGone v m
 
 -- What was stored since, and what became of the difference: so many rows were made, and these changes were stored.
@@ -78,7 +78,7 @@ pub record IsFreed (nodes : ℕ) (dying : ℕ → Bool) (start : View) (changes 
 pub record IsOut (nodes : ℕ) (v : View) (n : ℕ) : Type 0 where
   pub refs : own_refs nodes v n ≡ 0
   pub pins : own_pins v n ≡ 0
-  pub idle : has n v.idle ≡ false
+  pub idle : has_node v.idle n ≡ false
 
 -- A commit that gives up: the root has the row that it had, a gate's, nothing of the seat's refers to it, nothing was redefined, and no dying row was freed.
 pub record IsGivenUp (nodes root : ℕ) (dying : ℕ → Bool) (start : View) (changes : List Change) (v : View) : Type 0 where

@@ -13,7 +13,7 @@ use Rattle.syn_core_laws.specs.declared.Seen.{Seen}
 use Rattle.syn_core_laws.specs.declared.Event.{Event}
 use Rattle.syn_core_laws.specs.declared.EventKind.{EventKind}
 use Rattle.syn_core_laws.specs.declared.EventKind.TheVariants as Kind
-use Rattle.syn_core_laws.specs.Lists.{has}
+use Rattle.syn_rows.specs.Nodes.{has_node}
 use Rattle.syn_rows.specs.Rows.{is_derived}
 use Rattle.syn_core_laws.specs.Views.{is_derived_known, known_row, refs_known, own_refs, own_pins, count_loaded, made, redefined, freed}
 use Rattle.syn_core_laws.specs.Cores.{Core}
@@ -68,15 +68,15 @@ FindingBegins = (nodes : ℕ) (v : View) (counts : ℕ → ℕ) (root : ℕ) (ma
 abbrev pub FindingGoesOn : Type 0
 FindingGoesOn =
     (nodes : ℕ) (v : View) (counts : ℕ → ℕ) (root : ℕ) (may : ℕ → Bool) (dead : List ℕ) (m : ℕ)
-    → AreFound nodes v counts root may dead → m < nodes → may m ≡ true → counts m ≤ explained_by v root dead m → has m dead ≡ false
+    → AreFound nodes v counts root may dead → m < nodes → may m ≡ true → counts m ≤ explained_by v root dead m → has_node dead m ≡ false
     → AreFound nodes v counts root may (dead ++ m ∷ [])
 
 -- and where no other is explained, they are the dying rows, with so many ANDs among them.
 abbrev pub FindingEnds : Type 0
 FindingEnds =
     (nodes : ℕ) (v : View) (counts : ℕ → ℕ) (root : ℕ) (may : ℕ → Bool) (dead : List ℕ)
-    → AreFound nodes v counts root may dead → ((m : ℕ) → may m ≡ true → counts m ≤ explained_by v root dead m → has m dead ≡ true)
-    → IsDying nodes v counts root may (λ n. has n dead) × (ands_in nodes v (λ n. has n dead) ≡ ands_among v dead)
+    → AreFound nodes v counts root may dead → ((m : ℕ) → may m ≡ true → counts m ≤ explained_by v root dead m → has_node dead m ≡ true)
+    → IsDying nodes v counts root may (λ n. has_node dead n) × (ands_in nodes v (λ n. has_node dead n) ≡ ands_among v dead)
 
 -- ---- differences, whatever a seat does
 abbrev pub TellingBegins : Type 0
@@ -198,7 +198,7 @@ RedefinesTurn =
     → Turns nodes v (Kind.Redefine n row over) (redefined v n old row)
 
 abbrev pub FreesTurn : Type 0
-FreesTurn = (nodes : ℕ) (v : View) (n : ℕ) (old : Row) → IsShown nodes v → has n v.idle ≡ true → known_row v n ≡ Some old → Turns nodes v (Kind.Free n) (freed v n old)
+FreesTurn = (nodes : ℕ) (v : View) (n : ℕ) (old : Row) → IsShown nodes v → has_node v.idle n ≡ true → known_row v n ≡ Some old → Turns nodes v (Kind.Free n) (freed v n old)
 
 -- ---- by the core
 -- An event turns its seat's view, and no other's; the nodes stay as many.
@@ -226,7 +226,7 @@ DyingRowsAreFreed =
     → IsSound c → CommitsAlong id root dying c es d → get_elem? c.seats id ≡ some v → get_elem? d.seats id ≡ some w
     → AreDoomed (length c.rows) root dying v → w.pins ≡ [] → w.idle ≡ [] → ((row : Row) → known_row w root ≡ Some row → Spares dying row)
     → (changes : List Change) × IsTold v (makes (own id es)) changes w × IsFreed (length c.rows) dying v changes w
-    × ((m : ℕ) → dying m ≡ true → (row_at d.rows m ≡ Free) ⊎ (has m w.held ≡ false))
+    × ((m : ℕ) → dying m ≡ true → (row_at d.rows m ≡ Free) ⊎ (has_node w.held m ≡ false))
 
 -- the reads have the node's count
 abbrev pub ReadsCount : List Seen → ℕ → ℕ → Type 0
@@ -242,4 +242,4 @@ CommittedRowsAreFreed =
     → CommitsAlong id root dying c after d → get_elem? d.seats id ≡ some w
     → w.pins ≡ [] → w.idle ≡ [] → ((row : Row) → known_row w root ≡ Some row → Spares dying row)
     → (changes : List Change) × IsTold v (makes (own id after)) changes w × IsFreed (length b.rows) dying v changes w
-    × ((m : ℕ) → dying m ≡ true → (row_at d.rows m ≡ Free) ⊎ (has m w.held ≡ false))
+    × ((m : ℕ) → dying m ≡ true → (row_at d.rows m ≡ Free) ⊎ (has_node w.held m ≡ false))

@@ -8,7 +8,7 @@ use Rattle.syn_core_laws.specs.declared.Change.{Change}
 use Rattle.syn_core_laws.specs.declared.Seen.{Seen}
 use Rattle.syn_core_laws.specs.declared.EventKind.{EventKind}
 use Rattle.syn_core_laws.specs.declared.EventKind.TheVariants as Kind
-use Rattle.syn_core_laws.specs.Lists.{has}
+use Rattle.syn_rows.specs.Nodes.{has_node}
 use Rattle.syn_rows.specs.Rows.{is_derived}
 use Rattle.syn_core_laws.specs.Views.{is_derived_known, known_row, own_refs, own_pins, refs_known, claimed, missed, released, row_loaded, pinned, unpinned, count_loaded, key_loaded, key_set, made, redefined, freed}
 use Rattle.syn_commit_laws.specs.Dying.{IsLoaded}
@@ -25,13 +25,13 @@ Turns nodes v (Kind.ClaimFailed n) w = w ≡ missed v n
 Turns nodes v (Kind.Release n) w = w ≡ released v n
 Turns nodes v (Kind.LoadRow n) w = (r : Row) × (w ≡ row_loaded v n r)
 Turns nodes v (Kind.Pin n) w = w ≡ pinned v n
-Turns nodes v (Kind.Unpin n) w = (count : ℕ) × (has n v.pins ≡ true) × (has n v.sole ≡ true → count ≡ own_refs nodes v n + own_pins v n) × (w ≡ unpinned v n count)
+Turns nodes v (Kind.Unpin n) w = (count : ℕ) × (has_node v.pins n ≡ true) × (has_node v.sole n ≡ true → count ≡ own_refs nodes v n + own_pins v n) × (w ≡ unpinned v n count)
 Turns nodes v (Kind.LoadCount n) w = (count : ℕ) × (own_refs nodes v n + own_pins v n ≤ count) × (w ≡ count_loaded nodes v n count)
 Turns nodes v (Kind.LoadKey n) w = (key : ℕ) × (w ≡ key_loaded v n key)
 Turns nodes v (Kind.SetKey n key) w = w ≡ key_set v n key
 Turns nodes v (Kind.Make n row) w = (n < nodes) × (known_row v n ≡ Some Free) × IsServed v row × (w ≡ made v n row)
 Turns nodes v (Kind.Redefine n row over) w = (old : Row) × (n < nodes) × (known_row v n ≡ Some old) × (is_derived row ≡ true) × IsServed v row × (w ≡ redefined v n old row)
-Turns nodes v (Kind.Free n) w = (old : Row) × (n < nodes) × (known_row v n ≡ Some old) × (is_derived old ≡ true) × (own_refs nodes v n + own_pins v n ≡ 0) × (has n v.idle ≡ true) × (w ≡ freed v n old)
+Turns nodes v (Kind.Free n) w = (old : Row) × (n < nodes) × (known_row v n ≡ Some old) × (is_derived old ≡ true) × (own_refs nodes v n + own_pins v n ≡ 0) × (has_node v.idle n ≡ true) × (w ≡ freed v n old)
 
 -- the row refers to no node of the set
 abbrev pub Spares : (ℕ → Bool) → Row → Type 0
@@ -140,6 +140,6 @@ gates_known nodes v = sum_below nodes (λ n. one_gate (known_row v n))
 
 -- how the shared table tells an unpin: by whether the count that was found was 1; of a sole node that is so exactly where nothing of the seat's is left on it
 pub record IsUnpin (nodes : ℕ) (v : View) (n : ℕ) (last : Bool) (w : View) : Type 0 where
-  pub own : has n v.pins ≡ true
+  pub own : has_node v.pins n ≡ true
   pub found : (count : ℕ) × (last ≡ (count == 1)) × (w ≡ unpinned v n count)
-  pub sole : has n v.sole ≡ true → (last ≡ true) ↔ ((own_refs nodes w n ≡ 0) × (own_pins w n ≡ 0))
+  pub sole : has_node v.sole n ≡ true → (last ≡ true) ↔ ((own_refs nodes w n ≡ 0) × (own_pins w n ≡ 0))

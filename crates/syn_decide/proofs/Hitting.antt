@@ -1,9 +1,10 @@
 -- Hits, gate by gate.
 use Rattle.std.proofs.Common.{◌≡◌, ℕ, ◌+◌, Bool, true, false, not, nat_lt, ◌==◌, ◌&&◌, ◌||◌, if◌then◌else◌, List, [], ◌∷◌, ◌++◌, length, Option, Some, None, refl, sym, ap, ap₂, ◌∙◌, subst, rules}
 use Rattle.std.specs.List.{list_any}
-use Rattle.std.proofs.lemmas.Bool.{and_parts}
+use Rattle.std.proofs.lemmas.Bool.{and_parts, or_left, or_right}
 use Rattle.std.proofs.lemmas.Option.{none-some}
 use Rattle.syn_rows.specs.declared.Lit.{Lit}
+use Rattle.syn_rows.proofs.Nodes.{node_same, same_node}
 use Rattle.syn_rows.specs.declared.Row.{Row}
 use Rattle.syn_rows.specs.declared.Row.TheVariants as row
 use Rattle.syn_plan.specs.declared.PLit.{PLit}
@@ -12,20 +13,6 @@ use Rattle.syn_rows.specs.Joining.{lit_of, ordered_and, same_pair, simple_and}
 use Rattle.syn_gain.specs.Placing.{Placed, literal_for, literal_met, or_else, place_gate, place_pair}
 use Rattle.syn_decide.specs.Hints.{first_new, is_asked, is_new_gate, is_pair, is_pair_of, literal_hit, literal_listed}
 use Rattle.syn_decide.specs.Hitting.{IsOpen, after_gates}
-
-same_nat : (n : ℕ) → (n == n) ≡ true
-same_nat n = search rules
-
-not_same : (n m : ℕ) → (n == m) ≡ true → n ≡ m
-not_same n m h = search rules
-
-or_left : (a b : Bool) → a ≡ true → (a || b) ≡ true
-or_left true b h = refl
-or_left false b h = absurd (cc)
-
-or_right : (a b : Bool) → b ≡ true → (a || b) ≡ true
-or_right true b h = refl
-or_right false b h = h
 
 any_left : {A : Type 0} (p : A → Bool) (xs ys : List A) → list_any p xs ≡ true → list_any p (xs ++ ys) ≡ true
 any_left p [] ys h = absurd (cc)
@@ -69,7 +56,7 @@ pair_itself : (x y : Lit) → is_pair_of x y (ordered_and x y) ≡ true
 pair_itself x y = go (nat_lt x.0 y.0)
   where
     both : (a b : ℕ) → (a == a && b == b) ≡ true
-    both a b = ap₂ (λ p q. p && q) (same_nat a) (same_nat b)
+    both a b = ap₂ (λ p q. p && q) (node_same a) (node_same b)
 
     go : (b : Bool) → (if b then is_pair x y (if b then row.And x y else row.And y x) else is_pair y x (if b then row.And x y else row.And y x)) ≡ true
     go true = both x.0 y.0
@@ -97,13 +84,13 @@ pair_same : (u v x y : Lit) → is_pair_of u v (ordered_and x y) ≡ true → sa
 pair_same u v x y h = go (nat_lt u.0 v.0) (nat_lt x.0 y.0) h
   where
     parts : (a b c d : ℕ) → (a == b && c == d) ≡ true → (a ≡ b) × (c ≡ d)
-    parts a b c d h = let p = and_parts (a == b) (c == d) h in (not_same a b p.0, not_same c d p.1)
+    parts a b c d h = let p = and_parts (a == b) (c == d) h in (same_node a b p.0, same_node c d p.1)
 
     straight : (u.0 ≡ x.0) → (v.0 ≡ y.0) → same_pair x y u v ≡ true
-    straight e f = or_left (x.0 == u.0 && y.0 == v.0) (x.0 == v.0 && y.0 == u.0) (ap₂ (λ p q. p && q) (ap (λ z. z == u.0) (sym e) ∙ same_nat u.0) (ap (λ z. z == v.0) (sym f) ∙ same_nat v.0))
+    straight e f = or_left (x.0 == u.0 && y.0 == v.0) (x.0 == v.0 && y.0 == u.0) (ap₂ (λ p q. p && q) (ap (λ z. z == u.0) (sym e) ∙ node_same u.0) (ap (λ z. z == v.0) (sym f) ∙ node_same v.0))
 
     crossed : (v.0 ≡ x.0) → (u.0 ≡ y.0) → same_pair x y u v ≡ true
-    crossed e f = or_right (x.0 == u.0 && y.0 == v.0) (x.0 == v.0 && y.0 == u.0) (ap₂ (λ p q. p && q) (ap (λ z. z == v.0) (sym e) ∙ same_nat v.0) (ap (λ z. z == u.0) (sym f) ∙ same_nat u.0))
+    crossed e f = or_right (x.0 == u.0 && y.0 == v.0) (x.0 == v.0 && y.0 == u.0) (ap₂ (λ p q. p && q) (ap (λ z. z == v.0) (sym e) ∙ node_same v.0) (ap (λ z. z == u.0) (sym f) ∙ node_same u.0))
 
     go : (b c : Bool) → (if b then is_pair u v (if c then row.And x y else row.And y x) else is_pair v u (if c then row.And x y else row.And y x)) ≡ true → same_pair x y u v ≡ true
     go true true h = let p = parts u.0 x.0 v.0 y.0 h in straight p.0 p.1

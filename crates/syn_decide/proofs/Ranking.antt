@@ -6,7 +6,9 @@ use Rattle.syn_rows.specs.declared.Row.TheVariants as row
 use Rattle.syn_rows.specs.declared.Lit.{Lit}
 use Rattle.syn_rows.specs.Rows.{AllRefs, node_of, refs_of}
 use Rattle.syn_rows.specs.Rows.{is_derived}
-use Rattle.syn_core_laws.specs.Lists.{has}
+use Rattle.std.proofs.lemmas.Bool.{or_cases}
+use Rattle.syn_rows.specs.Nodes.{has_node}
+use Rattle.syn_rows.proofs.Nodes.{node_same, same_node}
 use Rattle.syn_core_laws.specs.SameValue.{both, known_value, turned_by, value_by, value_of_row}
 use Rattle.syn_core_laws.specs.declared.Seen.{Seen}
 use Rattle.syn_core_laws.specs.declared.Seen.TheVariants as seen
@@ -23,12 +25,6 @@ use Rattle.syn_decide.specs.Walked.{AreGates, IsKnown, IsWalked, RanksRise, Refe
 use Rattle.syn_decide.proofs.Folding.{after_snoc}
 use Rattle.syn_decide.proofs.Walking.{always_walked, gate_more, node_row}
 
-same_nat : (n : ℕ) → (n == n) ≡ true
-same_nat n = search rules
-
-not_same : (n m : ℕ) → (n == m) ≡ true → n ≡ m
-not_same n m h = search rules
-
 le_from : (a b : ℕ) → nat_le a b ≡ true → a ≤ b
 le_from a b h = search rules
 
@@ -37,10 +33,6 @@ le_true a b h = search rules
 
 le_false : (a b : ℕ) → b < a → nat_le a b ≡ false
 le_false a b h = search rules
-
-or_cases : (a b : Bool) → (a || b) ≡ true → (a ≡ true) ⊎ (b ≡ true)
-or_cases true b h = inl refl
-or_cases false b h = inr h
 
 -- how many of the rows have a rank of at most x
 count_upto : (ℕ → ℕ) → ℕ → List NodeRow → ℕ
@@ -71,13 +63,13 @@ upto_grow rank y x [] h = omega arith
 upto_grow rank y x (r ∷ rows) h = step_grow (rank r.node) y x (count_upto rank y rows) (count_upto rank x rows) h (upto_grow rank y x rows h)
 
 -- a row of a greater rank is counted more
-upto_less : (rank : ℕ → ℕ) (y n : ℕ) (rows : List NodeRow) → has n (nodes_of rows) ≡ true → y < rank n → count_upto rank y rows + 1 ≤ count_upto rank (rank n) rows
+upto_less : (rank : ℕ → ℕ) (y n : ℕ) (rows : List NodeRow) → has_node (nodes_of rows) n ≡ true → y < rank n → count_upto rank y rows + 1 ≤ count_upto rank (rank n) rows
 unfolding count_upto
 upto_less rank y n [] h l = absurd (cc)
 upto_less rank y n (r ∷ rows) h l =
-    elim (or_cases (r.node == n) (has n (nodes_of rows)) h) [
+    elim (or_cases (r.node == n) (has_node (nodes_of rows) n) h) [
       | inl e ↦ (
-          let same : r.node ≡ n = not_same r.node n e in
+          let same : r.node ≡ n = same_node r.node n e in
           let ranks : rank r.node ≡ rank n = ap rank same in
           first (nat_le (rank r.node) y) (nat_le (rank r.node) (rank n)) (le_false (rank r.node) y (omega (arith, ranks, l))) (le_true (rank r.node) (rank n) (omega (arith, ranks))) (upto_grow rank y (rank n) rows (omega (arith, l)))
           )
@@ -90,12 +82,12 @@ upto_less rank y n (r ∷ rows) h l =
     first false false e f g = absurd (cc)
 
 -- a row that is there is counted
-upto_some : (rank : ℕ → ℕ) (n : ℕ) (rows : List NodeRow) → has n (nodes_of rows) ≡ true → count_upto rank (rank n) rows ≤ 0 → ⊥
+upto_some : (rank : ℕ → ℕ) (n : ℕ) (rows : List NodeRow) → has_node (nodes_of rows) n ≡ true → count_upto rank (rank n) rows ≤ 0 → ⊥
 unfolding count_upto
 upto_some rank n [] h l = absurd (cc)
 upto_some rank n (r ∷ rows) h l =
-    elim (or_cases (r.node == n) (has n (nodes_of rows)) h) [
-      | inl e ↦ (let ranks : rank r.node ≡ rank n = ap rank (not_same r.node n e) in first (nat_le (rank r.node) (rank n)) (le_true (rank r.node) (rank n) (omega (arith, ranks))) l)
+    elim (or_cases (r.node == n) (has_node (nodes_of rows) n) h) [
+      | inl e ↦ (let ranks : rank r.node ≡ rank n = ap rank (same_node r.node n e) in first (nat_le (rank r.node) (rank n)) (le_true (rank r.node) (rank n) (omega (arith, ranks))) l)
       | inr k ↦ upto_some rank n rows k (omega (arith, l))
     ]
   where
@@ -110,12 +102,12 @@ record IsThere (P : NodeRow → Type 0) (rows : List NodeRow) (n : ℕ) : Type 0
   row_is : row_among rows n ≡ Some entry.row
   holds : P entry
 
-there : (P : NodeRow → Type 0) (rows : List NodeRow) (n : ℕ) → has n (nodes_of rows) ≡ true → AllByRecursion P rows → IsThere P rows n
+there : (P : NodeRow → Type 0) (rows : List NodeRow) (n : ℕ) → has_node (nodes_of rows) n ≡ true → AllByRecursion P rows → IsThere P rows n
 there P [] n h a = absurd (cc)
 there P (r ∷ rows) n h a = go (r.node == n) refl h (λ k. there P rows n k a.1)
   where
-    go : (b : Bool) → (r.node == n) ≡ b → (b || has n (nodes_of rows)) ≡ true → (has n (nodes_of rows) ≡ true → IsThere P rows n) → IsThere P (r ∷ rows) n
-    go true e k next = record { entry = r; node_is = not_same r.node n e; row_is = ap (λ b. if b then Some r.row else row_among rows n) e; holds = a.0 }
+    go : (b : Bool) → (r.node == n) ≡ b → (b || has_node (nodes_of rows) n) ≡ true → (has_node (nodes_of rows) n ≡ true → IsThere P rows n) → IsThere P (r ∷ rows) n
+    go true e k next = record { entry = r; node_is = same_node r.node n e; row_is = ap (λ b. if b then Some r.row else row_among rows n) e; holds = a.0 }
     go false e k next =
         let rest = next k in
         record { entry = rest.entry; node_is = rest.node_is; row_is = ap (λ b. if b then Some r.row else row_among rows n) e ∙ rest.row_is; holds = rest.holds }
@@ -146,10 +138,10 @@ all_both P Q [] p q = tt
 all_both P Q (r ∷ rows) p q = ((p.0, q.0), all_both P Q rows p.1 q.1)
 
 -- a leaf and node 0 have a value after any number of rows
-open_valued : (known : ℕ → Option Row) (leaves : List ℕ) (choice : ℕ → Bool) (k m : ℕ) → ((m ≡ 0) ⊎ (has m leaves ≡ true)) → has_none (value_by known leaves choice k m) ≡ false
-open_valued known leaves choice k m h = by_steps k (has m leaves) (m == 0) refl refl (side h)
+open_valued : (known : ℕ → Option Row) (leaves : List ℕ) (choice : ℕ → Bool) (k m : ℕ) → ((m ≡ 0) ⊎ (has_node leaves m ≡ true)) → has_none (value_by known leaves choice k m) ≡ false
+open_valued known leaves choice k m h = by_steps k (has_node leaves m) (m == 0) refl refl (side h)
   where
-    side : ((m ≡ 0) ⊎ (has m leaves ≡ true)) → (has m leaves ≡ true) ⊎ ((m == 0) ≡ true)
+    side : ((m ≡ 0) ⊎ (has_node leaves m ≡ true)) → (has_node leaves m ≡ true) ⊎ ((m == 0) ≡ true)
     side (inl e) = inr (ap (λ n. n == 0) e)
     side (inr e) = inl e
 
@@ -159,9 +151,9 @@ open_valued known leaves choice k m h = by_steps k (has m leaves) (m == 0) refl 
     top false false x rest (inl e) = absurd (cc)
     top false false x rest (inr e) = absurd (cc)
 
-    by_steps : (k : ℕ) (a b : Bool) → has m leaves ≡ a → (m == 0) ≡ b → (has m leaves ≡ true) ⊎ ((m == 0) ≡ true) → has_none (value_by known leaves choice k m) ≡ false
-    by_steps zero a b e f h = top (has m leaves) (m == 0) (choice m) None h
-    by_steps (suc k) a b e f h = top (has m leaves) (m == 0) (choice m) (known_value (value_by known leaves choice k) (known m)) h
+    by_steps : (k : ℕ) (a b : Bool) → has_node leaves m ≡ a → (m == 0) ≡ b → (has_node leaves m ≡ true) ⊎ ((m == 0) ≡ true) → has_none (value_by known leaves choice k m) ≡ false
+    by_steps zero a b e f h = top (has_node leaves m) (m == 0) (choice m) None h
+    by_steps (suc k) a b e f h = top (has_node leaves m) (m == 0) (choice m) (known_value (value_by known leaves choice k) (known m)) h
 
 rest_valued : (a b x : Bool) (rest : Option Bool) → has_none rest ≡ false → has_none (if a then Some x else (if b then Some false else rest)) ≡ false
 rest_valued true b x rest h = refl
@@ -174,13 +166,13 @@ record Fine (t : Task) (inner : List NodeRow) (rank : ℕ → ℕ) : Type 0 wher
   gates : AreGates inner
   rise : RanksRise rank inner
 
-valued : (t : Task) (inner : List NodeRow) (rank : ℕ → ℕ) (choice : ℕ → Bool) → Fine t inner rank → (k n : ℕ) → has n (nodes_of inner) ≡ true → count_upto rank (rank n) inner ≤ k
+valued : (t : Task) (inner : List NodeRow) (rank : ℕ → ℕ) (choice : ℕ → Bool) → Fine t inner rank → (k n : ℕ) → has_node (nodes_of inner) n ≡ true → count_upto rank (rank n) inner ≤ k
     → has_none (value_by (row_among inner) t.proposal.leaves choice k n) ≡ false
 valued t inner rank choice f zero n h l = absurd (upto_some rank n inner h l)
-valued t inner rank choice f (suc k) n h l = rest_valued (has n t.proposal.leaves) (n == 0) (choice n) _ (go (there _ inner n h (all_both _ _ inner f.closed (all_both _ _ inner f.gates f.rise))) (valued t inner rank choice f k))
+valued t inner rank choice f (suc k) n h l = rest_valued (has_node t.proposal.leaves n) (n == 0) (choice n) _ (go (there _ inner n h (all_both _ _ inner f.closed (all_both _ _ inner f.gates f.rise))) (valued t inner rank choice f k))
   where
     go : IsThere (λ r. AllRefs (IsKnown t inner []) r.row × ((is_derived r.row ≡ true) × AllRefs (λ m. rank m < rank r.node) r.row)) inner n
-        → ((m : ℕ) → has m (nodes_of inner) ≡ true → count_upto rank (rank m) inner ≤ k → has_none (value_by (row_among inner) t.proposal.leaves choice k m) ≡ false)
+        → ((m : ℕ) → has_node (nodes_of inner) m ≡ true → count_upto rank (rank m) inner ≤ k → has_none (value_by (row_among inner) t.proposal.leaves choice k m) ≡ false)
         → has_none (known_value (value_by (row_among inner) t.proposal.leaves choice k) (row_among inner n)) ≡ false
     go at next =
         ap (λ o. has_none (known_value (value_by (row_among inner) t.proposal.leaves choice k) o)) at.row_is
@@ -195,7 +187,7 @@ valued t inner rank choice f (suc k) n h l = rest_valued (has n t.proposal.leave
             next m o (omega (arith, fewer, l))
         each m (inr (inr o)) r = absurd (cc)
 
-pub no_circle : (t : Task) (inner : List NodeRow) (rank : ℕ → ℕ) → RefersToKnown t inner [] → AreGates inner → RanksRise rank inner → has t.proposal.root (nodes_of inner) ≡ true → in_circle t inner ≡ false
+pub no_circle : (t : Task) (inner : List NodeRow) (rank : ℕ → ℕ) → RefersToKnown t inner [] → AreGates inner → RanksRise rank inner → has_node (nodes_of inner) t.proposal.root ≡ true → in_circle t inner ≡ false
 no_circle t inner rank c g r h =
     valued t inner rank (leaf_value t.proposal.leaves (replicate (variables t) false)) (record { closed = c; gates = g; rise = r }) (length inner) t.proposal.root h (upto_all rank (rank t.proposal.root) inner)
 
@@ -268,6 +260,6 @@ rows_always_fit t reads rank n r root_in next rise e =
     let s : State = after_reads t (begin t) reads in
     let at_node : (waiting : List ℕ) × (s.stage ≡ Walking (n ∷ waiting)) = row_next s s.stage n next in
     let step : read_one t s (seen.Row n r) ≡ row_loaded t s n r at_node.0 =
-    ap (λ stage. read_at t s stage (seen.Row n r)) at_node.1 ∙ ap (λ b. if b then row_loaded t s n r at_node.0 else failed s) (same_nat n) in
+    ap (λ stage. read_at t s stage (seen.Row n r)) at_node.1 ∙ ap (λ b. if b then row_loaded t s n r at_node.0 else failed s) (node_same n) in
     loaded_fits t s n r at_node.0 rank (subst (λ stage. IsWalked t s.inner stage) at_node.1 (always_walked t reads root_in)) rise
     (sym (ap wants (after_snoc t (begin t) reads (seen.Row n r) ∙ step)) ∙ e)

@@ -6,7 +6,7 @@ use Rattle.syn_rows.specs.declared.Row.{Row}
 use Rattle.syn_rows.specs.declared.Row.TheVariants as row
 use Rattle.syn_rows.specs.Rows.{node_of}
 use Rattle.syn_truth.specs.declared.Truth.{Truth}
-use Rattle.syn_core_laws.specs.Lists.{has}
+use Rattle.syn_rows.specs.Nodes.{has_node}
 use Rattle.syn_core_laws.specs.SameValue.{both, known_value, turned_by, value_by, value_of_row}
 use Rattle.syn_decide.specs.declared.decisions.NodeRow.{NodeRow}
 use Rattle.syn_decide.specs.Walk.{row_among}
@@ -45,9 +45,9 @@ open_stays false true x v w b f h = h
 open_stays false false x v w b f h = f h
 
 one_step : (known : ℕ → Option Row) (over : List ℕ) (choice : ℕ → Bool) (k : ℕ) → Keeps (value_by known over choice k) (value_by known over choice (suc k))
-one_step known over choice zero n b h = open_stays (has n over) (n == 0) (choice n) None (known_value (value_by known over choice 0) (known n)) b (λ e. absurd (none-some b e)) h
+one_step known over choice zero n b h = open_stays (has_node over n) (n == 0) (choice n) None (known_value (value_by known over choice 0) (known n)) b (λ e. absurd (none-some b e)) h
 one_step known over choice (suc k) n b h =
-    open_stays (has n over) (n == 0) (choice n) (known_value (value_by known over choice k) (known n)) (known_value (value_by known over choice (suc k)) (known n)) b
+    open_stays (has_node over n) (n == 0) (choice n) (known_value (value_by known over choice k) (known n)) (known_value (value_by known over choice (suc k)) (known n)) b
     (known_stays (value_by known over choice k) (value_by known over choice (suc k)) (one_step known over choice k) (known n) b) h
 
 more_steps : (known : ℕ → Option Row) (over : List ℕ) (choice : ℕ → Bool) (m k : ℕ) → k ≤ m → Keeps (value_by known over choice k) (value_by known over choice m)

@@ -1,12 +1,13 @@
 -- The inner rows after any reads.
 use Rattle.std.proofs.Common.{◌≡◌, ◌⊎◌, ℕ, Bool, true, false, not, nat_lt, ◌==◌, ◌&&◌, ◌||◌, if◌then◌else◌, List, [], ◌∷◌, ◌++◌, length, Option, Some, None, refl, sym, ap, ◌∙◌, subst, rules, inl, inr}
 use Rattle.std.specs.List.{AllByRecursion}
-use Rattle.std.proofs.lemmas.Bool.{and_parts, and_from}
+use Rattle.std.proofs.lemmas.Bool.{and_parts, and_from, or_cases, or_left, or_right}
 use Rattle.syn_rows.specs.declared.Row.{Row}
 use Rattle.syn_rows.specs.declared.Row.TheVariants as row
 use Rattle.syn_rows.specs.Rows.{AllRefs, node_of, refs_of}
 use Rattle.syn_rows.specs.Rows.{is_derived}
-use Rattle.syn_core_laws.specs.Lists.{has}
+use Rattle.syn_rows.specs.Nodes.{has_node}
+use Rattle.syn_rows.proofs.Nodes.{has_left, has_right, node_same, same_node}
 use Rattle.syn_core_laws.specs.declared.Seen.{Seen}
 use Rattle.syn_core_laws.specs.declared.Seen.TheVariants as seen
 use Rattle.syn_decide.specs.declared.decisions.NodeRow.{NodeRow}
@@ -20,55 +21,29 @@ use Rattle.syn_decide.specs.Dying.{are_distinct}
 use Rattle.syn_decide.specs.Fold.{State, Stage, Walking, Keying, Hinting, Counting, Ended, Failed, after_reads, after_walk, answered, at, begin, count_on, failed, first_unmet, key_loaded, placed_now, read_at, read_count, read_one, row_loaded, uncounted, walk_on, with_count, with_hit, with_inner}
 use Rattle.syn_decide.specs.Walked.{AreGates, FirstEnters, HasRoot, IsKnown, IsWalked, RefersToKnown}
 
-same_nat : (n : ℕ) → (n == n) ≡ true
-same_nat n = search rules
-
-not_same : (n m : ℕ) → (n == m) ≡ true → n ≡ m
-not_same n m h = search rules
-
-or_right : (a b : Bool) → b ≡ true → (a || b) ≡ true
-or_right true b h = refl
-or_right false b h = h
-
-or_left : (a b : Bool) → a ≡ true → (a || b) ≡ true
-or_left true b h = refl
-or_left false b h = absurd (cc)
-
-or_cases : (a b : Bool) → (a || b) ≡ true → (a ≡ true) ⊎ (b ≡ true)
-or_cases true b h = inl refl
-or_cases false b h = inr h
-
-has_left : (m : ℕ) (xs ys : List ℕ) → has m xs ≡ true → has m (xs ++ ys) ≡ true
-has_left m [] ys h = absurd (cc)
-has_left m (x ∷ xs) ys h = elim (or_cases (x == m) (has m xs) h) [ inl e ↦ or_left (x == m) (has m (xs ++ ys)) e | inr k ↦ or_right (x == m) (has m (xs ++ ys)) (has_left m xs ys k) ]
-
-has_right : (m : ℕ) (xs ys : List ℕ) → has m ys ≡ true → has m (xs ++ ys) ≡ true
-has_right m [] ys h = h
-has_right m (x ∷ xs) ys h = or_right (x == m) (has m (xs ++ ys)) (has_right m xs ys h)
-
 nodes_more : (inner : List NodeRow) (r : NodeRow) → nodes_of (inner ++ r ∷ []) ≡ nodes_of inner ++ r.node ∷ []
 nodes_more [] r = refl
 nodes_more (q ∷ inner) r = ap (λ ns. q.node ∷ ns) (nodes_more inner r)
 
 -- a node that isn't there keeps the nodes different
-apart : (x n : ℕ) (ns : List ℕ) → has x ns ≡ false → (x == n) ≡ false → has x (ns ++ n ∷ []) ≡ false
+apart : (x n : ℕ) (ns : List ℕ) → has_node ns x ≡ false → (x == n) ≡ false → has_node (ns ++ n ∷ []) x ≡ false
 apart x n [] h e = go (n == x) refl
   where
     go : (b : Bool) → (n == x) ≡ b → (b || false) ≡ false
-    go true k = let same : n ≡ x = not_same n x k in let yes : (x == n) ≡ true = subst (λ z. (x == z) ≡ true) (sym same) (same_nat x) in absurd (cc)
+    go true k = let same : n ≡ x = same_node n x k in let yes : (x == n) ≡ true = subst (λ z. (x == z) ≡ true) (sym same) (node_same x) in absurd (cc)
     go false k = refl
 apart x n (y ∷ ns) h e = go (y == x) h (λ k. apart x n ns k e)
   where
-    go : (b : Bool) → (b || has x ns) ≡ false → (has x ns ≡ false → has x (ns ++ n ∷ []) ≡ false) → (b || has x (ns ++ n ∷ [])) ≡ false
+    go : (b : Bool) → (b || has_node ns x) ≡ false → (has_node ns x ≡ false → has_node (ns ++ n ∷ []) x ≡ false) → (b || has_node (ns ++ n ∷ []) x) ≡ false
     go true k f = absurd (cc)
     go false k f = f k
 
-distinct_more : (ns : List ℕ) (n : ℕ) → are_distinct ns ≡ true → has n ns ≡ false → are_distinct (ns ++ n ∷ []) ≡ true
+distinct_more : (ns : List ℕ) (n : ℕ) → are_distinct ns ≡ true → has_node ns n ≡ false → are_distinct (ns ++ n ∷ []) ≡ true
 distinct_more [] n d h = refl
 distinct_more (x ∷ ns) n d h =
-    let parts = and_parts (not (has x ns)) (are_distinct ns) d in
-    let heads = or_false_parts (x == n) (has n ns) h in
-    and_from (not (has x (ns ++ n ∷ []))) (are_distinct (ns ++ n ∷ [])) (ap not (apart x n ns (not_true (has x ns) parts.0) heads.0)) (distinct_more ns n parts.1 heads.1)
+    let parts = and_parts (not (has_node ns x)) (are_distinct ns) d in
+    let heads = or_false_parts (x == n) (has_node ns n) h in
+    and_from (not (has_node (ns ++ n ∷ []) x)) (are_distinct (ns ++ n ∷ [])) (ap not (apart x n ns (not_true (has_node ns x) parts.0) heads.0)) (distinct_more ns n parts.1 heads.1)
   where
     or_false_parts : (a b : Bool) → (a || b) ≡ false → (a ≡ false) × (b ≡ false)
     or_false_parts true b h = absurd (cc)
@@ -80,10 +55,10 @@ distinct_more (x ∷ ns) n d h =
 
 -- what the walk doesn't enter is known without it
 not_entered : (t : Task) (inner : List NodeRow) (waiting : List ℕ) (n : ℕ) → enters t.proposal.leaves inner n ≡ false → IsKnown t inner waiting n
-not_entered t inner waiting n h = go (n == 0) (has n t.proposal.leaves) (has n (nodes_of inner)) refl refl refl h
+not_entered t inner waiting n h = go (n == 0) (has_node t.proposal.leaves n) (has_node (nodes_of inner) n) refl refl refl h
   where
-    go : (a b c : Bool) → (n == 0) ≡ a → has n t.proposal.leaves ≡ b → has n (nodes_of inner) ≡ c → (not a && (not b && not c)) ≡ false → IsKnown t inner waiting n
-    go true b c e f g h = inl (inl (not_same n 0 e))
+    go : (a b c : Bool) → (n == 0) ≡ a → has_node t.proposal.leaves n ≡ b → has_node (nodes_of inner) n ≡ c → (not a && (not b && not c)) ≡ false → IsKnown t inner waiting n
+    go true b c e f g h = inl (inl (same_node n 0 e))
     go false true c e f g h = inl (inr f)
     go false false true e f g h = inr (inl g)
     go false false false e f g h = absurd (cc)
@@ -96,7 +71,7 @@ still_known t inner (n ∷ waiting) m k = go (enters t.proposal.leaves inner n) 
     without : enters t.proposal.leaves inner n ≡ false → IsKnown t inner (n ∷ waiting) m → IsKnown t inner waiting m
     without e (inl k) = inl k
     without e (inr (inl k)) = inr (inl k)
-    without e (inr (inr k)) = elim (or_cases (n == m) (has m waiting) k) [ inl s ↦ subst (λ z. IsKnown t inner waiting z) (not_same n m s) (not_entered t inner waiting n e) | inr w ↦ inr (inr w) ]
+    without e (inr (inr k)) = elim (or_cases (n == m) (has_node waiting m) k) [ inl s ↦ subst (λ z. IsKnown t inner waiting z) (same_node n m s) (not_entered t inner waiting n e) | inr w ↦ inr (inr w) ]
 
     go : (b : Bool) → enters t.proposal.leaves inner n ≡ b → IsKnown t inner (n ∷ waiting) m → (IsKnown t inner waiting m → IsKnown t inner (from_entered t.proposal.leaves inner waiting) m)
         → IsKnown t inner (if b then n ∷ waiting else from_entered t.proposal.leaves inner waiting) m
@@ -114,11 +89,11 @@ first_enters t inner (n ∷ waiting) = go (enters t.proposal.leaves inner n) ref
 -- what was known stays known with one inner row more
 known_on : (t : Task) (inner : List NodeRow) (waiting : List ℕ) (r : NodeRow) (m : ℕ) → IsKnown t inner (r.node ∷ waiting) m → IsKnown t (inner ++ r ∷ []) (refs_of r.row ++ waiting) m
 known_on t inner waiting r m (inl k) = inl k
-known_on t inner waiting r m (inr (inl k)) = inr (inl (subst (λ ns. has m ns ≡ true) (sym (nodes_more inner r)) (has_left m (nodes_of inner) (r.node ∷ []) k)))
+known_on t inner waiting r m (inr (inl k)) = inr (inl (subst (λ ns. has_node ns m ≡ true) (sym (nodes_more inner r)) (has_left (nodes_of inner) (r.node ∷ []) m k)))
 known_on t inner waiting r m (inr (inr k)) =
-    elim (or_cases (r.node == m) (has m waiting) k) [
-      | inl s ↦ inr (inl (subst (λ ns. has m ns ≡ true) (sym (nodes_more inner r)) (has_right m (nodes_of inner) (r.node ∷ []) (or_left (r.node == m) false s))))
-      | inr w ↦ inr (inr (has_right m (refs_of r.row) waiting w))
+    elim (or_cases (r.node == m) (has_node waiting m) k) [
+      | inl s ↦ inr (inl (subst (λ ns. has_node ns m ≡ true) (sym (nodes_more inner r)) (has_right (nodes_of inner) (r.node ∷ []) m (or_left (r.node == m) false s))))
+      | inr w ↦ inr (inr (has_right (refs_of r.row) waiting m w))
     ]
 
 all_refs : (P Q : ℕ → Type 0) (r : Row) → ((m : ℕ) → P m → Q m) → AllRefs P r → AllRefs Q r
@@ -139,8 +114,8 @@ all_more P (q ∷ rows) r h p = (h.0, all_more P rows r h.1 p)
 own_refs : (t : Task) (inner : List NodeRow) (waiting : List ℕ) (r : Row) → AllRefs (IsKnown t inner (refs_of r ++ waiting)) r
 own_refs t inner waiting row.Free = tt
 own_refs t inner waiting row.Source = tt
-own_refs t inner waiting (row.And a b) = (inr (inr (or_left (node_of a == node_of a) _ (same_nat (node_of a)))), inr (inr (or_right (node_of a == node_of b) _ (or_left (node_of b == node_of b) _ (same_nat (node_of b))))))
-own_refs t inner waiting (row.Alias a) = inr (inr (or_left (node_of a == node_of a) _ (same_nat (node_of a))))
+own_refs t inner waiting (row.And a b) = (inr (inr (or_left (node_of a == node_of a) _ (node_same (node_of a)))), inr (inr (or_right (node_of a == node_of b) _ (or_left (node_of b == node_of b) _ (node_same (node_of b))))))
+own_refs t inner waiting (row.Alias a) = inr (inr (or_left (node_of a == node_of a) _ (node_same (node_of a))))
 
 -- one inner row more, with what waits after it
 closed_more : (t : Task) (inner : List NodeRow) (waiting : List ℕ) (r : NodeRow) → RefersToKnown t inner (r.node ∷ waiting)
@@ -155,16 +130,16 @@ not_true true h = absurd (cc)
 not_true false h = refl
 
 -- a node that is entered is none of the inner rows'
-entered_new : (t : Task) (inner : List NodeRow) (n : ℕ) → enters t.proposal.leaves inner n ≡ true → has n (nodes_of inner) ≡ false
+entered_new : (t : Task) (inner : List NodeRow) (n : ℕ) → enters t.proposal.leaves inner n ≡ true → has_node (nodes_of inner) n ≡ false
 entered_new t inner n h =
-    let first = and_parts (not (n == 0)) (not (has n t.proposal.leaves) && not (has n (nodes_of inner))) h in
-    not_true _ (and_parts (not (has n t.proposal.leaves)) (not (has n (nodes_of inner))) first.1).1
+    let first = and_parts (not (n == 0)) (not (has_node t.proposal.leaves n) && not (has_node (nodes_of inner) n)) h in
+    not_true _ (and_parts (not (has_node t.proposal.leaves n)) (not (has_node (nodes_of inner) n)) first.1).1
 
 -- a state whose inner rows are as they should be
 abbrev Good : Task → State → Type 0
 Good t s = IsWalked t s.inner s.stage
 
-walk_over : (t : Task) (inner : List NodeRow) → are_distinct (nodes_of inner) ≡ true → RefersToKnown t inner [] → has t.proposal.root (nodes_of inner) ≡ true → AreGates inner → (o : Option ℕ) → IsWalked t inner (after_walk t inner o)
+walk_over : (t : Task) (inner : List NodeRow) → are_distinct (nodes_of inner) ≡ true → RefersToKnown t inner [] → has_node (nodes_of inner) t.proposal.root ≡ true → AreGates inner → (o : Option ℕ) → IsWalked t inner (after_walk t inner o)
 walk_over t inner d h r g (Some leaf) = record { distinct = d; closed = tt; next = tt; root = tt; gates = g }
 walk_over t inner d h r g None = go (in_circle t inner) (is_same_function t inner)
   where
@@ -173,7 +148,7 @@ walk_over t inner d h r g None = go (in_circle t inner) (is_same_function t inne
     go false true = record { distinct = d; closed = h; next = tt; root = r; gates = g }
     go false false = record { distinct = d; closed = tt; next = tt; root = tt; gates = g }
 
-goes_on : (t : Task) (inner : List NodeRow) (waiting : List ℕ) → are_distinct (nodes_of inner) ≡ true → RefersToKnown t inner waiting → FirstEnters t inner waiting → has t.proposal.root (nodes_of inner) ≡ true → AreGates inner → IsWalked t inner (walk_on t inner waiting)
+goes_on : (t : Task) (inner : List NodeRow) (waiting : List ℕ) → are_distinct (nodes_of inner) ≡ true → RefersToKnown t inner waiting → FirstEnters t inner waiting → has_node (nodes_of inner) t.proposal.root ≡ true → AreGates inner → IsWalked t inner (walk_on t inner waiting)
 goes_on t inner [] d h f r g = walk_over t inner d h r g (first_unmet t inner)
 goes_on t inner (n ∷ waiting) d h f r g = go (nat_lt (length inner) MOST_INNER)
   where
@@ -186,11 +161,11 @@ abbrev pub node_row : ℕ → Row → NodeRow
 node_row n r = record { node = n; row = r }
 
 -- the root is an inner row from the first row on
-root_there : (t : Task) (inner : List NodeRow) (n : ℕ) (r : Row) (waiting : List ℕ) → HasRoot t inner (Walking (n ∷ waiting)) → has t.proposal.root (nodes_of (inner ++ node_row n r ∷ [])) ≡ true
-root_there t inner n r waiting (inl h) = subst (λ ns. has t.proposal.root ns ≡ true) (sym (nodes_more inner (node_row n r))) (has_left t.proposal.root (nodes_of inner) (n ∷ []) h)
+root_there : (t : Task) (inner : List NodeRow) (n : ℕ) (r : Row) (waiting : List ℕ) → HasRoot t inner (Walking (n ∷ waiting)) → has_node (nodes_of (inner ++ node_row n r ∷ [])) t.proposal.root ≡ true
+root_there t inner n r waiting (inl h) = subst (λ ns. has_node ns t.proposal.root ≡ true) (sym (nodes_more inner (node_row n r))) (has_left (nodes_of inner) (n ∷ []) t.proposal.root h)
 root_there t inner n r waiting (inr e) =
     let same : n ≡ t.proposal.root = ap (first_or n) e in
-    subst (λ ns. has t.proposal.root ns ≡ true) (sym (nodes_more inner (node_row n r))) (has_right t.proposal.root (nodes_of inner) (n ∷ []) (or_left (n == t.proposal.root) false (ap (λ k. k == t.proposal.root) same ∙ same_nat t.proposal.root)))
+    subst (λ ns. has_node ns t.proposal.root ≡ true) (sym (nodes_more inner (node_row n r))) (has_right (nodes_of inner) (n ∷ []) t.proposal.root (or_left (n == t.proposal.root) false (ap (λ k. k == t.proposal.root) same ∙ node_same t.proposal.root)))
   where
     first_or : ℕ → List ℕ → ℕ
     first_or d [] = d
@@ -199,7 +174,7 @@ root_there t inner n r waiting (inr e) =
 -- the inner rows with a gate more, and what waits then
 pub gate_more : (t : Task) (inner : List NodeRow) (n : ℕ) (r : Row) (waiting : List ℕ) → IsWalked t inner (Walking (n ∷ waiting)) → is_derived r ≡ true
     → (are_distinct (nodes_of (inner ++ node_row n r ∷ [])) ≡ true) × RefersToKnown t (inner ++ node_row n r ∷ []) (from_entered t.proposal.leaves (inner ++ node_row n r ∷ []) (refs_of r ++ waiting))
-    × (has t.proposal.root (nodes_of (inner ++ node_row n r ∷ [])) ≡ true) × AreGates (inner ++ node_row n r ∷ [])
+    × (has_node (nodes_of (inner ++ node_row n r ∷ [])) t.proposal.root ≡ true) × AreGates (inner ++ node_row n r ∷ [])
 gate_more t inner n r waiting w g = (
   subst (λ ns. are_distinct ns ≡ true) (sym (nodes_more inner (node_row n r))) (distinct_more (nodes_of inner) n w.distinct (entered_new t inner n w.next)),
   closed_more t inner waiting (node_row n r) w.closed,

@@ -1,7 +1,7 @@
 -- Which rows die with the root's old row. A counted row is an inner row with the references to its node that are not the seat's own pins.
 use Rattle.std.specs.Prelude.{◌≡◌, ℕ, zero, suc, ◌+◌, ◌≤◌, ◌&&◌, not, nat_le, if◌then◌else◌, Bool, true, false, All, List, [], ◌∷◌, ◌++◌, map, length, Option, Some, None}
 use Rattle.syn_rows.specs.References.{refs, and_count}
-use Rattle.syn_core_laws.specs.Lists.{has}
+use Rattle.syn_rows.specs.Nodes.{has_node}
 use Rattle.syn_decide.specs.declared.decisions.Counted.{Counted}
 use Rattle.syn_decide.specs.declared.decisions.NodeRow.{NodeRow}
 
@@ -22,7 +22,7 @@ refs_by_counted (r ∷ rows) m = refs m r.row + refs_by_counted rows m
 
 -- A row dies where it is no hit, and all references to it that are not the seat's own pins are from rows that die.
 abbrev pub dies : List ℕ → List Counted → Counted → Bool
-dies hits dying r = (not (has r.node (counted_nodes dying)) && not (has r.node hits)) && nat_le r.others (refs_by_counted dying r.node)
+dies hits dying r = (not (has_node (counted_nodes dying) r.node) && not (has_node hits r.node)) && nat_le r.others (refs_by_counted dying r.node)
 
 -- the first of the rows that dies, beside those that are known to
 abbrev pub first_dying : List ℕ → List Counted → List Counted → Option Counted
@@ -56,7 +56,7 @@ refs_by_set (r ∷ rows) set m = (if set r.node then refs m r.row else 0) + refs
 
 -- The set has each row that is no hit and to which, but for the seat's own pins, only rows of the set refer.
 abbrev pub IsClosedByCounts : List ℕ → List Counted → (ℕ → Bool) → Type 0
-IsClosedByCounts hits rows set = All (λ r. has r.node hits ≡ false → r.others ≤ refs_by_set rows set r.node → set r.node ≡ true) rows
+IsClosedByCounts hits rows set = All (λ r. has_node hits r.node ≡ false → r.others ≤ refs_by_set rows set r.node → set r.node ≡ true) rows
 
 -- The set is the least such that has the root.
 pub record IsLeastDying (hits : List ℕ) (rows : List Counted) (root : ℕ) (dying : ℕ → Bool) : Type 0 where
@@ -67,4 +67,4 @@ pub record IsLeastDying (hits : List ℕ) (rows : List Counted) (root : ℕ) (dy
 -- no node stands twice in the list
 abbrev pub are_distinct : List ℕ → Bool
 are_distinct [] = true
-are_distinct (n ∷ ns) = not (has n ns) && are_distinct ns
+are_distinct (n ∷ ns) = not (has_node ns n) && are_distinct ns

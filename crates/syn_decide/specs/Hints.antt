@@ -8,7 +8,7 @@ use Rattle.syn_rows.specs.Rows.{node_of}
 use Rattle.syn_rows.specs.Joining.{lit_of}
 use Rattle.syn_rows.specs.declared.TheConstants.{NODE_LIMIT}
 use Rattle.syn_plan.specs.declared.TheConstants.{MOST_GATES}
-use Rattle.syn_core_laws.specs.Lists.{has}
+use Rattle.syn_rows.specs.Nodes.{has_node}
 use Rattle.syn_decide.specs.declared.decisions.NodeRow.{NodeRow}
 use Rattle.syn_decide.specs.Tasks.{Task}
 use Rattle.syn_gain.specs.Placing.{Placed, literal_for, placed_with, root_row}
@@ -54,7 +54,7 @@ is_asked extra (Alias a) = false
 
 -- A node at which a hint may hit: a node of a table, not node 0, none of the leaves, with a key below the root's.
 abbrev pub may_hit : List ℕ → ℕ → ℕ → ℕ → Bool
-may_hit leaves high n key = (nat_lt n first_new && not (n == 0)) && (not (has n leaves) && nat_lt key high)
+may_hit leaves high n key = (nat_lt n first_new && not (n == 0)) && (not (has_node leaves n) && nat_lt key high)
 
 -- the literal that the plan's output becomes
 abbrev pub out_literal : Task → Placed → Lit

@@ -4,7 +4,7 @@ use Rattle.syn_core_laws.specs.declared.Seen.{Seen}
 use Rattle.syn_decide.specs.declared.decisions.Want.TheVariants as want
 use Rattle.syn_decide.specs.Tasks.{Task}
 use Rattle.syn_decide.specs.Decided.{Answer, Answered, Next, Unfit}
-use Rattle.syn_core_laws.specs.Lists.{has}
+use Rattle.syn_rows.specs.Nodes.{has_node}
 use Rattle.syn_decide.specs.declared.decisions.Counted.{Counted}
 use Rattle.syn_decide.specs.Dying.{IsLeastDying, are_distinct, counted_nodes, dying_of}
 use Rattle.syn_decide.specs.Fold.{after_reads, begin, decided, read_one, wants}
@@ -25,4 +25,4 @@ pub record NothingBehindAnAnswer : Type 0 where
 -- Of rows of different nodes, those that die are the least set that has the root and that the rule closes: in whatever order the rule is applied, it comes to this set.
 abbrev pub DyingAreLeast : Type 0
 DyingAreLeast = (hits : List ℕ) (root : Counted) (rows : List Counted) → are_distinct (counted_nodes (root ∷ rows)) ≡ true
-    → IsLeastDying hits (root ∷ rows) root.node (λ n. has n (counted_nodes (dying_of hits (root ∷ rows))))
+    → IsLeastDying hits (root ∷ rows) root.node (λ n. has_node (counted_nodes (dying_of hits (root ∷ rows))) n)

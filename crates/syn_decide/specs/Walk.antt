@@ -4,7 +4,7 @@ use Rattle.std.specs.Prelude.{ℕ, ◌==◌, ◌&&◌, not, if◌then◌else◌,
 use Rattle.std.specs.List.{list_any}
 use Rattle.syn_rows.specs.declared.Row.{Row}
 use Rattle.syn_rows.specs.Rows.{refs_of}
-use Rattle.syn_core_laws.specs.Lists.{has}
+use Rattle.syn_rows.specs.Nodes.{has_node}
 use Rattle.syn_decide.specs.declared.decisions.NodeRow.{NodeRow}
 
 -- the nodes of rows
@@ -18,7 +18,7 @@ row_among (r ∷ rows) n = if r.node == n then Some r.row else row_among rows n
 
 -- The walk enters a node that is neither node 0 nor a leaf, and whose row it hasn't loaded yet.
 abbrev pub enters : List ℕ → List NodeRow → ℕ → Bool
-enters leaves inner n = not (n == 0) && (not (has n leaves) && not (has n (nodes_of inner)))
+enters leaves inner n = not (n == 0) && (not (has_node leaves n) && not (has_node (nodes_of inner) n))
 
 -- what waits, from the first node on that the walk enters: the node that it enters next stands first
 abbrev pub from_entered : List ℕ → List NodeRow → List ℕ → List ℕ
@@ -27,4 +27,4 @@ from_entered leaves inner (n ∷ waiting) = if enters leaves inner n then n ∷ 
 
 -- The walk met a node where an inner row refers to it.
 abbrev pub is_met : List NodeRow → ℕ → Bool
-is_met inner n = list_any (λ r. has n (refs_of r.row)) inner
+is_met inner n = list_any (λ r. has_node (refs_of r.row) n) inner

@@ -2,7 +2,7 @@
 use Rattle.std.specs.Prelude.{◌≡◌, ◌≢◌, ◌⊎◌, ◌<◌, ℕ, true, List, [], ◌∷◌, ◌++◌, map}
 use Rattle.std.specs.List.{AllByRecursion}
 use Rattle.syn_rows.specs.Rows.{AllRefs}
-use Rattle.syn_core_laws.specs.Lists.{has}
+use Rattle.syn_rows.specs.Nodes.{has_node}
 use Rattle.syn_rows.specs.declared.Row.{Row}
 use Rattle.syn_rows.specs.Rows.{is_derived}
 use Rattle.syn_core_laws.specs.declared.Seen.{Seen}
@@ -18,7 +18,7 @@ use Rattle.syn_decide.specs.Fold.{Stage, Walking, Keying, Hinting, Counting, End
 
 -- the node is node 0 or a leaf, or an inner row's, or it waits
 abbrev pub IsKnown : Task → List NodeRow → List ℕ → ℕ → Type 0
-IsKnown t inner waiting m = ((m ≡ 0) ⊎ (has m t.proposal.leaves ≡ true)) ⊎ ((has m (nodes_of inner) ≡ true) ⊎ (has m waiting ≡ true))
+IsKnown t inner waiting m = ((m ≡ 0) ⊎ (has_node t.proposal.leaves m ≡ true)) ⊎ ((has_node (nodes_of inner) m ≡ true) ⊎ (has_node waiting m ≡ true))
 
 -- each inner row refers to such nodes alone
 abbrev pub RefersToKnown : Task → List NodeRow → List ℕ → Type 0
@@ -49,10 +49,10 @@ NextEnters t inner Failed = Unit {0}
 
 -- The root is the first that the walk enters, and then an inner row.
 abbrev pub HasRoot : Task → List NodeRow → Stage → Type 0
-HasRoot t inner (Walking waiting) = (has t.proposal.root (nodes_of inner) ≡ true) ⊎ (waiting ≡ t.proposal.root ∷ [])
-HasRoot t inner (Keying left) = has t.proposal.root (nodes_of inner) ≡ true
-HasRoot t inner (Hinting last) = has t.proposal.root (nodes_of inner) ≡ true
-HasRoot t inner Counting = has t.proposal.root (nodes_of inner) ≡ true
+HasRoot t inner (Walking waiting) = (has_node (nodes_of inner) t.proposal.root ≡ true) ⊎ (waiting ≡ t.proposal.root ∷ [])
+HasRoot t inner (Keying left) = has_node (nodes_of inner) t.proposal.root ≡ true
+HasRoot t inner (Hinting last) = has_node (nodes_of inner) t.proposal.root ≡ true
+HasRoot t inner Counting = has_node (nodes_of inner) t.proposal.root ≡ true
 HasRoot t inner (Ended answer) = Unit {0}
 HasRoot t inner Failed = Unit {0}
 

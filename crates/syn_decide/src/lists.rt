@@ -1,7 +1,7 @@
 //! Lists of nodes and of rows.
 
 ghost use Rattle.std.specs.Prelude.{◌≡◌, ◌<◌};
-ghost use Rattle.syn_core_laws.specs.Lists.{has};
+ghost use Rattle.syn_rows.specs.Nodes.{has_node};
 ghost use Rattle.syn_rows.specs.References.{and_count, refs};
 ghost use Rattle.syn_rows.specs.Rows.{refs_of};
 ghost use Rattle.syn_decide.specs.Dying.{counted_nodes};
@@ -12,7 +12,7 @@ use syn_rows::Row;
 
 /// Whether a node stands in a list.
 pub(crate) fn has(nodes: &[u32], node: u32) -> bool
-    ensures { result ≡ has node nodes.now }
+    ensures { result ≡ has_node nodes.now node }
 {
     for n in nodes {
         if *n == node {
@@ -24,7 +24,7 @@ pub(crate) fn has(nodes: &[u32], node: u32) -> bool
 
 /// Whether a node is among those of rows.
 pub(crate) fn has_row(rows: &[NodeRow], node: u32) -> bool
-    ensures { result ≡ has node (nodes_of rows.now) }
+    ensures { result ≡ has_node (nodes_of rows.now) node }
 {
     for r in rows {
         if r.node == node {
@@ -36,7 +36,7 @@ pub(crate) fn has_row(rows: &[NodeRow], node: u32) -> bool
 
 /// Whether a node is among those of counted rows.
 pub(crate) fn has_counted(rows: &[Counted], node: u32) -> bool
-    ensures { result ≡ has node (counted_nodes rows.now) }
+    ensures { result ≡ has_node (counted_nodes rows.now) node }
 {
     for r in rows {
         if r.node == node {
@@ -60,7 +60,7 @@ pub(crate) fn refs(row: Row, node: u32) -> u32
 
 /// Whether a row refers to a node.
 pub(crate) fn refers(row: Row, node: u32) -> bool
-    ensures { result ≡ has node (refs_of row) }
+    ensures { result ≡ has_node (refs_of row) node }
 {
     match row {
         Row::Free | Row::Source => false,

@@ -7,7 +7,7 @@ ghost use Rattle.arrayvec.specs.ArrayVec.{array_vec_len};
 ghost use Rattle.syn_truth.specs.declared.TheConstants.{MOST_VARS};
 ghost use Rattle.syn_truth.specs.Truth.{AtEach, value_of};
 ghost use Rattle.syn_plan.specs.Plans.{plan_truth};
-ghost use Rattle.syn_core_laws.specs.Lists.{has};
+ghost use Rattle.syn_rows.specs.Nodes.{has_node};
 ghost use Rattle.syn_core_laws.specs.SameValue.{both, turned_by};
 ghost use Rattle.syn_rows.specs.Rows.{node_of};
 ghost use Rattle.syn_decide.specs.declared.decisions.TheConstants.{MOST_INNER};
@@ -25,8 +25,8 @@ use syn_truth::Truth;
 fn leaf_table(vars: u8, leaves: &[u32], node: u32) -> Option<Truth>
     requires few { vars ≤ MOST_VARS }
     requires within { length leaves.now ≤ vars }
-    ensures none { IfNone result (has node leaves.now ≡ false) }
-    ensures leaf { IfSome result (λ t. has node leaves.now ≡ true) }
+    ensures none { IfNone result (has_node leaves.now node ≡ false) }
+    ensures leaf { IfSome result (λ t. has_node leaves.now node ≡ true) }
     ensures vars { IfSome result (λ t. t.vars ≡ vars) }
     ensures values { IfSome result (λ t. AtEach vars (λ xs. value_of t xs ≡ leaf_value leaves.now xs node)) }
 {

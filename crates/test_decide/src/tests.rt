@@ -2,7 +2,7 @@ ghost use Rattle.std.specs.Prelude.{◌≡◌};
 
 use arrayvec::ArrayVec;
 use syn_core_laws::Seen;
-use syn_decide::{Decision, Outcome, Reads, StaleCause, Want, decide};
+use syn_decide::{Attempt, Deciding, Decision, Outcome, Reads, StaleCause, Want, decide};
 use syn_gain::Proposal;
 use syn_plan::{PLit, Plan};
 use syn_rows::{Lit, Row};
@@ -82,10 +82,7 @@ fn no_gap(low: u64, high: u64) -> Decision {
 
 #[test]
 fn answers_behind_the_last_count(rt: HostRuntime) {
-    let hit = [
-        Seen::Row(7, Row::And(Lit(5), Lit(7))),
-        Seen::Key(7, LEVEL),
-    ];
+    let hit = [Seen::Row(7, Row::And(Lit(5), Lit(7))), Seen::Key(7, LEVEL)];
     let other_pair = [Seen::Row(7, Row::And(Lit(4), Lit(7)))];
     let too_high = [
         Seen::Row(7, Row::And(Lit(5), Lit(7))),
@@ -100,9 +97,33 @@ fn answers_behind_the_last_count(rt: HostRuntime) {
         ("two keys below 2", 512, false, 2, &[], 1, no_gap(0, 2)),
         ("two keys below 3", 512, false, 3, &[], 1, done(1)),
         ("a hit", 512, false, 2 * LEVEL, &hit, 1, done(2)),
-        ("a hint of another pair", 512, false, 2 * LEVEL, &other_pair, 1, done(1)),
-        ("a hint that is too high", 512, false, 2 * LEVEL, &too_high, 1, done(1)),
-        ("a pin of another seat", 512, false, 2 * LEVEL, &[], 2, no_gain),
+        (
+            "a hint of another pair",
+            512,
+            false,
+            2 * LEVEL,
+            &other_pair,
+            1,
+            done(1),
+        ),
+        (
+            "a hint that is too high",
+            512,
+            false,
+            2 * LEVEL,
+            &too_high,
+            1,
+            done(1),
+        ),
+        (
+            "a pin of another seat",
+            512,
+            false,
+            2 * LEVEL,
+            &[],
+            2,
+            no_gain,
+        ),
         ("a gain of 0", 512, true, 2 * LEVEL, &[], 2, done(0)),
     ];
     for (what, pool, zero_gain, key, hints, references, wanted) in cases {
@@ -117,10 +138,25 @@ fn answers_early_or_loads(rt: HostRuntime) {
     let free = [Seen::Row(4, Row::Free)];
     let cases: [(&str, &[Seen], &[Seen], Decision); 7] = [
         ("nothing", &[], &[], Decision::Next(Want::Row(6))),
-        ("the root's row", &WALK[..1], &[], Decision::Next(Want::Row(4))),
+        (
+            "the root's row",
+            &WALK[..1],
+            &[],
+            Decision::Next(Want::Row(4)),
+        ),
         ("the walk", &WALK, &[], Decision::Next(Want::Key(1))),
-        ("the leaves' keys", &WALK, &LEAF_KEYS, Decision::Next(Want::Key(6))),
-        ("a row held by another", &WALK[..1], &busy, Decision::Answer(Outcome::Busy(4))),
+        (
+            "the leaves' keys",
+            &WALK,
+            &LEAF_KEYS,
+            Decision::Next(Want::Key(6)),
+        ),
+        (
+            "a row held by another",
+            &WALK[..1],
+            &busy,
+            Decision::Answer(Outcome::Busy(4)),
+        ),
         (
             "a free row",
             &WALK[..1],
@@ -144,5 +180,21 @@ fn answers_early_or_loads(rt: HostRuntime) {
         high: 0,
     };
     let plain = decide(&reads(512, &[&WALK]), &proposal(false), false);
-    assert_eq!(rt; plain, Decision::Answer(Outcome::Stale(StaleCause::Differs { was, now })));
+    assert_eq!(rt;
+        plain,
+        Decision::Answer(Outcome::Stale(StaleCause::Differs { was, now }))
+    );
+}
+
+#[test]
+fn begins_anew_in_the_same_room(rt: HostRuntime) {
+    let proposal = proposal(true);
+    let attempt = Attempt::of(&proposal, false, 512);
+    let mut deciding = Deciding::begin(&attempt);
+    for read in WALK {
+        deciding.read(&attempt, read);
+    }
+    assert_eq!(rt; deciding.wants(), Decision::Next(Want::Key(1)));
+    deciding.restart(&attempt);
+    assert_eq!(rt; deciding.wants(), Decision::Next(Want::Row(6)));
 }
