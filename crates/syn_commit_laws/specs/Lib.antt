@@ -1,0 +1,6 @@
+pub mod Dying
+pub mod Turning
+pub mod Freeing
+pub mod Running
+pub mod Laws
+pub mod Counted

@@ -1,0 +1,11 @@
+pub mod Folding
+pub mod Tabling
+pub mod Using
+pub mod Answering
+pub mod Least
+pub mod Walking
+pub mod Ranking
+pub mod Hitting
+pub mod Counting
+pub mod LeafTables
+pub mod Steps

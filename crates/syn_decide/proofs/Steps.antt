@@ -1,0 +1,64 @@
+-- A value that is there by so many rows stays by more of them.
+use Rattle.std.proofs.Common.{◌≡◌, ℕ, zero, suc, ◌≤◌, ◌==◌, Bool, true, false, if◌then◌else◌, List, Option, Some, None, refl, sym, ap, ap₂, ◌∙◌, subst, arith, inl, inr}
+use Rattle.std.proofs.lemmas.Bool.{cases_eq}
+use Rattle.std.proofs.lemmas.Option.{none-some}
+use Rattle.syn_rows.specs.declared.Row.{Row}
+use Rattle.syn_rows.specs.declared.Row.TheVariants as row
+use Rattle.syn_rows.specs.Rows.{node_of}
+use Rattle.syn_truth.specs.declared.Truth.{Truth}
+use Rattle.syn_rows.specs.Nodes.{has_node}
+use Rattle.syn_core_laws.specs.SameValue.{both, known_value, turned_by, value_by, value_of_row}
+use Rattle.syn_decide.specs.declared.decisions.NodeRow.{NodeRow}
+use Rattle.syn_decide.specs.Walk.{row_among}
+use Rattle.syn_decide.specs.Functions.{leaf_value}
+use Rattle.syn_decide.specs.Tables.{IsNodeTable}
+
+-- each value of the first is one of the second
+abbrev Keeps : (ℕ → Option Bool) → (ℕ → Option Bool) → Type 0
+Keeps V W = (m : ℕ) (b : Bool) → V m ≡ Some b → W m ≡ Some b
+
+row_stays : (V W : ℕ → Option Bool) → Keeps V W → (r : Row) (b : Bool) → value_of_row V r ≡ Some b → value_of_row W r ≡ Some b
+row_stays V W k row.Free b h = absurd (none-some b h)
+row_stays V W k row.Source b h = absurd (none-some b h)
+row_stays V W k (row.And x y) b h = go (V (node_of x)) (V (node_of y)) (k (node_of x)) (k (node_of y)) h
+  where
+    go : (p q : Option Bool) → ((c : Bool) → p ≡ Some c → W (node_of x) ≡ Some c) → ((c : Bool) → q ≡ Some c → W (node_of y) ≡ Some c)
+        → both (turned_by x p) (turned_by y q) ≡ Some b → both (turned_by x (W (node_of x))) (turned_by y (W (node_of y))) ≡ Some b
+    go None q f g h = absurd (none-some b h)
+    go (Some p) None f g h = absurd (none-some b h)
+    go (Some p) (Some q) f g h = ap₂ (λ u v. both (turned_by x u) (turned_by y v)) (f p refl) (g q refl) ∙ h
+row_stays V W k (row.Alias x) b h = go (V (node_of x)) (k (node_of x)) h
+  where
+    go : (p : Option Bool) → ((c : Bool) → p ≡ Some c → W (node_of x) ≡ Some c) → turned_by x p ≡ Some b → turned_by x (W (node_of x)) ≡ Some b
+    go None f h = absurd (none-some b h)
+    go (Some p) f h = ap (turned_by x) (f p refl) ∙ h
+
+known_stays : (V W : ℕ → Option Bool) → Keeps V W → (o : Option Row) (b : Bool) → known_value V o ≡ Some b → known_value W o ≡ Some b
+known_stays V W k None b h = absurd (none-some b h)
+known_stays V W k (Some r) b h = row_stays V W k r b h
+
+-- a value by rows of two numbers of steps: a leaf and node 0 have it by any
+open_stays : (p q x : Bool) (v w : Option Bool) (b : Bool) → (v ≡ Some b → w ≡ Some b)
+    → (if p then Some x else (if q then Some false else v)) ≡ Some b → (if p then Some x else (if q then Some false else w)) ≡ Some b
+open_stays true q x v w b f h = h
+open_stays false true x v w b f h = h
+open_stays false false x v w b f h = f h
+
+one_step : (known : ℕ → Option Row) (over : List ℕ) (choice : ℕ → Bool) (k : ℕ) → Keeps (value_by known over choice k) (value_by known over choice (suc k))
+one_step known over choice zero n b h = open_stays (has_node over n) (n == 0) (choice n) None (known_value (value_by known over choice 0) (known n)) b (λ e. absurd (none-some b e)) h
+one_step known over choice (suc k) n b h =
+    open_stays (has_node over n) (n == 0) (choice n) (known_value (value_by known over choice k) (known n)) (known_value (value_by known over choice (suc k)) (known n)) b
+    (known_stays (value_by known over choice k) (value_by known over choice (suc k)) (one_step known over choice k) (known n) b) h
+
+more_steps : (known : ℕ → Option Row) (over : List ℕ) (choice : ℕ → Bool) (m k : ℕ) → k ≤ m → Keeps (value_by known over choice k) (value_by known over choice m)
+more_steps known over choice zero k le n b h = subst (λ z. value_by known over choice z n ≡ Some b) (let none : k ≡ 0 = omega arith in none) h
+more_steps known over choice (suc m) k le n b h = elim (cases_eq k (suc m)) [
+  | inl e ↦ subst (λ z. value_by known over choice z n ≡ Some b) e h
+  | inr ne ↦ one_step known over choice m n b (more_steps known over choice m k (omega arith) n b h)
+]
+
+-- so does a table
+pub table_stays : (vars : ℕ) (leaves : List ℕ) (inner : List NodeRow) (steps more n : ℕ) (table : Truth) → steps ≤ more
+    → IsNodeTable vars leaves inner steps n (Some table) → IsNodeTable vars leaves inner more n (Some table)
+table_stays vars leaves inner steps more n table le h =
+    record { values = λ xs l. sym (more_steps (row_among inner) leaves (leaf_value leaves xs) more steps le n _ (sym (h.values xs l))) }

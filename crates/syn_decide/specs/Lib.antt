@@ -1,0 +1,14 @@
+pub mod Tasks
+pub mod Decided
+pub mod Walk
+pub mod Functions
+pub mod Hints
+pub mod Dying
+pub mod Fold
+pub mod Tables
+pub mod Told
+pub mod Phases
+pub mod Walked
+pub mod Hitting
+pub mod Laws
+pub mod Worked

@@ -1,0 +1,30 @@
+-- How the program's state of a decision is seen as the definition's.
+use Rattle.std.specs.Prelude.{ℕ, ◌-◌, List}
+use Rattle.syn_decide.specs.declared.decisions.NodeRow.{NodeRow}
+use Rattle.syn_decide.specs.declared.decisions.Phase.{Phase}
+use Rattle.syn_decide.specs.declared.decisions.Phase.TheVariants as phase
+use Rattle.syn_decide.specs.declared.decisions.TheConstants.{MOST_INNER}
+use Rattle.syn_decide.specs.Decided.{told_answer}
+use Rattle.syn_decide.specs.Fold.{State, Stage, Walking, Keying, Hinting, Counting, Ended, Failed}
+
+-- the stage, with the nodes that wait
+abbrev pub stage_of : Phase → List ℕ → Stage
+stage_of phase.Walking waiting = Walking waiting
+stage_of phase.Keying waiting = Keying waiting
+stage_of (phase.Hinting last) waiting = Hinting last
+stage_of phase.Counting waiting = Counting
+stage_of (phase.Ended outcome) waiting = Ended (told_answer outcome)
+stage_of phase.Failed waiting = Failed
+
+-- the most inner rows at a stage: while the walk goes on there is room for one more
+abbrev pub most_at : Phase → ℕ
+most_at phase.Walking = MOST_INNER - 1
+most_at phase.Keying = MOST_INNER
+most_at (phase.Hinting last) = MOST_INNER
+most_at phase.Counting = MOST_INNER
+most_at (phase.Ended outcome) = MOST_INNER
+most_at phase.Failed = MOST_INNER
+
+-- a state by its parts
+abbrev pub state_with : Stage → List NodeRow → ℕ → ℕ → List NodeRow → List ℕ → State
+state_with stage inner low high hits counts = record { stage = stage; inner = inner; low = low; high = high; hits = hits; counts = counts }

@@ -1,0 +1,181 @@
+//! The decision of one commit, read by read.
+
+ghost use Rattle.std.specs.Prelude.{◌≡◌, ◌<◌, ℕ, length, drop};
+ghost use Rattle.syn_rows.specs.declared.TheConstants.{NODE_LIMIT};
+ghost use Rattle.syn_decide.specs.Decided.{told};
+ghost use Rattle.syn_decide.specs.Tasks.{asked, task_of};
+ghost use Rattle.syn_decide.specs.Fold as fold;
+
+use crate::answers::{read_counting, read_hinting, read_keying};
+use crate::stages::read_walking;
+use crate::waiting::Waiting;
+use crate::{Attempt, Decision, MOST_INNER, NodeRow, Phase, Want};
+use arrayvec::ArrayVec;
+use std::marker::Model;
+use syn_core_laws::Seen;
+use syn_gain::Proposal;
+use syn_plan::MOST_GATES;
+
+/// What is kept of the reads of a commit, inline. Contracts see it as the definition's state.
+#[derive(Debug, Drop)]
+pub struct Deciding {
+    phase: Phase,
+    waiting: Waiting,
+    inner: ArrayVec<NodeRow, MOST_INNER>,
+    low: u64,
+    high: u64,
+    hits: ArrayVec<NodeRow, MOST_GATES>,
+    counts: ArrayVec<u32, MOST_INNER>,
+}
+
+impl Model for Deciding {
+    ghost use Rattle.std.specs.Prelude.{All, length, ◌≤◌, ◌+◌, ◌<◌};
+    ghost use Rattle.syn_rows.specs.declared.TheConstants.{NODE_LIMIT};
+    ghost use Rattle.syn_decide.specs.Fold.{State};
+    ghost use Rattle.syn_decide.specs.Phases.{most_at, stage_of};
+
+    ghost Value = { State };
+
+    ghost view = { λ d. record { stage = stage_of d.phase d.waiting; inner = d.inner.items; low = d.low; high = d.high; hits = d.hits.items; counts = d.counts.items } };
+
+    ghost invariant = { λ d. (length d.waiting ≤ 9 + length d.inner.items) × (length d.inner.items ≤ most_at d.phase) × All (λ h. h.node < NODE_LIMIT) d.hits.items };
+}
+
+impl Deciding {
+    /// Before the first read.
+    pub fn begin(attempt: &Attempt<'_>) -> Deciding
+        ensures { result ≡ fold.begin (task_of attempt.now) }
+    {
+        let mut waiting = Waiting::new();
+        waiting.push(attempt.candidate.root);
+        Deciding {
+            phase: Phase::Walking,
+            waiting,
+            inner: ArrayVec::new(),
+            low: 0,
+            high: 0,
+            hits: ArrayVec::new(),
+            counts: ArrayVec::new(),
+        }
+    }
+
+    /// Begins anew in the same room, which costs less than to make it.
+    pub fn restart(&mut self, attempt: &Attempt<'_>)
+        ensures { self.new ≡ fold.begin (task_of attempt.now) }
+    {
+        self.phase = Phase::Walking;
+        self.waiting.clear();
+        self.waiting.push(attempt.candidate.root);
+        self.inner.clear();
+        self.low = 0;
+        self.high = 0;
+        self.hits.clear();
+        self.counts.clear();
+    }
+
+    /// One read.
+    pub fn read(&mut self, attempt: &Attempt<'_>, read: Seen)
+        ensures { self.new ≡ fold.read_one (task_of attempt.now) self.old read }
+    {
+        self.phase = match self.phase {
+            Phase::Walking => read_walking(attempt, &mut self.inner, &mut self.waiting, read),
+            Phase::Keying => read_keying(&mut self.waiting, &mut self.low, &mut self.high, read),
+            Phase::Hinting(last) => read_hinting(
+                attempt,
+                self.inner.as_slice(),
+                &mut self.low,
+                self.high,
+                &mut self.hits,
+                &mut self.counts,
+                last,
+                read,
+            ),
+            Phase::Counting => read_counting(
+                attempt,
+                self.inner.as_slice(),
+                self.low,
+                self.high,
+                self.hits.as_slice(),
+                &mut self.counts,
+                read,
+            ),
+            Phase::Ended(_) => Phase::Failed,
+            Phase::Failed => Phase::Failed,
+        };
+    }
+
+    /// What is decided so far.
+    pub fn wants(&self) -> Decision
+        ensures { told result ≡ fold.wants self.now }
+    {
+        match self.phase {
+            Phase::Walking => next_row(&self.waiting),
+            Phase::Keying => next_key(&self.waiting),
+            Phase::Hinting(_) => next_count(self.inner.as_slice(), self.counts.as_slice()),
+            Phase::Counting => next_count(self.inner.as_slice(), self.counts.as_slice()),
+            Phase::Ended(outcome) => Decision::Answer(outcome),
+            Phase::Failed => Decision::Unfit,
+        }
+    }
+}
+
+// The row of the node that waits next.
+fn next_row(waiting: &Waiting) -> Decision
+    ensures { told result ≡ fold.wanted_row waiting.now }
+{
+    match waiting.next() {
+        Some(node) => Decision::Next(Want::Row(node)),
+        None => Decision::Unfit,
+    }
+}
+
+// Its key.
+fn next_key(waiting: &Waiting) -> Decision
+    ensures { told result ≡ fold.wanted_key waiting.now }
+{
+    match waiting.next() {
+        Some(node) => Decision::Next(Want::Key(node)),
+        None => Decision::Unfit,
+    }
+}
+
+// The count of the first inner row that has none.
+fn next_count(inner: &[NodeRow], counts: &[u32]) -> Decision
+    ensures { told result ≡ fold.wanted_count (drop (length counts.now) inner.now) }
+{
+    let at = counts.len();
+    if at < inner.len() {
+        Decision::Next(Want::Count(inner[at].node))
+    } else {
+        Decision::Unfit
+    }
+}
+
+/// What a commit met: the size of its pool at entry, and its loads and failed claims in order.
+#[derive(Debug, PartialEq, Eq, Drop)]
+pub struct Reads {
+    /// How many nodes the pool has.
+    pub pool: u32,
+    /// What was met.
+    pub seen: ArrayVec<Seen, 1024>,
+}
+
+// What these reads decide for an attempt.
+fn decided(attempt: &Attempt<'_>, seen: &[Seen]) -> Decision
+    ensures { told result ≡ fold.decided (task_of attempt.now) seen.now }
+{
+    let mut deciding = Deciding::begin(attempt);
+    for read in seen {
+        deciding.read(attempt, *read);
+    }
+    deciding.wants()
+}
+
+/// What these reads decide: the answer of a commit, its next load, or that they fit no step.
+pub fn decide(reads: &Reads, proposal: &Proposal, zero_gain: bool) -> Decision
+    requires { proposal.now.root < NODE_LIMIT }
+    ensures { told result ≡ fold.decided (asked proposal.now zero_gain reads.now.pool) reads.now.seen.items }
+{
+    let attempt = Attempt::of(proposal, zero_gain, reads.pool);
+    decided(&attempt, reads.seen.as_slice())
+}
