@@ -9,4 +9,5 @@ pub mod WellFormedNetlists
 mod Finding
 mod Tabling
 mod Whole
+mod LutWhole
 pub mod Shaped

@@ -1,18 +1,20 @@
--- An ordered netlist of graph shape has no fault.
+-- An ordered netlist of graph shape, or of LUT shape, has no fault.
 use Rattle.std.proofs.Common.{◌≡◌, ℕ, not, true, false, List, [], ◌∷◌, ◌++◌, map, flat_map, bytes_eq, refl, sym, ap, ◌∙◌, inl, inr, append_assoc}
 use Rattle.std.specs.List.{list_all}
 use Rattle.std.proofs.lemmas.Bool.{and_parts, and_from, or_cases, or_left, or_right, cases_Bool, both_ways, not_from_false, or_from}
 use Rattle.std.proofs.lemmas.List.{map-append}
 use Rattle.std.proofs.lemmas.List.Sorted.{IsPermutation-refl}
-use Rattle.syn_netlist.specs.Faults.{inputs_of, reads}
+use Rattle.syn_netlist.specs.Faults.{IsChecked, inputs_of, reads}
 use Rattle.syn_netlist.specs.Lists.{Table, Netlist, output_of, latch_reads, sources, observed}
 use Rattle.syn_netlist.specs.Order.{Ordered, defined, reads_known}
 use Rattle.syn_netlist.specs.Words.{has_word, without, firsts}
 use Rattle.syn_netlist.proofs.Sets.{has_word-append, has_left, has_right, all_at, all_each}
-use Rattle.syn_shapes.specs.GraphShape.{GraphShape, and_tables, end_tables}
+use Rattle.syn_shapes.specs.GraphShape.{and_tables, end_tables}
+use Rattle.syn_lutshapes.specs.LutShape.{LutShape, lut_tables}
+use Rattle.syn_lutshapes.specs.LutShape as luts
 use Rattle.syn_reader.proofs.Answering.{none_from_all}
 use Rattle.syn_reader.proofs.Defining.{has_word-without}
-use Rattle.syn_text.specs.WellFormed.{ShapedIsChecked}
+use Rattle.syn_text.specs.WellFormed.{ShapedIsChecked, LutsAreChecked}
 
 -- each word of a list is among its first ones
 among_firsts : (ws : List (List ℕ)) (w : List ℕ) → has_word ws w ≡ true → has_word (firsts ws) w ≡ true
@@ -26,13 +28,18 @@ among_firsts (x ∷ xs) w h = elim (cases_Bool (bytes_eq x w)) [
       (not_from_false (has_word (x ∷ []) w) (or_from (bytes_eq x w) false f refl)))
 ]
 
+-- tables of which the last are those of the observed signals
+record HasEnds (n : Netlist) (ts ends : List Table) : Type 0 where
+  split : n.tables ≡ ts ++ ends
+  each : map output_of ends ≡ without (sources n.frame) (observed n.frame)
+
 -- an observed signal is a source, or has its table
-observed_defined : (n : Netlist) → GraphShape n → (w : List ℕ) → has_word (observed n.frame) w ≡ true → has_word (defined n) w ≡ true
-observed_defined n shape w h = elim (cases_Bool (has_word (sources n.frame) w)) [
+observed_defined : (n : Netlist) (ts ends : List Table) → HasEnds n ts ends → (w : List ℕ) → has_word (observed n.frame) w ≡ true → has_word (defined n) w ≡ true
+observed_defined n ts ends shape w h = elim (cases_Bool (has_word (sources n.frame) w)) [
   | inl s ↦ has_left (sources n.frame) (map output_of n.tables) w s
   | inr f ↦ has_right (sources n.frame) (map output_of n.tables) w
-      (ap (λ (ws : List (List ℕ)). has_word ws w) (ap (map output_of) shape.split ∙ map-append output_of (and_tables n) (end_tables n))
-      ∙ has_right (map output_of (and_tables n)) (map output_of (end_tables n)) w
+      (ap (λ (ws : List (List ℕ)). has_word ws w) (ap (map output_of) shape.split ∙ map-append output_of ts ends)
+      ∙ has_right (map output_of ts) (map output_of ends) w
       (ap (λ (ws : List (List ℕ)). has_word ws w) shape.each ∙ has_word-without (sources n.frame) (observed n.frame) w
       ∙ and_from (has_word (observed n.frame) w) (not (has_word (sources n.frame) w)) h (not_from_false (has_word (sources n.frame) w) f)))
 ]
@@ -47,19 +54,25 @@ inputs_defined known (t ∷ ts) w r h =
       | inr below ↦ ap (λ (ws : List (List ℕ)). has_word ws w) (sym (append_assoc known (t.output ∷ []) (map output_of ts))) ∙ inputs_defined (known ++ t.output ∷ []) ts w parts.1 below
     ]
 
-read_defined : (n : Netlist) → GraphShape n → Ordered n → (w : List ℕ) → has_word (reads n) w ≡ true → has_word (defined n) w ≡ true
-read_defined n shape order w h =
+read_defined : (n : Netlist) (ts ends : List Table) → HasEnds n ts ends → Ordered n → (w : List ℕ) → has_word (reads n) w ≡ true → has_word (defined n) w ≡ true
+read_defined n ts ends shape order w h =
     let signals : List (List ℕ) = flat_map latch_reads n.frame.latches in
     let inputs : List (List ℕ) = flat_map inputs_of n.tables in
     let grouped : has_word ((n.frame.outputs ++ signals) ++ inputs) w ≡ true = ap (λ (ws : List (List ℕ)). has_word ws w) (append_assoc n.frame.outputs signals inputs) ∙ h in
     elim (or_cases (has_word (n.frame.outputs ++ signals) w) (has_word inputs w) (sym (has_word-append (n.frame.outputs ++ signals) inputs w) ∙ grouped)) [
-      | inl seen ↦ observed_defined n shape w (among_firsts (n.frame.outputs ++ signals) w seen)
+      | inl seen ↦ observed_defined n ts ends shape w (among_firsts (n.frame.outputs ++ signals) w seen)
       | inr read ↦ inputs_defined (sources n.frame) n.tables w order.above read
     ]
 
-pub shaped_is_checked : ShapedIsChecked
-shaped_is_checked n shape order = record {
-  driven = none_from_all (has_word (defined n)) (reads n) (all_each (has_word (defined n)) (reads n) (read_defined n shape order));
+checked : (n : Netlist) (ts ends : List Table) → HasEnds n ts ends → Ordered n → IsChecked n
+checked n ts ends shape order = record {
+  driven = none_from_all (has_word (defined n)) (reads n) (all_each (has_word (defined n)) (reads n) (read_defined n ts ends shape order));
   order = n.tables;
   ordered = record { permuted = IsPermutation-refl n.tables; ordered = order };
 }
+
+pub shaped_is_checked : ShapedIsChecked
+shaped_is_checked n shape order = checked n (and_tables n) (end_tables n) (record { split = shape.split; each = shape.each }) order
+
+pub luts_are_checked : LutsAreChecked
+luts_are_checked n k shape order = checked n (lut_tables n) (luts.end_tables n) (record { split = shape.split; each = shape.each }) order

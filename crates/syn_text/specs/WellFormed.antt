@@ -1,5 +1,5 @@
 -- Netlists that can be written, and the law that what is written reads as the netlist.
-use Rattle.std.specs.Prelude.{◌≡◌, ◌&&◌, not, nat_lt, Bool, true, length, bytes_eq}
+use Rattle.std.specs.Prelude.{◌≡◌, ℕ, ◌&&◌, not, nat_lt, Bool, true, length, bytes_eq}
 use Rattle.std.specs.List.{list_all}
 use Rattle.syn_netlist.specs.Words.{is_word}
 use Rattle.syn_netlist.specs.Lists.{Latch, Table, Netlist, latch_reads, control_of}
@@ -7,6 +7,7 @@ use Rattle.syn_netlist.specs.Kept.{nil_word, rows_fit, polarity_fits}
 use Rattle.syn_netlist.specs.Order.{DefinedOnce, Ordered}
 use Rattle.syn_netlist.specs.Faults.{IsChecked}
 use Rattle.syn_shapes.specs.GraphShape.{GraphShape}
+use Rattle.syn_lutshapes.specs.LutShape.{LutShape}
 use Rattle.syn_shapes.specs.Printed.{printed}
 use Rattle.syn_reader.specs.Reading.{Reads}
 
@@ -41,3 +42,7 @@ PrintedReads = (n : Netlist) → IsWellFormed n → IsChecked n → Reads (print
 -- An ordered netlist of graph shape has no fault.
 abbrev pub ShapedIsChecked : Type 0
 ShapedIsChecked = (n : Netlist) → GraphShape n → Ordered n → IsChecked n
+
+-- An ordered netlist of LUT shape has no fault.
+abbrev pub LutsAreChecked : Type 0
+LutsAreChecked = (n : Netlist) (k : ℕ) → LutShape n k → Ordered n → IsChecked n

@@ -1,7 +1,7 @@
 //! Laws on written netlists.
 
 ghost use Rattle.syn_netlist.specs.Views.{netlist_in};
-ghost use Rattle.syn_text.specs.WellFormed.{IsWellFormed, PrintedReads, ShapedIsChecked};
+ghost use Rattle.syn_text.specs.WellFormed.{IsWellFormed, LutsAreChecked, PrintedReads, ShapedIsChecked};
 
 use syn_netlist::Netlist;
 
@@ -20,4 +20,9 @@ pub fn printed_reads()
 /// An ordered netlist of graph shape has no fault.
 pub fn shaped_is_checked()
     ensures { ShapedIsChecked }
+{}
+
+/// An ordered netlist of LUT shape has no fault.
+pub fn luts_are_checked()
+    ensures { LutsAreChecked }
 {}

@@ -15,7 +15,7 @@ ghost use Rattle.syn_netlist.specs.Order.{Ordered};
 ghost use Rattle.syn_shapes.specs.GraphShape.{GraphShape, observed_of, rows_of};
 ghost use Rattle.syn_shapes.specs.Graphs.{IsGraph};
 ghost use Rattle.syn_graph.specs.Graphs.{network_of};
-ghost use Rattle.syn_shapes.specs.Spelling.{end_table, ends_from, gate_table, gate_tables, inner_names, inner_word, network, sign_of};
+ghost use Rattle.syn_shapes.specs.Spelling.{end_table, ends_from, gate_table, gate_tables, gates_of, inner_names, inner_word, network, sign_of};
 ghost use Rattle.syn_text.specs.Numbered.{IsNumbered, is_named, is_named_gate, is_within, number_of};
 
 use itoa::Buffer;
@@ -26,9 +26,9 @@ use syn_rows::{Lit, Row};
 
 /// Some of the names, by their numbers.
 #[derive(Drop)]
-struct NameSet<'a> {
-    names: &'a Names,
-    numbers: Vec<u32>,
+pub(crate) struct NameSet<'a> {
+    pub(crate) names: &'a Names,
+    pub(crate) numbers: Vec<u32>,
     marks: Vec<bool>,
     ghost distinct: { distinct names.now ≡ true },
     ghost below: { all_below (length names.now) numbers.items ≡ true },
@@ -37,7 +37,11 @@ struct NameSet<'a> {
 }
 
 impl<'a> NameSet<'a> {
-    fn of(alloc: Global, names: &'a Names, numbers: Vec<u32>) -> Result<NameSet<'a>, AllocError>
+    pub(crate) fn of(
+        alloc: Global,
+        names: &'a Names,
+        numbers: Vec<u32>,
+    ) -> Result<NameSet<'a>, AllocError>
         requires { all_below (length names.now) numbers.items ≡ true }
         ensures names { IfOk result (λ s. s.names.now ≡ names.now) }
         ensures numbers { IfOk result (λ s. s.numbers.items ≡ numbers.items) }
@@ -301,7 +305,7 @@ fn push_end(
 }
 
 // The tables of the observed signals that are no sources.
-fn push_ends(
+pub(crate) fn push_ends(
     alloc: Global,
     sources: &NameSet,
     nodes: &[u32],
@@ -322,7 +326,7 @@ fn push_ends(
 }
 
 // The first numbers, then the second.
-fn joined(alloc: Global, first: &[u32], second: &[u32]) -> Result<Vec<u32>, AllocError>
+pub(crate) fn joined(alloc: Global, first: &[u32], second: &[u32]) -> Result<Vec<u32>, AllocError>
     ensures { IfOk result (λ v. v.items ≡ first.now ++ second.now) }
 {
     let mut all = Vec::from_slice(alloc, first)?;
@@ -332,13 +336,41 @@ fn joined(alloc: Global, first: &[u32], second: &[u32]) -> Result<Vec<u32>, Allo
 
 /// The names of a frame with inner names behind them, and the numbers of those that a graph's netlist has.
 #[derive(Drop)]
-struct Naming<'a> {
-    frame: &'a Frame,
-    names: Names,
-    sources: NameSet<'a>,
-    signals: Vec<u32>,
-    inner: Vec<u32>,
+pub(crate) struct Naming<'a> {
+    pub(crate) frame: &'a Frame,
+    pub(crate) names: Names,
+    pub(crate) sources: NameSet<'a>,
+    pub(crate) signals: Vec<u32>,
+    pub(crate) inner: Vec<u32>,
     ghost same: { sources.names.now ≡ frame.now.names },
+}
+
+/// Names so many inner nodes over the sources of a frame.
+pub(crate) fn name_nodes<'a>(
+    alloc: Global,
+    frame: &'a Frame,
+    known: NameSet<'a>,
+    count: usize,
+) -> Result<Naming<'a>, AllocError>
+    requires same { known.names.now ≡ frame.now.names }
+    requires words { words_at frame.now.names known.numbers.items ≡ sources (frame_in frame.now) }
+    requires few_sources { length known.numbers.items < 2 ^ 32 }
+    requires few { length frame.now.names + count < 2 ^ 32 }
+    ensures frame { IfOk result (λ n. n.frame.now ≡ frame.now) }
+    ensures numbered { IfOk result (λ n. IsNumbered (frame_in frame.now) count frame.now.names n.names n.sources.numbers.items n.signals.items n.inner.items) }
+{
+    let signals = frame.observed(alloc)?;
+    let taken = joined(alloc, &known.numbers, &signals)?;
+    let taken = NameSet::of(alloc, &frame.names, taken)?;
+    let mut names = copy_names(alloc, &frame.names)?;
+    let inner = add_inner_names(alloc, &taken, count, &mut names)?;
+    Ok(Naming {
+        frame,
+        names,
+        sources: known,
+        signals,
+        inner,
+    })
 }
 
 // Names the ANDs of a graph.
@@ -346,22 +378,12 @@ fn name_gates<'a>(alloc: Global, frame: &'a Frame, rows: &[Row]) -> Result<Namin
     requires there { length (sources (frame_in frame.now)) < length rows.now }
     requires few { length frame.now.names + length rows.now < 2 ^ 32 }
     ensures frame { IfOk result (λ n. n.frame.now ≡ frame.now) }
-    ensures numbered { IfOk result (λ n. IsNumbered (frame_in frame.now) rows.now frame.now.names n.names n.sources.numbers.items n.signals.items n.inner.items) }
+    ensures numbered { IfOk result (λ n. IsNumbered (frame_in frame.now) (length (gates_of (frame_in frame.now) rows.now)) frame.now.names n.names n.sources.numbers.items n.signals.items n.inner.items) }
 {
-    let sources = NameSet::of(alloc, &frame.names, frame.sources(alloc)?)?;
-    let signals = frame.observed(alloc)?;
-    let taken = joined(alloc, &sources.numbers, &signals)?;
-    let taken = NameSet::of(alloc, &frame.names, taken)?;
-    let mut names = copy_names(alloc, &frame.names)?;
-    let count = rows.len() - (sources.numbers.len() + 1);
-    let inner = add_inner_names(alloc, &taken, count, &mut names)?;
-    Ok(Naming {
-        frame,
-        names,
-        sources,
-        signals,
-        inner,
-    })
+    let numbers = frame.sources(alloc)?;
+    let count = rows.len() - (numbers.len() + 1);
+    let sources = NameSet::of(alloc, &frame.names, numbers)?;
+    name_nodes(alloc, frame, sources, count)
 }
 
 // The tables of a graph.
@@ -372,7 +394,7 @@ fn tables_of(
     observed: &[Lit],
 ) -> Result<Vec<Table>, AllocError>
     requires graph { IsGraph (frame_in naming.now.frame.now) rows.now observed.now }
-    requires numbered { IsNumbered (frame_in naming.now.frame.now) rows.now naming.now.frame.now.names naming.now.names naming.now.sources.numbers.items naming.now.signals.items naming.now.inner.items }
+    requires numbered { IsNumbered (frame_in naming.now.frame.now) (length (gates_of (frame_in naming.now.frame.now) rows.now)) naming.now.frame.now.names naming.now.names naming.now.sources.numbers.items naming.now.signals.items naming.now.inner.items }
     ensures words { IfOk result (λ v. map (table_in naming.now.names) v.items ≡ (network (frame_in naming.now.frame.now) rows.now observed.now).tables) }
     ensures below { IfOk result (λ v. tables_below (length naming.now.names) v.items ≡ true) }
 {

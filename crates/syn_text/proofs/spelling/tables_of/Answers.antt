@@ -33,7 +33,7 @@ push_gates-requires-clause-outputs c =
     let inner : c.deref-4.result.now ≡ n.inner.items = search rules in
     let count : c.len.result ≡ length srcs = search rules in
     ap (λ (l : List ℕ). length l) inner
-    ∙ length-inner frame rows n.frame.now.names n.names srcs n.signals.items n.inner.items c.requires.numbered
+    ∙ length-inner frame (length (gates_of frame rows)) n.frame.now.names n.names srcs n.signals.items n.inner.items c.requires.numbered
     ∙ sym (ap (λ (k : ℕ). length (take (length rows - (k + 1)) (drop (k + 1) rows))) count ∙ ap (λ (l : List Row). length l) (gates_slice frame rows n.frame.now.names srcs c.requires.numbered.source_words))
 
 pub push_ends-requires-clause-within : goal.push_ends-requires-clause-within
@@ -84,8 +84,8 @@ returns-clause-below c =
     let nodes_again : c.deref-5.result.now ≡ srcs ++ inner = search rules in
     let outputs : c.deref-4.result.now ≡ inner = search rules in
     let signals : c.deref-6.result.now ≡ n.signals.items = search rules in
-    let all = nodes_below frame rows n.frame.now.names more srcs n.signals.items inner c.requires.numbered in
+    let all = nodes_below frame (length (gates_of frame rows)) n.frame.now.names more srcs n.signals.items inner c.requires.numbered in
     c.in_ok-push_ends.ensures.below (length more) (ap (all_below (length more)) nodes_again ∙ all)
-    (ap (all_below (length more)) signals ∙ signals_below frame rows n.frame.now.names more srcs n.signals.items inner c.requires.numbered)
+    (ap (all_below (length more)) signals ∙ signals_below frame (length (gates_of frame rows)) n.frame.now.names more srcs n.signals.items inner c.requires.numbered)
     (c.in_ok-push_gates.ensures.below (length more) (ap (all_below (length more)) nodes ∙ all) (ap (all_below (length more)) outputs ∙ c.requires.numbered.inner_below)
     (ap (tables_below (length more)) c.new-tables.ensures.items))
