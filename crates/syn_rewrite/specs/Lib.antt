@@ -2,4 +2,5 @@ pub mod Functions
 pub mod Classes
 pub mod Rewriting
 pub mod Laws
+pub mod PlansOf
 pub mod Prepared

@@ -5,24 +5,14 @@ use Rattle.std.specs.Global.{Vec}
 use Rattle.syn_rows.specs.declared.Row.{Row}
 use Rattle.syn_rows.specs.Rows.{row_at}
 use Rattle.syn_rows.specs.Reach.{is_and}
-use Rattle.syn_plan.specs.declared.plan.Plan.{Plan}
-use Rattle.syn_plan.specs.Naming.{built_of}
-use Rattle.syn_library.specs.Fitting.{Computes}
-use Rattle.syn_library.specs.Library.{NamesOwn}
 use Rattle.syn_cones.specs.Cones.{IsCut}
 use Rattle.syn_cuts.specs.Cuts.{listed_cuts}
 use Rattle.syn_cuts.specs.Lists.{list_at}
 use Rattle.syn_gain.specs.Leaves.{are_below, rise_above}
 use Rattle.syn_rewrite.specs.Functions.{IsFunctionOver}
-use Rattle.syn_rewrite.specs.Rewriting.{all_but_last, fitted_plans}
+use Rattle.syn_rewrite.specs.Rewriting.{all_but_last}
+pub use Rattle.syn_rewrite.specs.PlansOf.{ArePlansOf}
 use Rattle.syn_rewrite.specs.declared.prepared.Prepared.{Prepared}
-
--- The plans of a function: four leaves each, of which they name only those that the function depends on, and the function's values.
-pub record ArePlansOf (function : ℕ) (plans : List Plan) : Type 0 where
-  pub built : map built_of plans ≡ fitted_plans function
-  pub leaves : All (λ p. p.leaves ≡ 4) plans
-  pub values : All (λ p. Computes p function) plans
-  pub names : All (λ p. NamesOwn p function) plans
 
 -- At most four nodes that rise below a node, and are a cut of it.
 pub record AreLeavesOf (rows : List Row) (node : ℕ) (leaves : List ℕ) : Type 0 where

@@ -4,7 +4,7 @@ ghost use Rattle.std.specs.Prelude.{◌≡◌, All, IfOk, IfSome, length, map};
 ghost use Rattle.syn_plan.specs.Naming.{built_of};
 ghost use Rattle.syn_library.specs.Fitting.{Computes};
 ghost use Rattle.syn_library.specs.Library.{NamesOwn};
-ghost use Rattle.syn_rewrite.specs.Prepared.{ArePlansOf};
+ghost use Rattle.syn_rewrite.specs.PlansOf.{ArePlansOf};
 ghost use Rattle.syn_rewrite.specs.Rewriting.{fitted_plans};
 
 use crate::plans::plans_of;

@@ -1,6 +1,6 @@
 use Rattle.std.proofs.Common.{List, sym, subst}
 use Rattle.syn_plan.specs.declared.plan.Plan.{Plan}
-use Rattle.syn_rewrite.specs.Prepared.{ArePlansOf}
+use Rattle.syn_rewrite.specs.PlansOf.{ArePlansOf}
 use Rattle.syn_rewrite.proofs.known_plans.FunctionPlans.plans.Goals as goal
 
 pub returns : goal.returns
