@@ -19,7 +19,8 @@ fn prints(alloc: Global, seed: u64, size: u16, text: &str) -> bool {
 // With seed 1 the first draws are 12, 3 and 9 modulo 16 and 155 modulo 254: the truth is 156, with the minterms 2, 3, 4, 7.
 #[test]
 fn generates_a_table(rt: HostRuntime) -> Result<(), Fail> {
-    let text = ".model gen\n.inputs x0 x1 x2 x3 x4 x5 x6 x7 x8 x9 x10 x11 x12 x13 x14 x15\n.outputs t0\n.names x12 x3 x9 t0\n010 1\n110 1\n001 1\n111 1\n.end\n";
+    let text =
+        ".model gen\n.inputs x0 x1 x2 x3 x4 x5 x6 x7 x8 x9 x10 x11 x12 x13 x14 x15\n.outputs t0\n.names x12 x3 x9 t0\n010 1\n110 1\n001 1\n111 1\n.end\n";
     assert!(rt; prints(rt.alloc(), 1, 1, text));
     Ok(())
 }
