@@ -1,0 +1,6 @@
+//! From a LUT net to its graph.
+#![tactic(auto)]
+
+mod luts;
+
+pub use luts::{BuildFault, MOST_GATES, build_luts};
