@@ -13,7 +13,7 @@ use Rattle.syn_fanout_free.proofs.Pointwise.{refers_none, refers_some, refers_no
 use Rattle.syn_fanout_free.proofs.Sets.{SparesOnlyUsed, unreached_is_freed}
 use Rattle.syn_fanout_free.proofs.Numbers.{one_if, count_balance, count_beyond, sum_none, sum_both, term_le_sum, sum_one, ands_count}
 
-is_and_not_free : (r : Row) → is_free r ≡ true → is_and r ≡ false
+pub is_and_not_free : (r : Row) → is_free r ≡ true → is_and r ≡ false
 is_and_not_free Free h = refl
 is_and_not_free Source h = absurd (cc)
 is_and_not_free (And a b) h = absurd (cc)

@@ -95,7 +95,7 @@ keeping_kept was n row extra marks used there full k = record {
 }
 
 -- the used old nodes are those listed
-uses_same : (was : List Row) (n : ℕ) (row : Row) (extra : List Row) (marks : List Bool) (used : List ℕ)
+pub uses_same : (was : List Row) (n : ℕ) (row : Row) (extra : List Row) (marks : List Bool) (used : List ℕ)
     → n < length was → ((q : ℕ) → q < length was → is_free (row_at was q) ≡ false) → IsKeeping (length was) row extra 0 marks used
     → (m : ℕ) → m < length was → uses was (replaced was n row extra) n (kept_rows (length was) n marks) m ≡ has_node used m
 uses_same was n row extra marks used there full k m old = elim (cases_Bool (has_node used m)) [

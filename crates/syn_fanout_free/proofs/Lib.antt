@@ -10,3 +10,4 @@ pub mod Listing
 pub mod Steps
 pub mod Sweeps
 pub mod Ends
+pub mod Bounded

@@ -5,3 +5,4 @@ pub mod Nodes
 pub mod Freeing
 pub mod Waits
 pub mod Keeping
+pub mod Bounding

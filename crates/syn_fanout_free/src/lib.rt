@@ -1,19 +1,24 @@
 //! What a replacement of one row frees and saves: the definition's program, and a count in the cone alone.
 #![tactic(auto)]
 
-ghost use Rattle.std.specs.Prelude.{◌≡◌, pos, ◌-ℤ◌, ◌+◌, ◌*◌, ◌<◌, ◌^◌, List, true, length, IfOk};
+ghost use Rattle.std.specs.Prelude.{◌≡◌, ◌+◌, ◌*◌, ◌<◌, ◌^◌, List, true, length, IfOk};
 ghost use Rattle.syn_rows.specs.declared.Lit.{Lit};
 ghost use Rattle.syn_rows.specs.Rows.{InOrder, lits_within, refs_within};
 ghost use Rattle.syn_fanout_free.specs.Freeing.{AllReferred};
 ghost use Rattle.syn_fanout_free.specs.Laws.{AllAndsReached, CountsTell, FewerAreUnreached, FreedAreUnreached, SavedIsLocal, SavedTells, ValuesAreKept};
+ghost use Rattle.syn_fanout_free.specs.Bounding.{SavedIsBounded};
 ghost use Rattle.syn_fanout_free.specs.Saved.{count_in, IsExtra, IsOwned, IsSaved, replaced};
 
+mod bounding;
 mod cone;
 mod extra;
+mod saving;
 mod waiting;
 
-use crate::cone::{and_count, freed};
-use crate::extra::{keep, marked_ands};
+use crate::extra::keep;
+use crate::saving::{difference, saved_of_kept};
+pub use bounding::{lost_but, saves_near};
+pub use extra::KeptRows;
 use std::alloc::{AllocError, Global};
 use syn_rows::{Lit, Row};
 
@@ -30,13 +35,8 @@ pub fn freed_rows()
 pub fn saved_numbers()
     ensures all { AllAndsReached }
     ensures difference { SavedTells }
+    ensures bounded { SavedIsBounded }
 {}
-
-fn difference(first: u32, second: u32) -> i64
-    ensures { result ≡ (pos first -ℤ pos second) }
-{
-    i64::from(first) - i64::from(second)
-}
 
 /// What a change of rows saves, by the definition: the ANDs reached before less those reached afterwards.
 /// The only error is want of memory.
@@ -78,9 +78,7 @@ pub fn saved_near(
     requires extra { IsExtra (length was.now) row extra.now }
     ensures { IfOk result (λ s. (observed : List Lit) → IsOwned was.now observed (count_in counts.now) n → IsSaved was.now (replaced was.now n row extra.now) observed s) }
 {
-    let kept = keep(alloc, was.len() as u32, row, extra)?;
-    let dead = freed(alloc, was, counts, n, kept.used.as_slice())?;
-    let lost = and_count(was[n as usize]) + dead.ands;
-    let added = and_count(row) + marked_ands(extra, kept.marks.as_slice());
-    Ok(difference(lost, added))
+    let mut kept = KeptRows::new(alloc);
+    keep(was.len() as u32, row, extra, &mut kept)?;
+    saved_of_kept(alloc, was, counts, n, row, extra, &mut kept)
 }

@@ -1,16 +1,16 @@
-use Rattle.std.proofs.Common.{◌+◌, ◌&&◌, List, Bool, ℕ, length, subst, sym, ap, ap₂, ◌∙◌, w64, arith, rules}
+use Rattle.std.proofs.Common.{◌+◌, ◌&&◌, List, ℕ, length, subst, sym, ap₂, ◌∙◌, w64, arith, rules}
 use Rattle.std.proofs.lemmas.Int.{to_z-of_z}
 use mir.Val.{SFits}
 use Rattle.syn_rows.specs.Rows.{row_at}
 use Rattle.syn_rows.specs.Reach.{is_and}
-use Rattle.syn_rows.specs.Values.{value_in}
-use Rattle.syn_fanout_free.specs.Freed.{IsFreedByCount, count_below}
+use Rattle.syn_fanout_free.specs.Freed.{IsFreedByCount}
 use Rattle.syn_fanout_free.specs.Freeing.{open_to}
 use Rattle.syn_rows.specs.Nodes.{has_node}
 use Rattle.syn_fanout_free.specs.Saved.{IsSaved, replaced, count_in}
 use Rattle.syn_fanout_free.proofs.Numbers.{one_if-le, count-le}
 use Rattle.syn_fanout_free.proofs.Ends.{saved_by_cone}
-use Rattle.syn_fanout_free.proofs.saved_near.Goals as goal
+use Rattle.syn_fanout_free.proofs.Sweeps.{keeping_sorted}
+use Rattle.syn_fanout_free.proofs.saving.saved_of_kept.Goals as goal
 
 pub overflow_add-lost : goal.overflow_add-lost
 overflow_add-lost c =
@@ -23,17 +23,6 @@ overflow_add-lost c =
       count-le (length c.args.was.now) (λ m. is_and (row_at c.args.was.now m) && has_node c.in_ok-dead.dead.nodes.items m),
     )
 
-pub overflow_add-added : goal.overflow_add-added
-overflow_add-added c =
-    omega (
-      arith,
-      c.and_count-2.ensures,
-      one_if-le (is_and c.args.row),
-      c.marked_ands.ensures,
-      c.requires.few,
-      count-le (length c.args.extra.now) (λ m. is_and (row_at c.args.extra.now m) && value_in c.as_slice-2.result.now m),
-    )
-
 pub returns : goal.returns
 returns c observed owned =
     let f : SFits w64 c.difference.result = search rules in
@@ -43,9 +32,9 @@ returns c observed owned =
     subst (IsSaved c.args.was.now (replaced c.args.was.now c.args.n c.args.row c.args.extra.now) observed)
     (sym (to_z-of_z w64 c.difference.result f ∙ c.difference.ensures))
     (saved_by_cone c.args.was.now observed (count_in c.args.counts.now) c.args.n c.args.row c.args.extra.now
-    c.in_ok-kept.kept.marks.items c.in_ok-kept.kept.used.items dead
-    (c.and_count.result + c.in_ok-dead.dead.ands) (c.and_count-2.result + c.marked_ands.result)
-    c.requires.there owned c.requires.extra c.in_ok-kept.ensures.keeping free
+    c.args.kept.now.marks.items c.sort_used.new.used.items dead
+    (c.and_count.result + c.in_ok-dead.dead.ands) c.added_ands-added.result
+    c.requires.there owned c.requires.extra
+    (keeping_sorted (length c.args.was.now) c.args.row c.args.extra.now 0 c.args.kept.now.marks.items c.args.kept.now.used.items c.sort_used.new.used.items c.sort_used.ensures.same c.requires.keeping) free
     (ap₂ (λ a b. a + b) c.and_count.ensures c.in_ok-dead.ensures.ands)
-    (ap₂ (λ a b. a + b) c.and_count-2.ensures
-    (c.marked_ands.ensures ∙ ap (λ (l : List Bool). count_below (length c.args.extra.now) (λ m. is_and (row_at c.args.extra.now m) && value_in l m)) c.as_slice-2.ensures)))
+    c.added_ands-added.ensures)

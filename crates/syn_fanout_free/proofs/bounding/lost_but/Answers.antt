@@ -1,0 +1,24 @@
+use Rattle.std.proofs.Common.{◌+◌, ◌&&◌, length, ap₂, arith}
+use Rattle.syn_rows.specs.Rows.{row_at}
+use Rattle.syn_rows.specs.Reach.{is_and}
+use Rattle.syn_rows.specs.Nodes.{has_node}
+use Rattle.syn_fanout_free.specs.Saved.{count_in}
+use Rattle.syn_fanout_free.proofs.Bounded.{lost_is_but}
+use Rattle.syn_fanout_free.proofs.Numbers.{one_if-le, count-le}
+use Rattle.syn_fanout_free.proofs.bounding.lost_but.Goals as goal
+
+pub overflow_add-result : goal.overflow_add-result
+overflow_add-result c =
+    omega (
+      arith,
+      c.and_count.ensures,
+      one_if-le (is_and (row_at c.args.was.now c.args.n)),
+      c.in_ok-dead.ensures.ands,
+      c.requires.few,
+      count-le (length c.args.was.now) (λ m. is_and (row_at c.args.was.now m) && has_node c.in_ok-dead.dead.nodes.items m),
+    )
+
+pub returns : goal.returns
+returns c =
+    lost_is_but c.args.was.now (count_in c.args.counts.now) c.args.n c.args.spared.now c.in_ok-dead.dead.nodes.items (c.and_count.result + c.in_ok-dead.dead.ands)
+    c.requires.there c.in_ok-dead.ensures.freed (ap₂ (λ a b. a + b) c.and_count.ensures c.in_ok-dead.ensures.ands)

@@ -1,0 +1,59 @@
+//! What a replacement saves, from its kept rows on.
+
+ghost use Rattle.std.specs.Prelude.{◌≡◌, pos, ◌-ℤ◌, ◌&&◌, ◌+◌, ◌<◌, ◌^◌, List, length, IfOk};
+ghost use Rattle.syn_rows.specs.declared.Lit.{Lit};
+ghost use Rattle.syn_rows.specs.Rows.{InOrder, row_at};
+ghost use Rattle.syn_rows.specs.Reach.{is_and};
+ghost use Rattle.syn_rows.specs.References.{and_count};
+ghost use Rattle.syn_rows.specs.Values.{value_in};
+ghost use Rattle.syn_fanout_free.specs.Freed.{count_below};
+ghost use Rattle.syn_fanout_free.specs.Freeing.{AllReferred};
+ghost use Rattle.syn_fanout_free.specs.Keeping.{IsKeeping};
+ghost use Rattle.syn_fanout_free.specs.Saved.{count_in, IsExtra, IsOwned, IsSaved, replaced};
+
+use crate::cone::{and_count, freed};
+use crate::extra::{KeptRows, marked_ands, sort_used};
+use std::alloc::{AllocError, Global};
+use syn_rows::Row;
+
+/// The difference of two counts.
+pub(crate) fn difference(first: u32, second: u32) -> i64
+    ensures { result ≡ (pos first -ℤ pos second) }
+{
+    i64::from(first) - i64::from(second)
+}
+
+/// The new ANDs of a replacement that are kept.
+pub(crate) fn added_ands(row: Row, extra: &[Row], kept: &KeptRows) -> u32
+    requires few { length extra.now < 2 ^ 31 }
+    requires same { length kept.now.marks.items ≡ length extra.now }
+    ensures { result ≡ and_count row + count_below (length extra.now) (λ m. is_and (row_at extra.now m) && value_in kept.now.marks.items m) }
+{
+    and_count(row) + marked_ands(extra, kept.marks.as_slice())
+}
+
+/// What a replacement saves, where its kept rows were found.
+pub(crate) fn saved_of_kept(
+    alloc: Global,
+    was: &[Row],
+    counts: &[u32],
+    n: u32,
+    row: Row,
+    extra: &[Row],
+    kept: &mut KeptRows,
+) -> Result<i64, AllocError>
+    requires few { length was.now + length extra.now < 2 ^ 31 }
+    requires there { n < length was.now }
+    requires same { length counts.now ≡ length was.now }
+    requires order { InOrder was.now }
+    requires referred { AllReferred was.now (count_in counts.now) }
+    requires extra { IsExtra (length was.now) row extra.now }
+    requires keeping { IsKeeping (length was.now) row extra.now 0 kept.old.marks.items kept.old.used.items }
+    ensures { IfOk result (λ s. (observed : List Lit) → IsOwned was.now observed (count_in counts.now) n → IsSaved was.now (replaced was.now n row extra.now) observed s) }
+{
+    let added = added_ands(row, extra, kept);
+    sort_used(&mut kept.used);
+    let dead = freed(alloc, was, counts, n, kept.used.as_slice())?;
+    let lost = and_count(was[n as usize]) + dead.ands;
+    Ok(difference(lost, added))
+}
