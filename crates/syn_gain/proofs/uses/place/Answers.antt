@@ -1,4 +1,4 @@
-use Rattle.std.proofs.Common.{◌≡◌, List, Result, Ok, Err, IfOk, ap, ◌∙◌}
+use Rattle.std.proofs.Common.{List, Result, Ok, Err, IfOk, ap, ◌∙◌}
 use Rattle.syn_rows.specs.declared.Row.{Row}
 use Rattle.syn_gain.specs.Proposals.{replacement_of}
 use Rattle.syn_gain.specs.Replacements.{new_root_by}

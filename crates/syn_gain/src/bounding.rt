@@ -1,0 +1,99 @@
+//! Whether a proposal saves, where a bound is asked first.
+
+ghost use Rattle.std.specs.Prelude.{◌≡◌, ℤ, pos, ◌≤ℤ◌, true, false, length, IfOk};
+ghost use Rattle.syn_rows.specs.Rows.{row_at};
+ghost use Rattle.syn_rows.specs.Reach.{is_and};
+ghost use Rattle.syn_fanout_free.specs.Bounding.{IsLostBut};
+ghost use Rattle.syn_fanout_free.specs.Saved.{count_in};
+ghost use Rattle.syn_gain.specs.Leaves.{rise_above};
+ghost use Rattle.syn_gain.specs.Proposals.{replacement_of};
+ghost use Rattle.syn_gain.specs.Replacements.{SavedBy};
+ghost use Rattle.syn_gain.specs.Uses.{IsUsesOf};
+
+use crate::placing::{INLINE_LITERALS, INLINE_ROWS, place_into};
+use crate::{Candidate, Uses};
+use smallvec::SmallVec;
+use std::alloc::{AllocError, Global};
+use syn_fanout_free::KeptRows;
+use syn_graph::Graph;
+use syn_rows::{Lit, Row};
+
+/// Room for what a plan becomes. One value serves for many plans, one after the other.
+#[derive(Drop)]
+pub struct Room {
+    literals: SmallVec<Lit, INLINE_LITERALS>,
+    extra: SmallVec<Row, INLINE_ROWS>,
+    kept: KeptRows,
+}
+
+impl Room {
+    /// Room that takes no memory yet.
+    pub fn new(alloc: Global) -> Room {
+        Room {
+            literals: SmallVec::new(alloc),
+            extra: SmallVec::new(alloc),
+            kept: KeptRows::new(alloc),
+        }
+    }
+}
+
+/// How many ANDs go with the row of an AND where these leaves stay: its own, and those that are freed then. All plans over
+/// the leaves share the number. The only error is want of memory, which a small cone doesn't take.
+pub fn lost_but(
+    alloc: Global,
+    graph: &Graph,
+    uses: &Uses,
+    root: u32,
+    leaves: &[u32],
+) -> Result<u32, AllocError>
+    requires uses { IsUsesOf uses.now graph.now }
+    requires root { is_and (row_at graph.now.rows root) ≡ true }
+    requires rise { rise_above 0 leaves.now ≡ true }
+    ensures { IfOk result (λ k. IsLostBut graph.now.rows (count_in uses.now.counts.items) root leaves.now k) }
+{
+    syn_fanout_free::lost_but(
+        alloc,
+        graph.rows.as_slice(),
+        uses.counts.as_slice(),
+        root,
+        leaves,
+    )
+}
+
+/// Whether a proposal for an AND saves, where `most` ANDs go with the root's row if its leaves stay. Where the plan holds
+/// the leaves and adds as many, it saves nothing, and the cone that goes isn't followed. The only error is want of memory,
+/// which a small plan doesn't take.
+pub fn saves(
+    alloc: Global,
+    graph: &Graph,
+    uses: &Uses,
+    candidate: Candidate,
+    most: u32,
+    room: &mut Room,
+) -> Result<bool, AllocError>
+    requires uses { IsUsesOf uses.now graph.now }
+    requires root { is_and (row_at graph.now.rows candidate.root) ≡ true }
+    requires most { IsLostBut graph.now.rows (count_in uses.now.counts.items) candidate.root candidate.leaves.now most }
+    ensures some { IfOk result (λ some. some ≡ true → (s : ℤ) × SavedBy graph.now.rows graph.now.observed (replacement_of candidate.entry) s × (pos 1 ≤ℤ s)) }
+    ensures none { IfOk result (λ some. some ≡ false → (s : ℤ) × SavedBy graph.now.rows graph.now.observed (replacement_of candidate.entry) s × (s ≤ℤ pos 0)) }
+{
+    let rows = graph.rows.as_slice();
+    let row = place_into(
+        rows,
+        &uses.pairs,
+        candidate,
+        &mut room.literals,
+        &mut room.extra,
+    )?;
+    syn_fanout_free::saves_near(
+        alloc,
+        rows,
+        uses.counts.as_slice(),
+        candidate.root,
+        row,
+        room.extra.as_slice(),
+        candidate.leaves,
+        most,
+        &mut room.kept,
+    )
+}
