@@ -1,5 +1,5 @@
 pub mod Maps
-mod Spans
+pub mod Gathered
 pub mod Firsts
 mod Chains
 pub mod Savings

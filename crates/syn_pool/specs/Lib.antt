@@ -1,5 +1,6 @@
 pub mod Sound
 pub mod Closing
+pub mod Leftovers
 pub mod Following
 pub mod Gains
 pub mod Rounds

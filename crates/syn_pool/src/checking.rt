@@ -1,11 +1,12 @@
 //! The check of a graph: the proposals that save, or that none does.
 
-ghost use Rattle.std.specs.Prelude.{◌≡◌, ℕ, ◌+◌, ◌<◌, ◌≤◌, ◌++◌, All, List, IfNone, IfOk, IfSome, OnOk, length, option_to_list};
+ghost use Rattle.std.specs.Prelude.{◌≡◌, ◌+◌, ◌-◌, ◌<◌, ◌≤◌, ◌++◌, All, IfOk, IfSome, OnOk, length, map, option_map, option_to_list};
 ghost use Rattle.syn_rows.specs.declared.TheConstants.{NODE_LIMIT};
-ghost use Rattle.syn_gain.specs.declared.proposals.Proposal.{Proposal};
 ghost use Rattle.syn_gain.specs.Uses.{IsUsesOf};
-ghost use Rattle.syn_pool.specs.Sound.{IsLeftover};
-ghost use Rattle.syn_pool.specs.Closing.{Closed, ClosedBetween};
+ghost use Rattle.syn_gain.specs.Proposals.{replacement};
+ghost use Rattle.syn_pool.specs.Closing.{Closed};
+ghost use Rattle.syn_pool.specs.Leftovers.{AreLeftovers, IsAddedBy, IsPartOf};
+ghost use Rattle.syn_pool.specs.Sound.{IsLeftover, IsSound};
 
 use crate::Proposer;
 use std::alloc::{AllocError, Global};
@@ -38,7 +39,7 @@ fn part_size(nodes: usize, workers: u8) -> usize
     if share < LEAST { LEAST } else { share }
 }
 
-// The first proposal of a node that saves.
+// The first proposal of a node that saves, if it is an AND and has one.
 fn first_at<P: Proposer>(
     alloc: Global,
     graph: &Graph,
@@ -50,8 +51,8 @@ fn first_at<P: Proposer>(
     requires uses { IsUsesOf uses.now graph.now }
     requires lists { P.is_lists_of proposer.now lists.now graph.now.rows }
     requires node { node < length graph.now.rows }
-    ensures some { IfOk result (λ found. IfSome found (IsLeftover graph.now.rows graph.now.observed (P.proposals proposer.now graph.now.rows))) }
-    ensures none { IfOk result (λ found. IfNone found (ClosedBetween graph.now.rows graph.now.observed (P.proposals proposer.now graph.now.rows) node (node + 1))) }
+    ensures added { IfOk result (λ found. IsAddedBy graph.now.rows graph.now.observed (P.proposals proposer.now graph.now.rows) node (option_map replacement found)) }
+    ensures sound { IfOk result (λ found. IfSome found (IsSound graph.now.rows)) }
 {
     match graph.rows.as_slice()[node as usize] {
         Row::And(_, _) => proposer.first_saving(alloc, graph, uses, lists, node),
@@ -69,7 +70,7 @@ fn add_found(found: &mut Vec<Proposal>, more: Option<Proposal>) -> Result<(), Al
     Ok(())
 }
 
-// The leftovers among the nodes from one on, before another: of each AND the first proposal that saves, if one does.
+// The leftovers of the nodes from one on, before another.
 fn found_between<P: Proposer>(
     alloc: Global,
     graph: &Graph,
@@ -81,9 +82,10 @@ fn found_between<P: Proposer>(
 ) -> Result<Vec<Proposal>, AllocError>
     requires uses { IsUsesOf uses.now graph.now }
     requires lists { P.is_lists_of proposer.now lists.now graph.now.rows }
+    requires order { from ≤ to }
     requires within { to ≤ length graph.now.rows }
-    ensures each { IfOk result (λ found. All (IsLeftover graph.now.rows graph.now.observed (P.proposals proposer.now graph.now.rows)) found.items) }
-    ensures none { IfOk result (λ found. length found.items ≡ 0 → ClosedBetween graph.now.rows graph.now.observed (P.proposals proposer.now graph.now.rows) from to) }
+    ensures all { IfOk result (λ found. AreLeftovers graph.now.rows graph.now.observed (P.proposals proposer.now graph.now.rows) from (to - from) (map replacement found.items)) }
+    ensures sound { IfOk result (λ found. All (IsSound graph.now.rows) found.items) }
 {
     let mut found = Vec::new(alloc);
     for node in from..to {
@@ -105,9 +107,9 @@ fn part_of<P: Proposer>(
 ) -> Result<Part, AllocError>
     requires uses { IsUsesOf uses.now graph.now }
     requires lists { P.is_lists_of proposer.now lists.now graph.now.rows }
+    requires order { from ≤ to }
     requires within { to ≤ length graph.now.rows }
-    ensures each { IfOk result (λ part. All (IsLeftover graph.now.rows graph.now.observed (P.proposals proposer.now graph.now.rows)) part.found.items) }
-    ensures none { IfOk result (λ part. length part.found.items ≡ 0 → ClosedBetween graph.now.rows graph.now.observed (P.proposals proposer.now graph.now.rows) part.from part.to) }
+    ensures { IfOk result (IsPartOf graph.now.rows graph.now.observed (P.proposals proposer.now graph.now.rows)) }
 {
     let found = found_between(alloc, graph, uses, proposer, lists, from, to)?;
     Ok(Part { from, to, found })
@@ -126,13 +128,11 @@ fn find_parts<R: Threads + Sync, P: Proposer>(
     requires uses { IsUsesOf uses.now graph.now }
     requires lists { P.is_lists_of proposer.now lists.now graph.now.rows }
     requires few { length graph.now.rows < NODE_LIMIT }
-    ensures each { IfOk result (λ parts. All (λ part. IfOk part (λ q. All (IsLeftover graph.now.rows graph.now.observed (P.proposals proposer.now graph.now.rows)) q.found.items)) parts.items) }
-    ensures none { IfOk result (λ parts. All (λ part. IfOk part (λ q. length q.found.items ≡ 0 → ClosedBetween graph.now.rows graph.now.observed (P.proposals proposer.now graph.now.rows) q.from q.to)) parts.items) }
+    ensures { IfOk result (λ parts. All (λ part. IfOk part (IsPartOf graph.now.rows graph.now.observed (P.proposals proposer.now graph.now.rows))) parts.items) }
 {
     let work = move |start: usize, chunk: &[Row]| -> Result<Part, AllocError>
         requires { IsUsesOf uses.now graph.now × P.is_lists_of proposer.now lists.now graph.now.rows × (start + length chunk.now ≤ length graph.now.rows) × (length graph.now.rows < NODE_LIMIT) }
-        ensures each { IfOk result (λ part. All (IsLeftover graph.entry.now.rows graph.entry.now.observed (P.proposals proposer.entry.now graph.entry.now.rows)) part.found.items) }
-        ensures none { IfOk result (λ part. length part.found.items ≡ 0 → ClosedBetween graph.entry.now.rows graph.entry.now.observed (P.proposals proposer.entry.now graph.entry.now.rows) part.from part.to) }
+        ensures { IfOk result (IsPartOf graph.entry.now.rows graph.entry.now.observed (P.proposals proposer.entry.now graph.entry.now.rows)) }
     {
         part_of(
             alloc,
@@ -148,7 +148,8 @@ fn find_parts<R: Threads + Sync, P: Proposer>(
     thread::map_chunks(rt, alloc, rows, part_size(rows.len(), workers), &work)
 }
 
-// Adds what a part found: how far the nodes are closed now where nothing was found.
+// Adds the leftovers of a part to those of the nodes before it: of how many nodes they are now. A part that begins
+// elsewhere is left out.
 fn take_part<P: Proposer>(
     graph: &Graph,
     proposer: &P,
@@ -156,19 +157,20 @@ fn take_part<P: Proposer>(
     part: Part,
     reached: u32,
 ) -> Result<u32, AllocError>
-    requires closed { length found.old.items ≡ 0 → ClosedBetween graph.now.rows graph.now.observed (P.proposals proposer.now graph.now.rows) 0 reached }
-    requires each { All (IsLeftover graph.now.rows graph.now.observed (P.proposals proposer.now graph.now.rows)) found.old.items }
-    requires part { All (IsLeftover graph.now.rows graph.now.observed (P.proposals proposer.now graph.now.rows)) part.found.items }
-    requires none { length part.found.items ≡ 0 → ClosedBetween graph.now.rows graph.now.observed (P.proposals proposer.now graph.now.rows) part.from part.to }
-    ensures each { OnOk result (All (IsLeftover graph.now.rows graph.now.observed (P.proposals proposer.now graph.now.rows)) found.new.items) }
-    ensures closed { IfOk result (λ n. length found.new.items ≡ 0 → ClosedBetween graph.now.rows graph.now.observed (P.proposals proposer.now graph.now.rows) 0 n) }
+    requires within { reached ≤ length graph.now.rows }
+    requires all { AreLeftovers graph.now.rows graph.now.observed (P.proposals proposer.now graph.now.rows) 0 reached (map replacement found.old.items) }
+    requires sound { All (IsSound graph.now.rows) found.old.items }
+    requires part { IsPartOf graph.now.rows graph.now.observed (P.proposals proposer.now graph.now.rows) part }
+    ensures within { IfOk result (λ n. n ≤ length graph.now.rows) }
+    ensures all { IfOk result (λ n. AreLeftovers graph.now.rows graph.now.observed (P.proposals proposer.now graph.now.rows) 0 n (map replacement found.new.items)) }
+    ensures sound { OnOk result (All (IsSound graph.now.rows) found.new.items) }
 {
     let Part {
         from,
         to,
         found: mut more,
     } = part;
-    if from > reached || to < reached {
+    if from != reached {
         return Ok(reached);
     }
     found.append(&mut more)?;
@@ -187,10 +189,9 @@ fn found_in_parts<P: Proposer>(
     requires uses { IsUsesOf uses.now graph.now }
     requires lists { P.is_lists_of proposer.now lists.now graph.now.rows }
     requires few { length graph.now.rows < NODE_LIMIT }
-    requires each { All (λ part. IfOk part (λ q. All (IsLeftover graph.now.rows graph.now.observed (P.proposals proposer.now graph.now.rows)) q.found.items)) parts.items }
-    requires none { All (λ part. IfOk part (λ q. length q.found.items ≡ 0 → ClosedBetween graph.now.rows graph.now.observed (P.proposals proposer.now graph.now.rows) q.from q.to)) parts.items }
-    ensures each { IfOk result (λ found. All (IsLeftover graph.now.rows graph.now.observed (P.proposals proposer.now graph.now.rows)) found.items) }
-    ensures none { IfOk result (λ found. length found.items ≡ 0 → ClosedBetween graph.now.rows graph.now.observed (P.proposals proposer.now graph.now.rows) 0 (length graph.now.rows)) }
+    requires parts { All (λ part. IfOk part (IsPartOf graph.now.rows graph.now.observed (P.proposals proposer.now graph.now.rows))) parts.items }
+    ensures all { IfOk result (λ found. AreLeftovers graph.now.rows graph.now.observed (P.proposals proposer.now graph.now.rows) 0 (length graph.now.rows) (map replacement found.items)) }
+    ensures sound { IfOk result (λ found. All (IsSound graph.now.rows) found.items) }
 {
     let mut found = Vec::new(alloc);
     let mut reached = 0;
@@ -215,16 +216,17 @@ fn rest<P: Proposer>(
     requires uses { IsUsesOf uses.now graph.now }
     requires lists { P.is_lists_of proposer.now lists.now graph.now.rows }
     requires few { length graph.now.rows < NODE_LIMIT }
-    ensures each { IfOk result (λ found. All (IsLeftover graph.now.rows graph.now.observed (P.proposals proposer.now graph.now.rows)) found.items) }
-    ensures none { IfOk result (λ found. length found.items ≡ 0 → ClosedBetween graph.now.rows graph.now.observed (P.proposals proposer.now graph.now.rows) reached (length graph.now.rows)) }
+    requires within { reached ≤ length graph.now.rows }
+    ensures all { IfOk result (λ found. AreLeftovers graph.now.rows graph.now.observed (P.proposals proposer.now graph.now.rows) reached (length graph.now.rows - reached) (map replacement found.items)) }
+    ensures sound { IfOk result (λ found. All (IsSound graph.now.rows) found.items) }
 {
     let to = graph.rows.as_slice().len() as u32;
     found_between(alloc, graph, uses, proposer, lists, reached, to)
 }
 
-/// The leftovers of a proposer on a graph with these lists, in node order: of each AND the first proposal that saves, if
-/// one does; none where the graph is closed. With several workers the nodes are shared among them. The only error is want
-/// of memory.
+/// The leftovers of a proposer on a graph with these lists: of each AND in node order the first proposal that saves, if one
+/// does, and nothing else, so that they are the same for every number of workers. There are none where the graph is
+/// closed. With several workers the nodes are shared among them. The only error is want of memory.
 pub fn leftovers<R: Threads + Sync, P: Proposer>(
     rt: &R,
     alloc: Global,
@@ -236,6 +238,7 @@ pub fn leftovers<R: Threads + Sync, P: Proposer>(
 ) -> Result<Vec<Proposal>, AllocError>
     requires uses { IsUsesOf uses.now graph.now }
     requires lists { P.is_lists_of proposer.now lists.now graph.now.rows }
+    ensures all { IfOk result (λ found. AreLeftovers graph.now.rows graph.now.observed (P.proposals proposer.now graph.now.rows) 0 (length graph.now.rows) (map replacement found.items)) }
     ensures each { IfOk result (λ found. All (IsLeftover graph.now.rows graph.now.observed (P.proposals proposer.now graph.now.rows)) found.items) }
     ensures none { IfOk result (λ found. length found.items ≡ 0 → Closed graph.now.rows graph.now.observed (P.proposals proposer.now graph.now.rows)) }
 {

@@ -13,5 +13,5 @@ pub use checking::leftovers;
 pub use improving::{Improved, Improver, Report, Unimproved};
 pub use laws::{closed_saves_nothing, first_of_parts};
 pub use passing::pass;
-pub use proposing::{Proposer, saves};
+pub use proposing::{Proposer, saves, saves_bounded};
 pub use syn_gain::owned;

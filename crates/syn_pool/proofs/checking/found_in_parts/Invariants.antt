@@ -1,10 +1,12 @@
-use Rattle.std.proofs.Common.{◌≡◌, All, length}
-use Rattle.syn_pool.specs.Closing.{ClosedBetween}
-use Rattle.syn_pool.specs.Sound.{IsLeftover}
+use Rattle.std.proofs.Common.{◌≤◌, All, length, map}
+use Rattle.syn_gain.specs.Proposals.{replacement}
+use Rattle.syn_pool.specs.Leftovers.{AreLeftovers}
+use Rattle.syn_pool.specs.Sound.{IsSound}
 use Rattle.syn_pool.proofs.checking.found_in_parts.Given as goal
 
 abbrev pub invariant-loop-part : goal.invariant-loop-part
 invariant-loop-part g l = record {
-  each : All (IsLeftover l.graph.rows l.graph.observed (g.P.Proposer.proposals l.proposer l.graph.rows)) l.found.items;
-  none : length l.found.items ≡ 0 → ClosedBetween l.graph.rows l.graph.observed (g.P.Proposer.proposals l.proposer l.graph.rows) 0 l.reached;
+  within : l.reached ≤ length l.graph.rows;
+  all : AreLeftovers l.graph.rows l.graph.observed (g.P.Proposer.proposals l.proposer l.graph.rows) 0 l.reached (map replacement l.found.items);
+  sound : All (IsSound l.graph.rows) l.found.items;
 }

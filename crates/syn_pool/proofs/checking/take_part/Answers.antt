@@ -1,18 +1,21 @@
-use Rattle.std.proofs.Common.{arith}
-use Rattle.syn_pool.specs.Sound.{IsLeftover}
-use Rattle.syn_pool.proofs.Maps.{both_found, both_none}
-use Rattle.syn_pool.proofs.Spans.{both_closed}
+use Rattle.std.proofs.Common.{◌≡◌, ◌-◌, ◌≤◌, map, rules, subst}
+use Rattle.syn_gain.specs.Proposals.{replacement}
+use Rattle.syn_pool.specs.Leftovers.{AreLeftovers}
+use Rattle.syn_pool.specs.Sound.{IsSound}
+use Rattle.syn_pool.proofs.Gathered.{with_span}
+use Rattle.syn_pool.proofs.Maps.{both_found}
 use Rattle.syn_pool.proofs.checking.take_part.Goals as goal
 
-pub returns-clause-each : goal.returns-clause-each
-returns-clause-each g c =
+pub returns-clause-all : goal.returns-clause-all
+returns-clause-all g c =
     let graph = c.args.graph.now in
-    both_found (IsLeftover graph.rows graph.observed (g.P.Proposer.proposals c.args.proposer.now graph.rows)) c.args.found.now.items c.args.part.found.items c.append.new.self.items
-    c.in_ok-append.ensures.items c.requires.each c.requires.part
+    let proposals = g.P.Proposer.proposals c.args.proposer.now graph.rows in
+    let start : c.args.part.from ≡ c.args.reached = search rules in
+    with_span graph.rows graph.observed proposals c.args.reached c.args.part.to c.args.found.now.items c.args.part.found.items c.append.new.self.items
+    (subst (λ k. k ≤ c.args.part.to) start c.requires.part.order) c.requires.all
+    (subst (λ k. AreLeftovers graph.rows graph.observed proposals k (c.args.part.to - k) (map replacement c.args.part.found.items)) start c.requires.part.all)
+    c.in_ok-append.ensures.items
 
-pub returns-clause-closed : goal.returns-clause-closed
-returns-clause-closed g c = λ empty.
-    let graph = c.args.graph.now in
-    let both = both_none c.args.found.now.items c.args.part.found.items c.append.new.self.items c.in_ok-append.ensures.items empty in
-    both_closed graph.rows graph.observed (g.P.Proposer.proposals c.args.proposer.now graph.rows) 0 c.args.reached c.args.part.from c.args.part.to (omega arith)
-    (c.requires.closed both.0) (c.requires.none both.1)
+pub returns-clause-sound : goal.returns-clause-sound
+returns-clause-sound g c =
+    both_found (IsSound c.args.graph.now.rows) c.args.found.now.items c.args.part.found.items c.append.new.self.items c.in_ok-append.ensures.items c.requires.sound c.requires.part.sound

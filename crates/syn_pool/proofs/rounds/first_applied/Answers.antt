@@ -1,5 +1,5 @@
 use Rattle.std.proofs.Common.{sym, subst}
-use Rattle.syn_gain.specs.Proposals.{replacement, replacement_of}
+use Rattle.syn_gain.specs.Proposals.{replacement_of}
 use Rattle.syn_pool.specs.Closing.{SavesSome}
 use Rattle.syn_pool.proofs.Borrowed.{borrowed_is}
 use Rattle.syn_pool.proofs.Chains.{applied_follows_all}
