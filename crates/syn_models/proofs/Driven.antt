@@ -14,7 +14,8 @@ use Rattle.syn_netlist.proofs.Sets.{same_word, word_same, has_word-append, has_l
 use Rattle.syn_models.specs.Models.{Bind, Subcircuit, StatementKind, Inputs, Outputs, Clock, OneLatch, OneTable, OneSubcircuit, Statement, Model, Models, all_of, inputs_in, clocks_in, outputs_in, subcircuits_in, inputs_of, clocks_of, outputs_of, reading_ports, is_reading, is_port, actual_of, formal_of, actual_in, is_bound, binds_once, formals_once}
 use Rattle.syn_models.specs.Opening.{Opened, End, Plain, Instance, Opens, instances}
 use Rattle.syn_models.specs.Flattening.{inner_name, outer_or, called_inside, as_it_is, called_kind, called_latch, flat, latches_called, tables_called, flattened}
-use Rattle.syn_models.specs.FlatFaults.{FlatFault, Undriven, Site, checks, statement_fault, first_of_statements, first_of_models, first_fault_of_models, foreign, unbound, reads_of, defines_of, defined_plainly, defined_inside, defined_in, names_read, undriven_in}
+use Rattle.syn_models.specs.declared.flat_fault.FlatFault.TheVariants.{Undriven}
+use Rattle.syn_models.specs.FlatFaults.{Site, checks, statement_fault, first_of_statements, first_of_models, first_fault_of_models, foreign, unbound, reads_of, defines_of, defined_plainly, defined_inside, defined_in, names_read, undriven_in}
 use Rattle.syn_models.specs.FlatFaults as faults
 use Rattle.syn_models.specs.Laws.{FlatteningIsDriven}
 use Rattle.syn_models.proofs.Existing.{Among, named_among}

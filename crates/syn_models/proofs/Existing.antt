@@ -6,10 +6,9 @@ use Rattle.syn_netlist.specs.Words.{has_word}
 use Rattle.syn_netlist.specs.Faults.{ReachesCircle}
 use Rattle.syn_netlist.proofs.Sets.{same_word, word_same}
 use Rattle.syn_netlist.proofs.CyclicSets.{In, from_in}
-use Rattle.syn_models.specs.Models.{Subcircuit, StatementKind, Inputs, Outputs, Clock, OneLatch, OneTable, OneSubcircuit, Statement, Model, model_named, subcircuits_in}
+use Rattle.syn_models.specs.Models.{name_of, Subcircuit, StatementKind, Inputs, Outputs, Clock, OneLatch, OneTable, OneSubcircuit, Statement, Model, model_named, subcircuits_in}
 use Rattle.syn_models.specs.Opening.{Opened, End, Plain, Instance, Opens, is_subcircuit}
 use Rattle.syn_models.specs.FlatFaults.{model_of, contents}
-use Rattle.syn_models.specs.Laws.{name_of}
 use Rattle.syn_models.proofs.Lists.{none_at}
 
 -- the model is in the list

@@ -13,7 +13,9 @@ use Rattle.syn_netlist.proofs.Sets.{same_word, word_same, has_word-append, all_a
 use Rattle.syn_models.specs.Models.{Bind, StatementKind, Inputs, Outputs, Clock, OneLatch, OneTable, OneSubcircuit, Statement, Model, Models, all_of, model_named, inputs_in, clocks_in, latches_in, tables_in, inputs_of, clocks_of, latches_of, tables_of, is_reading, actual_of, actual_in, is_bound, names_in, is_closed, alone}
 use Rattle.syn_models.specs.Opening.{Opened, End, Plain, Instance, Opens, is_subcircuit, instances}
 use Rattle.syn_models.specs.Flattening.{inner_name, outer_or, called_inside, as_it_is, flat, latches_called, tables_called, taken, clashes, AreSlashes}
-use Rattle.syn_models.specs.FlatFaults.{FlatFault, UnknownModel, UnknownPort, PortMissing, DefinedTwice, Undriven, Site, unknown_model, unknown_port, port_missing, defined_twice, where_holds, where_named, checks, first_found, statement_fault, first_of_statements, first_of_models, first_fault_of_models, first_undriven, defines_of, defined_plainly, defined_inside, first_again}
+use Rattle.syn_models.specs.declared.flat_fault.FlatFault.{FlatFault}
+use Rattle.syn_models.specs.declared.flat_fault.FlatFault.TheVariants.{UnknownModel, UnknownPort, PortMissing, DefinedTwice, Undriven}
+use Rattle.syn_models.specs.FlatFaults.{Site, unknown_model, unknown_port, port_missing, defined_twice, where_holds, where_named, checks, first_found, statement_fault, first_of_statements, first_of_models, first_fault_of_models, first_undriven, defines_of, defined_plainly, defined_inside, first_again}
 use Rattle.syn_models.specs.Laws.{FlatteningDefinesOnce}
 use Rattle.syn_models.proofs.Existing.{Among, named_among}
 use Rattle.syn_models.proofs.InnerNames.{number_in, name_in, number_back, name_back}

@@ -6,9 +6,8 @@ use Rattle.syn_netlist.specs.Lists.{Table}
 use Rattle.syn_netlist.specs.Numbers.{word_at, words_at, all_below}
 use Rattle.syn_netlist.specs.Faults.{no_table}
 use Rattle.syn_netlist.proofs.Sets.{same_word, word_same, has_head, has_tail}
-use Rattle.syn_models.specs.Models.{Model, all_of, model_named, subcircuits_of}
+use Rattle.syn_models.specs.Models.{name_of, Model, all_of, model_named, subcircuits_of}
 use Rattle.syn_models.specs.FlatFaults.{model_of, contents}
-use Rattle.syn_models.specs.Laws.{name_of}
 use Rattle.syn_models.specs.Totals.{told_sum, total_of}
 use Rattle.syn_models.specs.Numbered.{inner_at, total_at, words_in, NumberedTotalsAreTold}
 use Rattle.syn_models.proofs.Totalling.{totals_are_told}

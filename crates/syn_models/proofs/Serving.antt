@@ -11,9 +11,8 @@ use Rattle.syn_netlist.specs.Marks.{has_number}
 use Rattle.syn_netlist.specs.Faults.{no_table}
 use Rattle.syn_netlist.proofs.Sets.{apart, has_head}
 use Rattle.syn_netlist.proofs.Places.{has_words}
-use Rattle.syn_models.specs.Models.{Model, all_of}
+use Rattle.syn_models.specs.Models.{name_of, Model, all_of}
 use Rattle.syn_models.specs.FlatFaults.{contents}
-use Rattle.syn_models.specs.Laws.{name_of}
 use Rattle.syn_models.specs.Numbered.{inner_at, contains_before, ContainsByNumbers, OrderServesTotals}
 
 output_is : (ms : List Model) (t : ℕ) → (slice_index_or (map contents ms) t no_table).output ≡ word_at (map name_of ms) t

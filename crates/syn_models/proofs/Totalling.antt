@@ -7,12 +7,11 @@ use Rattle.syn_netlist.specs.Words.{has_word}
 use Rattle.syn_netlist.specs.Lists.{output_of}
 use Rattle.syn_netlist.specs.Faults.{inputs_of as table_inputs}
 use Rattle.syn_netlist.proofs.Checked.{orderable_reaches_no_circle}
-use Rattle.syn_models.specs.Models.{Subcircuit, StatementKind, Inputs, Outputs, Clock, OneLatch, OneTable, OneSubcircuit, Statement, Model, all_of, model_named, subcircuits_in}
+use Rattle.syn_models.specs.Models.{name_of, Subcircuit, StatementKind, Inputs, Outputs, Clock, OneLatch, OneTable, OneSubcircuit, Statement, Model, all_of, model_named, subcircuits_in}
 use Rattle.syn_models.specs.Opening.{Opened, End, Plain, Instance, Opens, instances, words_inside, is_subcircuit}
 use Rattle.syn_models.specs.Flattening.{called_inside}
 use Rattle.syn_models.specs.Families.{names_inside}
 use Rattle.syn_models.specs.FlatFaults.{told, greatest, model_of, contents}
-use Rattle.syn_models.specs.Laws.{name_of}
 use Rattle.syn_models.specs.Totals.{told_sum, total_of, TotalsAreTold, containing, CheckTellsRecursion, WordsBoundNames}
 use Rattle.syn_models.proofs.Driven.{find_none}
 use Rattle.syn_models.proofs.Once.{all_append}

@@ -4,19 +4,11 @@ use Rattle.std.specs.Option.{option_or}
 use Rattle.syn_netlist.specs.Words.{has_word}
 use Rattle.syn_netlist.specs.Lists.{Table, Netlist, latch_reads}
 use Rattle.syn_netlist.specs.Faults.{ReachesCircle, AnswersCircle}
+use Rattle.syn_models.specs.declared.flat_fault.FlatFault.{FlatFault}
+use Rattle.syn_models.specs.declared.flat_fault.FlatFault.TheVariants.{UnknownModel, UnknownPort, PortMissing, DefinedTwice, Undriven, Recursion, TooManyWords}
 use Rattle.syn_models.specs.Models.{Bind, Subcircuit, StatementKind, Inputs, Outputs, Clock, OneLatch, OneTable, OneSubcircuit, Statement, Model, Models, all_of, model_named, reading_ports, is_reading, is_port, formal_of, actual_in, is_bound, subcircuits_of}
 use Rattle.syn_models.specs.Opening.{Opened, Opens, words_of}
 use Rattle.syn_models.specs.Flattening.{IsFlattening}
-
--- Each fault with its place: a line, a formal, a name, the names of models that contain each other in a circle, or a number of words.
-pub data FlatFault : Type 0 where
-  UnknownModel : ℕ → FlatFault
-  UnknownPort : ℕ → List ℕ → FlatFault
-  PortMissing : ℕ → List ℕ → FlatFault
-  DefinedTwice : ℕ → List ℕ → FlatFault
-  Undriven : List ℕ → FlatFault
-  Recursion : List (List ℕ) → FlatFault
-  TooManyWords : ℕ → FlatFault
 
 -- A place where a subcircuit stands: its line and the subcircuit, the model of its name, all models, the model that it stands in, and that one's statements above.
 pub record Site : Type 0 where

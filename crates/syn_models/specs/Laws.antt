@@ -6,11 +6,12 @@ use Rattle.syn_netlist.specs.Lists.{Table, Netlist}
 use Rattle.syn_netlist.specs.Values.{table_value, Consistent}
 use Rattle.syn_netlist.specs.Order.{DefinedOnce}
 use Rattle.syn_netlist.specs.Faults.{first_undriven}
-use Rattle.syn_models.specs.Models.{Model, Models, all_of, is_closed, alone, formals_once, subcircuits_of}
+use Rattle.syn_models.specs.Models.{Model, name_of, Models, all_of, is_closed, alone, formals_once, subcircuits_of}
 use Rattle.syn_models.specs.Opening.{Opened}
 use Rattle.syn_models.specs.Flattening.{inner_name, as_it_is, called_table, AreSlashes, IsFlattening}
 use Rattle.syn_models.specs.Families.{IsFamily, Agrees, names_inside}
-use Rattle.syn_models.specs.FlatFaults.{FlatFault, first_fault_of_models, IsFirstFlatFault, Flattens, WithinWords}
+use Rattle.syn_models.specs.declared.flat_fault.FlatFault.{FlatFault}
+use Rattle.syn_models.specs.FlatFaults.{first_fault_of_models, IsFirstFlatFault, Flattens, WithinWords}
 
 -- A table with its names called otherwise gives under a valuation what the table gives under the valuation of what they are called.
 abbrev pub CalledTableValue : Type 0
@@ -47,9 +48,6 @@ OneValuation =
 -- Models are flattened to at most one netlist.
 abbrev pub OneFlattening : Type 0
 OneFlattening = (models : Models) (n m : Netlist) → IsFlattening models n → IsFlattening models m → n ≡ m
-
-abbrev pub name_of : Model → List ℕ
-name_of m = m.name
 
 -- Models of different names are flattened to a netlist within the limit of words, or have a first fault.
 abbrev pub EitherFlat : Type 0

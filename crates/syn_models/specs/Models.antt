@@ -40,6 +40,9 @@ pub record Models : Type 0 where
   pub main : Model
   pub others : List Model
 
+abbrev pub name_of : Model → List ℕ
+name_of m = m.name
+
 abbrev pub all_of : Models → List Model
 all_of models = models.main ∷ models.others
 
