@@ -1,6 +1,9 @@
 -- The number that falls where a leaf is replaced, so that growing ends.
 use Rattle.std.proofs.Common.{◌≡◌, ◌≢◌, ℕ, zero, suc, ◌+◌, ◌*◌, ◌^◌, ◌<◌, ◌≤◌, ◌==◌, nat_eq, nat_lt, not, if◌then◌else◌, Bool, true, false, List, [], ◌∷◌, filter, Option, Some, None, refl, sym, ap, ◌∙◌, inl, inr, arith}
 use Rattle.std.proofs.lemmas.Bool.{both_ways, cases_Bool, cases_lt, cond-false, cond-true, eqb-true, or_cases}
+use Rattle.std.specs.List.{sum_by}
+use Rattle.std.proofs.lemmas.List.Filters.{sum_by-filter_both}
+use Rattle.std.proofs.lemmas.List.Sums.{sum_by-cons}
 use Rattle.std.proofs.lemmas.Nat.{pow_below, pow_pos}
 use Rattle.std.proofs.lemmas.Grind.{pow_more}
 use Rattle.std.proofs.Math.Nat.{pow-le-pow_right}
@@ -19,25 +22,22 @@ use Rattle.syn_refactor.proofs.Sorted.{rises-without}
 
 -- 2 ^ leaf, summed over the leaves
 abbrev pub weight : List ℕ → ℕ
-weight [] = 0
-weight (n ∷ ns) = 2 ^ n + weight ns
+weight leaves = sum_by (λ n. 2 ^ n) leaves
+
+weight-cons : (n : ℕ) (ns : List ℕ) → weight (n ∷ ns) ≡ 2 ^ n + weight ns
+weight-cons n ns = sum_by-cons (λ m. 2 ^ m) n ns
 
 weight-put : (n : ℕ) (ns : List ℕ) → weight (put_node n ns) ≤ 2 ^ n + weight ns
 weight-put n [] = omega arith
 weight-put n (m ∷ ms) = by (nat_lt n m) (n == m) (weight-put n ms)
   where
-    by : (a b : Bool) → weight (put_node n ms) ≤ 2 ^ n + weight ms → weight (if a then n ∷ m ∷ ms else if b then m ∷ ms else m ∷ put_node n ms) ≤ 2 ^ n + (2 ^ m + weight ms)
-    by true b le = omega arith
+    by : (a b : Bool) → weight (put_node n ms) ≤ 2 ^ n + weight ms → weight (if a then n ∷ m ∷ ms else if b then m ∷ ms else m ∷ put_node n ms) ≤ 2 ^ n + weight (m ∷ ms)
+    by true b le = let whole = weight-cons n (m ∷ ms) in omega (arith, whole)
     by false true le = omega arith
-    by false false le = omega arith
+    by false false le = let before = weight-cons m ms in let after = weight-cons m (put_node n ms) in omega (arith, before, after, le)
 
 weight-filter : (p : ℕ → Bool) (ns : List ℕ) → weight (filter p ns) ≤ weight ns
-weight-filter p [] = omega arith
-weight-filter p (m ∷ ms) = by (p m) (weight-filter p ms)
-  where
-    by : (b : Bool) → weight (filter p ms) ≤ weight ms → weight (if b then m ∷ filter p ms else filter p ms) ≤ 2 ^ m + weight ms
-    by true le = omega arith
-    by false le = omega arith
+weight-filter p ns = let both = sum_by-filter_both p (λ n. not (p n)) (λ n. refl) (λ n. 2 ^ n) ns in omega (arith, both)
 
 weight-without : (leaf : ℕ) (ns : List ℕ) → has_node ns leaf ≡ true → 2 ^ leaf + weight (without_node leaf ns) ≤ weight ns
 weight-without leaf [] h = absurd (both_ways false refl h)
@@ -46,12 +46,14 @@ weight-without leaf (m ∷ ms) h = elim (cases_Bool (m == leaf)) [
       let is : weight (without_node leaf (m ∷ ms)) ≡ weight (without_node leaf ms) = ap weight (cond-false (not (m == leaf)) (m ∷ without_node leaf ms) (without_node leaf ms) (ap not same)) in
       let less = weight-filter (λ n. not (n == leaf)) ms in
       let power : 2 ^ m ≡ 2 ^ leaf = ap (λ k. 2 ^ k) (eqb-true m leaf same) in
-      omega (arith, is, less, power)
+      let whole = weight-cons m ms in
+      omega (arith, is, less, power, whole)
   | inr other ↦
-      let is : weight (without_node leaf (m ∷ ms)) ≡ 2 ^ m + weight (without_node leaf ms) = ap weight (cond-true (not (m == leaf)) (m ∷ without_node leaf ms) (without_node leaf ms) (ap not other)) in
+      let is : weight (without_node leaf (m ∷ ms)) ≡ 2 ^ m + weight (without_node leaf ms) = ap weight (cond-true (not (m == leaf)) (m ∷ without_node leaf ms) (without_node leaf ms) (ap not other)) ∙ weight-cons m (without_node leaf ms) in
       let there : has_node ms leaf ≡ true = elim (or_cases (nat_eq m leaf) (has_node ms leaf) h) [ inl e ↦ absurd (both_ways (m == leaf) other e) | inr t ↦ t ] in
       let rest = weight-without leaf ms there in
-      omega (arith, is, rest)
+      let whole = weight-cons m ms in
+      omega (arith, is, rest, whole)
 ]
 
 -- two different powers below a third
@@ -95,7 +97,7 @@ begins_below rows node have gate = let put = fan_ins_weigh rows node [] have gat
 
 no_weight : (ns : List ℕ) → weight ns ≤ 0 → ns ≡ []
 no_weight [] le = refl
-no_weight (n ∷ ns) le = absurd (let some = pow_pos n in omega arith)
+no_weight (n ∷ ns) le = absurd (let some = pow_pos n in let whole = weight-cons n ns in omega (arith, some, whole, le))
 
 -- so many steps are enough
 pub grown_ends : (rows : List Row) → HaveFanIns rows → (steps : ℕ) (cone : ConeNodes) → rises cone.leaves ≡ true → weight cone.leaves ≤ steps → next_leaf rows (grown steps rows cone) ≡ None

@@ -1,7 +1,8 @@
 -- The inner nodes of a cone: how many there are where a leaf is replaced, and that none is counted twice.
-use Rattle.std.proofs.Common.{◌≡◌, ◌≢◌, ℕ, ◌+◌, ◌⊎◌, ◌<◌, ◌≤◌, ◌^◌, ◌==◌, ◌&&◌, nat_eq, nat_le, not, if◌then◌else◌, Bool, true, false, List, [], ◌∷◌, ◌++◌, length, filter, Some, refl, sym, ap, ◌∙◌, subst, inl, inr, arith}
-use Rattle.std.proofs.lemmas.Bool.{and_from, and_parts, both_ways, cases_Bool, false_from_ne_true, le-leb, leb-true, not-true, not_from_false, or_cases, or_left}
+use Rattle.std.proofs.Common.{◌≡◌, ◌≢◌, ℕ, ◌+◌, ◌⊎◌, ◌<◌, ◌≤◌, ◌^◌, ◌==◌, ◌&&◌, nat_eq, nat_le, not, if◌then◌else◌, Bool, true, false, List, [], ◌∷◌, ◌++◌, length, filter, length-append, Some, refl, sym, ap, ◌∙◌, subst, inl, inr, arith}
+use Rattle.std.proofs.lemmas.Bool.{and_from, and_parts, both_ways, cases_Bool, false_from_ne_true, le-leb, leb-true, not-true, not_from_false, or_cases}
 use Rattle.std.proofs.lemmas.Bool.Decides.{nat_tests}
+use Rattle.std.proofs.lemmas.List.Filters.{length-filter_both}
 use Rattle.syn_rows.specs.declared.Row.{Row}
 use Rattle.syn_rows.specs.Reach.{is_and}
 use Rattle.syn_rows.specs.Rows.{node_of, refs_of, row_at}
@@ -17,28 +18,12 @@ use Rattle.syn_refactor.specs.Laws.{AreInner, CountsInnerNodes}
 use Rattle.syn_refactor.proofs.Choosing.{MayBe, chooses_next_leaf, next_may}
 use Rattle.syn_refactor.proofs.Grown.{grown_keeps}
 use Rattle.syn_refactor.proofs.Replacing.{and_of}
-use Rattle.syn_refactor.proofs.Sorted.{rises-without, same_has, without_has}
+use Rattle.syn_refactor.proofs.Sorted.{has-filter, rises-without, same_has, without_has}
 
 -- what a filter keeps
 
-has-filter : (p : ℕ → Bool) (ns : List ℕ) (n : ℕ) → has_node (filter p ns) n ≡ true → (has_node ns n ≡ true) × (p n ≡ true)
-has-filter p [] n h = absurd (both_ways false refl h)
-has-filter p (m ∷ ms) n h = by (p m) refl h (has-filter p ms n)
-  where
-    by : (b : Bool) → p m ≡ b → has_node (if b then m ∷ filter p ms else filter p ms) n ≡ true → (has_node (filter p ms) n ≡ true → (has_node ms n ≡ true) × (p n ≡ true)) → (has_node (m ∷ ms) n ≡ true) × (p n ≡ true)
-    by true passes t ih = elim (or_cases (nat_eq m n) (has_node (filter p ms) n) t) [
-      | inl e ↦ (or_left (nat_eq m n) (has_node ms n) e, subst (λ k. p k ≡ true) (same_node m n e) passes)
-      | inr later ↦ let rest = ih later in (has_there m n ms rest.0, rest.1)
-    ]
-    by false fails t ih = let rest = ih t in (has_there m n ms rest.0, rest.1)
-
 length-filter_most : (p : ℕ → Bool) (ns : List ℕ) → length (filter p ns) ≤ length ns
-length-filter_most p [] = omega arith
-length-filter_most p (m ∷ ms) = by (p m) (length-filter_most p ms)
-  where
-    by : (b : Bool) → length (filter p ms) ≤ length ms → length (if b then m ∷ filter p ms else filter p ms) ≤ length (m ∷ ms)
-    by true le = omega arith
-    by false le = omega arith
+length-filter_most p ns = let both = length-filter_both p (λ n. not (p n)) (λ n. refl) ns in omega (arith, both)
 
 -- one that is there and doesn't pass makes it shorter
 length-filter_fewer : (p : ℕ → Bool) (ns : List ℕ) (n : ℕ) → has_node ns n ≡ true → p n ≡ false → length (filter p ns) < length ns
@@ -71,16 +56,12 @@ distinct-filter p (m ∷ ms) h = let parts = and_parts (not (has_node ms m)) (di
   where
     by : (b : Bool) → not (has_node ms m) ≡ true → distinct_numbers (filter p ms) ≡ true → distinct_numbers (if b then m ∷ filter p ms else filter p ms) ≡ true
     by true away rest = and_from (not (has_node (filter p ms) m)) (distinct_numbers (filter p ms))
-        (not_from_false (has_node (filter p ms) m) (false_from_ne_true (has_node (filter p ms) m) (λ t. both_ways (has_node ms m) (not-true (has_node ms m) away) (has-filter p ms m t).0))) rest
+        (not_from_false (has_node (filter p ms) m) (false_from_ne_true (has_node (filter p ms) m) (λ t. both_ways (has_node ms m) (not-true (has_node ms m) away) (and_parts (p m) (has_node ms m) (sym (has-filter p ms m) ∙ t)).1))) rest
     by false away rest = rest
-
-length-last : (ns : List ℕ) (n : ℕ) → length (ns ++ n ∷ []) ≡ 1 + length ns
-length-last [] n = refl
-length-last (m ∷ ms) n = let rest = length-last ms n in omega (arith, rest)
 
 -- the inner nodes without two, and a leaf
 pub room_with : (inner : List ℕ) (leaf a b : ℕ) → length (without_numbers (a ∷ b ∷ []) inner ++ leaf ∷ []) ≡ 1 + length (without_numbers (a ∷ b ∷ []) inner)
-room_with inner leaf a b = length-last (without_numbers (a ∷ b ∷ []) inner) leaf
+room_with inner leaf a b = let both = length-append (without_numbers (a ∷ b ∷ []) inner) (leaf ∷ []) in omega (arith, both)
 
 module _ (inner : List ℕ) (leaf a b : ℕ) where
   abbrev keeps : ℕ → Bool
@@ -120,13 +101,19 @@ module _ (inner : List ℕ) (leaf a b : ℕ) where
 pub is_neither : (a b n : ℕ) → (not (n == a) && not (n == b)) ≡ not (has_node (a ∷ b ∷ []) n)
 is_neither a b n = grind (arith, nat_tests)
 
+-- a node that is kept isn't among the others
+kept_has : (others ns : List ℕ) (n : ℕ) → has_node (without_numbers others ns) n ≡ true → (has_node others n ≡ false) × (has_node ns n ≡ true)
+kept_has others ns n h =
+    let parts = and_parts (not (has_node others n)) (has_node ns n) (sym (has-filter (λ m. not (has_node others m)) ns n) ∙ h) in
+    (not-true (has_node others n) parts.0, parts.1)
+
 -- the inner nodes where a leaf is replaced
 
 after_has : (rows : List Row) (inner : List ℕ) (leaf n : ℕ) → has_node (inner_with rows inner leaf) n ≡ true → ((has_node inner n ≡ true) × (has_node (refs_of (row_at rows leaf)) n ≡ false)) ⊎ (leaf ≡ n)
 after_has rows inner leaf n h = elim (has_cases (without_numbers (refs_of (row_at rows leaf)) inner) (leaf ∷ []) n h) [
   | inl before ↦
-      let kept = has-filter (λ m. not (has_node (refs_of (row_at rows leaf)) m)) inner n before in
-      inl (kept.0, not-true (has_node (refs_of (row_at rows leaf)) n) kept.1)
+      let kept = kept_has (refs_of (row_at rows leaf)) inner n before in
+      inl (kept.1, kept.0)
   | inr last ↦ inr (has_one leaf n last)
 ]
 
@@ -152,7 +139,7 @@ replaced_inner : (rows : List Row) (cone : ConeNodes) (leaf : ℕ) → HaveFanIn
 replaced_inner rows cone leaf have inner there may = record {
   few = leb-true (length (inner_with rows cone.inner leaf)) 48 may.room;
   once = once_more (without_numbers refs cone.inner) leaf (distinct-filter (λ m. not (has_node refs m)) cone.inner inner.once)
-      (false_from_ne_true (has_node (without_numbers refs cone.inner) leaf) (λ h. both_ways (has_node cone.leaves leaf) (inner.apart leaf (has-filter (λ m. not (has_node refs m)) cone.inner leaf h).0) there));
+      (false_from_ne_true (has_node (without_numbers refs cone.inner) leaf) (λ h. both_ways (has_node cone.leaves leaf) (inner.apart leaf (kept_has refs cone.inner leaf h).1) there));
   apart = λ n h. false_from_ne_true (has_node (put_nodes refs (without_node leaf cone.leaves)) n) (λ l. clash n (after_has rows cone.inner leaf n h) (leaves_have rows cone.leaves leaf n l));
 }
   where

@@ -36,11 +36,11 @@ inner_with rows inner leaf = without_numbers (refs_of (row_at rows leaf)) inner 
 abbrev pub replaced : List Row → ConeNodes → ℕ → ConeNodes
 replaced rows cone leaf = record { leaves = with_fan_ins rows cone.leaves leaf; inner = inner_with rows cone.inner leaf }
 
--- A leaf may be replaced: it is an AND, and then there are at most so many leaves, and at most 48 inner nodes.
+-- A leaf may be replaced: it is an AND, and then there are at most `most` leaves and at most 48 inner nodes.
 abbrev pub may_be_replaced : List Row → ConeNodes → ℕ → ℕ → Bool
 may_be_replaced rows cone most leaf = is_and (row_at rows leaf) && (nat_le (count_with rows cone.leaves leaf) most && nat_le (length (inner_with rows cone.inner leaf)) 48)
 
--- The leaf that is chosen among those that are left to look at: one that may be replaced, and then gives no more leaves than `most`, is chosen in place of the one before, and then `most` is what it gives.
+-- The leaf that is chosen among those that are left to look at: one that may be replaced, with at most `most` leaves then, is chosen in place of the one before, and from there on `most` is what it gives.
 abbrev pub chosen_from : List Row → ConeNodes → Option ℕ → ℕ → List ℕ → Option ℕ
 chosen_from rows cone chosen most [] = chosen
 chosen_from rows cone chosen most (leaf ∷ rest) =
@@ -48,7 +48,7 @@ chosen_from rows cone chosen most (leaf ∷ rest) =
     then chosen_from rows cone (Some leaf) (count_with rows cone.leaves leaf) rest
     else chosen_from rows cone chosen most rest
 
--- The leaf that is replaced next: of those that may be, one that gives the fewest leaves, and at most eight; of equals the greatest, since the leaves rise.
+-- The leaf that is replaced next: of those that may be, with at most eight leaves then, one that gives the fewest; of equals the greatest, since the leaves rise.
 abbrev pub next_leaf : List Row → ConeNodes → Option ℕ
 next_leaf rows cone = chosen_from rows cone None 8 cone.leaves
 
@@ -66,7 +66,7 @@ grown (suc more) rows cone = or_stay cone (λ leaf. grown more rows (replaced ro
 abbrev pub over_fan_ins : List Row → ℕ → ConeNodes
 over_fan_ins rows node = record { leaves = put_nodes (refs_of (row_at rows node)) []; inner = node ∷ [] }
 
--- The cone of a node: leaf after leaf replaced until none may be. So many steps are always enough (the law `grows_until_none`), since 2 ^ leaf, summed over the leaves, falls at each.
+-- The cone of a node: leaf after leaf replaced until none may be. 2 ^ node steps are always enough (the law `grows_until_none`), since the sum of 2 ^ leaf over the leaves falls at each.
 abbrev pub cone_of : List Row → ℕ → ConeNodes
 cone_of rows node = grown (2 ^ node) rows (over_fan_ins rows node)
 
