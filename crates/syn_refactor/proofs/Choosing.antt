@@ -1,76 +1,115 @@
 -- The choice of the next leaf.
-use Rattle.std.proofs.Common.{◌≡◌, ◌⊎◌, ℕ, ◌<◌, ◌≤◌, ◌&&◌, nat_eq, nat_le, nat_lt, true, false, List, [], ◌∷◌, Option, Some, None, refl, sym, ap, ◌∙◌, subst, inl, inr, arith}
+use Rattle.std.proofs.Common.{◌≡◌, ◌⊎◌, ℕ, ◌<◌, ◌≤◌, ◌&&◌, nat_eq, nat_le, nat_lt, true, false, List, [], ◌∷◌, Option, Some, None, length, refl, sym, ap, ◌∙◌, subst, inl, inr, arith}
 use Rattle.std.specs.List.{list_all}
-use Rattle.std.proofs.lemmas.Bool.{and_from, and_parts, and_right, both_ways, cases_Bool, false_from_ne_true, cases_lt, cond-false, cond-true, le-leb, leb-true, ltb-true, or_cases}
+use Rattle.std.proofs.lemmas.Bool.{and_from, and_parts, both_ways, cases_Bool, false_from_ne_true, cases_lt, cond-false, cond-true, le-leb, leb-true, ltb-true, or_cases}
 use Rattle.syn_rows.specs.declared.Row.{Row}
 use Rattle.syn_rows.specs.Reach.{is_and}
 use Rattle.syn_rows.specs.Rows.{row_at}
 use Rattle.syn_rows.specs.Nodes.{has_node}
 use Rattle.syn_cones.specs.Walk.{rises}
 use Rattle.syn_rows.proofs.Nodes.{has_here, has_there, same_node}
-use Rattle.syn_refactor.specs.Growing.{chosen_from, count_with}
-use Rattle.syn_refactor.specs.Laws.{ChoosesNextLeaf}
+use Rattle.syn_refactor.specs.Growing.{ConeNodes, chosen_from, count_with, inner_with, may_be_replaced, next_leaf}
+use Rattle.syn_refactor.specs.Laws.{ChoosesNextLeaf, IsNextLeaf, NoneMayBe}
 use Rattle.syn_refactor.proofs.Sorted.{all_in}
 
--- one leaf less to look at
-pub chosen_more : (rows : List Row) (leaves : List ℕ) (chosen : Option ℕ) (most leaf : ℕ) (rest : List ℕ) → (is_and (row_at rows leaf) && nat_le (count_with rows leaves leaf) most) ≡ true
-    → chosen_from rows leaves chosen most (leaf ∷ rest) ≡ chosen_from rows leaves (Some leaf) (count_with rows leaves leaf) rest
-chosen_more rows leaves chosen most leaf rest h = cond-true (is_and (row_at rows leaf) && nat_le (count_with rows leaves leaf) most) _ _ h
+-- what it says of a leaf that it may be replaced
+pub record MayBe (rows : List Row) (cone : ConeNodes) (most leaf : ℕ) : Type 0 where
+  pub gate : is_and (row_at rows leaf) ≡ true
+  pub few : count_with rows cone.leaves leaf ≤ most
+  pub room : nat_le (length (inner_with rows cone.inner leaf)) 48 ≡ true
 
-pub chosen_past : (rows : List Row) (leaves : List ℕ) (chosen : Option ℕ) (most leaf : ℕ) (rest : List ℕ) → (is_and (row_at rows leaf) && nat_le (count_with rows leaves leaf) most) ≡ false
-    → chosen_from rows leaves chosen most (leaf ∷ rest) ≡ chosen_from rows leaves chosen most rest
-chosen_past rows leaves chosen most leaf rest h = cond-false (is_and (row_at rows leaf) && nat_le (count_with rows leaves leaf) most) _ _ h
+pub may_be : (rows : List Row) (cone : ConeNodes) (most leaf : ℕ) → may_be_replaced rows cone most leaf ≡ true → MayBe rows cone most leaf
+may_be rows cone most leaf h =
+    let few = nat_le (count_with rows cone.leaves leaf) most in
+    let room = nat_le (length (inner_with rows cone.inner leaf)) 48 in
+    let parts = and_parts (is_and (row_at rows leaf)) (few && room) h in
+    let counts = and_parts few room parts.1 in
+    record { gate = parts.0; few = leb-true (count_with rows cone.leaves leaf) most counts.0; room = counts.1 }
+
+pub may_from : (rows : List Row) (cone : ConeNodes) (most leaf : ℕ) → MayBe rows cone most leaf → may_be_replaced rows cone most leaf ≡ true
+may_from rows cone most leaf is =
+    let few = nat_le (count_with rows cone.leaves leaf) most in
+    let room = nat_le (length (inner_with rows cone.inner leaf)) 48 in
+    and_from (is_and (row_at rows leaf)) (few && room) is.gate (and_from few room (le-leb (count_with rows cone.leaves leaf) most is.few) is.room)
+
+-- it may not be where too many leaves or inner nodes result
+pub too_many : (rows : List Row) (cone : ConeNodes) (most leaf : ℕ) → most < count_with rows cone.leaves leaf → may_be_replaced rows cone most leaf ≡ false
+too_many rows cone most leaf more = false_from_ne_true (may_be_replaced rows cone most leaf) (λ h. let few = (may_be rows cone most leaf h).few in omega (arith, few, more))
+
+pub no_room : (rows : List Row) (cone : ConeNodes) (most leaf : ℕ) → nat_le (length (inner_with rows cone.inner leaf)) 48 ≡ false → may_be_replaced rows cone most leaf ≡ false
+no_room rows cone most leaf full = false_from_ne_true (may_be_replaced rows cone most leaf) (λ h. both_ways (nat_le (length (inner_with rows cone.inner leaf)) 48) full (may_be rows cone most leaf h).room)
+
+-- it may be where more leaves are let through
+wider : (rows : List Row) (cone : ConeNodes) (few most leaf : ℕ) → few ≤ most → may_be_replaced rows cone few leaf ≡ true → may_be_replaced rows cone most leaf ≡ true
+wider rows cone few most leaf le h =
+    let is = may_be rows cone few leaf h in
+    may_from rows cone most leaf (record { gate = is.gate; few = (let f = is.few in omega arith); room = is.room })
+
+-- one that may be where more are let through gives more than the fewer
+gives_more : (rows : List Row) (cone : ConeNodes) (few most leaf : ℕ) → may_be_replaced rows cone few leaf ≡ false → may_be_replaced rows cone most leaf ≡ true → few < count_with rows cone.leaves leaf
+gives_more rows cone few most leaf fails h = elim (cases_lt few (count_with rows cone.leaves leaf)) [
+  | inl lt ↦ lt
+  | inr ge ↦
+      let is = may_be rows cone most leaf h in
+      absurd (both_ways (may_be_replaced rows cone few leaf) fails (may_from rows cone few leaf (record { gate = is.gate; few = ge; room = is.room })))
+]
+
+-- one leaf less to look at
+
+pub chosen_more : (rows : List Row) (cone : ConeNodes) (chosen : Option ℕ) (most leaf : ℕ) (rest : List ℕ) → may_be_replaced rows cone most leaf ≡ true
+    → chosen_from rows cone chosen most (leaf ∷ rest) ≡ chosen_from rows cone (Some leaf) (count_with rows cone.leaves leaf) rest
+chosen_more rows cone chosen most leaf rest h = cond-true (may_be_replaced rows cone most leaf) _ _ h
+
+pub chosen_past : (rows : List Row) (cone : ConeNodes) (chosen : Option ℕ) (most leaf : ℕ) (rest : List ℕ) → may_be_replaced rows cone most leaf ≡ false
+    → chosen_from rows cone chosen most (leaf ∷ rest) ≡ chosen_from rows cone chosen most rest
+chosen_past rows cone chosen most leaf rest h = cond-false (may_be_replaced rows cone most leaf) _ _ h
+
+-- the leaf gives fewer leaves than the other, or as many and is not smaller
+abbrev IsBetter : List Row → ConeNodes → ℕ → ℕ → Type 0
+IsBetter rows cone leaf other = (count_with rows cone.leaves leaf < count_with rows cone.leaves other) ⊎ ((count_with rows cone.leaves leaf ≡ count_with rows cone.leaves other) × (other ≤ leaf))
 
 -- the leaf is a best one of those that are left to look at
-record IsChosen (rows : List Row) (leaves : List ℕ) (most : ℕ) (rest : List ℕ) (leaf : ℕ) : Type 0 where
+record IsChosen (rows : List Row) (cone : ConeNodes) (most : ℕ) (rest : List ℕ) (leaf : ℕ) : Type 0 where
   there : has_node rest leaf ≡ true
-  gate : is_and (row_at rows leaf) ≡ true
-  few : count_with rows leaves leaf ≤ most
-  best : (other : ℕ) → has_node rest other ≡ true → is_and (row_at rows other) ≡ true → (count_with rows leaves leaf < count_with rows leaves other) ⊎ ((count_with rows leaves leaf ≡ count_with rows leaves other) × (other ≤ leaf))
+  may : may_be_replaced rows cone most leaf ≡ true
+  best : (other : ℕ) → has_node rest other ≡ true → may_be_replaced rows cone most other ≡ true → IsBetter rows cone leaf other
 
--- each AND that is left gives more
-abbrev GiveMore : List Row → List ℕ → ℕ → List ℕ → Type 0
-GiveMore rows leaves most rest = (other : ℕ) → has_node rest other ≡ true → is_and (row_at rows other) ≡ true → most < count_with rows leaves other
+-- none that is left may be
+abbrev NoneLeft : List Row → ConeNodes → ℕ → List ℕ → Type 0
+NoneLeft rows cone most rest = (other : ℕ) → has_node rest other ≡ true → may_be_replaced rows cone most other ≡ false
+
+-- one that may not be, and behind it none
+none_more : (rows : List Row) (cone : ConeNodes) (most n : ℕ) (ns : List ℕ) → may_be_replaced rows cone most n ≡ false → NoneLeft rows cone most ns → NoneLeft rows cone most (n ∷ ns)
+none_more rows cone most n ns fails none other h = elim (or_cases (nat_eq n other) (has_node ns other) h) [
+  | inl e ↦ subst (λ k. may_be_replaced rows cone most k ≡ false) (same_node n other e) fails
+  | inr t ↦ none other t
+]
 
 some_one : (m n : ℕ) → Some m ≡ Some n → m ≡ n
 some_one m n e = cc
 
--- the leaf was chosen before and those that are left give more, or it is a best one of them
-chosen_is : (rows : List Row) (leaves : List ℕ) (leaf : ℕ) (rest : List ℕ) (chosen : Option ℕ) (most : ℕ) → rises rest ≡ true → chosen_from rows leaves chosen most rest ≡ Some leaf
-    → ((chosen ≡ Some leaf) × GiveMore rows leaves most rest) ⊎ IsChosen rows leaves most rest leaf
-chosen_is rows leaves leaf [] chosen most rise is = inl (is, λ other h. absurd (both_ways false refl h))
-chosen_is rows leaves leaf (n ∷ ns) chosen most rise is = elim (cases_Bool (is_and (row_at rows n) && nat_le (count_with rows leaves n) most)) [
+some_none : (n : ℕ) → Some n ≡ None → ⊥
+some_none n e = cc
+
+-- the leaf was chosen before and none that is left may be, or it is a best one of them
+chosen_is : (rows : List Row) (cone : ConeNodes) (leaf : ℕ) (rest : List ℕ) (chosen : Option ℕ) (most : ℕ) → rises rest ≡ true → chosen_from rows cone chosen most rest ≡ Some leaf
+    → ((chosen ≡ Some leaf) × NoneLeft rows cone most rest) ⊎ IsChosen rows cone most rest leaf
+chosen_is rows cone leaf [] chosen most rise is = inl (is, λ other h. absurd (both_ways false refl h))
+chosen_is rows cone leaf (n ∷ ns) chosen most rise is = elim (cases_Bool (may_be_replaced rows cone most n)) [
   | inl may ↦
-      let gate : is_and (row_at rows n) ≡ true = (and_parts (is_and (row_at rows n)) (nat_le (count_with rows leaves n) most) may).0 in
-      let fits : count_with rows leaves n ≤ most = leb-true (count_with rows leaves n) most (and_parts (is_and (row_at rows n)) (nat_le (count_with rows leaves n) most) may).1 in
-      elim (chosen_is rows leaves leaf ns (Some n) (count_with rows leaves n) risen (sym (chosen_more rows leaves chosen most n ns may) ∙ is)) [
-        | inl (before, more) ↦ inr (first gate fits (some_one n leaf before) more)
-        | inr later ↦ inr (record {
-          there = has_there n leaf ns later.there;
-          gate = later.gate;
-          few = let le = later.few in omega arith;
-          best = λ other h g. elim (or_cases (nat_eq n other) (has_node ns other) h) [
-            | inl e ↦ subst (λ k. (count_with rows leaves leaf < count_with rows leaves k) ⊎ ((count_with rows leaves leaf ≡ count_with rows leaves k) × (k ≤ leaf))) (same_node n other e) (equal (count_with rows leaves leaf) (count_with rows leaves n) later.few (above leaf later.there))
-            | inr t ↦ later.best other t g
-          ];
-        })
+      elim (chosen_is rows cone leaf ns (Some n) (count_with rows cone.leaves n) parts.1 (sym (chosen_more rows cone chosen most n ns may) ∙ is)) [
+        | inl (before, none) ↦ inr (first may (some_one n leaf before) none)
+        | inr later ↦ inr (after may later)
       ]
-  | inr not ↦
-      elim (chosen_is rows leaves leaf ns chosen most risen (sym (chosen_past rows leaves chosen most n ns not) ∙ is)) [
-        | inl (before, more) ↦ inl (
-          before,
-          λ other h g. elim (or_cases (nat_eq n other) (has_node ns other) h) [
-            | inl e ↦ subst (λ k. most < count_with rows leaves k) (same_node n other e) (greater not (subst (λ k. is_and (row_at rows k) ≡ true) (sym (same_node n other e)) g))
-            | inr t ↦ more other t g
-          ],
-        )
+  | inr fails ↦
+      elim (chosen_is rows cone leaf ns chosen most parts.1 (sym (chosen_past rows cone chosen most n ns fails) ∙ is)) [
+        | inl (before, none) ↦ inl (before, none_more rows cone most n ns fails none)
         | inr later ↦ inr (record {
           there = has_there n leaf ns later.there;
-          gate = later.gate;
-          few = later.few;
-          best = λ other h g. elim (or_cases (nat_eq n other) (has_node ns other) h) [
-            | inl e ↦ inl (subst (λ k. count_with rows leaves leaf < count_with rows leaves k) (same_node n other e) (let more = greater not (subst (λ k. is_and (row_at rows k) ≡ true) (sym (same_node n other e)) g) in let le = later.few in omega arith))
-            | inr t ↦ later.best other t g
+          may = later.may;
+          best = λ other h may. elim (or_cases (nat_eq n other) (has_node ns other) h) [
+            | inl e ↦ absurd (both_ways (may_be_replaced rows cone most n) fails (subst (λ k. may_be_replaced rows cone most k ≡ true) (sym (same_node n other e)) may))
+            | inr t ↦ later.best other t may
           ];
         })
       ]
@@ -79,46 +118,56 @@ chosen_is rows leaves leaf (n ∷ ns) chosen most rise is = elim (cases_Bool (is
     parts : (list_all (nat_lt n) ns ≡ true) × (rises ns ≡ true)
     parts = and_parts (list_all (nat_lt n) ns) (rises ns) rise
 
-    risen : rises ns ≡ true
-    risen = parts.1
-
-    above : (m : ℕ) → has_node ns m ≡ true → n ≤ m
-    above m h = let less = ltb-true n m (all_in (nat_lt n) ns m parts.0 h) in omega arith
-
-    equal : (x y : ℕ) → x ≤ y → n ≤ leaf → (x < y) ⊎ ((x ≡ y) × (n ≤ leaf))
-    equal x y le low = elim (cases_lt x y) [ inl lt ↦ inl lt | inr ge ↦ inr (omega arith, low) ]
-
-    greater : (is_and (row_at rows n) && nat_le (count_with rows leaves n) most) ≡ false → is_and (row_at rows n) ≡ true → most < count_with rows leaves n
-    greater not gate = elim (cases_lt most (count_with rows leaves n)) [
-      | inl lt ↦ lt
-      | inr ge ↦ absurd (both_ways (is_and (row_at rows n) && nat_le (count_with rows leaves n) most) not (and_from (is_and (row_at rows n)) (nat_le (count_with rows leaves n) most) gate (le-leb (count_with rows leaves n) most ge)))
-    ]
-
-    first : is_and (row_at rows n) ≡ true → count_with rows leaves n ≤ most → n ≡ leaf → GiveMore rows leaves (count_with rows leaves n) ns → IsChosen rows leaves most (n ∷ ns) leaf
-    first gate fits same more = subst (IsChosen rows leaves most (n ∷ ns)) same (record {
+    first : may_be_replaced rows cone most n ≡ true → n ≡ leaf → NoneLeft rows cone (count_with rows cone.leaves n) ns → IsChosen rows cone most (n ∷ ns) leaf
+    first may same none = subst (IsChosen rows cone most (n ∷ ns)) same (record {
       there = has_here n ns;
-      gate = gate;
-      few = fits;
-      best = λ other h g. elim (or_cases (nat_eq n other) (has_node ns other) h) [
-        | inl e ↦ inr (ap (count_with rows leaves) (same_node n other e), let same = same_node n other e in omega arith)
-        | inr t ↦ inl (more other t g)
+      may = may;
+      best = λ other h other_may. elim (or_cases (nat_eq n other) (has_node ns other) h) [
+        | inl e ↦ inr (ap (count_with rows cone.leaves) (same_node n other e), let is_same = same_node n other e in omega arith)
+        | inr t ↦ inl (gives_more rows cone (count_with rows cone.leaves n) most other (none other t) other_may)
       ];
     })
 
-none_some : (n : ℕ) → None ≡ Some n → ⊥
-none_some n e = cc
+    after : may_be_replaced rows cone most n ≡ true → IsChosen rows cone (count_with rows cone.leaves n) ns leaf → IsChosen rows cone most (n ∷ ns) leaf
+    after may later = record {
+      there = has_there n leaf ns later.there;
+      may = wider rows cone (count_with rows cone.leaves n) most leaf (may_be rows cone most n may).few later.may;
+      best = λ other h other_may. elim (or_cases (nat_eq n other) (has_node ns other) h) [
+        | inl e ↦ subst (IsBetter rows cone leaf) (same_node n other e) (not_worse (count_with rows cone.leaves leaf) (count_with rows cone.leaves n) leaf_few above)
+        | inr t ↦ elim (cases_Bool (may_be_replaced rows cone (count_with rows cone.leaves n) other)) [
+          | inl small ↦ later.best other t small
+          | inr large ↦ inl (let more = gives_more rows cone (count_with rows cone.leaves n) most other large other_may in omega (arith, more, leaf_few))
+        ]
+      ];
+    }
+      where
+        leaf_few : count_with rows cone.leaves leaf ≤ count_with rows cone.leaves n
+        leaf_few = (may_be rows cone (count_with rows cone.leaves n) leaf later.may).few
 
-pub chooses_next_leaf : ChoosesNextLeaf
-chooses_next_leaf rows leaves leaf rise is = elim (chosen_is rows leaves leaf leaves None 8 rise is) [
-  | inl (none, more) ↦ absurd (none_some leaf none)
-  | inr chosen ↦ record { there = chosen.there; gate = chosen.gate; few = chosen.few; best = chosen.best }
+        above : n ≤ leaf
+        above = let less = ltb-true n leaf (all_in (nat_lt n) ns leaf parts.0 later.there) in omega arith
+
+        not_worse : (x y : ℕ) → x ≤ y → n ≤ leaf → (x < y) ⊎ ((x ≡ y) × (n ≤ leaf))
+        not_worse x y le low = elim (cases_lt x y) [ inl lt ↦ inl lt | inr ge ↦ inr (omega arith, low) ]
+
+-- where none is chosen, none was before, and none that is left may be
+chosen_none : (rows : List Row) (cone : ConeNodes) (rest : List ℕ) (chosen : Option ℕ) (most : ℕ) → chosen_from rows cone chosen most rest ≡ None → (chosen ≡ None) × NoneLeft rows cone most rest
+chosen_none rows cone [] chosen most is = (is, λ other h. absurd (both_ways false refl h))
+chosen_none rows cone (n ∷ ns) chosen most is = elim (cases_Bool (may_be_replaced rows cone most n)) [
+  | inl may ↦ absurd (some_none n (chosen_none rows cone ns (Some n) (count_with rows cone.leaves n) (sym (chosen_more rows cone chosen most n ns may) ∙ is)).0)
+  | inr fails ↦
+      let rest = chosen_none rows cone ns chosen most (sym (chosen_past rows cone chosen most n ns fails) ∙ is) in
+      (rest.0, none_more rows cone most n ns fails rest.1)
 ]
 
--- an AND that gives more than so many
-pub gives_more : (rows : List Row) (leaves : List ℕ) (leaf most : ℕ) → most < count_with rows leaves leaf → (is_and (row_at rows leaf) && nat_le (count_with rows leaves leaf) most) ≡ false
-gives_more rows leaves leaf most lt =
-    and_right (is_and (row_at rows leaf)) (nat_le (count_with rows leaves leaf) most)
-    (false_from_ne_true (nat_le (count_with rows leaves leaf) most) (λ h. let le = leb-true (count_with rows leaves leaf) most h in omega arith))
+pub chooses_next_leaf : ChoosesNextLeaf
+chooses_next_leaf rows cone leaf rise is = elim (chosen_is rows cone leaf cone.leaves None 8 rise is) [
+  | inl (none, more) ↦ absurd (some_none leaf (sym none))
+  | inr chosen ↦ record { there = chosen.there; may = chosen.may; best = chosen.best }
+]
 
-pub gives_few : (rows : List Row) (leaves : List ℕ) (leaf most : ℕ) → is_and (row_at rows leaf) ≡ true → count_with rows leaves leaf ≤ most → (is_and (row_at rows leaf) && nat_le (count_with rows leaves leaf) most) ≡ true
-gives_few rows leaves leaf most gate le = and_from (is_and (row_at rows leaf)) (nat_le (count_with rows leaves leaf) most) gate (le-leb (count_with rows leaves leaf) most le)
+pub none_may_be : (rows : List Row) (cone : ConeNodes) → next_leaf rows cone ≡ None → NoneMayBe rows cone
+none_may_be rows cone is = (chosen_none rows cone cone.leaves None 8 is).1
+
+pub next_may : (rows : List Row) (cone : ConeNodes) (leaf : ℕ) → IsNextLeaf rows cone leaf → MayBe rows cone 8 leaf
+next_may rows cone leaf next = may_be rows cone 8 leaf next.may

@@ -1,7 +1,8 @@
 -- Rising lists of nodes: how long they are where one is put or taken out, and what is in them.
-use Rattle.std.proofs.Common.{◌≡◌, ◌≢◌, ℕ, zero, suc, ◌+◌, ◌<◌, ◌≤◌, ◌==◌, ◌||◌, nat_eq, nat_lt, not, if◌then◌else◌, Bool, true, false, List, [], ◌∷◌, length, filter, get_or, refl, sym, ap, ◌∙◌, subst, inl, inr, arith}
+use Rattle.std.proofs.Common.{◌≡◌, ◌≢◌, ℕ, suc, ◌+◌, ◌<◌, ◌≤◌, ◌==◌, ◌&&◌, ◌||◌, nat_eq, nat_lt, not, if◌then◌else◌, Bool, true, false, List, [], ◌∷◌, length, filter, refl, sym, ap, ◌∙◌, subst, inl, inr, arith}
 use Rattle.std.specs.List.{list_all}
-use Rattle.std.proofs.lemmas.Bool.{and_from, and_parts, both_ways, cases_Bool, cond-false, cond-true, eqb-false, eqb-true, false_from_ne_true, lt-ltb, ltb-true, ne_eqb, or_cases, or_left}
+use Rattle.std.proofs.lemmas.Bool.{and_from, and_parts, both_ways, cases_Bool, cond-false, cond-true, eqb-false, eqb-true, false_from_ne_true, lt-ltb, ltb-true, ne_eqb, not-true, or_cases, or_left}
+use Rattle.std.proofs.lemmas.Map.Views.{any-filter_same}
 use Rattle.syn_rows.specs.Nodes.{has_node}
 use Rattle.syn_cones.specs.Leaves.{are_below, rise_above}
 use Rattle.syn_cones.specs.Walk.{put_node, rises}
@@ -26,37 +27,19 @@ all_from p (m ∷ ms) h = and_from (p m) (list_all p ms) (h m (has_here m ms)) (
 not_again : (n : ℕ) (ns : List ℕ) → rises (n ∷ ns) ≡ true → has_node ns n ≡ false
 not_again n ns rise = false_from_ne_true (has_node ns n) (λ h. let less = ltb-true n n (all_in (nat_lt n) ns n (and_parts (list_all (nat_lt n) ns) (rises ns) rise).0 h) in omega arith)
 
+-- what stands in a filtered list
+pub has-filter : (p : ℕ → Bool) (ns : List ℕ) (n : ℕ) → has_node (filter p ns) n ≡ (p n && has_node ns n)
+has-filter p ns n = any-filter_same (λ m. m == n) p (p n) (λ m e. ap p (same_node m n e)) ns
+
 -- taking a node out
 
 pub without_has : (leaf : ℕ) (ns : List ℕ) (n : ℕ) → has_node (without_node leaf ns) n ≡ true → (has_node ns n ≡ true) × (n ≢ leaf)
-without_has leaf [] n h = absurd (both_ways false refl h)
-without_has leaf (m ∷ ms) n h = elim (cases_Bool (m == leaf)) [
-  | inl same ↦
-      let rest = without_has leaf ms n (sym (ap (λ l. has_node l n) (cond-false (not (m == leaf)) (m ∷ without_node leaf ms) (without_node leaf ms) (ap not same))) ∙ h) in
-      (has_there m n ms rest.0, rest.1)
-  | inr other ↦
-      elim (or_cases (nat_eq m n) (has_node (without_node leaf ms) n) (sym (ap (λ l. has_node l n) (cond-true (not (m == leaf)) (m ∷ without_node leaf ms) (without_node leaf ms) (ap not other))) ∙ h)) [
-        | inl e ↦ (or_left (nat_eq m n) (has_node ms n) e, λ is. eqb-false m leaf other (same_node m n e ∙ is))
-        | inr t ↦ let rest = without_has leaf ms n t in (has_there m n ms rest.0, rest.1)
-      ]
-]
+without_has leaf ns n h =
+    let parts = and_parts (not (n == leaf)) (has_node ns n) (sym (has-filter (λ m. not (m == leaf)) ns n) ∙ h) in
+    (parts.1, eqb-false n leaf (not-true (n == leaf) parts.0))
 
 pub without_keeps : (leaf : ℕ) (ns : List ℕ) (n : ℕ) → has_node ns n ≡ true → n ≢ leaf → has_node (without_node leaf ns) n ≡ true
-without_keeps leaf [] n h other = absurd (both_ways false refl h)
-without_keeps leaf (m ∷ ms) n h other = elim (cases_Bool (m == leaf)) [
-  | inl same ↦
-      ap (λ l. has_node l n) (cond-false (not (m == leaf)) (m ∷ without_node leaf ms) (without_node leaf ms) (ap not same))
-      ∙ (elim (or_cases (nat_eq m n) (has_node ms n) h) [
-        | inl e ↦ absurd (other (sym (same_node m n e) ∙ eqb-true m leaf same))
-        | inr t ↦ without_keeps leaf ms n t other
-      ])
-  | inr away ↦
-      ap (λ l. has_node l n) (cond-true (not (m == leaf)) (m ∷ without_node leaf ms) (without_node leaf ms) (ap not away))
-      ∙ (elim (or_cases (nat_eq m n) (has_node ms n) h) [
-        | inl e ↦ or_left (nat_eq m n) (has_node (without_node leaf ms) n) e
-        | inr t ↦ has_there m n (without_node leaf ms) (without_keeps leaf ms n t other)
-      ])
-]
+without_keeps leaf ns n h other = has-filter (λ m. not (m == leaf)) ns n ∙ and_from (not (n == leaf)) (has_node ns n) (ap not (ne_eqb n leaf other)) h
 
 -- a node that isn't there is taken out of nothing
 without_none : (leaf : ℕ) (ns : List ℕ) → has_node ns leaf ≡ false → without_node leaf ns ≡ ns
@@ -145,12 +128,7 @@ rise_from low (n ∷ ns) rise above =
 pub below_from : (high : ℕ) (ns : List ℕ) → ((n : ℕ) → has_node ns n ≡ true → n < high) → are_below high ns ≡ true
 below_from high ns below = all_from (λ n. nat_lt n high) ns (λ n h. lt-ltb n high (below n h))
 
--- what a list has at its places, and how long it is after one was put
-
-pub has_at : (ns : List ℕ) (i : ℕ) → i < length ns → has_node ns (get_or ns i 0) ≡ true
-has_at [] i lt = absurd (omega arith)
-has_at (n ∷ ns) zero lt = has_here n ns
-has_at (n ∷ ns) (suc i) lt = has_there n (get_or ns i 0) ns (has_at ns i (omega arith))
+-- how long a list is after one was put
 
 pub put_longer : (n : ℕ) (ns : List ℕ) → length ns ≤ length (put_node n ns)
 put_longer n [] = omega arith

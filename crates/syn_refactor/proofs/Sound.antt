@@ -1,12 +1,12 @@
 -- The factored plan over the leaves of a cone is the proposal, and sound.
-use Rattle.std.proofs.Common.{◌≡◌, ℕ, ◌<◌, ◌≤◌, ◌&&◌, not, nat_eq, nat_le, nat_lt, Bool, true, false, List, [], ◌∷◌, length, sym, ap, ap₂, ◌∙◌, subst, arith}
-use Rattle.std.proofs.lemmas.Bool.{and_parts, eqb-false, leb-true, ltb-true, not-true}
+use Rattle.std.proofs.Common.{◌≡◌, ℕ, ◌<◌, Bool, true, false, List, [], ◌∷◌, length, sym, ap, ap₂, ◌∙◌, subst, arith}
 use Rattle.syn_rows.specs.declared.Lit.{Lit}
 use Rattle.syn_rows.specs.declared.Row.{Row}
 use Rattle.syn_rows.specs.declared.Row.TheVariants.{And}
 use Rattle.syn_rows.specs.Reach.{is_and}
 use Rattle.syn_rows.specs.Rows.{node_of, row_at}
 use Rattle.syn_hashed.specs.Hashed.{IsHashed, is_gate}
+use Rattle.syn_hashed.proofs.Dropped.{gate_parts}
 use Rattle.syn_hashed.proofs.Orders.{hashed_in_order}
 use Rattle.syn_netlist.specs.Frames.{frame_in}
 use Rattle.syn_netlist.specs.Lists.{sources}
@@ -34,13 +34,11 @@ use Rattle.syn_refactor.proofs.Sorted.{below_from, rise_from}
 
 gate_fan_ins : (n : ℕ) (a b : Lit) → is_gate n (And a b) ≡ true → AreFanIns n (node_of a) (node_of b)
 gate_fan_ins n a b g =
-    let low = and_parts (nat_le 2 a.0) (nat_lt a.0 b.0 && (not (nat_eq (node_of a) (node_of b)) && nat_lt (node_of b) n)) g in
-    let rest = and_parts (nat_lt a.0 b.0) (not (nat_eq (node_of a) (node_of b)) && nat_lt (node_of b) n) low.1 in
-    let last = and_parts (not (nat_eq (node_of a) (node_of b))) (nat_lt (node_of b) n) rest.1 in
-    let two : 2 ≤ a.0 = leb-true 2 a.0 low.0 in
-    let less : a.0 < b.0 = ltb-true a.0 b.0 rest.0 in
-    let below : node_of b < n = ltb-true (node_of b) n last.1 in
-    record { first_low = omega arith; first = omega arith; second_low = omega arith; second = below; differ = λ e. eqb-false (node_of a) (node_of b) (not-true (nat_eq (node_of a) (node_of b)) last.0) e }
+    let gate = gate_parts n a b g in
+    let above = gate.above in
+    let rising = gate.rising in
+    let below = gate.below in
+    record { first_low = omega arith; first = omega arith; second_low = omega arith; second = below; differ = gate.apart }
 
 -- in hashed rows each AND has two different fan-ins
 pub have_fan_ins : (graph : Graph) → HaveFanIns graph.rows

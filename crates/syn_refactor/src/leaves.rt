@@ -1,7 +1,9 @@
-//! Rising lists of at most eight leaves.
+//! Rising lists of at most eight leaves, and lists of inner nodes.
 
-ghost use Rattle.std.specs.Prelude.{◌≡◌, ◌+◌, ◌≤◌, [], ◌∷◌, length};
+ghost use Rattle.std.specs.Prelude.{◌≡◌, ◌+◌, ◌<◌, ◌≤◌, [], ◌∷◌, ◌++◌, nat_le, length};
+ghost use Rattle.syn_rows.specs.Nodes.{has_node};
 ghost use Rattle.syn_rows.specs.Rows.{node_of};
+ghost use Rattle.syn_netlist.specs.Marks.{without_numbers};
 ghost use Rattle.syn_cones.specs.Walk.{put_node, put_nodes};
 ghost use Rattle.syn_refactor.specs.Growing.{one_new, without_node};
 
@@ -12,20 +14,33 @@ use syn_rows::Lit;
 /// The most leaves of a cone.
 pub(crate) const MOST_LEAVES: usize = 8;
 
+/// The most inner nodes of a cone.
+pub(crate) const MOST_INNER: usize = 48;
+
 /// Leaves, rising.
 pub(crate) type Leaves = ArrayVec<u32, MOST_LEAVES>;
+
+/// Inner nodes, in the order in which they were replaced.
+pub(crate) type Inner = ArrayVec<u32, MOST_INNER>;
+
+// Whether a node is among others.
+fn has(nodes: &[u32], node: u32) -> bool
+    ensures { result ≡ has_node nodes.now node }
+{
+    for other in nodes {
+        if *other == node {
+            return true;
+        }
+    }
+    false
+}
 
 /// How many leaves a node adds: one where it isn't among them yet, else none.
 pub(crate) fn one_new(leaves: &[u32], node: u32) -> usize
     ensures value { result ≡ one_new leaves.now node }
     ensures one { result ≤ 1 }
 {
-    for leaf in leaves {
-        if *leaf == node {
-            return 0;
-        }
-    }
-    1
+    if has(leaves, node) { 0 } else { 1 }
 }
 
 // Puts a node in its place, where it isn't there.
@@ -72,4 +87,29 @@ pub(crate) fn replaced(leaves: &[u32], leaf: u32, a: Lit, b: Lit) -> Leaves
     put_node(&mut after, a.node());
     put_node(&mut after, b.node());
     after
+}
+
+/// Whether there are at most 48 inner nodes where a leaf with these two fan-ins becomes one. Among 48 one of the two has
+/// to be, which is a leaf again then.
+pub(crate) fn has_room(inner: &[u32], leaf: u32, a: u32, b: u32) -> bool
+    requires { length inner.now ≤ 48 }
+    ensures { result ≡ nat_le (length (without_numbers (a ∷ b ∷ []) inner.now ++ leaf ∷ [])) 48 }
+{
+    inner.len() < MOST_INNER || has(inner, a) || has(inner, b)
+}
+
+// Takes two nodes out.
+fn take_out(inner: &mut Inner, a: u32, b: u32)
+    ensures { inner.new.items ≡ without_numbers (a ∷ b ∷ []) inner.old.items }
+{
+    inner.retain(|node| *node != a && *node != b);
+}
+
+/// A leaf with these two fan-ins becomes an inner node; they aren't inner nodes any more.
+pub(crate) fn put_inner(inner: &mut Inner, leaf: u32, a: u32, b: u32)
+    requires { length (without_numbers (a ∷ b ∷ []) inner.old.items ++ leaf ∷ []) ≤ 48 }
+    ensures { inner.new.items ≡ without_numbers (a ∷ b ∷ []) inner.old.items ++ leaf ∷ [] }
+{
+    take_out(inner, a, b);
+    inner.push(leaf);
 }

@@ -7,6 +7,6 @@ mod leaves;
 mod proposing;
 mod refactoring;
 
-pub use laws::chooses_next_leaf;
+pub use laws::{chooses_next_leaf, counts_inner_nodes, grows_until_none};
 pub use proposing::{Cones, NoLists};
 pub use refactoring::refactor;

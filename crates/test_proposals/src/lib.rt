@@ -7,4 +7,6 @@
 #[cfg(test)]
 mod graphs;
 #[cfg(test)]
+mod refactoring;
+#[cfg(test)]
 mod tests;

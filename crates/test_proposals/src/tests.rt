@@ -114,8 +114,8 @@ fn computes_functions_over_cuts(rt: HostRuntime) -> Result<(), Fail> {
     Ok(())
 }
 
-// Whether the node's row is an AND.
-fn is_and(graph: &Graph, node: u32) -> bool
+/// Whether the node's row is an AND.
+pub fn is_and(graph: &Graph, node: u32) -> bool
     ensures { result ≡ is_and (row_at graph.now.rows node) }
 {
     let rows = graph.rows.as_slice();

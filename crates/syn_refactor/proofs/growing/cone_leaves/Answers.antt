@@ -1,61 +1,63 @@
-use Rattle.std.proofs.Common.{◌≡◌, ◌+◌, ◌-◌, ◌≤◌, Some, None, rules, sym, ap, ◌∙◌, subst, arith}
+use Rattle.std.proofs.Common.{◌≡◌, ◌^◌, ◌<◌, Some, None, refl, rules, sym, ap, ◌∙◌, subst, arith}
 use Rattle.syn_refactor.specs.Cones.{AreLeaves}
-use Rattle.syn_refactor.specs.Growing.{count_with, grown, next_leaf, with_fan_ins}
-use Rattle.syn_refactor.proofs.Choosing.{chooses_next_leaf}
-use Rattle.syn_refactor.proofs.Grown.{grown_ends, grown_on, grown_stays}
-use Rattle.syn_refactor.proofs.Replacing.{replaced_are}
+use Rattle.syn_refactor.specs.Growing.{cone_of, next_leaf}
+use Rattle.syn_refactor.proofs.Choosing.{chooses_next_leaf, next_may}
+use Rattle.syn_refactor.proofs.Falling.{GrowsTo, begins_below, grows_no_more, grows_on, weight, weight_falls}
+use Rattle.syn_refactor.proofs.Replacing.{fan_ins_are, replaced_are}
 use Rattle.syn_refactor.proofs.growing.cone_leaves.Goals as goal
 
-pub returns-in_default-clause-leaves : goal.returns-in_default-clause-leaves
-returns-in_default-clause-leaves c =
+pub loop-leaf-init : goal.loop-leaf-init
+loop-leaf-init c =
     let rows = c.args.rows.now in
-    let leaves = c.loop-replaced.leaves.items in
-    let i = c.loop-replaced._replaced in
-    let none : next_leaf rows leaves ≡ None = search rules in
-    sym (grown_stays rows leaves (47 - i) (47 - (i + 1)) (omega (arith, c.loop-replaced-test.true)) none) ∙ c.loop-replaced.invariant.leaves
+    let node = c.args.node in
+    let is = c.over_fan_ins-cone.ensures in
+    record {
+      growing = subst (λ cone. GrowsTo rows cone (cone_of rows node)) (sym is) (2 ^ node, begins_below rows node c.requires.rows c.requires.gate, refl);
+      are = subst (λ cone. AreLeaves rows node cone.leaves) (sym is) (fan_ins_are rows node c.requires.rows c.requires.gate);
+    }
 
-pub with_fan_ins-leaves-requires-clause-there : goal.with_fan_ins-leaves-requires-clause-there
-with_fan_ins-leaves-requires-clause-there c =
+pub replace-requires-clause-there : goal.replace-requires-clause-there
+replace-requires-clause-there c =
     let rows = c.args.rows.now in
-    let leaves = c.loop-replaced.leaves.items in
-    let are = c.loop-replaced.invariant.are in
-    let some : next_leaf rows leaves ≡ Some c.in-Some.leaf = search rules in
-    let next = chooses_next_leaf rows leaves c.in-Some.leaf are.rise some in
+    let are = c.loop-leaf.invariant.are in
+    let some : next_leaf rows c.loop-leaf.cone ≡ Some c.in-Some.leaf = search rules in
+    let next = chooses_next_leaf rows c.loop-leaf.cone c.in-Some.leaf are.rise some in
     omega (arith, (are.within c.in-Some.leaf next.there).1, c.requires.there)
 
-pub with_fan_ins-leaves-requires-clause-gate : goal.with_fan_ins-leaves-requires-clause-gate
-with_fan_ins-leaves-requires-clause-gate c =
+pub replace-requires-clause-may : goal.replace-requires-clause-may
+replace-requires-clause-may c =
     let rows = c.args.rows.now in
-    let leaves = c.loop-replaced.leaves.items in
-    let some : next_leaf rows leaves ≡ Some c.in-Some.leaf = search rules in
-    (chooses_next_leaf rows leaves c.in-Some.leaf c.loop-replaced.invariant.are.rise some).gate
+    let some : next_leaf rows c.loop-leaf.cone ≡ Some c.in-Some.leaf = search rules in
+    (chooses_next_leaf rows c.loop-leaf.cone c.in-Some.leaf c.loop-leaf.invariant.are.rise some).may
 
-pub with_fan_ins-leaves-requires-clause-few : goal.with_fan_ins-leaves-requires-clause-few
-with_fan_ins-leaves-requires-clause-few c =
+pub loop-leaf-smaller : goal.loop-leaf-smaller
+loop-leaf-smaller c =
     let rows = c.args.rows.now in
-    let leaves = c.loop-replaced.leaves.items in
-    let some : next_leaf rows leaves ≡ Some c.in-Some.leaf = search rules in
-    subst (λ ls. count_with rows ls c.in-Some.leaf ≤ 8) (sym c.as_slice-in-loop-replaced.ensures.value) (chooses_next_leaf rows leaves c.in-Some.leaf c.loop-replaced.invariant.are.rise some).few
-
-pub loop-replaced-preserved : goal.loop-replaced-preserved
-loop-replaced-preserved c =
-    let rows = c.args.rows.now in
-    let leaves = c.loop-replaced.leaves.items in
+    let cone = c.loop-leaf.cone in
     let leaf = c.in-Some.leaf in
-    let i = c.loop-replaced._replaced in
-    let are = c.loop-replaced.invariant.are in
-    let some : next_leaf rows leaves ≡ Some leaf = search rules in
-    let next = chooses_next_leaf rows leaves leaf are.rise some in
-    let is : c.with_fan_ins-leaves.result.items ≡ with_fan_ins rows leaves leaf = c.with_fan_ins-leaves.ensures ∙ ap (λ ls. with_fan_ins rows ls leaf) c.as_slice-in-loop-replaced.ensures.value in
+    let some : next_leaf rows cone ≡ Some leaf = search rules in
+    let next = chooses_next_leaf rows cone leaf c.loop-leaf.invariant.are.rise some in
+    subst (λ after. weight after.leaves < weight cone.leaves) (sym c.replace.ensures) (weight_falls rows cone.leaves leaf c.requires.rows next.there (next_may rows cone leaf next).gate)
+
+pub loop-leaf-preserved : goal.loop-leaf-preserved
+loop-leaf-preserved c =
+    let rows = c.args.rows.now in
+    let node = c.args.node in
+    let cone = c.loop-leaf.cone in
+    let leaf = c.in-Some.leaf in
+    let are = c.loop-leaf.invariant.are in
+    let some : next_leaf rows cone ≡ Some leaf = search rules in
+    let next = chooses_next_leaf rows cone leaf are.rise some in
+    let may = next_may rows cone leaf next in
     record {
-      leaves =
-          ap (λ ls. grown (47 - (i + 1)) rows ls) is
-          ∙ sym (grown_on rows leaves (47 - i) (47 - (i + 1)) leaf (omega (arith, c.loop-replaced-test.true)) some)
-          ∙ c.loop-replaced.invariant.leaves;
-      are = subst (AreLeaves rows c.args.node) (sym is) (replaced_are rows c.args.node leaves leaf c.requires.rows are next.there next.gate next.few);
+      growing = subst (λ after. GrowsTo rows after (cone_of rows node)) (sym c.replace.ensures)
+          (grows_on rows cone (cone_of rows node) leaf (weight_falls rows cone.leaves leaf c.requires.rows next.there may.gate) some c.loop-leaf.invariant.growing);
+      are = subst (λ after. AreLeaves rows node after.leaves) (sym c.replace.ensures) (replaced_are rows node cone.leaves leaf c.requires.rows are next.there may.gate may.few);
     }
 
 pub returns-clause-leaves : goal.returns-clause-leaves
 returns-clause-leaves c =
-    let i = c.loop-replaced._replaced in
-    sym (grown_ends c.args.rows.now c.loop-replaced.leaves.items (47 - i) (omega (arith, c.loop-replaced-test.false))) ∙ c.loop-replaced.invariant.leaves
+    let rows = c.args.rows.now in
+    let cone = c.loop-leaf.cone in
+    let none : next_leaf rows cone ≡ None = search rules in
+    ap (λ v. v.leaves) c.cone.view_is ∙ ap (λ v. v.leaves) (grows_no_more rows cone (cone_of rows c.args.node) none c.loop-leaf.invariant.growing)

@@ -1,10 +1,13 @@
-use Rattle.std.proofs.Common.{◌≡◌, ◌-◌}
 use Rattle.syn_refactor.specs.Cones.{AreLeaves}
-use Rattle.syn_refactor.specs.Growing.{cone_leaves, grown}
+use Rattle.syn_refactor.specs.Growing.{cone_of}
+use Rattle.syn_refactor.proofs.Falling.{GrowsTo, weight}
 use Rattle.syn_refactor.proofs.growing.cone_leaves.Given as goal
 
-abbrev pub invariant-loop-replaced : goal.invariant-loop-replaced
-invariant-loop-replaced l = record {
-  leaves : grown (47 - l._replaced) l.rows l.leaves.items ≡ cone_leaves l.rows l.node;
-  are : AreLeaves l.rows l.node l.leaves.items;
+abbrev pub invariant-loop-leaf : goal.invariant-loop-leaf
+invariant-loop-leaf l = record {
+  growing : GrowsTo l.rows l.cone (cone_of l.rows l.node);
+  are : AreLeaves l.rows l.node l.cone.leaves;
 }
+
+abbrev pub decreases-loop-leaf : goal.decreases-loop-leaf
+decreases-loop-leaf l = weight l.cone.leaves
