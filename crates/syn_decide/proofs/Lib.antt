@@ -4,6 +4,7 @@ pub mod Using
 pub mod Answering
 pub mod Least
 pub mod Walking
+pub mod Linking
 pub mod Ranking
 pub mod Hitting
 pub mod Counting

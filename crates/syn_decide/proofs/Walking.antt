@@ -1,5 +1,5 @@
 -- The inner rows after any reads.
-use Rattle.std.proofs.Common.{◌≡◌, ◌⊎◌, ℕ, Bool, true, false, not, nat_lt, ◌==◌, ◌&&◌, ◌||◌, if◌then◌else◌, List, [], ◌∷◌, ◌++◌, length, Option, Some, None, refl, sym, ap, ◌∙◌, subst, rules, inl, inr}
+use Rattle.std.proofs.Common.{◌≡◌, ℕ, Bool, true, false, not, nat_lt, ◌==◌, ◌&&◌, ◌||◌, if◌then◌else◌, List, [], ◌∷◌, ◌++◌, length, Option, Some, None, refl, sym, ap, ◌∙◌, subst, inl, inr}
 use Rattle.std.specs.List.{AllByRecursion}
 use Rattle.std.proofs.lemmas.Bool.{and_parts, and_from, or_cases, or_left, or_right}
 use Rattle.syn_rows.specs.declared.Row.{Row}
@@ -21,7 +21,7 @@ use Rattle.syn_decide.specs.Dying.{are_distinct}
 use Rattle.syn_decide.specs.Fold.{State, Stage, Walking, Keying, Hinting, Counting, Ended, Failed, after_reads, after_walk, answered, at, begin, count_on, failed, first_unmet, key_loaded, placed_now, read_at, read_count, read_one, row_loaded, uncounted, walk_on, with_count, with_hit, with_inner}
 use Rattle.syn_decide.specs.Walked.{AreGates, FirstEnters, HasRoot, IsKnown, IsWalked, RefersToKnown}
 
-nodes_more : (inner : List NodeRow) (r : NodeRow) → nodes_of (inner ++ r ∷ []) ≡ nodes_of inner ++ r.node ∷ []
+pub nodes_more : (inner : List NodeRow) (r : NodeRow) → nodes_of (inner ++ r ∷ []) ≡ nodes_of inner ++ r.node ∷ []
 nodes_more [] r = refl
 nodes_more (q ∷ inner) r = ap (λ ns. q.node ∷ ns) (nodes_more inner r)
 
@@ -38,7 +38,7 @@ apart x n (y ∷ ns) h e = go (y == x) h (λ k. apart x n ns k e)
     go true k f = absurd (cc)
     go false k f = f k
 
-distinct_more : (ns : List ℕ) (n : ℕ) → are_distinct ns ≡ true → has_node ns n ≡ false → are_distinct (ns ++ n ∷ []) ≡ true
+pub distinct_more : (ns : List ℕ) (n : ℕ) → are_distinct ns ≡ true → has_node ns n ≡ false → are_distinct (ns ++ n ∷ []) ≡ true
 distinct_more [] n d h = refl
 distinct_more (x ∷ ns) n d h =
     let parts = and_parts (not (has_node ns x)) (are_distinct ns) d in

@@ -12,7 +12,7 @@ use Rattle.syn_decide.specs.Decided.{Next, Unfit}
 use Rattle.syn_decide.specs.declared.decisions.NodeRow.{NodeRow}
 use Rattle.syn_decide.specs.declared.decisions.Counted.{Counted}
 use Rattle.syn_decide.specs.Tasks.{Task}
-use Rattle.syn_decide.specs.Walk.{enters, nodes_of}
+use Rattle.syn_decide.specs.Walk.{enters, is_met, nodes_of}
 use Rattle.syn_decide.specs.Dying.{are_distinct, counted_of}
 use Rattle.syn_decide.specs.Fold.{Stage, Walking, Keying, Hinting, Counting, Ended, Failed, after_reads, begin, decided, uncounted}
 
@@ -88,3 +88,42 @@ without_count r = record { node = r.node; row = r.row }
 -- After any reads the counted rows are the first of the inner rows, in their order.
 abbrev pub CountedAreFirst : Type 0
 CountedAreFirst = (t : Task) (reads : List Seen) → map without_count (counted_of (after_reads t (begin t) reads).inner (after_reads t (begin t) reads).counts) ++ uncounted (after_reads t (begin t) reads) ≡ (after_reads t (begin t) reads).inner
+
+-- the first inner row is the root's
+abbrev pub FirstIs : ℕ → List NodeRow → Type 0
+FirstIs root [] = Unit {0}
+FirstIs root (r ∷ inner) = r.node ≡ root
+
+-- each of the nodes is the root, or an inner row refers to it
+abbrev pub AreMet : Task → List NodeRow → List ℕ → Type 0
+AreMet t inner ns = (m : ℕ) → has_node ns m ≡ true → (m ≡ t.proposal.root) ⊎ (is_met inner m ≡ true)
+
+-- so is each node that waits for the walk, or for the load of its key
+abbrev pub WaitingAreMet : Task → List NodeRow → Stage → Type 0
+WaitingAreMet t inner (Walking waiting) = AreMet t inner waiting
+WaitingAreMet t inner (Keying left) = AreMet t inner left
+WaitingAreMet t inner (Hinting last) = Unit {0}
+WaitingAreMet t inner Counting = Unit {0}
+WaitingAreMet t inner (Ended answer) = Unit {0}
+WaitingAreMet t inner Failed = Unit {0}
+
+-- while there is no inner row, the root alone waits
+abbrev pub RootAlone : Task → List NodeRow → Stage → Type 0
+RootAlone t [] (Walking waiting) = waiting ≡ t.proposal.root ∷ []
+RootAlone t [] (Keying left) = Unit {0}
+RootAlone t [] (Hinting last) = Unit {0}
+RootAlone t [] Counting = Unit {0}
+RootAlone t [] (Ended answer) = Unit {0}
+RootAlone t [] Failed = Unit {0}
+RootAlone t (r ∷ inner) stage = Unit {0}
+
+-- The root's row is the first; to each other node of the walk, and to each that waits, an inner row refers.
+pub record IsLinked (t : Task) (inner : List NodeRow) (stage : Stage) : Type 0 where
+  pub first : FirstIs t.proposal.root inner
+  pub alone : RootAlone t inner stage
+  pub met : AreMet t inner (nodes_of inner)
+  pub waiting : WaitingAreMet t inner stage
+
+-- This holds after any reads.
+abbrev pub AlwaysLinked : Type 0
+AlwaysLinked = (t : Task) (reads : List Seen) → IsLinked t (after_reads t (begin t) reads).inner (after_reads t (begin t) reads).stage

@@ -1,7 +1,7 @@
 //! What holds of all decisions.
 
 ghost use Rattle.syn_decide.specs.Laws.{EmptyReads, DyingAreLeast, NothingBehindAnAnswer, OneReadMore};
-ghost use Rattle.syn_decide.specs.Walked.{AlwaysWalked, CountedAreFirst, RowsAlwaysFit};
+ghost use Rattle.syn_decide.specs.Walked.{AlwaysLinked, AlwaysWalked, CountedAreFirst, RowsAlwaysFit};
 ghost use Rattle.syn_decide.specs.Hitting.{HitsLeaveEarlierGates, OpenGatesAsk};
 ghost use Rattle.syn_decide.specs.Worked.{Further, NextLoads, NoStep, Worked};
 
@@ -32,6 +32,11 @@ pub fn dying_are_least()
 /// After any reads the inner rows are of different nodes, and their fan-ins are accounted for.
 pub fn always_walked()
     ensures { AlwaysWalked }
+{}
+
+/// After any reads the root's row is the first, and inner rows refer to the other nodes of the walk and to those that wait.
+pub fn always_linked()
+    ensures { AlwaysLinked }
 {}
 
 /// Along rows in no circle, each row that is asked for fits.

@@ -27,7 +27,7 @@ use Rattle.syn_table.specs.declared.Known.{Known}
 use Rattle.syn_table.specs.declared.Opening.{Opening}
 use Rattle.syn_table.specs.Laying.{IsLaid, node_at}
 use Rattle.syn_table.specs.Rule.{IsTable, IsCore, IsActive}
-use Rattle.syn_table.specs.Steps.{with_view, Becomes, IsSoleCount, CoversOwn, IsAlone, TellsClaim, TellsRelease, TellsRow, TellsPin, TellsUnpin, TellsCount, TellsKey}
+use Rattle.syn_table.specs.Steps.{with_view, Becomes, IsSoleCount, CoversOwn, IsAgain, IsAlone, TellsClaim, TellsRelease, TellsRow, TellsPin, TellsUnpin, TellsCount, TellsKey}
 use Rattle.syn_table.proofs.Wording.{laid_claim, laid_count, laid_same, claim_node, row_node, count_node, key_node}
 use Rattle.syn_table.proofs.Listed.{seat_of_view}
 use Rattle.syn_table.proofs.Numbering.{others_spent}
@@ -146,6 +146,7 @@ rows_turn o slots id me n active held s core homes at fits =
       row,
       rows_pack c n t.sound t.small.nodes,
       sym (t.laid.rows n there),
+      subst (λ m. IsAgain v m row) (sym (row_node n)) (λ was known. ((t.sound.seats id v (view_at o s.words s.views c id me.0 t at)).knows_rows n was known).1),
       becomes o (set s.words (2 + 4 * n) found) s.views next id me (row_loaded v n row) _ at active.number table (ap (λ m. row_loaded v m row) (sym (row_node n))),
     )
 

@@ -31,9 +31,13 @@ TellsClaim s me found new = FindsFree me.0 found × Becomes me (if found == 0 th
 abbrev pub TellsRelease : Step ℕ → Me ℕ Known → ℕ → Me ℕ Known → Type 0
 TellsRelease s me stored = Becomes me (released me.0.core (node_at s.word))
 
--- the number found is a row's word
+-- a row that was known is met again
+abbrev pub IsAgain : View → ℕ → Row → Type 0
+IsAgain v n r = (was : Row) → known_row v n ≡ Some was → r ≡ was
+
+-- the number found is a row's word, which is the known row's
 abbrev pub TellsRow : Step ℕ → Me ℕ Known → ℕ → Me ℕ Known → Type 0
-TellsRow s me found new = (r : Row) × Packs r × (word_of r ≡ found) × Becomes me (row_loaded me.0.core (node_at s.word) r) new
+TellsRow s me found new = (r : Row) × Packs r × (word_of r ≡ found) × IsAgain me.0.core (node_at s.word) r × Becomes me (row_loaded me.0.core (node_at s.word) r) new
 
 -- the count rose by 1
 abbrev pub TellsPin : Step ℕ → Me ℕ Known → ℕ → Me ℕ Known → Type 0

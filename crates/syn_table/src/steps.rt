@@ -8,7 +8,7 @@ ghost use Rattle.syn_rows.specs.Nodes.{has_node};
 ghost use Rattle.syn_core_laws.specs.Views.{is_mine, own_refs, own_pins, claimed, missed, released, row_loaded, pinned, count_loaded, key_loaded};
 ghost use Rattle.syn_core_laws.specs.Shown.{IsShown};
 ghost use Rattle.syn_table.specs.Seating.{IsOf, known_of, nodes_of, view_of};
-ghost use Rattle.syn_table.specs.Steps.{with_view, IsAlone, Unpins};
+ghost use Rattle.syn_table.specs.Steps.{with_view, IsAgain, IsAlone, Unpins};
 
 use crate::plays::{Claims, LoadsCount, LoadsKey, LoadsRow, Pins, Releases, TakesPinBack};
 use crate::words::{claim_word, count_word, key_word, row_in, row_word};
@@ -94,13 +94,14 @@ impl Shared {
             .store::<Releases>(&mut seat.token, claim_word(node), 0);
     }
 
-    /// Loads the row of a held node.
+    /// Loads the row of a held node. A row that the seat knows is met again.
     #[inline]
     pub fn row_of(&self, seat: &mut Seat, node: u32) -> Row
         requires table { IsOf seat.old self.now }
         requires held { has_node (view_of seat.old).held node ≡ true }
         ensures table { IsOf seat.new self.now }
         ensures known { known_of seat.new ≡ with_view (known_of seat.old) (row_loaded (view_of seat.old) node result) }
+        ensures again { IsAgain (view_of seat.old) node result }
     {
         let word = self
             .table

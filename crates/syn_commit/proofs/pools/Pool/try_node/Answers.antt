@@ -1,0 +1,25 @@
+use Rattle.std.proofs.Common.{[], ◌∷◌, ◌++◌, List, ℕ, ap, ◌∙◌, rules}
+use Rattle.syn_table.specs.declared.Known.{Known}
+use Rattle.syn_table.specs.Seating.{known_of, view_of}
+use Rattle.syn_commit.proofs.Trying.{free_kept, let_go_kept, taken_view, used_rows}
+use Rattle.syn_commit.proofs.pools.Pool.try_node.Goals as goal
+
+pub returns-in-Free-clause-pool : goal.returns-in-Free-clause-pool
+returns-in-Free-clause-pool c =
+    let view = taken_view (known_of c.args.seat.now) (known_of c.claim.new.seat) (known_of c.row_of.new.seat) c.claim.result c.args.node c.row_of.result (search rules) c.claim.ensures.known c.row_of.ensures.known in
+    (free_kept (view_of c.args.seat.now) c.args.node c.args.self.now _ _ c.row_of.result c.requires.none c.requires.pool c.in-Free.is view (c.push.ensures.items ∙ ap (λ (ns : List ℕ). ns ++ c.args.node ∷ []) c.self.view_is)).0
+
+pub returns-in-Free-clause-tried : goal.returns-in-Free-clause-tried
+returns-in-Free-clause-tried c =
+    let view = taken_view (known_of c.args.seat.now) (known_of c.claim.new.seat) (known_of c.row_of.new.seat) c.claim.result c.args.node c.row_of.result (search rules) c.claim.ensures.known c.row_of.ensures.known in
+    (free_kept (view_of c.args.seat.now) c.args.node c.args.self.now _ _ c.row_of.result c.requires.none c.requires.pool c.in-Free.is view (c.push.ensures.items ∙ ap (λ (ns : List ℕ). ns ++ c.args.node ∷ []) c.self.view_is)).1
+
+pub returns-in-Source-clause-pool : goal.returns-in-Source-clause-pool
+returns-in-Source-clause-pool c =
+    let view = taken_view (known_of c.args.seat.now) (known_of c.claim.new.seat) (known_of c.row_of.new.seat) c.claim.result c.args.node c.row_of.result (search rules) c.claim.ensures.known c.row_of.ensures.known in
+    (let_go_kept (view_of c.args.seat.now) c.args.node c.args.self.now _ _ c.row_of.result c.requires.none c.requires.pool (used_rows c.row_of.result c.in-Source.is) view (ap (λ (k : Known). k.core) c.release.ensures.known)).0
+
+pub returns-in-Source-clause-tried : goal.returns-in-Source-clause-tried
+returns-in-Source-clause-tried c =
+    let view = taken_view (known_of c.args.seat.now) (known_of c.claim.new.seat) (known_of c.row_of.new.seat) c.claim.result c.args.node c.row_of.result (search rules) c.claim.ensures.known c.row_of.ensures.known in
+    (let_go_kept (view_of c.args.seat.now) c.args.node c.args.self.now _ _ c.row_of.result c.requires.none c.requires.pool (used_rows c.row_of.result c.in-Source.is) view (ap (λ (k : Known). k.core) c.release.ensures.known)).1
