@@ -1,0 +1,9 @@
+//! Mapping of graphs that are read from small texts: the LUT net, its netlist, and the graph that it becomes again.
+//!
+//! Nothing here is for other crates: answers of calls are compared with values worked by hand.
+#![tactic(auto)]
+
+#[cfg(test)]
+mod graphs;
+#[cfg(test)]
+mod tests;
