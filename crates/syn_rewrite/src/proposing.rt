@@ -19,11 +19,11 @@ use crate::plans::plans_of;
 use crate::prepared::{Prepared, cuts_of, prepare};
 use std::alloc::{AllocError, Global};
 use std::thread::Threads;
-use syn_gain::{Candidate, Proposal, Uses, owned};
+use syn_gain::{Candidate, Proposal, Room, Uses, lost_but, owned};
 use syn_graph::Graph;
 use syn_library::Prepared as Classes;
 use syn_plan::Plan;
-use syn_pool::{Proposer, saves};
+use syn_pool::{Proposer, saves_bounded};
 
 /// Proposes for each AND, cut by cut, the plans of its function over the cut.
 #[derive(Drop)]
@@ -54,6 +54,7 @@ fn candidate<'a>(
     requires count { plan.now.leaves ≡ 4 }
     requires names { NamesOwn plan.now function }
     ensures root { result.root ≡ node }
+    ensures leaves { result.leaves.now ≡ leaves.now }
     ensures few { length result.leaves.now ≤ 4 }
     ensures is { replacement_of result ≡ over node leaves.now (built_of plan.now) }
 {
@@ -97,6 +98,7 @@ fn first_over(
     leaves: &[u32],
     function: u16,
     plans: &[Plan],
+    room: &mut Room,
 ) -> Result<Option<Proposal>, AllocError>
     requires uses { IsUsesOf uses.now graph.now }
     requires node { is_and (row_at graph.now.rows node) ≡ true }
@@ -108,9 +110,10 @@ fn first_over(
     ensures sound { IfOk result (λ found. IfSome found (IsSound graph.now.rows)) }
     ensures none { IfOk result (λ found. IfNone found (All (SavesNothing graph.now.rows graph.now.observed) (cut_proposals graph.now.rows node leaves.now))) }
 {
+    let most = lost_but(alloc, graph, uses, node, leaves)?;
     for plan in plans {
         let candidate = candidate(graph, node, leaves, function, plan);
-        if saves(alloc, graph, uses, candidate)? {
+        if saves_bounded(alloc, graph, uses, candidate, most, room)? {
             return Ok(Some(owned(candidate)));
         }
     }
@@ -127,6 +130,7 @@ fn first_of_function(
     node: u32,
     leaves: &[u32],
     function: u16,
+    room: &mut Room,
 ) -> Result<Option<Proposal>, AllocError>
     requires uses { IsUsesOf uses.now graph.now }
     requires node { is_and (row_at graph.now.rows node) ≡ true }
@@ -138,10 +142,19 @@ fn first_of_function(
     ensures none { IfOk result (λ found. IfNone found (All (SavesNothing graph.now.rows graph.now.observed) (cut_proposals graph.now.rows node leaves.now))) }
 {
     if let Some(plans) = known.plans(function) {
-        return first_over(alloc, graph, uses, node, leaves, function, plans);
+        return first_over(alloc, graph, uses, node, leaves, function, plans, room);
     }
     let plans = plans_of(classes, function);
-    first_over(alloc, graph, uses, node, leaves, function, plans.as_slice())
+    first_over(
+        alloc,
+        graph,
+        uses,
+        node,
+        leaves,
+        function,
+        plans.as_slice(),
+        room,
+    )
 }
 
 impl Proposer for CutPlans {
@@ -197,6 +210,7 @@ impl Proposer for CutPlans {
     ) -> Result<Option<Proposal>, AllocError> {
         let cuts = cuts_of(&lists.cuts, node);
         let functions = &lists.functions[node as usize];
+        let mut room = Room::new(alloc);
         for (i, cut) in cuts.iter().enumerate() {
             let function = functions[i];
             let leaves = cut.as_slice();
@@ -209,6 +223,7 @@ impl Proposer for CutPlans {
                 node,
                 leaves,
                 function,
+                &mut room,
             )? {
                 return Ok(Some(found));
             }

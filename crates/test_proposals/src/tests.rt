@@ -14,7 +14,7 @@ use std::test::Fail;
 use std::thread::Threads;
 use syn_apply::apply;
 use syn_cuts::{Cut, CutLists, function, listed};
-use syn_gain::{Candidate, Proposal, Uses, saved, saved_by_sweeps};
+use syn_gain::{Candidate, Proposal, Room, Uses, lost_but, saved, saved_by_sweeps};
 use syn_graph::Graph;
 use syn_library::{fit, plans};
 use syn_npn::canon;
@@ -179,6 +179,52 @@ fn saves_no_shared_nodes(rt: HostRuntime) {
         panic!(rt; "no graph");
     };
     assert!(rt; saves(alloc, &graph, -1));
+}
+
+// How many ANDs go with the root's row where the leaves of a proposal stay, and whether the proposal saves, where that is
+// asked first; none where its root is no AND.
+fn bounded(
+    alloc: Global,
+    graph: &Graph,
+    candidate: Candidate,
+) -> Result<Option<(u32, bool)>, AllocError> {
+    if !is_and(graph, candidate.root) {
+        return Ok(None);
+    }
+    let uses = Uses::new(alloc, graph)?;
+    let most = lost_but(alloc, graph, &uses, candidate.root, candidate.leaves)?;
+    let mut room = Room::new(alloc);
+    let some = syn_gain::saves(alloc, graph, &uses, candidate, most, &mut room)?;
+    Ok(Some((most, some)))
+}
+
+// Whether so many go with node 6 of a graph, and whether the plan saves in its place.
+fn bounds(alloc: Global, graph: &Graph, most: u32, some: bool) -> bool {
+    let plan = shared_gate();
+    match bounded(alloc, graph, Candidate::over(6, &[1, 2, 3], &plan)) {
+        Ok(found) => found == Some((most, some)),
+        Err(_) => false,
+    }
+}
+
+// Three ANDs go and two are new: the plan saves at most one.
+#[test]
+fn bounds_what_dies(rt: HostRuntime) {
+    let alloc = rt.alloc();
+    let Some(graph) = alone(alloc) else {
+        panic!(rt; "no graph");
+    };
+    assert!(rt; bounds(alloc, &graph, 3, true));
+}
+
+// One AND goes and two are new: the plan saves nothing.
+#[test]
+fn bounds_shared_nodes_at_once(rt: HostRuntime) {
+    let alloc = rt.alloc();
+    let Some(graph) = shared(alloc) else {
+        panic!(rt; "no graph");
+    };
+    assert!(rt; bounds(alloc, &graph, 1, false));
 }
 
 // Whether the nodes rise, the first above this one.
