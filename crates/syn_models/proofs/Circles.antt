@@ -75,7 +75,7 @@ same_bool true b f g = sym (f refl)
 same_bool false true f g = g refl
 same_bool false false f g = refl
 
-find_same : (s t : List ℕ → Bool) → ((w : List ℕ) → s w ≡ t w) → (xs : List (List ℕ)) → find s xs ≡ find t xs
+pub find_same : (s t : List ℕ → Bool) → ((w : List ℕ) → s w ≡ t w) → (xs : List (List ℕ)) → find s xs ≡ find t xs
 find_same s t e [] = refl
 find_same s t e (x ∷ xs) = ap₂ (λ b o. if b then Some x else o) (e x) (find_same s t e xs)
 
