@@ -17,7 +17,7 @@ use Rattle.syn_models.specs.Models as models
 use Rattle.syn_models.specs.Models.{is_bound, is_reading, formal_of, actual_in}
 use Rattle.syn_models.proofs.Listing.{left_from, taken_to}
 
-or_none : (b : Bool) → (b || false) ≡ b
+pub or_none : (b : Bool) → (b || false) ≡ b
 or_none true = refl
 or_none false = refl
 

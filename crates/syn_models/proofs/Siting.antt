@@ -21,6 +21,7 @@ use Rattle.syn_models.specs.Models.{Subcircuit, Statement, Model, formal_of, is_
 use Rattle.syn_models.specs.Models as models
 use Rattle.syn_models.specs.Views.{model_in}
 use Rattle.syn_models.proofs.Listing.{ports_at}
+use Rattle.syn_models.proofs.Placing.{or_none}
 use Rattle.syn_models.proofs.WordSets.{pigeons}
 
 pub ports_of_number : (ms : List code.Model) (ps : List Ports) (i : ℕ) (r : code.Model) (p : Ports) → AllPorts ms ps → i < length ms → r ≡ get_or ms i r → p ≡ get_or ps i p → ArePorts (get_or ms i r) p
@@ -124,10 +125,6 @@ marked_all names all m marks h =
     let inside : List (List ℕ) = flat_map (λ (s : Statement). defined_inside all s.kind) m.statements in
     marked_same names (defined_before all m (above_of [] m.statements)) (defined_in all m) marks
     (λ w. has_word-append plain (flat_map (λ (s : Statement). defined_inside all s.kind) (above_of [] m.statements)) w
-    ∙ ap (λ b. has_word plain w || b) (has_above all [] m.statements w ∙ or_false (has_word inside w))
+    ∙ ap (λ b. has_word plain w || b) (has_above all [] m.statements w ∙ or_none (has_word inside w))
     ∙ sym (has_word-append plain inside w))
     h
-  where
-    or_false : (b : Bool) → (b || false) ≡ b
-    or_false true = refl
-    or_false false = refl
