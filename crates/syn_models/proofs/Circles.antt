@@ -5,9 +5,9 @@ use Rattle.std.proofs.lemmas.Bool.{both_ways, false_from_ne_true, and_parts, and
 use Rattle.syn_netlist.specs.Words.{has_word, distinct}
 use Rattle.syn_netlist.specs.Lists.{Table, output_of}
 use Rattle.syn_netlist.specs.Faults.{EachReadsAnother, ReachesCircle, IsCyclicSet, next_in, GoesOn, IsAnsweredCircle}
-use Rattle.syn_netlist.proofs.Sets.{same_word, word_same}
+use Rattle.syn_netlist.proofs.Sets.{same_word, word_same, distinct_push}
 use Rattle.syn_netlist.proofs.CyclicSets.{to_in, in_has, next_is, cyclic_or_none}
-use Rattle.syn_models.proofs.WordSets.{distinct_snoc, all_snoc, pigeons, split_at_word, find_has, find_any}
+use Rattle.syn_models.proofs.WordSets.{all_snoc, pigeons, split_at_word, find_has, find_any}
 
 -- each name of a cyclic set has a next one
 next_some : (ts : List Table) (set : List ℕ → Bool) → distinct (map output_of ts) ≡ true → EachReadsAnother ts set → (name : List ℕ) → set name ≡ true → (next : List ℕ) × (next_in ts set name ≡ Some next) × (set next ≡ true)
@@ -32,7 +32,7 @@ walk (suc k) ts set d reading first rest back g u a s l =
     let known : has_word (map output_of ts) back ≡ true = subst (λ w. has_word (map output_of ts) w ≡ true) r.2 (in_has ts r.0 (to_in ts r.0 r.1.0 r.1.1 r.1.2)) in
     let size : length (rest ++ back ∷ []) ≡ length rest + 1 = length-append rest (back ∷ []) in
     go (has_word (first ∷ rest) back) refl
-    (λ h. walk k ts set d reading first (rest ++ back ∷ []) next.0 (goes_more ts set first rest back next.0 g next.1) (distinct_snoc (first ∷ rest) back u h) (all_snoc (has_word (map output_of ts)) (first ∷ rest) back a known) next.2 (omega (arith, size)))
+    (λ h. walk k ts set d reading first (rest ++ back ∷ []) next.0 (goes_more ts set first rest back next.0 g next.1) (distinct_push (first ∷ rest) back u h) (all_snoc (has_word (map output_of ts)) (first ∷ rest) back a known) next.2 (omega (arith, size)))
   where
     go : (b : Bool) → has_word (first ∷ rest) back ≡ b
         → (has_word (first ∷ rest) back ≡ false → (rest' : List (List ℕ)) × (back' : List ℕ) × GoesOn ts set first rest' back' × (distinct (first ∷ rest') ≡ true) × (has_word (first ∷ rest') back' ≡ true))
@@ -75,7 +75,7 @@ same_bool true b f g = sym (f refl)
 same_bool false true f g = g refl
 same_bool false false f g = refl
 
-find_same : (s t : List ℕ → Bool) → ((w : List ℕ) → s w ≡ t w) → (xs : List (List ℕ)) → find s xs ≡ find t xs
+pub find_same : (s t : List ℕ → Bool) → ((w : List ℕ) → s w ≡ t w) → (xs : List (List ℕ)) → find s xs ≡ find t xs
 find_same s t e [] = refl
 find_same s t e (x ∷ xs) = ap₂ (λ b o. if b then Some x else o) (e x) (find_same s t e xs)
 

@@ -10,7 +10,7 @@ use Rattle.syn_netlist.specs.Lists.{Latch, Table, Netlist, latch_output, output_
 use Rattle.syn_netlist.specs.Order.{defined}
 use Rattle.syn_netlist.specs.Faults.{first_undriven, inputs_of as table_inputs, reads}
 use Rattle.syn_netlist.proofs.Arranging.{none_found}
-use Rattle.syn_netlist.proofs.Sets.{same_word, word_same, has_word-append, has_left, has_right, all_at}
+use Rattle.syn_netlist.proofs.Sets.{same_word, word_same, has_word-append, has_left, has_right, all_at, all_each}
 use Rattle.syn_models.specs.Models.{Bind, Subcircuit, StatementKind, Inputs, Outputs, Clock, OneLatch, OneTable, OneSubcircuit, Statement, Model, Models, all_of, inputs_in, clocks_in, outputs_in, subcircuits_in, inputs_of, clocks_of, outputs_of, reading_ports, is_reading, is_port, actual_of, formal_of, actual_in, is_bound, binds_once, formals_once}
 use Rattle.syn_models.specs.Opening.{Opened, End, Plain, Instance, Opens, instances}
 use Rattle.syn_models.specs.Flattening.{inner_name, outer_or, called_inside, as_it_is, called_kind, called_latch, flat, latches_called, tables_called, flattened}
@@ -79,10 +79,6 @@ has_called called (x ∷ xs) y h = elim (or_cases (bytes_eq x y) (has_word xs y)
   | inl e ↦ (let same : bytes_eq (called x) (called y) ≡ true = subst (λ (k : List ℕ). bytes_eq (called x) (called k) ≡ true) (same_word x y e) (word_same (called x)) in omega (arith, bit-on (bytes_eq (called x) (called y)) same))
   | inr t ↦ omega (arith, has_called called xs y t)
 ]
-
-all_from : (test : List ℕ → Bool) (xs : List (List ℕ)) → ((x : List ℕ) → has_word xs x ≡ true → test x ≡ true) → list_all test xs ≡ true
-all_from test [] h = refl
-all_from test (x ∷ xs) h = and_from (test x) (list_all test xs) (h x (or_left (bytes_eq x x) (has_word xs x) (word_same x))) (all_from test xs (λ y t. h y (or_right (bytes_eq x y) (has_word xs y) t)))
 
 all_called : (test : List ℕ → Bool) (called : List ℕ → List ℕ) (xs : List (List ℕ)) → ((x : List ℕ) → has_word xs x ≡ true → test (called x) ≡ true) → list_all test (map called xs) ≡ true
 all_called test called [] h = refl
@@ -343,7 +339,7 @@ flattened_driven models tree count formals e o =
       | inr f ↦ some y (omega (arith, arrives all (inner_name count) 1 as_it_is tree good y (defined_makes all main tree o y known f)))
     ]) in
     let inside = reads_hold all (has_word (defined n)) (inner_name count) 1 as_it_is main.statements tree o good (λ w l. some w (omega arith)) own in
-    let outputs : list_all (has_word (defined n)) (outputs_of main) ≡ true = all_from (has_word (defined n)) (outputs_of main) (λ y h. own y (outputs_read all main.statements y h)) in
+    let outputs : list_all (has_word (defined n)) (outputs_of main) ≡ true = all_each (has_word (defined n)) (outputs_of main) (λ y h. own y (outputs_read all main.statements y h)) in
     find_none (has_word (defined n)) (reads n)
     (all_append (has_word (defined n)) (outputs_of main) (flat_map latch_reads lats ++ flat_map table_inputs tabs) outputs (all_append (has_word (defined n)) (flat_map latch_reads lats) (flat_map table_inputs tabs) inside.0 inside.1))
 

@@ -1,5 +1,5 @@
 -- Lists of words as sets, for circles.
-use Rattle.std.proofs.Common.{◌≡◌, ℕ, suc, ◌≤◌, ◌||◌, not, Bool, true, false, if◌then◌else◌, List, [], ◌∷◌, ◌++◌, length, find, bytes_eq, refl, sym, ap, ap₂, ◌∙◌, subst, inl, inr, Some, arith}
+use Rattle.std.proofs.Common.{◌≡◌, ℕ, suc, ◌≤◌, ◌||◌, not, Bool, true, false, if◌then◌else◌, List, [], ◌∷◌, ◌++◌, length, find, bytes_eq, refl, sym, ap, ◌∙◌, subst, inl, inr, Some, arith}
 use Rattle.std.specs.List.{list_any, list_all}
 use Rattle.std.proofs.lemmas.Bool.{both_ways, false_from_ne_true, and_parts, and_from, or_cases, or_left, or_right, or_parts, not-true}
 use Rattle.syn_netlist.specs.Words.{has_word, distinct}
@@ -7,19 +7,6 @@ use Rattle.syn_netlist.proofs.Sets.{same_word, word_same}
 
 pub other_word : (x w : List ℕ) → bytes_eq x w ≡ false → bytes_eq w x ≡ false
 other_word x w h = false_from_ne_true (bytes_eq w x) (λ e. both_ways (bytes_eq x w) h (subst (λ v. bytes_eq x v ≡ true) (sym (same_word w x e)) (word_same x)))
-
-pub has_snoc : (xs : List (List ℕ)) (x w : List ℕ) → has_word xs w ≡ false → bytes_eq x w ≡ false → has_word (xs ++ x ∷ []) w ≡ false
-has_snoc [] x w h e = ap (λ b. b || false) e
-has_snoc (y ∷ ys) x w h e = let p = or_parts (bytes_eq y w) (has_word ys w) h in ap₂ (λ a b. a || b) p.0 (has_snoc ys x w p.1 e)
-
-pub distinct_snoc : (xs : List (List ℕ)) (x : List ℕ) → distinct xs ≡ true → has_word xs x ≡ false → distinct (xs ++ x ∷ []) ≡ true
-distinct_snoc [] x d h = refl
-distinct_snoc (y ∷ ys) x d h =
-    let p = and_parts (not (has_word ys y)) (distinct ys) d in
-    let q = or_parts (bytes_eq y x) (has_word ys x) h in
-    and_from (not (has_word (ys ++ x ∷ []) y)) (distinct (ys ++ x ∷ []))
-    (ap not (has_snoc ys x y (not-true (has_word ys y) p.0) (other_word y x q.0)))
-    (distinct_snoc ys x p.1 q.1)
 
 pub all_snoc : (test : List ℕ → Bool) (xs : List (List ℕ)) (x : List ℕ) → list_all test xs ≡ true → test x ≡ true → list_all test (xs ++ x ∷ []) ≡ true
 all_snoc test [] x a h = and_from (test x) true h refl

@@ -52,9 +52,13 @@ numbers_in (kinds.Subckt c) = map actual_number c.binds
 abbrev pub statements_below : ℕ → List Statement → Bool
 statements_below count statements = list_all (λ s. all_below count (numbers_in s.kind)) statements
 
+-- the model that a subcircuit contains, and the formals, are words
+abbrev pub is_spelled : models.Subcircuit → Bool
+is_spelled c = is_word c.model && list_all is_word (map models.formal_of c.binds)
+
 -- the models that a model contains, and their formals, are words
 abbrev pub formals_are_words : models.Model → Bool
-formals_are_words m = list_all (λ c. is_word c.model && list_all is_word (map models.formal_of c.binds)) (models.subcircuits_of m)
+formals_are_words m = list_all is_spelled (models.subcircuits_of m)
 
 -- the word isn't `NIL`
 abbrev pub not_nil : List ℕ → Bool
