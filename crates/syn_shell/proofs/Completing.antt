@@ -13,8 +13,9 @@ use Rattle.syn_words.specs.declared.Command.{Command}
 use Rattle.syn_words.specs.Scripts.{IsScript}
 use Rattle.syn_words.proofs.Deciding.{script_has_no_fault}
 use Rattle.syn_shell.specs.declared.refusal.Refusal.{Refusal}
-use Rattle.syn_shell.specs.declared.refusal.Refusal.TheVariants.{Words, Script, Read, FileTooLong, LineTooLong, TooManyLines, NoNetwork, GetFailed, PutFailed, LineFailed, SinkFailed, NoMemory}
-use Rattle.syn_shell.specs.Networks.{Network}
+use Rattle.syn_shell.specs.declared.refusal.Refusal.TheVariants.{Words, Script, Read, FileTooLong, LineTooLong, TooManyLines, TooManyGates, NoNetwork, GetFailed, PutFailed, LineFailed, SinkFailed, NoMemory}
+use Rattle.syn_build_luts.specs.declared.luts.TheConstants.{MOST_GATES}
+use Rattle.syn_shell.specs.Networks.{Network, gates_in}
 use Rattle.syn_shell.specs.Outside.{State, FileIs, LineIsLong, GaveLine, script_limit}
 use Rattle.syn_shell.specs.Lines.{refusal_status}
 use Rattle.syn_shell.specs.Steps.{Accepted, Denied, IsFaulty, Kind, Reading, Generating, Printing, Writing, Making, kind_of, file_limit, GeneratingRefused, MakingRefused, PrintRefused, ReadRefused, WriteRefused}
@@ -95,8 +96,21 @@ write_fine m name before after PutFailed needs why = failed
 write_fine m name before after NoMemory needs why = no_memory
 write_fine m name before after other needs why = absurd why
 
-making_fine : (m : Option Network) (cause : Refusal) → IsSome m → MakingRefused m cause → IsFine (refusal_status cause)
-making_fine m NoNetwork needs why = absurd (there_is_one m needs why)
+-- not too many gates make the network a graph
+abbrev IsGraphable : Option Network → Type 0
+IsGraphable m = IsSomeAnd m (λ net. gates_in net ≤ MOST_GATES)
+
+there_is_a_graph : (m : Option Network) → IsGraphable m → m ≡ None → ⊥
+there_is_a_graph None needs none = needs
+there_is_a_graph (Some net) needs none = cc
+
+not_too_many : (m : Option Network) (gates : ℕ) → IsGraphable m → MakingRefused m (TooManyGates gates) → ⊥
+not_too_many None gates needs many = needs
+not_too_many (Some net) gates needs many = absurd (omega (arith, needs, many.0, many.1))
+
+making_fine : (m : Option Network) (cause : Refusal) → IsGraphable m → MakingRefused m cause → IsFine (refusal_status cause)
+making_fine m NoNetwork needs why = absurd (there_is_a_graph m needs why)
+making_fine m (TooManyGates gates) needs why = absurd (not_too_many m gates needs why)
 making_fine m NoMemory needs why = no_memory
 making_fine m other needs why = absurd why
 

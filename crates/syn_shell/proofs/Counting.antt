@@ -4,7 +4,7 @@ use Rattle.syn_io.specs.Outside.{Rose, Disk, Screen, Input}
 use Rattle.syn_shell.specs.Networks.{Network}
 use Rattle.syn_words.specs.declared.Command.{Command}
 use Rattle.syn_shell.specs.declared.refusal.Refusal.{Refusal}
-use Rattle.syn_shell.specs.declared.refusal.Refusal.TheVariants.{Words, Script, Read, FileTooLong, LineTooLong, NoNetwork, GetFailed, PutFailed, LineFailed, SinkFailed, NoMemory}
+use Rattle.syn_shell.specs.declared.refusal.Refusal.TheVariants.{Words, Script, Read, FileTooLong, LineTooLong, TooManyGates, NoNetwork, GetFailed, PutFailed, LineFailed, SinkFailed, NoMemory}
 use Rattle.syn_shell.specs.Outside.{State}
 use Rattle.syn_shell.specs.Steps.{Accepted, Denied, Kind, Reading, Generating, Printing, Writing, Making, kind_of, ReadRefused, GeneratingRefused, MakingRefused, PrintRefused, WriteRefused}
 use Rattle.syn_shell.specs.Scripts.{Refused, RunsCommands, RunsScript, ScriptRefused, SinkGaveUp, Announced, nameless}
@@ -69,6 +69,7 @@ write_counted m file name other d d' s s' why e = absurd why
 
 making_counted : (m : Option Network) (name : List ℕ) (cause : Refusal) (d d' : Disk) (s s' : Screen) → MakingRefused m cause → d' ≡ d → s' ≡ s → Counted (record { cause = cause; name = name } ∷ []) d s d' s'
 making_counted m name NoNetwork d d' s s' why e f = record { files = disk_same d d' e; sink = sink_same s s' f; lines = refl }
+making_counted m name (TooManyGates gates) d d' s s' why e f = record { files = disk_same d d' e; sink = sink_same s s' f; lines = refl }
 making_counted m name NoMemory d d' s s' why e f = record { files = disk_same d d' e; sink = sink_same s s' f; lines = refl }
 making_counted m name other d d' s s' why e f = absurd why
 

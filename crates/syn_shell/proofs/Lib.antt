@@ -3,6 +3,7 @@ mod Taking
 mod Putting
 mod Following
 mod Staying
+mod Mapping
 mod Hearing
 mod Giving
 mod Turning

@@ -1,5 +1,5 @@
 -- The line of a graph is the line of the netlist that it is written as.
-use Rattle.std.proofs.Common.{◌≡◌, ℕ, ◌+◌, ◌-◌, true, List, map, length, sym, ap, ap₂, ◌∙◌, subst, arith}
+use Rattle.std.proofs.Common.{◌≡◌, ℕ, ◌+◌, ◌-◌, true, codes, List, map, length, sym, ap, ap₂, ◌∙◌, subst, arith}
 use Rattle.std.proofs.lemmas.List.{length-drop}
 use Rattle.syn_rows.specs.declared.Lit.{Lit}
 use Rattle.syn_rows.specs.declared.Row.{Row}
@@ -11,15 +11,15 @@ use Rattle.syn_netlist.specs.Lists.{Frame, Netlist, sources}
 use Rattle.syn_shapes.specs.GraphShape.{GraphCountsAnds, and_tables, rows_of, observed_of}
 use Rattle.syn_shapes.specs.Graphs.{IsGraph}
 use Rattle.syn_shapes.specs.Spelling.{NetworkOfGraph, NetworkSpells, network}
-use Rattle.syn_shell.specs.Lines.{greatest, greatest_level, numbers_text, IsNumbersLine}
+use Rattle.syn_shell.specs.Lines.{greatest, greatest_level, numbers_text, IsGraphLine}
 
-pub numbers_line_is : NetworkOfGraph → GraphCountsAnds → (frame : Frame) (rows : List Row) (lits : List Lit) (ands depth : ℕ) (line : List ℕ) → distinct frame.clocks ≡ true → distinct (sources frame) ≡ true
-    → IsGraph frame rows lits → ands ≡ length rows - length (sources frame) - 1 → depth ≡ greatest (map (λ l. level_in (levels_of rows) (node_of l)) lits) → line ≡ numbers_text frame ands depth
-    → IsNumbersLine (network frame rows lits) line
-numbers_line_is spells counts frame rows lits ands depth line clocks once graph ands_is depth_is line_is = record {
+pub graph_line_is : NetworkOfGraph → GraphCountsAnds → (frame : Frame) (rows : List Row) (lits : List Lit) (ands depth : ℕ) (line : List ℕ) → distinct frame.clocks ≡ true → distinct (sources frame) ≡ true
+    → IsGraph frame rows lits → ands ≡ length rows - length (sources frame) - 1 → depth ≡ greatest (map (λ l. level_in (levels_of rows) (node_of l)) lits) → line ≡ numbers_text frame (codes " and = ") ands depth
+    → IsGraphLine (network frame rows lits) line
+graph_line_is spells counts frame rows lits ands depth line clocks once graph ands_is depth_is line_is = record {
   ands = ands;
   reached = subst (Ands (rows_of m) (observed_of m)) count (counts m spelled.shape spelled.ordered);
-  text = line_is ∙ ap (numbers_text frame ands) (depth_is ∙ sym same_depth);
+  text = line_is ∙ ap (numbers_text frame (codes " and = ") ands) (depth_is ∙ sym same_depth);
 }
   where
     m : Netlist

@@ -4,7 +4,7 @@ use Rattle.std.proofs.lemmas.Bool.{cases_Bool, cond-true, cond-false}
 use Rattle.syn_reader.specs.declared.ReadFault.{ReadFault}
 use Rattle.syn_reader.specs.declared.ReadFault.TheVariants as file
 use Rattle.syn_shell.specs.declared.refusal.Refusal.{Refusal}
-use Rattle.syn_shell.specs.declared.refusal.Refusal.TheVariants.{Words, Script, Read, FileTooLong, LineTooLong, TooManyLines, NoNetwork, GetFailed, PutFailed, LineFailed, SinkFailed, NoMemory}
+use Rattle.syn_shell.specs.declared.refusal.Refusal.TheVariants.{Words, Script, Read, FileTooLong, LineTooLong, TooManyLines, TooManyGates, NoNetwork, GetFailed, PutFailed, LineFailed, SinkFailed, NoMemory}
 use Rattle.syn_shell.specs.Networks.{Network}
 use Rattle.syn_shell.specs.declared.announcing.Announcement.{Announcement}
 use Rattle.syn_shell.specs.declared.announcing.Announcement.TheVariants.{Whole, Cut}
@@ -48,6 +48,7 @@ is_refused (Read fault) = file_refused fault
 is_refused FileTooLong = refl
 is_refused LineTooLong = refl
 is_refused TooManyLines = refl
+is_refused (TooManyGates gates) = refl
 is_refused NoNetwork = refl
 is_refused GetFailed = refl
 is_refused PutFailed = refl

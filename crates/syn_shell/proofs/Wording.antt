@@ -2,7 +2,7 @@
 use Rattle.std.proofs.Common.{◌≡◌, ℕ, List, [], ◌∷◌, refl, sym, ap, ◌∙◌, subst, inl, inr, Option, None, Some}
 use Rattle.syn_shell.specs.Networks.{Network}
 use Rattle.syn_shell.specs.declared.refusal.Refusal.{Refusal}
-use Rattle.syn_shell.specs.declared.refusal.Refusal.TheVariants.{Words, Script, Read, FileTooLong, LineTooLong, TooManyLines, NoNetwork, GetFailed, PutFailed, LineFailed, SinkFailed, NoMemory}
+use Rattle.syn_shell.specs.declared.refusal.Refusal.TheVariants.{Words, Script, Read, FileTooLong, LineTooLong, TooManyLines, TooManyGates, NoNetwork, GetFailed, PutFailed, LineFailed, SinkFailed, NoMemory}
 use Rattle.syn_shell.specs.declared.announcing.Announcement.{Announcement}
 use Rattle.syn_shell.specs.declared.announcing.Announcement.TheVariants.{Whole, Cut}
 use Rattle.syn_io.specs.Outside.{Disk, Screen, Input}
@@ -21,6 +21,7 @@ words_refused words (Read fault) st after i refusals h nothing = absurd h
 words_refused words FileTooLong st after i refusals h nothing = absurd h
 words_refused words LineTooLong st after i refusals h nothing = absurd h
 words_refused words TooManyLines st after i refusals h nothing = absurd h
+words_refused words (TooManyGates gates) st after i refusals h nothing = absurd h
 words_refused words NoNetwork st after i refusals h nothing = absurd h
 words_refused words GetFailed st after i refusals h nothing = absurd h
 words_refused words PutFailed st after i refusals h nothing = absurd h

@@ -5,13 +5,14 @@ use Rattle.syn_rows.specs.Reach.{Ands}
 use Rattle.syn_rows.specs.Levels.{level_in, levels_of}
 use Rattle.syn_netlist.specs.Lists.{Frame, Netlist}
 use Rattle.syn_shapes.specs.GraphShape.{rows_of, observed_of}
+use Rattle.syn_lutshapes.specs.LutShape.{count_of, depth_of}
 use Rattle.syn_words.specs.declared.ScriptFault.{ScriptFault}
 use Rattle.syn_words.specs.declared.ScriptFault.TheVariants as script
 use Rattle.syn_reader.specs.declared.ReadFault.{ReadFault}
 use Rattle.syn_reader.specs.declared.ReadFault.TheVariants as file
 use Rattle.syn_shell.specs.Networks.{Network}
 use Rattle.syn_shell.specs.declared.refusal.Refusal.{Refusal}
-use Rattle.syn_shell.specs.declared.refusal.Refusal.TheVariants.{Words, Script, Read, FileTooLong, LineTooLong, TooManyLines, NoNetwork, GetFailed, PutFailed, LineFailed, SinkFailed, NoMemory}
+use Rattle.syn_shell.specs.declared.refusal.Refusal.TheVariants.{Words, Script, Read, FileTooLong, LineTooLong, TooManyLines, TooManyGates, NoNetwork, GetFailed, PutFailed, LineFailed, SinkFailed, NoMemory}
 
 -- the greatest number of a list, 0 where it is empty
 abbrev pub greatest : List ℕ → ℕ
@@ -22,22 +23,26 @@ greatest (n ∷ ns) = max n (greatest ns)
 abbrev pub greatest_level : Netlist → ℕ
 greatest_level m = greatest (map (λ l. level_in (levels_of (rows_of m)) (node_of l)) (observed_of m))
 
--- a network's line: its name, how many inputs and outputs, latches and ANDs it has, and its greatest level
-abbrev pub numbers_text : Frame → ℕ → ℕ → List ℕ
-numbers_text frame ands depth =
+-- a network's line: its name, how many inputs and outputs and latches it has, how many parts behind what they are called, and how deep it is
+abbrev pub numbers_text : Frame → List ℕ → ℕ → ℕ → List ℕ
+numbers_text frame called count depth =
     frame.model ++ (codes " : i/o = " ++ decimal (length frame.inputs)) ++ (codes "/" ++ decimal (length frame.outputs)) ++ (codes " lat = " ++ decimal (length frame.latches))
-    ++ (codes " and = " ++ decimal ands) ++ (codes " lev = " ++ decimal depth) ++ 10 ∷ []
+    ++ (called ++ decimal count) ++ (codes " lev = " ++ decimal depth) ++ 10 ∷ []
 
--- The bytes are the network's line; its number of ANDs is that of the reached ANDs of the rows that the netlist spells.
-pub record IsNumbersLine (m : Netlist) (bytes : List ℕ) : Type 0 where
+-- The bytes are the line of a graph: its number of ANDs is that of the reached ANDs of the rows that the netlist spells, and its depth their greatest level.
+pub record IsGraphLine (m : Netlist) (bytes : List ℕ) : Type 0 where
   pub ands : ℕ
   pub reached : Ands (rows_of m) (observed_of m) ands
-  pub text : bytes ≡ numbers_text m.frame ands (greatest_level m)
+  pub text : bytes ≡ numbers_text m.frame (codes " and = ") ands (greatest_level m)
 
--- The bytes are the line of a netlist by its mark. No network is mapped yet, and none has such a line.
+-- The bytes are the line of a net of LUTs: the number of LUTs that the netlist spells, and their depth.
+abbrev pub IsLutsLine : Netlist → List ℕ → Type 0
+IsLutsLine m bytes = bytes ≡ numbers_text m.frame (codes " lut = ") (count_of m) (depth_of m)
+
+-- The bytes are the line of a netlist by its mark.
 abbrev pub LineBy : Bool → Netlist → List ℕ → Type 0
-LineBy false netlist bytes = IsNumbersLine netlist bytes
-LineBy true netlist bytes = ⊥
+LineBy false netlist bytes = IsGraphLine netlist bytes
+LineBy true netlist bytes = IsLutsLine netlist bytes
 
 -- The bytes are the network's line of statistics.
 abbrev pub IsStatsLine : Network → List ℕ → Type 0
@@ -94,6 +99,7 @@ refusal_text (Read fault) name = file_text fault
 refusal_text FileTooLong name = codes "file longer than 16777216 bytes"
 refusal_text LineTooLong name = codes "line longer than 65536 bytes"
 refusal_text TooManyLines name = codes "more than 1048576 lines"
+refusal_text (TooManyGates gates) name = joined (decimal gates ∷ codes " gates" ∷ [])
 refusal_text NoNetwork name = codes "no network"
 refusal_text GetFailed name = joined (codes "cannot read " ∷ name ∷ [])
 refusal_text PutFailed name = joined (codes "cannot write " ∷ name ∷ [])
@@ -120,6 +126,7 @@ refusal_status (Read fault) = file_status fault
 refusal_status FileTooLong = 5
 refusal_status LineTooLong = 5
 refusal_status TooManyLines = 5
+refusal_status (TooManyGates gates) = 5
 refusal_status NoNetwork = 6
 refusal_status GetFailed = 7
 refusal_status PutFailed = 7

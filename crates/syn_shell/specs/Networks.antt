@@ -1,8 +1,11 @@
 -- The network of a session: the netlist that a write of it puts, and whether it is one of LUTs.
-use Rattle.std.specs.Prelude.{Bool, false, Option, option_map}
-use Rattle.syn_netlist.specs.Lists.{Netlist}
-use Rattle.syn_graph.specs.declared.Graph.{Graph}
-use Rattle.syn_graph.specs.Graphs.{network_of}
+use Rattle.std.specs.Prelude.{ℕ, ◌≤◌, Bool, true, false, Option, option_map, length, IfSome}
+use Rattle.syn_netlist.specs.Lists.{Netlist, sources}
+use Rattle.syn_graph.specs.Graphs as graphs
+use Rattle.syn_lutshapes.specs.LutShape.{gates_of}
+use Rattle.syn_lutnet.specs.Nets as nets
+use Rattle.syn_shell.specs.declared.network.Kept.{Kept}
+use Rattle.syn_shell.specs.declared.network.Kept.TheVariants.{Graph, Luts}
 
 -- A network. A net of LUTs with two inputs each is written as a graph may be, so the netlist alone doesn't tell which of both it is: the mark does.
 pub record Network : Type 0 where
@@ -13,6 +16,32 @@ pub record Network : Type 0 where
 abbrev pub graph_network : Netlist → Network
 graph_network netlist = record { netlist = netlist; mapped = false }
 
--- A session's network: none, or its graph.
-abbrev pub network_in : Option Graph → Option Network
-network_in graph = option_map (λ g. graph_network (network_of g)) graph
+-- A net of LUTs, likewise.
+abbrev pub mapped_network : Netlist → Network
+mapped_network netlist = record { netlist = netlist; mapped = true }
+
+-- What a session keeps, as a network.
+abbrev pub network_of : Kept → Network
+network_of (Graph graph) = graph_network (graphs.network_of graph)
+network_of (Luts net) = mapped_network (nets.network_of net)
+
+-- A session's network: none, or what it keeps.
+abbrev pub network_in : Option Kept → Option Network
+network_in kept = option_map network_of kept
+
+-- The gates of a netlist by the mark: none of a graph, those of factoring its LUTs of a net of them.
+abbrev pub gates_by : Bool → Netlist → ℕ
+gates_by false netlist = 0
+gates_by true netlist = gates_of netlist
+
+-- The gates that are made where a network is made a graph: none where it is one.
+abbrev pub gates_in : Network → ℕ
+gates_in network = gates_by network.mapped network.netlist
+
+-- the most sources of a network
+abbrev pub most_sources : ℕ
+most_sources = 1048576
+
+-- A network has no more sources than the most.
+abbrev pub HasFewSources : Network → Type 0
+HasFewSources network = length (sources network.netlist.frame) ≤ most_sources

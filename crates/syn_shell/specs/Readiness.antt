@@ -5,8 +5,10 @@ use Rattle.syn_io.specs.Outside.{Disk, Input, Screen, file_at, next_line}
 use Rattle.syn_netlist.specs.Lists.{Netlist}
 use Rattle.syn_reader.specs.Limits.{Within}
 use Rattle.syn_reader.specs.Reading.{Reads}
+use Rattle.syn_build_luts.specs.declared.luts.TheConstants.{MOST_GATES}
 use Rattle.syn_words.specs.declared.Command.{Command}
 use Rattle.syn_words.specs.Scripts.{IsScript}
+use Rattle.syn_shell.specs.Networks.{gates_in}
 use Rattle.syn_shell.specs.Outside.{State, script_limit}
 use Rattle.syn_shell.specs.Steps.{Kind, Reading, Generating, Printing, Writing, Making, kind_of, file_limit}
 use Rattle.syn_shell.specs.Scripts.{Refused, RunsCommands, RunsScript}
@@ -19,13 +21,13 @@ use Rattle.syn_shell.specs.Runs.{Ran, RunsUsage, RunsWords}
 abbrev pub IsReadable : List ℕ → Disk → Type 0
 IsReadable name files = IsSomeAnd files.told (λ list. IsSomeAnd (file_at name list) (λ bytes. (length bytes ≤ file_limit) × (net : Netlist) × Reads bytes net × Within net))
 
--- What a command needs, by its kind: its file, nothing, or a network.
+-- What a command needs, by its kind: its file, nothing, or a network, and to make it anew one that not too many gates make a graph.
 abbrev pub Needs : Kind → State → Type 0
 Needs (Reading name) before = IsReadable name before.files
 Needs (Generating seed size) before = ⊤
 Needs Printing before = IsSome before.network
 Needs (Writing name) before = IsSome before.network
-Needs Making before = IsSome before.network
+Needs Making before = IsSomeAnd before.network (λ net. gates_in net ≤ MOST_GATES)
 
 -- What each command that was run needs is there.
 abbrev pub CommandsReady : (commands : List Command) (before : State) (outcome : Option Refused) (after : State) → RunsCommands commands before outcome after → Type 0

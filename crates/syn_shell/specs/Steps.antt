@@ -1,5 +1,5 @@
 -- What each command does, accepted or refused: a relation between the network, the files and the sink before and after it. There are five kinds of commands: those that read a file, that generate a netlist, that print, that write a file, and that make the network anew.
-use Rattle.std.specs.Prelude.{◌≡◌, ℕ, ◌≤◌, ◌<◌, Bool, true, false, List, length, Option, Some, None, IfSome, IsSome, IsSomeAnd, Result, Ok, Err, ⊤}
+use Rattle.std.specs.Prelude.{◌≡◌, ℕ, ◌≤◌, ◌<◌, Bool, true, false, List, length, map, Option, Some, None, IfSome, IsSome, IsSomeAnd, Result, Ok, Err, ⊤}
 use Rattle.syn_io.specs.Outside.{Rose, file_at, Disk, Screen}
 use Rattle.syn_rows.specs.declared.Row.{Row}
 use Rattle.syn_rows.specs.Rows.{node_of}
@@ -10,6 +10,10 @@ use Rattle.syn_netlist.specs.Order.{Ordered}
 use Rattle.syn_shapes.specs.GraphShape.{GraphShape, and_tables, observed_of, rows_of}
 use Rattle.syn_shapes.specs.Graphs.{lit_at}
 use Rattle.syn_shapes.specs.Printed.{printed}
+use Rattle.syn_lutshapes.specs.Luts.{greatest}
+use Rattle.syn_lutshapes.specs.LutShape.{LutShape, count_of, depth_of, gates_of}
+use Rattle.syn_map.specs.Labels.{label_of}
+use Rattle.syn_build_luts.specs.declared.luts.TheConstants.{MOST_GATES}
 use Rattle.syn_pool.specs.Closing.{Closed}
 use Rattle.syn_gain.specs.Replacements.{Replacement}
 use Rattle.syn_gen.specs.Generated.{generated}
@@ -23,9 +27,9 @@ use Rattle.syn_reader.specs.Limits.{Within, IsFirstFault}
 use Rattle.syn_reader.specs.Reading.{Reads}
 use Rattle.syn_build.specs.Building.{IsGraphOf}
 use Rattle.syn_shell.specs.declared.refusal.Refusal.{Refusal}
-use Rattle.syn_shell.specs.declared.refusal.Refusal.TheVariants.{Read, FileTooLong, NoNetwork, GetFailed, PutFailed, SinkFailed, NoMemory}
+use Rattle.syn_shell.specs.declared.refusal.Refusal.TheVariants.{Read, FileTooLong, TooManyGates, NoNetwork, GetFailed, PutFailed, SinkFailed, NoMemory}
 use Rattle.syn_shell.specs.Outside.{State, FilesStand, FileIs, OthersStand, Took, TookPart}
-use Rattle.syn_shell.specs.Networks.{Network, graph_network}
+use Rattle.syn_shell.specs.Networks.{Network, gates_in, graph_network}
 use Rattle.syn_shell.specs.Lines.{IsStatsLine}
 
 -- the most bytes of a file that is read
@@ -77,12 +81,12 @@ WriteRefused m name before after PutFailed = IsSome m × Rose before.faults afte
 WriteRefused m name before after NoMemory = OthersStand name before after
 WriteRefused m name before after other = ⊥
 
--- The network has no more ANDs than a network before it, by the mark of that one. No network is mapped yet.
+-- A netlist has no more ANDs than a network before it has, by the mark of that one: ANDs, or gates of factoring its LUTs.
 abbrev pub NoMoreBy : Bool → Netlist → Netlist → Type 0
 NoMoreBy false old new = length (and_tables new) ≤ length (and_tables old)
-NoMoreBy true old new = ⊥
+NoMoreBy true old new = length (and_tables new) ≤ gates_of old
 
--- What a command that makes the network anew makes of it: it means the same, reads only earlier signals, is a graph, and has no more ANDs than before.
+-- What hashing makes of a network, a graph: it means the same, reads only earlier signals, has the shape of a graph, and no more ANDs than before.
 pub record IsRemade (old new : Network) : Type 0 where
   pub same : SameMeaning old.netlist new.netlist
   pub ordered : Ordered new.netlist
@@ -94,36 +98,47 @@ pub record IsRemade (old new : Network) : Type 0 where
 abbrev pub level_at : Netlist → ℕ → ℕ
 level_at m i = level_in (levels_of (rows_of m)) (node_of (lit_at (observed_of m) i))
 
--- No observed signal has a higher level than in a network before it, by the mark of that one. No network is mapped yet.
-abbrev pub NoHigherBy : Bool → Netlist → Netlist → Type 0
-NoHigherBy false old new = (i : ℕ) → i < length (observed_of new) → level_at new i ≤ level_at old i
-NoHigherBy true old new = ⊥
-
--- What balancing makes of the network: it is remade, and no observed signal has a higher level than before.
+-- What balancing makes of a graph: it is remade, and no observed signal has a higher level than before.
 pub record IsBalanced (old new : Network) : Type 0 where
   pub remade : IsRemade old new
-  pub levels : NoHigherBy old.mapped old.netlist new.netlist
+  pub levels : (i : ℕ) → i < length (observed_of new.netlist) → level_at new.netlist i ≤ level_at old.netlist i
 
--- What rewriting and refactoring make of the network, each for its proposals: it is remade, and no proposal for any of its ANDs saves one, by the rows that it spells.
+-- What rewriting and refactoring make of a graph, each for its proposals: it is remade, and no proposal for any of its ANDs saves one, by the rows that it spells.
 pub record IsClosedFor (proposals : List Row → ℕ → List Replacement) (old new : Network) : Type 0 where
   pub remade : IsRemade old new
   pub closed : Closed (rows_of new.netlist) (observed_of new.netlist) (proposals (rows_of new.netlist))
 
+-- What mapping makes of a graph, a net of LUTs: it means the same, reads only earlier signals, and has the shape of LUTs of so many inputs at most; it is as deep as the greatest label of an observed node, by the rows that the graph spells, and has no more LUTs than the graph has ANDs.
+pub record IsMappedTo (inputs : ℕ) (old new : Network) : Type 0 where
+  pub same : SameMeaning old.netlist new.netlist
+  pub ordered : Ordered new.netlist
+  pub mapped : new.mapped ≡ true
+  pub shape : LutShape new.netlist inputs
+  pub depth : depth_of new.netlist ≡ greatest (label_of inputs (rows_of old.netlist)) (map node_of (observed_of old.netlist))
+  pub fewer : count_of new.netlist ≤ length (and_tables old.netlist)
+
+-- What a command on graphs makes of a network by its mark: of a net of LUTs what it makes of the graph that hashing made of that before.
+abbrev pub OnGraph : (Network → Network → Type 0) → Bool → Network → Network → Type 0
+OnGraph makes false old new = makes old new
+OnGraph makes true old new = (graph : Network) × IsRemade old graph × makes graph new
+
 -- What a command makes of a network. One that makes none leaves it.
 abbrev pub Makes : Command → Network → Network → Type 0
 Makes commands.Strash old new = IsRemade old new
-Makes commands.Balance old new = IsBalanced old new
-Makes (commands.Rewrite zero workers) old new = IsClosedFor rewritings old new
-Makes (commands.Refactor zero workers) old new = IsClosedFor refactorings old new
+Makes commands.Balance old new = OnGraph IsBalanced old.mapped old new
+Makes (commands.Rewrite zero workers) old new = OnGraph (IsClosedFor rewritings) old.mapped old new
+Makes (commands.Refactor zero workers) old new = OnGraph (IsClosedFor refactorings) old.mapped old new
+Makes (commands.Map inputs) old new = OnGraph (IsMappedTo inputs) old.mapped old new
 Makes other old new = new ≡ old
 
--- There is a network, and the command makes another of it.
+-- There is a network, not too many gates make it a graph, and the command makes another of it.
 abbrev pub Remakes : Command → Option Network → Option Network → Type 0
-Remakes command m m' = (old : Network) × (new : Network) × (m ≡ Some old) × (m' ≡ Some new) × Makes command old new
+Remakes command m m' = (old : Network) × (new : Network) × (m ≡ Some old) × (m' ≡ Some new) × (gates_in old ≤ MOST_GATES) × Makes command old new
 
 -- Why such a command is refused.
 abbrev pub MakingRefused : Option Network → Refusal → Type 0
 MakingRefused m NoNetwork = m ≡ None
+MakingRefused m (TooManyGates gates) = IsSomeAnd m (λ net. (gates ≡ gates_in net) × (MOST_GATES < gates))
 MakingRefused m NoMemory = ⊤
 MakingRefused m other = ⊥
 

@@ -170,6 +170,7 @@ fn put_text<O: Sink>(out: &mut O, refusal: &Refusal, name: &[u8]) -> Result<(), 
         Refusal::FileTooLong => put(out, b"file longer than 16777216 bytes"),
         Refusal::LineTooLong => put(out, b"line longer than 65536 bytes"),
         Refusal::TooManyLines => put(out, b"more than 1048576 lines"),
+        Refusal::TooManyGates(gates) => put_number(out, b"", *gates, b" gates"),
         Refusal::NoNetwork => put(out, b"no network"),
         Refusal::GetFailed => put_all(out, &[b"cannot read ", name]),
         Refusal::PutFailed => put_all(out, &[b"cannot write ", name]),
@@ -207,7 +208,10 @@ fn status_of(refusal: &Refusal) -> u8
         Refusal::Words => 2,
         Refusal::Script(_) => 3,
         Refusal::Read(fault) => file_status(fault),
-        Refusal::FileTooLong | Refusal::LineTooLong | Refusal::TooManyLines => 5,
+        Refusal::FileTooLong
+        | Refusal::LineTooLong
+        | Refusal::TooManyLines
+        | Refusal::TooManyGates(_) => 5,
         Refusal::NoNetwork => 6,
         Refusal::GetFailed | Refusal::PutFailed | Refusal::LineFailed | Refusal::SinkFailed => 7,
         Refusal::NoMemory => 8,

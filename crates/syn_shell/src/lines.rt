@@ -6,17 +6,20 @@ ghost use Rattle.syn_rows.specs.Rows.{node_of};
 ghost use Rattle.syn_rows.specs.Levels.{level_in, levels_of};
 ghost use Rattle.syn_netlist.specs.Frames.{frame_in};
 ghost use Rattle.syn_netlist.specs.Lists.{Frame};
-ghost use Rattle.syn_graph.specs.Graphs.{network_of};
-ghost use Rattle.syn_shell.specs.Lines.{greatest, IsNumbersLine, IsStatsLine, numbers_text};
+ghost use Rattle.syn_graph.specs.Graphs as graphs;
+ghost use Rattle.syn_lutnet.specs.Nets as nets;
+ghost use Rattle.syn_shell.specs.Lines.{greatest, IsGraphLine, IsLutsLine, IsStatsLine, numbers_text};
 ghost use Rattle.syn_shell.specs.Outside.{Took};
-ghost use Rattle.syn_shell.specs.Networks.{graph_network};
+ghost use Rattle.syn_shell.specs.Networks.{network_of};
 ghost use Rattle.syn_shell.specs.Steps.{PrintRefused};
 
+use crate::network::Kept;
 use crate::refusal::Refusal;
 use itoa::Buffer;
 use std::alloc::{AllocError, Global};
 use syn_graph::Graph;
 use syn_io::Sink;
+use syn_lutnet::LutNet;
 use syn_netlist::Frame;
 use syn_rows::Lit;
 
@@ -73,36 +76,67 @@ fn push_signals(line: &mut Vec<u8>, frame: &Frame) -> Result<(), AllocError>
     push_counted(line, b" lat = ", frame.latches.as_slice().len() as u64)
 }
 
-// The line of a network with these numbers.
-fn numbers_line(alloc: Global, frame: &Frame, ands: u64, depth: u64) -> Result<Vec<u8>, AllocError>
-    ensures { IfOk result (λ line. line.items ≡ numbers_text (frame_in frame.now) ands depth) }
+// The line of a network with these numbers. The first is of its parts, behind what they are called.
+fn numbers_line(
+    alloc: Global,
+    frame: &Frame,
+    called: &[u8],
+    count: u64,
+    depth: u64,
+) -> Result<Vec<u8>, AllocError>
+    ensures { IfOk result (λ line. line.items ≡ numbers_text (frame_in frame.now) called.now count depth) }
 {
     let mut line = Vec::new(alloc);
     push_signals(&mut line, frame)?;
-    push_counted(&mut line, b" and = ", ands)?;
+    push_counted(&mut line, called, count)?;
     push_counted(&mut line, b" lev = ", depth)?;
     line.push(b'\n')?;
     Ok(line)
 }
 
-// The network's line.
-fn network_line(alloc: Global, graph: &Graph) -> Result<Vec<u8>, AllocError>
-    ensures { IfOk result (λ line. IsNumbersLine (network_of graph.now) line.items) }
+// The line of a graph.
+fn graph_line(alloc: Global, graph: &Graph) -> Result<Vec<u8>, AllocError>
+    ensures { IfOk result (λ line. IsGraphLine (graphs.network_of graph.now) line.items) }
 {
     let depth = depth(alloc, graph)?;
     let ands = graph.rows.as_slice().len() - graph.source_count as usize - 1;
     syn_shapes::network_of_graph();
     syn_shapes::graph_counts_ands();
-    let line = numbers_line(alloc, &graph.frame, ands as u64, depth as u64)?;
+    let line = numbers_line(alloc, &graph.frame, b" and = ", ands as u64, depth as u64)?;
     Ok(line)
 }
 
-/// Prints the network's line.
-pub(crate) fn print_stats<O: Sink>(alloc: Global, graph: &Graph, out: &mut O) -> Result<(), Refusal>
-    ensures printed { OnOk result ((line : List ℕ) × IsStatsLine (graph_network (network_of graph.now)) line × Took line (O.screen out.old) (O.screen out.new)) }
-    ensures refused { IfErr result (PrintRefused (Some (graph_network (network_of graph.now))) (O.screen out.old) (O.screen out.new)) }
+// The line of a net of LUTs.
+fn luts_line(alloc: Global, net: &LutNet) -> Result<Vec<u8>, AllocError>
+    ensures { IfOk result (λ line. IsLutsLine (nets.network_of net.now) line.items) }
 {
-    let line = network_line(alloc, graph)?;
+    syn_lutshapes::network_of_luts();
+    let depth = net.depth(alloc)?;
+    let count = net.count();
+    let line = numbers_line(alloc, &net.frame, b" lut = ", count as u64, depth as u64)?;
+    Ok(line)
+}
+
+// The network's line.
+fn network_line(alloc: Global, network: &Kept) -> Result<Vec<u8>, AllocError>
+    ensures { IfOk result (λ line. IsStatsLine (network_of network.now) line.items) }
+{
+    match network {
+        Kept::Graph(graph) => graph_line(alloc, graph),
+        Kept::Luts(net) => luts_line(alloc, net),
+    }
+}
+
+/// Prints the network's line.
+pub(crate) fn print_stats<O: Sink>(
+    alloc: Global,
+    network: &Kept,
+    out: &mut O,
+) -> Result<(), Refusal>
+    ensures printed { OnOk result ((line : List ℕ) × IsStatsLine (network_of network.now) line × Took line (O.screen out.old) (O.screen out.new)) }
+    ensures refused { IfErr result (PrintRefused (Some (network_of network.now)) (O.screen out.old) (O.screen out.new)) }
+{
+    let line = network_line(alloc, network)?;
     match out.put(line.as_slice()) {
         Ok(()) => Ok(()),
         Err(_) => Err(Refusal::SinkFailed),

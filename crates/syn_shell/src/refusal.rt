@@ -23,6 +23,8 @@ pub enum Refusal {
     LineTooLong,
     /// A line was given after 1,048,576 others.
     TooManyLines,
+    /// So many gates make the network a graph, more than 4,194,304.
+    TooManyGates(u64),
     /// The command needs a network, and none was read.
     NoNetwork,
     /// The file that the command names could not be read.

@@ -1,5 +1,5 @@
 -- The table of commands: their names, what may stand behind each, and the commands that it then spells.
-use Rattle.std.specs.Prelude.{ℕ, true, false, min, option_map, if◌then◌else◌, List, [], ◌∷◌, Option, Some, None, Result, Ok, Err, bytes_eq, codes}
+use Rattle.std.specs.Prelude.{ℕ, true, false, min, max, option_map, if◌then◌else◌, List, [], ◌∷◌, Option, Some, None, Result, Ok, Err, bytes_eq, codes}
 use Rattle.syn_words.specs.declared.words.Phrase.{Phrase}
 use Rattle.syn_words.specs.Forms.{and_then, given_by}
 use Rattle.syn_words.specs.declared.forms.Form.{Form}
@@ -30,6 +30,7 @@ names =
     ∷ (codes "refactor", keywords.Refactor)
     ∷ (codes "rf", keywords.Refactor)
     ∷ (codes "rfz", keywords.RefactorZero)
+    ∷ (codes "if", keywords.Map)
     ∷ (codes "resyn2", keywords.Resyn2)
     ∷ (codes "gen", keywords.Generate)
     ∷ []
@@ -47,6 +48,10 @@ words_alone words = record { flag = None; numbered = None; operands = words }
 abbrev pub with_workers : Option ℕ → Form
 with_workers flag = record { flag = flag; numbered = Some (record { letter = 119; range = record { least = 1; most = 16 } }); operands = operands.Nothing }
 
+-- An option alone: `-K` with a number of inputs from 2 to 8.
+abbrev pub with_inputs : Form
+with_inputs = record { flag = None; numbered = Some (record { letter = 75; range = record { least = 2; most = 8 } }); operands = operands.Nothing }
+
 -- Two numbers alone: a seed of 64 bits, and a number of tables from 1 to 32768.
 abbrev pub seed_and_size : Form
 seed_and_size = words_alone (operands.TwoNumbers (record { least = 0; most = 18446744073709551615 }) (record { least = 1; most = 32768 }))
@@ -62,12 +67,22 @@ form_of keywords.Rewrite = with_workers (Some 122)
 form_of keywords.RewriteZero = with_workers None
 form_of keywords.Refactor = with_workers (Some 122)
 form_of keywords.RefactorZero = with_workers None
+form_of keywords.Map = with_inputs
 form_of keywords.Resyn2 = words_alone operands.Nothing
 form_of keywords.Generate = seed_and_size
 
 -- A number of workers, 16 at most; the form lets no greater one through.
 abbrev pub workers_of : ℕ → ℕ
 workers_of number = min number 16
+
+-- A number of inputs, 2 at least and 8 at most, likewise.
+abbrev pub inputs_of : ℕ → ℕ
+inputs_of number = max 2 (min number 8)
+
+-- The number of inputs that was given, 6 where none was.
+abbrev pub given_inputs : Option ℕ → ℕ
+given_inputs None = 6
+given_inputs (Some number) = inputs_of number
 
 -- A number of tables, 32768 at most, likewise.
 abbrev pub size_of : ℕ → ℕ
@@ -99,6 +114,7 @@ commands_of keywords.Rewrite given = commands.Rewrite given.flag (option_map wor
 commands_of keywords.RewriteZero given = commands.Rewrite true (option_map workers_of given.number) ∷ []
 commands_of keywords.Refactor given = commands.Refactor given.flag (option_map workers_of given.number) ∷ []
 commands_of keywords.RefactorZero given = commands.Refactor true (option_map workers_of given.number) ∷ []
+commands_of keywords.Map given = commands.Map (given_inputs given.number) ∷ []
 commands_of keywords.Resyn2 given = resyn2
 commands_of keywords.Generate given = commands.Generate given.numbers.0 (size_of given.numbers.1) ∷ []
 

@@ -3,7 +3,7 @@ use Rattle.std.specs.Prelude.{◌≡◌, true, false, ℕ, List, [], ◌∷◌, 
 use Rattle.syn_words.specs.Words.{words_at}
 use Rattle.syn_words.specs.Forms.{given_by}
 use Rattle.syn_words.specs.Scripts.{IsScript, IsFirstFault}
-use Rattle.syn_words.specs.declared.Command.TheVariants.{Read, Write, Stats, Strash, Balance, Rewrite, Refactor, Generate}
+use Rattle.syn_words.specs.declared.Command.TheVariants.{Read, Write, Stats, Strash, Balance, Rewrite, Refactor, Map, Generate}
 use Rattle.syn_words.specs.declared.ScriptFault.{ScriptFault}
 use Rattle.syn_words.specs.declared.ScriptFault.TheVariants.{BadByte, UnknownCommand, MissingWord, ExtraWord, BadNumber, OutOfRange}
 use Rattle.syn_words.specs.declared.forms.Form.{Form}
@@ -38,6 +38,7 @@ pub record WorkedScripts : Type 0 where
   pub hyphen_is_a_name : IsScript (codes "read_blif -a") (Read (codes "-a") ∷ [])
   pub rewriting : IsScript (codes "rw; rewrite -w 4 -z; rwz") (Rewrite false None ∷ Rewrite true (Some 4) ∷ Rewrite true None ∷ [])
   pub refactoring : IsScript (codes "rf; refactor -w 4 -z; rfz -w 2") (Refactor false None ∷ Refactor true (Some 4) ∷ Refactor true (Some 2) ∷ [])
+  pub mapping : IsScript (codes "if; if -K 2; if -K 008") (Map 6 ∷ Map 2 ∷ Map 8 ∷ [])
   pub ten_commands : IsScript (codes "resyn2")
       (Balance ∷ Rewrite false None ∷ Refactor false None ∷ Balance ∷ Rewrite false None ∷ Rewrite true None ∷ Balance ∷ Refactor true None ∷ Rewrite true None ∷ Balance ∷ [])
   pub generated : IsScript (codes "gen 18446744073709551615 32768; ps") (Generate 18446744073709551615 32768 ∷ Stats ∷ [])
@@ -50,6 +51,12 @@ pub record WorkedScripts : Type 0 where
   pub zero_set_already : IsFirstFault (codes "rwz -z") (ExtraWord 4)
   pub too_many_workers : IsFirstFault (codes "rw -w 17") (OutOfRange 6)
   pub no_number_of_workers : IsFirstFault (codes "rw -w") (MissingWord 5)
+  pub too_many_inputs : IsFirstFault (codes "if -K 9") (OutOfRange 6)
+  pub too_few_inputs : IsFirstFault (codes "if -K 1") (OutOfRange 6)
+  pub inputs_no_number : IsFirstFault (codes "if -K x") (BadNumber 6)
+  pub no_number_of_inputs : IsFirstFault (codes "if -K") (MissingWord 5)
+  pub inputs_twice : IsFirstFault (codes "if -K 4 -K 5") (ExtraWord 8)
+  pub lower_case_option : IsFirstFault (codes "if -k 4") (ExtraWord 3)
   pub unknown : IsFirstFault (codes "rewrit") (UnknownCommand 0)
   pub other_script : IsFirstFault (codes "ps; resyn3") (UnknownCommand 4)
   pub upper_case : IsFirstFault (codes "PS") (UnknownCommand 0)

@@ -15,6 +15,7 @@ ghost use Rattle.std.specs.Prelude.{◌≡◌, ◌⊎◌, ◌<◌, ◌^◌, [], 
 ghost use Rattle.syn_words.specs.Scripts.{IsFirstFault, IsScript, said_after};
 
 mod forms;
+mod inputs;
 mod laws;
 mod names;
 mod numbers;
@@ -23,6 +24,7 @@ mod table;
 mod words;
 
 pub use forms::NumberRange;
+pub use inputs::LutInputs;
 pub use laws::{either_or, not_both, one_fault, one_script, worked_forms, worked_scripts};
 pub use names::FileName;
 pub use numbers::number_in;
@@ -31,7 +33,7 @@ use table::push_commands;
 use thiserror::Error;
 use words::{Phrases, bad_byte};
 
-/// A command of a script. Contracts see the names of files as bytes.
+/// A command of a script. Contracts see the names of files as bytes, and numbers of inputs as numbers.
 #[derive(Debug, Drop)]
 pub enum Command {
     /// `read_blif F`: the graph of the netlist in the file of that name becomes the network.
@@ -58,6 +60,8 @@ pub enum Command {
         /// The number of workers, where one is named.
         workers: Option<u8>,
     },
+    /// `if [-K n]`: maps the network to LUTs of so many inputs at most.
+    Map(LutInputs),
     /// `gen SEED SIZE`: the graph of the netlist that is generated from a seed becomes the network.
     Generate {
         /// The seed.

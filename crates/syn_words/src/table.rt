@@ -1,10 +1,11 @@
 //! The table of commands: their names, what may stand behind each, and what it then says.
 
 ghost use Rattle.std.specs.Prelude.{◌≡◌, ◌⊎◌, [], ◌∷◌, Err, None, Ok, IfOk, OnOk, IfErr, option_map};
-ghost use Rattle.syn_words.specs.Commands.{commands_of, form_of, named_in, names, resyn2, said, size_of, with_workers, words_alone, workers_of};
+ghost use Rattle.syn_words.specs.Commands.{commands_of, form_of, named_in, names, resyn2, said, size_of, with_inputs, with_workers, words_alone, workers_of};
 ghost use Rattle.syn_words.specs.Scripts.{said_onto};
 
 use crate::forms::{Form, NumberRange, Numbered, Operands};
+use crate::inputs::LutInputs;
 use crate::names::FileName;
 use crate::reading::{Given, given_by};
 use crate::words::Phrase;
@@ -23,6 +24,7 @@ pub enum Keyword {
     RewriteZero,
     Refactor,
     RefactorZero,
+    Map,
     Resyn2,
     Generate,
 }
@@ -49,6 +51,8 @@ fn keyword_of(word: &[u8]) -> Option<Keyword>
         Some(Keyword::Refactor)
     } else if b"rfz".as_slice() == word {
         Some(Keyword::RefactorZero)
+    } else if b"if".as_slice() == word {
+        Some(Keyword::Map)
     } else if b"resyn2".as_slice() == word {
         Some(Keyword::Resyn2)
     } else if b"gen".as_slice() == word {
@@ -68,6 +72,12 @@ const WORKERS: Numbered = Numbered {
         least: 1,
         most: MOST_WORKERS as u64,
     },
+};
+
+// The option with a number of inputs.
+const INPUTS: Numbered = Numbered {
+    letter: b'K',
+    range: NumberRange { least: 2, most: 8 },
 };
 
 // A seed.
@@ -107,6 +117,17 @@ fn with_workers(flag: Option<u8>) -> Form
     }
 }
 
+// A number of inputs.
+fn with_inputs() -> Form
+    ensures { result ≡ with_inputs }
+{
+    Form {
+        flag: None,
+        numbered: Some(INPUTS),
+        operands: Operands::Nothing,
+    }
+}
+
 // What may stand behind a keyword.
 fn form_of(keyword: Keyword) -> Form
     ensures { result ≡ form_of keyword }
@@ -118,6 +139,7 @@ fn form_of(keyword: Keyword) -> Form
         }
         Keyword::Rewrite | Keyword::Refactor => with_workers(Some(b'z')),
         Keyword::RewriteZero | Keyword::RefactorZero => with_workers(None),
+        Keyword::Map => with_inputs(),
         Keyword::Generate => words_alone(Operands::TwoNumbers(SEEDS, SIZES)),
     }
 }
@@ -242,6 +264,7 @@ fn commands_of(
                 workers,
             },
         ),
+        Keyword::Map => one(alloc, Command::Map(LutInputs::of(given.number))),
         Keyword::Resyn2 => resyn2(alloc),
         Keyword::Generate => one(
             alloc,

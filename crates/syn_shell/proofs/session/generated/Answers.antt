@@ -1,12 +1,13 @@
-use Rattle.std.proofs.Common.{◌≡◌, length, sym, ap, subst, arith}
+use Rattle.std.proofs.Common.{◌≡◌, ◌≤◌, length, sym, ap, subst, arith}
 use Rattle.syn_netlist.specs.Costs.{cost_of}
 use Rattle.syn_netlist.specs.Faults.{IsChecked}
 use Rattle.syn_netlist.specs.Frames.{frame_in}
-use Rattle.syn_netlist.specs.Lists.{Netlist, sources}
+use Rattle.syn_netlist.specs.Lists.{Frame, Netlist, sources}
 use Rattle.syn_netlist.specs.Views.{netlist_in}
 use Rattle.syn_build.specs.Building.{IsGraphOf}
 use Rattle.syn_graph.specs.Graphs.{network_of}
 use Rattle.syn_gen.specs.Generated.{generated}
+use Rattle.syn_shell.specs.Networks.{most_sources}
 use Rattle.syn_shell.proofs.session.generated.Goals as goal
 
 pub build-requires-clause-checked : goal.build-requires-clause-checked
@@ -24,3 +25,11 @@ build-requires-clause-room c =
 
 pub returns-clause-generated : goal.returns-clause-generated
 returns-clause-generated c = subst (λ (m : Netlist). IsGraphOf m (network_of c.in_ok-graph.graph)) c.in_ok-netlist.ensures.generated c.in_ok-graph.ensures.network
+
+pub returns-clause-sources : goal.returns-clause-sources
+returns-clause-sources c =
+    let n = c.in_ok-netlist.netlist in
+    let made : Netlist = generated c.args.seed c.args.size in
+    let few : length (sources (frame_in n.frame)) ≡ length (sources made.frame) = ap (λ (m : Netlist). length (sources m.frame)) c.in_ok-netlist.ensures.generated in
+    let within : length (sources (frame_in n.frame)) ≤ most_sources = omega (arith, few, (c.generated_costs.ensures c.args.seed c.args.size).0) in
+    subst (λ (f : Frame). length (sources f) ≤ most_sources) c.in_ok-graph.ensures.network.same.frame within

@@ -1,7 +1,7 @@
 use Rattle.std.proofs.Common.{ap}
 use Rattle.syn_netlist.specs.Frames.{frame_in}
 use Rattle.syn_shell.proofs.Staying.{rebalanced}
-use Rattle.syn_shell.proofs.session.balanced.Goals as goal
+use Rattle.syn_shell.proofs.remaking.balanced.Goals as goal
 
 pub returns-in-Ok-clause-balanced : goal.returns-in-Ok-clause-balanced
 returns-in-Ok-clause-balanced c =

@@ -1,7 +1,7 @@
 use Rattle.syn_netlist.specs.Frames.{frame_in}
 use Rattle.syn_rewrite.specs.Rewriting.{rewritings}
 use Rattle.syn_shell.proofs.Staying.{closed_for}
-use Rattle.syn_shell.proofs.session.rewritten.Goals as goal
+use Rattle.syn_shell.proofs.remaking.rewritten.Goals as goal
 
 pub returns-in-Ok-clause-rewritten : goal.returns-in-Ok-clause-rewritten
 returns-in-Ok-clause-rewritten g c =

@@ -1,7 +1,7 @@
 use Rattle.syn_netlist.specs.Frames.{frame_in}
 use Rattle.syn_refactor.specs.Refactoring.{refactorings}
 use Rattle.syn_shell.proofs.Staying.{closed_for}
-use Rattle.syn_shell.proofs.session.refactored.Goals as goal
+use Rattle.syn_shell.proofs.remaking.refactored.Goals as goal
 
 pub returns-in-Ok-clause-refactored : goal.returns-in-Ok-clause-refactored
 returns-in-Ok-clause-refactored g c =

@@ -1,6 +1,6 @@
 use Rattle.syn_netlist.specs.Frames.{frame_in}
 use Rattle.syn_shell.proofs.Staying.{stays_balanced}
-use Rattle.syn_shell.proofs.session.hashed.Goals as goal
+use Rattle.syn_shell.proofs.remaking.hashed.Goals as goal
 
 pub returns : goal.returns
 returns c =

@@ -1,0 +1,207 @@
+//! What commands make of the network.
+
+ghost use Rattle.std.specs.Prelude.{◌≡◌, ◌≤◌, IfOk, IfErr, Some};
+ghost use Rattle.syn_graph.specs.Graphs as graphs;
+ghost use Rattle.syn_lutnet.specs.Nets as nets;
+ghost use Rattle.syn_build_luts.specs.declared.luts.TheConstants.{MOST_GATES};
+ghost use Rattle.syn_refactor.specs.Refactoring.{refactorings};
+ghost use Rattle.syn_rewrite.specs.Rewriting.{rewritings};
+ghost use Rattle.syn_shell.specs.Networks.{gates_in, graph_network, HasFewSources, mapped_network, network_of};
+ghost use Rattle.syn_shell.specs.Steps.{IsBalanced, IsClosedFor, IsMappedTo, IsRemade, kind_of, Makes, Making, MakingRefused};
+
+use crate::network::Kept;
+use crate::refusal::Refusal;
+use std::alloc::Global;
+use std::thread::Threads;
+use syn_build_luts::{BuildFault, build_luts};
+use syn_graph::Graph;
+use syn_lutnet::LutNet;
+use syn_words::{Command, LutInputs};
+
+// A graph, hashed and compacted: it is so already, and stays.
+fn hashed(graph: Graph) -> Kept
+    ensures { IsRemade (graph_network (graphs.network_of graph)) (network_of result) }
+{
+    syn_shapes::network_of_graph();
+    syn_shapes::graph_has_function();
+    syn_netlist::same_from_function();
+    Kept::Graph(graph)
+}
+
+// A graph, balanced; refused, the graph as it was.
+fn balanced(alloc: Global, graph: Graph) -> Result<Kept, (Graph, Refusal)>
+    ensures balanced { IfOk result (λ new. IsBalanced (graph_network (graphs.network_of graph)) (network_of new)) }
+    ensures refused { IfErr result (λ back. (graphs.network_of back.0 ≡ graphs.network_of graph) × (back.1 ≡ Refusal.NoMemory)) }
+{
+    syn_shapes::network_of_graph();
+    syn_shapes::graph_has_function();
+    syn_netlist::same_from_function();
+    match syn_balance::balance(alloc, graph) {
+        Ok(new) => Ok(Kept::Graph(new)),
+        Err((graph, _)) => Err((graph, Refusal::NoMemory)),
+    }
+}
+
+// A graph, rewritten by so many workers; refused, the graph as it was.
+fn rewritten<R: Threads + Sync>(
+    rt: &R,
+    alloc: Global,
+    graph: Graph,
+    workers: u8,
+    zero: bool,
+) -> Result<Kept, (Graph, Refusal)>
+    ensures rewritten { IfOk result (λ new. IsClosedFor rewritings (graph_network (graphs.network_of graph)) (network_of new)) }
+    ensures refused { IfErr result (λ back. (graphs.network_of back.0 ≡ graphs.network_of graph) × (back.1 ≡ Refusal.NoMemory)) }
+{
+    syn_shapes::network_of_graph();
+    syn_shapes::graph_has_function();
+    syn_netlist::same_from_function();
+    match syn_rewrite::rewrite(rt, alloc, graph, workers, zero) {
+        Ok(new) => Ok(Kept::Graph(new)),
+        Err((graph, _)) => Err((graph, Refusal::NoMemory)),
+    }
+}
+
+// A graph, refactored by so many workers; refused, the graph as it was.
+fn refactored<R: Threads + Sync>(
+    rt: &R,
+    alloc: Global,
+    graph: Graph,
+    workers: u8,
+    zero: bool,
+) -> Result<Kept, (Graph, Refusal)>
+    ensures refactored { IfOk result (λ new. IsClosedFor refactorings (graph_network (graphs.network_of graph)) (network_of new)) }
+    ensures refused { IfErr result (λ back. (graphs.network_of back.0 ≡ graphs.network_of graph) × (back.1 ≡ Refusal.NoMemory)) }
+{
+    syn_shapes::network_of_graph();
+    syn_shapes::graph_has_function();
+    syn_netlist::same_from_function();
+    match syn_refactor::refactor(rt, alloc, graph, workers, zero) {
+        Ok(new) => Ok(Kept::Graph(new)),
+        Err((graph, _)) => Err((graph, Refusal::NoMemory)),
+    }
+}
+
+// A graph, mapped to LUTs of so many inputs, with cuts that so many workers list; refused, the graph as it was.
+fn mapped<R: Threads + Sync>(
+    rt: &R,
+    alloc: Global,
+    graph: Graph,
+    inputs: &LutInputs,
+    workers: u8,
+) -> Result<Kept, (Graph, Refusal)>
+    ensures mapped { IfOk result (λ new. IsMappedTo inputs.now (graph_network (graphs.network_of graph)) (network_of new)) }
+    ensures refused { IfErr result (λ back. (graphs.network_of back.0 ≡ graphs.network_of graph) × (back.1 ≡ Refusal.NoMemory)) }
+{
+    syn_shapes::network_of_graph();
+    syn_shapes::graph_has_function();
+    syn_lutshapes::network_of_luts();
+    syn_lutshapes::luts_have_function();
+    syn_netlist::same_from_function();
+    match syn_map::map(rt, alloc, &graph, inputs.number(), workers) {
+        Ok(net) => Ok(Kept::Luts(net)),
+        Err(_) => Err((graph, Refusal::NoMemory)),
+    }
+}
+
+// The number of workers of a command: the one that it names, else the session's.
+fn workers_of(named: Option<u8>, workers: u8) -> u8 {
+    match named {
+        Some(named) => named,
+        None => workers,
+    }
+}
+
+// What a command makes of a graph; refused, the graph as it was. A command that makes none leaves it.
+fn remake_graph<R: Threads + Sync>(
+    rt: &R,
+    alloc: Global,
+    command: &Command,
+    graph: Graph,
+    workers: u8,
+) -> Result<Kept, (Graph, Refusal)>
+    ensures made { IfOk result (λ new. Makes command.now (graph_network (graphs.network_of graph)) (network_of new)) }
+    ensures refused { IfErr result (λ back. (graphs.network_of back.0 ≡ graphs.network_of graph) × (back.1 ≡ Refusal.NoMemory)) }
+{
+    match command {
+        Command::Strash => Ok(hashed(graph)),
+        Command::Balance => balanced(alloc, graph),
+        Command::Rewrite {
+            zero,
+            workers: named,
+        } => rewritten(rt, alloc, graph, workers_of(*named, workers), *zero),
+        Command::Refactor {
+            zero,
+            workers: named,
+        } => refactored(rt, alloc, graph, workers_of(*named, workers), *zero),
+        Command::Map(inputs) => mapped(rt, alloc, graph, inputs, workers),
+        Command::Read(_) | Command::Generate { .. } | Command::Stats | Command::Write(_) => {
+            Ok(Kept::Graph(graph))
+        }
+    }
+}
+
+// The graph of a net of LUTs.
+fn graph_of(alloc: Global, net: &LutNet) -> Result<Graph, Refusal>
+    requires { HasFewSources (mapped_network (nets.network_of net.now)) }
+    ensures graph { IfOk result (λ graph. IsRemade (mapped_network (nets.network_of net.now)) (graph_network (graphs.network_of graph))) }
+    ensures gates { IfOk result (λ graph. gates_in (mapped_network (nets.network_of net.now)) ≤ MOST_GATES) }
+    ensures refused { IfErr result (MakingRefused (Some (mapped_network (nets.network_of net.now)))) }
+{
+    syn_lutshapes::network_of_luts();
+    match build_luts(alloc, net) {
+        Ok(graph) => Ok(graph),
+        Err(BuildFault::TooManyGates(gates)) => Err(Refusal::TooManyGates(gates)),
+        Err(BuildFault::NoMemory) => Err(Refusal::NoMemory),
+    }
+}
+
+// What a command makes of a net of LUTs: what it makes of its graph.
+fn remake_luts<R: Threads + Sync>(
+    rt: &R,
+    alloc: Global,
+    command: &Command,
+    net: &LutNet,
+    workers: u8,
+) -> Result<Kept, Refusal>
+    requires making { kind_of command.now ≡ Making }
+    requires sources { HasFewSources (mapped_network (nets.network_of net.now)) }
+    ensures made { IfOk result (λ new. Makes command.now (mapped_network (nets.network_of net.now)) (network_of new)) }
+    ensures gates { IfOk result (λ new. gates_in (mapped_network (nets.network_of net.now)) ≤ MOST_GATES) }
+    ensures refused { IfErr result (MakingRefused (Some (mapped_network (nets.network_of net.now)))) }
+{
+    syn_netlist::same_is_transitive();
+    let graph = graph_of(alloc, net)?;
+    match remake_graph(rt, alloc, command, graph, workers) {
+        Ok(new) => Ok(new),
+        Err((_, cause)) => Err(cause),
+    }
+}
+
+/// What a command that makes the network anew makes of it, with so many workers where it names none; refused, the network
+/// as it was.
+pub(crate) fn remake<R: Threads + Sync>(
+    rt: &R,
+    alloc: Global,
+    command: &Command,
+    network: Kept,
+    workers: u8,
+) -> Result<Kept, (Kept, Refusal)>
+    requires making { kind_of command.now ≡ Making }
+    requires sources { HasFewSources (network_of network) }
+    ensures made { IfOk result (λ new. Makes command.now (network_of network) (network_of new)) }
+    ensures gates { IfOk result (λ new. gates_in (network_of network) ≤ MOST_GATES) }
+    ensures sources { IfOk result (λ new. HasFewSources (network_of new)) }
+    ensures refused { IfErr result (λ back. (network_of back.0 ≡ network_of network) × MakingRefused (Some (network_of network)) back.1) }
+{
+    match network {
+        Kept::Graph(graph) => match remake_graph(rt, alloc, command, graph, workers) {
+            Ok(new) => Ok(new),
+            Err((graph, cause)) => Err((Kept::Graph(graph), cause)),
+        },
+        Kept::Luts(net) => match remake_luts(rt, alloc, command, &net, workers) {
+            Ok(new) => Ok(new),
+            Err(cause) => Err((Kept::Luts(net), cause)),
+        },
+    }
+}

@@ -1,0 +1,66 @@
+//! Numbers of inputs of LUTs.
+
+ghost use Rattle.std.specs.Prelude.{◌≡◌, ◌≤◌};
+ghost use Rattle.syn_words.specs.Commands.{given_inputs, inputs_of};
+
+use std::marker::Model;
+
+// So many inputs at least.
+const FEWEST_INPUTS: u8 = 2;
+
+// So many inputs at most.
+const MOST_INPUTS: u8 = 8;
+
+// So many inputs where no number is given.
+const USUAL_INPUTS: u8 = 6;
+
+/// How many inputs a LUT may have: a number from 2 to 8. Contracts see it.
+#[derive(Debug, Drop)]
+pub struct LutInputs {
+    number: u8,
+}
+
+impl Model for LutInputs {
+    ghost use Rattle.std.specs.Prelude.{◌≤◌, ℕ};
+
+    ghost Value = { ℕ };
+
+    ghost view = { λ inputs. inputs.number };
+
+    ghost invariant = { λ inputs. (2 ≤ inputs.number) × (inputs.number ≤ 8) };
+}
+
+// A number of inputs, at least the fewest and at most the most.
+fn inputs_of(number: u64) -> u8
+    ensures { result ≡ inputs_of number }
+{
+    if number < FEWEST_INPUTS as u64 {
+        FEWEST_INPUTS
+    } else if number < MOST_INPUTS as u64 {
+        number as u8
+    } else {
+        MOST_INPUTS
+    }
+}
+
+impl LutInputs {
+    /// The number that was given, or 6. One out of range gives the nearest in it.
+    pub fn of(given: Option<u64>) -> LutInputs
+        ensures { result ≡ given_inputs given }
+    {
+        let number = match given {
+            None => USUAL_INPUTS,
+            Some(number) => inputs_of(number),
+        };
+        LutInputs { number }
+    }
+
+    /// The number.
+    pub fn number(&self) -> u8
+        ensures number { result ≡ self.now }
+        ensures many { 2 ≤ result }
+        ensures few { result ≤ 8 }
+    {
+        self.number
+    }
+}
