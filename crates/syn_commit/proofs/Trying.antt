@@ -40,7 +40,7 @@ free_append (seen.Miss node ∷ met) more = free_append met more
 free_append (seen.Key node key ∷ met) more = free_append met more
 free_append (seen.Count node count own ∷ met) more = free_append met more
 
-claimed_append : (met more : List Seen) → found_claimed (met ++ more) ≡ found_claimed met ++ found_claimed more
+pub claimed_append : (met more : List Seen) → found_claimed (met ++ more) ≡ found_claimed met ++ found_claimed more
 claimed_append [] more = refl
 claimed_append (seen.Row node row ∷ met) more = claimed_append met more
 claimed_append (seen.Miss node ∷ met) more = ap (λ ns. node ∷ ns) (claimed_append met more)
@@ -63,7 +63,7 @@ or_assoc : (a b c : Bool) → ((a || b) || c) ≡ (a || (b || c))
 or_assoc true b c = refl
 or_assoc false b c = refl
 
-or_none : (a : Bool) → (a || false) ≡ a
+pub or_none : (a : Bool) → (a || false) ≡ a
 or_none true = refl
 or_none false = refl
 
@@ -156,7 +156,7 @@ or_swap false false = refl
 -- ---- one node is tried
 module _ (v : View) (node : ℕ) (pool : List ℕ) (none : has_node v.held node ≡ false) (keeps : KeepsPool v pool) where
   -- what is held is another node
-  other : (n : ℕ) → has_node v.held n ≡ true → n ≢ node
+  pub other : (n : ℕ) → has_node v.held n ≡ true → n ≢ node
   other n h same = let no : has_node v.held n ≡ false = subst (λ k. has_node v.held k ≡ false) (sym same) none in absurd (cc)
 
   new_to_pool : has_node pool node ≡ false
@@ -208,10 +208,10 @@ module _ (v : View) (node : ℕ) (pool : List ℕ) (none : has_node v.held node 
   }
 
   -- a node that isn't free is let go again
-  row_stays : (r : Row) (n : ℕ) → n ≢ node → known_row (released (row_loaded (claimed v node) node r) node) n ≡ known_row v n
+  pub row_stays : (r : Row) (n : ℕ) → n ≢ node → known_row (released (row_loaded (claimed v node) node r) node) n ≡ known_row v n
   row_stays r n ne = look_kept (differs node) n ((node, r) ∷ v.rows) (ap not (ne_eqb n node ne)) ∙ look_there n node r v.rows ne
 
-  held_stays : (n : ℕ) → has_node (only (differs node) (node ∷ v.held)) n ≡ has_node v.held n
+  pub held_stays : (n : ℕ) → has_node (only (differs node) (node ∷ v.held)) n ≡ has_node v.held n
   held_stays n = elim (cases_eq n node) [
     | inl same ↦ subst (λ k. has_node (only (differs node) (node ∷ v.held)) k ≡ has_node v.held k) (sym same) (has_self (node ∷ v.held) node ∙ sym none)
     | inr ne ↦ has_other (node ∷ v.held) node n ne ∙ ap (λ b. b || has_node v.held n) (ne_eqb node n (λ e. ne (sym e)))

@@ -4,6 +4,7 @@
 mod gates;
 mod hints;
 mod pools;
+mod walking;
 
 pub use gates::{Gate, Moment, OpenGate};
 pub use hints::Hints;

@@ -130,7 +130,7 @@ not_true true h = absurd (cc)
 not_true false h = refl
 
 -- a node that is entered is none of the inner rows'
-entered_new : (t : Task) (inner : List NodeRow) (n : ℕ) → enters t.proposal.leaves inner n ≡ true → has_node (nodes_of inner) n ≡ false
+pub entered_new : (t : Task) (inner : List NodeRow) (n : ℕ) → enters t.proposal.leaves inner n ≡ true → has_node (nodes_of inner) n ≡ false
 entered_new t inner n h =
     let first = and_parts (not (n == 0)) (not (has_node t.proposal.leaves n) && not (has_node (nodes_of inner) n)) h in
     not_true _ (and_parts (not (has_node t.proposal.leaves n)) (not (has_node (nodes_of inner) n)) first.1).1

@@ -1,0 +1,18 @@
+use Rattle.std.proofs.Common.{◌≡◌}
+use Rattle.syn_decide.specs.Tasks.{task_of}
+use Rattle.syn_table.specs.Seating.{IsOf, known_of, view_of}
+use Rattle.syn_table.specs.Steps.{with_view}
+use Rattle.syn_commit.specs.Walks.{IsWalking}
+use Rattle.syn_commit.proofs.Entering.{HasRoom, left_to_enter}
+use Rattle.syn_commit.proofs.walking.walk.Given as goal
+
+abbrev pub invariant-loop-node : goal.invariant-loop-node
+invariant-loop-node l = record {
+  table : IsOf l.seat l.shared;
+  known : known_of l.seat ≡ with_view (known_of l.fn.seat) (view_of l.seat);
+  walked : IsWalking (task_of l.attempt) (view_of l.fn.seat) l.pool (view_of l.seat) l.deciding;
+  room : HasRoom l.deciding;
+}
+
+abbrev pub decreases-loop-node : goal.decreases-loop-node
+decreases-loop-node l = left_to_enter l.deciding

@@ -1,0 +1,72 @@
+//! The walk of a commit, from the root to the leaves, under claims.
+
+ghost use Rattle.std.specs.Prelude.{◌≡◌, ◌<◌, ℕ, [], false, length, true};
+ghost use Rattle.syn_rows.specs.Nodes.{has_node};
+ghost use Rattle.syn_decide.specs.declared.decisions.Want.TheVariants as want;
+ghost use Rattle.syn_decide.specs.Decided.{Next};
+ghost use Rattle.syn_decide.specs.Fold as fold;
+ghost use Rattle.syn_decide.specs.Tasks.{task_of};
+ghost use Rattle.syn_decide.specs.Walk.{enters};
+ghost use Rattle.syn_table.specs.Seating.{IsOf, known_of, nodes_of, view_of};
+ghost use Rattle.syn_table.specs.Steps.{with_view};
+ghost use Rattle.syn_commit.specs.Pools.{KeepsPool};
+ghost use Rattle.syn_commit.specs.Walks.{IsEntered, IsWalking};
+
+use crate::Pool;
+use syn_core_laws::Seen;
+use syn_decide::{Attempt, Deciding, Decision, Want};
+use syn_table::{Seat, Shared};
+
+// Claims a node, loads its row and reads it. A node that is no gate is let go again.
+fn enter(
+    shared: &Shared,
+    seat: &mut Seat,
+    attempt: &Attempt<'_>,
+    deciding: &mut Deciding,
+    node: u32,
+)
+    requires table { IsOf seat.old shared.now }
+    requires node { node < nodes_of shared.now }
+    requires free { has_node (view_of seat.old).held node ≡ false }
+    ensures table { IsOf seat.new shared.now }
+    ensures known { known_of seat.new ≡ with_view (known_of seat.old) (view_of seat.new) }
+    ensures entered { IsEntered (task_of attempt.now) (length (known_of seat.old).numbers) node (view_of seat.old) deciding.old (view_of seat.new) deciding.new }
+{
+    shared.seats_reach_nodes(seat);
+    if !shared.claim(seat, node) {
+        deciding.read(attempt, Seen::Miss(node));
+        return;
+    }
+    let row = shared.row_of(seat, node);
+    deciding.read(attempt, Seen::Row(node, row));
+    if !row.is_derived() {
+        shared.release(seat, node);
+    }
+}
+
+/// Loads the rows between the root and the leaves, as long as the decision asks for rows.
+pub(crate) fn walk(
+    shared: &Shared,
+    seat: &mut Seat,
+    pool: &Pool,
+    attempt: &Attempt<'_>,
+    deciding: &mut Deciding,
+)
+    requires table { IsOf seat.old shared.now }
+    requires start { deciding.old ≡ fold.begin (task_of attempt.now) }
+    requires pool { KeepsPool (view_of seat.old) pool.now }
+    requires alone { (n : ℕ) → has_node (view_of seat.old).held n ≡ has_node pool.now n }
+    requires root { attempt.now.candidate.root < nodes_of shared.now }
+    requires not_spare { has_node pool.now attempt.now.candidate.root ≡ false }
+    requires enters { enters attempt.now.candidate.leaves.now [] attempt.now.candidate.root ≡ true }
+    ensures table { IsOf seat.new shared.now }
+    ensures known { known_of seat.new ≡ with_view (known_of seat.old) (view_of seat.new) }
+    ensures walked { IsWalking (task_of attempt.now) (view_of seat.old) pool.now (view_of seat.new) deciding.new }
+    ensures over { (n : ℕ) → fold.wants deciding.new ≡ Next (want.Row n) → ⊥ }
+{
+    let _ = pool;
+    while let Decision::Next(Want::Row(node)) = deciding.wants() {
+        shared.seats_reach_nodes(seat);
+        enter(shared, seat, attempt, deciding, node);
+    }
+}
