@@ -51,7 +51,7 @@ pub fn build_checked(alloc: Global, checked: CheckedNetlist) -> Result<Graph, Al
 // The graph of a netlist whose tables are built in this order.
 fn build_in_order(alloc: Global, netlist: &Netlist, order: &[u32]) -> Result<Graph, AllocError>
     requires order { PutsInOrder (netlist_in netlist.now) order.now }
-    requires room { length (sources (frame_in netlist.now.frame)) + cost_of (netlist_in netlist.now) + 2 < 2 ^ 29 }
+    requires room { length (sources (frame_in netlist.now.frame)) + cost_of (netlist_in netlist.now) + 2 < NODE_LIMIT }
     requires names { length netlist.now.frame.names < 2 ^ 31 }
     ensures network { IfOk result (λ graph. IsGraphOf (netlist_in netlist.now) (network_of graph)) }
     ensures function { IfOk result (λ graph. HasFunction (netlist_in netlist.now) (rows_function graph.rows graph.observed)) }

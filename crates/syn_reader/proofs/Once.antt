@@ -14,7 +14,7 @@ use Rattle.syn_reader.specs.Shapes.{last_word, IsTable}
 use Rattle.syn_reader.specs.Definitions.{Definition, definitions, forbids, first_forbidden, first_undriven}
 use Rattle.syn_reader.specs.LineFaults.{checks, first_fault_of_lines, defined_twice}
 use Rattle.syn_reader.specs.Reading.{Adds, Spell, Reads, rows_below, first_fault_of_text}
-use Rattle.syn_reader.specs.Limits.{Within, IsFirstFault, limit}
+use Rattle.syn_reader.specs.Limits.{Within, IsFirstFault, most_cost, most_sources}
 use Rattle.syn_netlist.specs.Costs.{cost_of}
 use Rattle.syn_reader.specs.Laws.{EitherOr}
 use Rattle.syn_reader.proofs.Words.{last_snoc}
@@ -105,7 +105,7 @@ either_or bytes = go (first_fault_of_text bytes) refl
   where
     net : (n : Netlist) → first_fault_of_text bytes ≡ None → Spell (statements bytes) n
         → (((w : List ℕ) → ReachesCircle n.tables w → ⊥) ⊎ ((names : List (List ℕ)) × (first : List ℕ) × (before : List (List ℕ)) × (set : List ℕ → Bool) × IsAnsweredCircle n.tables first before names set))
-        → (length (sources n.frame) ≤ limit) ⊎ (limit < length (sources n.frame)) → (cost_of n ≤ limit) ⊎ (limit < cost_of n)
+        → (length (sources n.frame) ≤ most_sources) ⊎ (most_sources < length (sources n.frame)) → (cost_of n ≤ most_cost) ⊎ (most_cost < cost_of n)
         → ((m : Netlist) × Reads bytes m × Within m) ⊎ ((fault : Fault) × IsFirstFault bytes fault)
     net n e p (inr c) s t = inr (Cycle c.0, inr (e, (n, p, (c.1, c.2, c.3, c.4))))
     net n e p (inl c) (inr s) t = inr (TooManySources (length (sources n.frame)), inr (e, (n, p, (c, refl, s))))
@@ -117,4 +117,4 @@ either_or bytes = go (first_fault_of_text bytes) refl
     go None e =
         let lines = (or_none (first_fault_of_lines checks [] (statements bytes)) (option_map Undriven (first_undriven (statements bytes))) (or_none (option_map BadByte (bad_byte bytes)) _ e).1).0 in
         let n = faultless_spell (statements bytes) lines in
-        net n.0 e n.1 (circle_or_none n.0.tables (once [] (statements bytes) n.0 lines n.1)) (le_or (length (sources n.0.frame)) limit) (le_or (cost_of n.0) limit)
+        net n.0 e n.1 (circle_or_none n.0.tables (once [] (statements bytes) n.0 lines n.1)) (le_or (length (sources n.0.frame)) most_sources) (le_or (cost_of n.0) most_cost)

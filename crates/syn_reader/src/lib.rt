@@ -19,7 +19,7 @@ pub use laws::{
     circle_or_none, either_or, faultless_spell, not_both, one_fault, one_netlist, spell_computed,
     worked_netlists, worked_prefixes, worked_texts,
 };
-pub use limits::LIMIT;
+pub use limits::{MOST_COST, MOST_SOURCES};
 pub use reading::{read, read_checked};
 use std::alloc::{AllocError, AllocFailed};
 use syn_netlist::{Items, Word};

@@ -12,8 +12,11 @@ use crate::ReadFault;
 use std::alloc::{AllocError, Global};
 use syn_netlist::{CheckedNetlist, Netlist, cost};
 
-/// The most sources, and the greatest cost, of a netlist that is read.
-pub const LIMIT: u32 = 1_048_576;
+/// The most sources of a netlist that is read.
+pub const MOST_SOURCES: u32 = 1_048_576;
+
+/// The greatest cost of a netlist that is read.
+pub const MOST_COST: u64 = 4_194_304;
 
 // How many sources a netlist has.
 fn source_count(alloc: Global, n: &Netlist) -> Result<u32, AllocError>
@@ -33,11 +36,11 @@ pub(crate) fn check_limits(alloc: Global, n: &CheckedNetlist) -> Result<(), Read
 {
     n.is_checked();
     let count = source_count(alloc, &n.netlist)?;
-    if count > LIMIT {
+    if count > MOST_SOURCES {
         return Err(ReadFault::TooManySources(count));
     }
     let total = cost(&n.netlist);
-    if total > LIMIT as u64 {
+    if total > MOST_COST {
         return Err(ReadFault::TooLarge(total));
     }
     Ok(())

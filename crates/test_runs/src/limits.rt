@@ -1,6 +1,6 @@
 //! Inputs at their limits, and one past them.
 
-use crate::harness::{Outcome, file_of, leaves, lines_of, sink};
+use crate::harness::{Outcome, file_of, leaves, lines_of, script_leaves, sink};
 use std::alloc::{AllocError, Global};
 use std::test::Fail;
 use std::thread::Threads;
@@ -52,7 +52,7 @@ fn reads_a_cost_up_to_its_limit(rt: HostRuntime) -> Result<(), Fail> {
     let alloc = rt.alloc();
     let rows = [
         (".end\n", 0, "m : i/o = 1/1 lat = 0 and = 0 lev = 0\n"),
-        ("- 1\n.end\n", 5, "refused: cost 1048577\n"),
+        ("- 1\n.end\n", 5, "refused: cost 4194305\n"),
     ];
     for (more, status, printed) in rows {
         let wanted = Outcome {
@@ -60,7 +60,7 @@ fn reads_a_cost_up_to_its_limit(rt: HostRuntime) -> Result<(), Fail> {
             printed,
             written: None,
         };
-        let text = table_of(alloc, 524_288, more)?;
+        let text = table_of(alloc, 2_097_152, more)?;
         let files = file_of(alloc, text.as_slice())?;
         let lines = lines_of(alloc, "")?;
         let out = sink(alloc)?;
@@ -68,6 +68,43 @@ fn reads_a_cost_up_to_its_limit(rt: HostRuntime) -> Result<(), Fail> {
         assert!(rt;
             leaves(&rt, alloc, &words, files, lines, out, wanted)?,
             "{printed}"
+        );
+    }
+    Ok(())
+}
+
+// A model of so many inputs.
+fn inputs_of(alloc: Global, count: u32) -> Result<Vec<u8>, Fail> {
+    let mut text = b".model m\n.inputs".to_vec(alloc)?;
+    for j in 0..count {
+        let word = format!(in alloc; " i{j}")?;
+        text.extend_from_slice(word.as_bytes())?;
+    }
+    text.extend_from_slice(b"\n.outputs\n.end\n")?;
+    Ok(text)
+}
+
+#[test]
+fn reads_sources_up_to_their_limit(rt: HostRuntime) -> Result<(), Fail> {
+    let alloc = rt.alloc();
+    let rows = [
+        (
+            1_048_576,
+            0,
+            "m : i/o = 1048576/0 lat = 0 and = 0 lev = 0\n",
+        ),
+        (1_048_577, 5, "refused: 1048577 sources\n"),
+    ];
+    for (count, status, printed) in rows {
+        let wanted = Outcome {
+            status,
+            printed,
+            written: None,
+        };
+        let text = inputs_of(alloc, count)?;
+        assert!(rt;
+            script_leaves(&rt, alloc, "read_blif a; ps", text.as_slice(), wanted)?,
+            "{count} inputs"
         );
     }
     Ok(())

@@ -1,6 +1,6 @@
 //! Files and a sink that fail.
 
-use crate::harness::{NAND, NAND_LINE, Outcome, SCRIPT, file_of, leaves, lines_of};
+use crate::harness::{NAND, NAND_LINE, NAND_WRITTEN, Outcome, SCRIPT, file_of, leaves, lines_of};
 use std::test::Fail;
 use syn_io::{MemFiles, MemSink};
 
@@ -53,5 +53,61 @@ fn puts_a_line_of_statistics_in_one_piece(rt: HostRuntime) -> Result<(), Fail> {
     };
     let words = ["synth", "-c", "read_blif a; ps; ps"];
     assert!(rt; leaves(&rt, alloc, &words, files, lines, out, wanted)?);
+    Ok(())
+}
+
+// Lines over a file `a`: what is refused leaves the network and the file `o` of the line before, and the run goes on where
+// the sink holds.
+#[test]
+fn runs_lines_where_the_outside_fails(rt: HostRuntime) -> Result<(), Fail> {
+    let alloc = rt.alloc();
+    let missing = "read_blif q\nread_blif a\nwrite_blif o\n";
+    let again = "read_blif a\nread_blif a; write_blif o\nwrite_blif o\n";
+    let written = Some(NAND_WRITTEN);
+    let rows: [(&str, &[u64], &[u64], &[u64], u8, &str, Option<&str>); 4] = [
+        (
+            missing,
+            &[],
+            &[],
+            &[],
+            7,
+            "refused: cannot read q\n",
+            written,
+        ),
+        (
+            "rewrit\nread_blif a\nwrite_blif o\n",
+            &[],
+            &[],
+            &[1],
+            3,
+            "",
+            None,
+        ),
+        (
+            again,
+            &[2],
+            &[],
+            &[],
+            7,
+            "refused: cannot read a\n",
+            written,
+        ),
+        (missing, &[], &[], &[1], 7, "", None),
+    ];
+    for (lines, gets, puts, pieces, status, printed, written) in rows {
+        let mut files = MemFiles::failing(alloc, gets.to_vec(alloc)?, puts.to_vec(alloc)?);
+        files.add(alloc, "a", NAND.as_bytes())?;
+        let out = MemSink::new(alloc, 999, pieces.to_vec(alloc)?)?;
+        let wanted = Outcome {
+            status,
+            printed,
+            written,
+        };
+        let lines = lines_of(alloc, lines)?;
+        assert!(rt;
+            leaves(&rt, alloc, &["synth"], files, lines, out, wanted)?,
+            "{printed}"
+        );
+    }
     Ok(())
 }

@@ -4,12 +4,12 @@ use Rattle.syn_reader.specs.Reading.{NoCircle}
 use Rattle.syn_reader.proofs.Answering.{no_circle}
 use Rattle.syn_reader.proofs.limits.check_limits.Goals as goal
 
-pub returns-then-count-gt-LIMIT-clause-fault : goal.returns-then-count-gt-LIMIT-clause-fault
-returns-then-count-gt-LIMIT-clause-fault c =
+pub returns-then-count-gt-MOST_SOURCES-clause-fault : goal.returns-then-count-gt-MOST_SOURCES-clause-fault
+returns-then-count-gt-MOST_SOURCES-clause-fault c =
     let acyclic : NoCircle (netlist_in c.args.n.now.netlist) = no_circle (netlist_in c.args.n.now.netlist) c.is_checked.ensures in
     search (rules, acyclic)
 
-pub returns-then-total-clause-fault : goal.returns-then-total-clause-fault
-returns-then-total-clause-fault c =
+pub returns-then-total-gt-MOST_COST-clause-fault : goal.returns-then-total-gt-MOST_COST-clause-fault
+returns-then-total-gt-MOST_COST-clause-fault c =
     let acyclic : NoCircle (netlist_in c.args.n.now.netlist) = no_circle (netlist_in c.args.n.now.netlist) c.is_checked.ensures in
     search (rules, acyclic)
