@@ -19,7 +19,8 @@ use Rattle.syn_lutshapes.specs.LutSpelling.{NetworkOfLuts, NetworkSpellsLuts, lu
 use Rattle.syn_map.specs.Labels.{label_of}
 use Rattle.syn_words.specs.declared.Command.{Command}
 use Rattle.syn_words.specs.declared.Command.TheVariants as commands
-use Rattle.syn_shell.specs.Networks.{Network, graph_network, mapped_network, most_sources, HasFewSources}
+use Rattle.syn_reader.specs.Limits.{most_sources}
+use Rattle.syn_shell.specs.Networks.{Network, graph_network, mapped_network, HasFewSources}
 use Rattle.syn_shell.specs.Steps.{IsMappedTo, IsRemade, Makes, Making, OnGraph, kind_of}
 
 -- LUTs of the function of rows, as deep as the greatest label, and no more of them than rows

@@ -1,6 +1,7 @@
 -- The network of a session: the netlist that a write of it puts, and whether it is one of LUTs.
 use Rattle.std.specs.Prelude.{ℕ, ◌≤◌, Bool, true, false, Option, option_map, length, IfSome}
 use Rattle.syn_netlist.specs.Lists.{Netlist, sources}
+use Rattle.syn_reader.specs.Limits.{most_sources}
 use Rattle.syn_graph.specs.Graphs as graphs
 use Rattle.syn_lutshapes.specs.LutShape.{gates_of}
 use Rattle.syn_lutnet.specs.Nets as nets
@@ -38,10 +39,6 @@ gates_by true netlist = gates_of netlist
 abbrev pub gates_in : Network → ℕ
 gates_in network = gates_by network.mapped network.netlist
 
--- the most sources of a network
-abbrev pub most_sources : ℕ
-most_sources = 1048576
-
--- A network has no more sources than the most.
+-- A network has no more sources than a netlist that is read may have.
 abbrev pub HasFewSources : Network → Type 0
 HasFewSources network = length (sources network.netlist.frame) ≤ most_sources

@@ -1,6 +1,6 @@
 use Rattle.std.proofs.Common.{◌≤◌, length, subst}
 use Rattle.syn_netlist.specs.Lists.{Frame, sources}
-use Rattle.syn_shell.specs.Networks.{most_sources}
+use Rattle.syn_reader.specs.Limits.{most_sources}
 use Rattle.syn_shell.proofs.session.read.Goals as goal
 
 pub returns-clause-sources : goal.returns-clause-sources
