@@ -1,6 +1,6 @@
 //! The first fault of subcircuits, by line.
 
-ghost use Rattle.std.specs.Prelude.{◌≡◌, ℕ, ◌++◌, ◌∷◌, List, [], flat_map, length, true, IfNone, IfOk, OnOk};
+ghost use Rattle.std.specs.Prelude.{◌≡◌, ◌++◌, ◌∷◌, List, [], flat_map, length, true, IfNone, IfOk, OnOk};
 ghost use Rattle.std.specs.List.{list_all};
 ghost use Rattle.syn_models.specs.FlatFaults.{checks, defined_in, first_of_models, first_of_statements, statement_fault};
 ghost use Rattle.syn_models.specs.Files.{IsFile, all_in};

@@ -1,8 +1,7 @@
 //! The ports of models, and models by their names.
 
-ghost use Rattle.std.specs.Prelude.{◌≡◌, ℕ, ◌^◌, ◌<◌, ◌++◌, flat_map, length, map, true, IfNone, IfOk, IfSome, None, Some, get_or};
-ghost use Rattle.syn_models.specs.Kept.{bind_in, statement_in};
-ghost use Rattle.syn_models.specs.Listed.{ArePorts, AllPorts, listed_in, numbers_listed, words_listed};
+ghost use Rattle.std.specs.Prelude.{◌≡◌, ◌^◌, ◌<◌, flat_map, length, map, true, IfNone, IfOk, IfSome, None, Some, get_or};
+ghost use Rattle.syn_models.specs.Listed.{ArePorts, AllPorts, listed_in, numbers_listed};
 ghost use Rattle.syn_models.specs.Models.{is_port, is_reading, model_named, name_of};
 ghost use Rattle.syn_models.specs.Views.{model_in};
 ghost use Rattle.syn_netlist.specs.Words.{distinct};

@@ -1,6 +1,6 @@
 //! Faults of subcircuits, each at its place.
 
-ghost use Rattle.std.specs.Prelude.{◌≡◌, ℕ, ◌^◌, ◌<◌, ◌≤◌, ◌∷◌, List, [], false, if◌then◌else◌, find, flat_map, length, map, not, option_map, true, IfNone, IfOk, IfSome, None, Some};
+ghost use Rattle.std.specs.Prelude.{◌≡◌, ℕ, ◌^◌, ◌<◌, ◌∷◌, List, [], false, if◌then◌else◌, find, length, map, not, option_map, true, IfNone, IfOk, IfSome, None, Some};
 ghost use Rattle.std.specs.List.{list_all};
 ghost use Rattle.syn_models.specs.Called.{actuals_below};
 ghost use Rattle.syn_models.specs.FlatFaults.{checks, first_again, first_found, foreign, unbound};
@@ -12,11 +12,11 @@ ghost use Rattle.syn_models.specs.Models as models;
 ghost use Rattle.syn_models.specs.Models.{binds_once, formal_of};
 ghost use Rattle.syn_models.specs.Views.{model_in};
 ghost use Rattle.syn_netlist.specs.Numbers.{all_below, word_at, words_at};
-ghost use Rattle.syn_netlist.specs.Words.{distinct, has_word, is_word};
+ghost use Rattle.syn_netlist.specs.Words.{has_word, is_word};
 
 use crate::FlatFault;
 use crate::files::File;
-use crate::hierarchy::{Bind, Model, StatementKind, Subcircuit};
+use crate::hierarchy::{Bind, Model, Subcircuit};
 use crate::ports::{Ports, is_port, is_reading, number_named};
 use std::alloc::{AllocError, Global};
 use syn_netlist::{Names, Word};

@@ -1,6 +1,6 @@
 //! The first name that is read and never defined, model by model.
 
-ghost use Rattle.std.specs.Prelude.{◌≡◌, ℕ, ◌<◌, ◌++◌, ◌∷◌, List, [], find, flat_map, length, map, option_map, true, IfOk, IfSome, None, OnOk, Some};
+ghost use Rattle.std.specs.Prelude.{◌≡◌, ◌<◌, ◌++◌, ◌∷◌, [], find, flat_map, length, true, IfOk, IfSome, None, OnOk, Some};
 ghost use Rattle.syn_models.specs.FlatFaults.{checks, first_of_models, first_of_statements, first_undriven, undriven_in};
 ghost use Rattle.syn_models.specs.Files.{IsFile, all_in};
 ghost use Rattle.syn_models.specs.Listed.{ArePorts};
