@@ -1,5 +1,5 @@
 -- The network of a session: the netlist that a write of it puts, and whether it is one of LUTs.
-use Rattle.std.specs.Prelude.{ℕ, ◌≤◌, Bool, true, false, Option, option_map, length, IfSome}
+use Rattle.std.specs.Prelude.{ℕ, ◌≤◌, Bool, true, false, Option, option_map, length}
 use Rattle.syn_netlist.specs.Lists.{Netlist, sources}
 use Rattle.syn_reader.specs.Limits.{most_sources}
 use Rattle.syn_graph.specs.Graphs as graphs

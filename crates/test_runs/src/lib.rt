@@ -20,6 +20,8 @@ mod limits;
 #[cfg(test)]
 mod line_mode;
 #[cfg(test)]
+mod mapping;
+#[cfg(test)]
 mod networks;
 #[cfg(test)]
 mod outside;
