@@ -1,5 +1,5 @@
 -- The least image and the first transform that gives it are the class and its transform.
-use Rattle.std.proofs.Common.{◌≡◌, ◌≢◌, ℕ, zero, suc, ◌+◌, ◌%◌, ◌/◌, ◌<◌, ◌≤◌, ◌==◌, min, if◌then◌else◌, Bool, true, false, nat_lt, List, refl, sym, ap, ◌∙◌, subst, arith, inl, inr}
+use Rattle.std.proofs.Common.{◌≡◌, ◌≢◌, ℕ, zero, suc, ◌%◌, ◌/◌, ◌<◌, ◌≤◌, ◌==◌, min, if◌then◌else◌, Bool, true, false, refl, sym, ap, ◌∙◌, subst, arith, inl, inr}
 use Rattle.std.proofs.lemmas.Bool.{both_ways, cases_lt, eqb-true, eq-eqb}
 use Rattle.syn_npn.specs.declared.Transform.{Transform}
 use Rattle.syn_npn.specs.Images.{is_permutation}
@@ -9,7 +9,7 @@ use Rattle.syn_npn.proofs.Computed.{every_at}
 use Rattle.syn_npn.proofs.Ordering.{IsCanon-from_places}
 use Rattle.syn_npn.proofs.Unique.{one_canon}
 use Rattle.syn_rewrite.specs.Classes.{class_of, first_to, least_to, transform_of}
-use Rattle.syn_rewrite.specs.Laws.{ClassOfFunction, IsAt}
+use Rattle.syn_rewrite.specs.Laws.{ClassOfFunction}
 
 least_to-le : (n : ℕ) (g : ℕ → ℕ) (k : ℕ) → k ≤ n → least_to n g ≤ g k
 unfolding least_to

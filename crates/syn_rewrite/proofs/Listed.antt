@@ -5,7 +5,7 @@ use Rattle.std.proofs.lemmas.List.{get_or_append_left, get_or_default, get_or_pu
 use Rattle.std.proofs.lemmas.List.Elements.{All-take}
 use Rattle.std.specs.Global.{Vec}
 use Rattle.syn_rows.specs.declared.Row.{Row}
-use Rattle.syn_rows.specs.Rows.{InOrder, row_at}
+use Rattle.syn_rows.specs.Rows.{row_at}
 use Rattle.syn_rows.specs.Reach.{is_and}
 use Rattle.syn_rows.proofs.Folds.{length-fold}
 use Rattle.syn_cuts.specs.Cuts.{listed_cuts, row_cuts}

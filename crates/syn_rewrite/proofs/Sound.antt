@@ -1,5 +1,5 @@
 -- A plan of a node's function over a cut is sound, and so is its place among the proposals of the cut.
-use Rattle.std.proofs.Common.{◌≡◌, ℕ, ◌≤◌, false, Bool, List, [], ◌∷◌, length, map, take, refl, sym, ap, ◌∙◌, arith}
+use Rattle.std.proofs.Common.{◌≡◌, ℕ, ◌≤◌, Bool, List, [], ◌∷◌, length, take, refl, sym, ap, ◌∙◌, arith}
 use Rattle.syn_rows.specs.declared.Row.{Row}
 use Rattle.syn_truth.specs.Truth.{value_of}
 use Rattle.syn_plan.specs.declared.plan.Plan.{Plan}

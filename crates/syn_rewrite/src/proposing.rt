@@ -1,6 +1,6 @@
 //! The proposer.
 
-ghost use Rattle.std.specs.Prelude.{◌≡◌, ◌<◌, ◌≤◌, ◌++◌, true, All, List, OnOk, IfNone, IfOk, IfSome, length, map};
+ghost use Rattle.std.specs.Prelude.{◌≡◌, ◌<◌, ◌≤◌, ◌++◌, true, false, All, List, OnOk, IfNone, IfOk, IfSome, length, map};
 ghost use Rattle.syn_rows.specs.declared.Row.{Row};
 ghost use Rattle.syn_rows.specs.Rows.{row_at};
 ghost use Rattle.syn_rows.specs.Reach.{is_and};
@@ -87,6 +87,68 @@ fn push_plans(
         proposals.push(owned(candidate))?;
     }
     Ok(())
+}
+
+// Whether one of the plans of a node's function over leaves saves. An answer without a proposal is small: most cuts have none.
+fn some_saves(
+    alloc: Global,
+    graph: &Graph,
+    uses: &Uses,
+    node: u32,
+    leaves: &[u32],
+    function: u16,
+    plans: &[Plan],
+    room: &mut Room,
+) -> Result<bool, AllocError>
+    requires uses { IsUsesOf uses.now graph.now }
+    requires node { is_and (row_at graph.now.rows node) ≡ true }
+    requires leaves { AreLeavesOf graph.now.rows node leaves.now }
+    requires function { IsFunctionOver graph.now.rows leaves.now node function }
+    requires plans { ArePlansOf function plans.now }
+    ensures none { IfOk result (λ some. some ≡ false → All (SavesNothing graph.now.rows graph.now.observed) (cut_proposals graph.now.rows node leaves.now)) }
+{
+    let bound = lost_but(alloc, graph, uses, node, leaves)?;
+    for plan in plans {
+        let candidate = candidate(graph, node, leaves, function, plan);
+        if saves_bounded(alloc, graph, uses, candidate, bound, room)? {
+            return Ok(true);
+        }
+    }
+    Ok(false)
+}
+
+// The same of the plans that were made before, or else are made here.
+fn some_of_function_saves(
+    alloc: Global,
+    graph: &Graph,
+    uses: &Uses,
+    classes: &Classes,
+    known: &KnownPlans,
+    node: u32,
+    leaves: &[u32],
+    function: u16,
+    room: &mut Room,
+) -> Result<bool, AllocError>
+    requires uses { IsUsesOf uses.now graph.now }
+    requires node { is_and (row_at graph.now.rows node) ≡ true }
+    requires leaves { AreLeavesOf graph.now.rows node leaves.now }
+    requires function { IsFunctionOver graph.now.rows leaves.now node function }
+    ensures none { IfOk result (λ some. some ≡ false → All (SavesNothing graph.now.rows graph.now.observed) (cut_proposals graph.now.rows node leaves.now)) }
+{
+    if let Some(plans) = known.plans(function) {
+        return some_saves(alloc, graph, uses, node, leaves, function, plans, room);
+    }
+    let plans = plans_of(classes, function);
+    some_saves(
+        alloc,
+        graph,
+        uses,
+        node,
+        leaves,
+        function,
+        plans.as_slice(),
+        room,
+    )
 }
 
 // The first of the plans of a node's function over leaves that saves.
@@ -214,6 +276,19 @@ impl Proposer for CutPlans {
         for (i, cut) in cuts.iter().enumerate() {
             let function = functions[i];
             let leaves = cut.as_slice();
+            if !some_of_function_saves(
+                alloc,
+                graph,
+                uses,
+                &self.classes,
+                &lists.known,
+                node,
+                leaves,
+                function,
+                &mut room,
+            )? {
+                continue;
+            }
             if let Some(found) = first_of_function(
                 alloc,
                 graph,

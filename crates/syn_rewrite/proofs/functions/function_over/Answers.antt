@@ -1,4 +1,4 @@
-use Rattle.std.proofs.Common.{◌≤◌, rules, arith}
+use Rattle.std.proofs.Common.{rules, arith}
 use Rattle.syn_cones.specs.Cones.{IsTruthOver}
 use Rattle.syn_rewrite.proofs.functions.function_over.Goals as goal
 

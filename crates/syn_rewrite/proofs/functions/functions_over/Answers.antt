@@ -1,4 +1,4 @@
-use Rattle.std.proofs.Common.{◌≡◌, ◌+◌, List, length, take, subst, sym}
+use Rattle.std.proofs.Common.{◌+◌, take, subst, sym}
 use Rattle.syn_rewrite.proofs.Cuts.{leaves_at, more_functions}
 use Rattle.syn_rewrite.specs.Prepared.{AreFunctionsOver}
 use Rattle.syn_cuts.specs.Leaves.{leaves_of}

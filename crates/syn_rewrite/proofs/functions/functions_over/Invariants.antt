@@ -1,4 +1,3 @@
-use Rattle.std.proofs.Common.{◌≡◌, ◌+◌, length}
 use Rattle.syn_cuts.specs.Leaves.{leaves_of}
 use Rattle.syn_rewrite.specs.Prepared.{AreFunctionsOver}
 use Rattle.std.proofs.Common.{take}

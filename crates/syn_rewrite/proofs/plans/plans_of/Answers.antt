@@ -1,12 +1,10 @@
-use Rattle.std.proofs.Common.{◌≡◌, ◌+◌, All, map, length, sym, ap, ◌∙◌, arith, take, subst, List, ◌∷◌, [], ◌++◌}
-use Rattle.std.proofs.lemmas.List.{take_all, length-map}
-use Rattle.std.proofs.lemmas.List.Elements.{All-push, All-same, All-get_or}
+use Rattle.std.proofs.Common.{◌≡◌, All, map, sym, ap, ◌∙◌, arith, subst, List, ◌∷◌, [], ◌++◌}
+use Rattle.std.proofs.lemmas.List.{take_all}
+use Rattle.std.proofs.lemmas.List.Elements.{All-push, All-same}
 use Rattle.syn_plan.specs.declared.plan.Plan.{Plan}
 use Rattle.syn_plan.specs.Naming.{built_of}
 use Rattle.syn_library.specs.Fitting.{Computes, fitted_built}
 use Rattle.syn_library.specs.Library.{NamesOwn}
-use Rattle.syn_rewrite.specs.Classes.{class_of, transform_of}
-use Rattle.syn_rewrite.specs.Rewriting.{fitted_plans}
 use Rattle.syn_rewrite.proofs.Classes.{class_of_function}
 use Rattle.syn_rewrite.proofs.Fitted.{All-read, all_fitted, fitted_more}
 use Rattle.syn_rewrite.proofs.plans.plans_of.Goals as goal

@@ -1,4 +1,4 @@
-use Rattle.std.proofs.Common.{◌≡◌, List, ap, ◌∙◌}
+use Rattle.std.proofs.Common.{ap, ◌∙◌}
 use Rattle.syn_cuts.specs.Lists.{list_at}
 use Rattle.syn_rewrite.specs.Rewriting.{all_but_last}
 use Rattle.syn_rewrite.proofs.prepared.cuts_of.Goals as goal

@@ -1,5 +1,4 @@
 use Rattle.std.proofs.Common.{rules, ℕ, All, List, subst, sym, ◌≡◌, true}
-use Rattle.syn_cuts.specs.Leaves.{leaves_of}
 use Rattle.syn_rows.specs.Rows.{row_at}
 use Rattle.syn_rows.specs.Reach.{is_and}
 use Rattle.syn_rewrite.specs.Prepared.{AreLeavesOf}

@@ -1,9 +1,8 @@
-use Rattle.std.proofs.Common.{◌≡◌, ◌≤◌, ◌<◌, ℕ, All, List, length, map, sym, subst, ◌∙◌, arith}
+use Rattle.std.proofs.Common.{◌≤◌, All, List, length, sym, subst, ◌∙◌, arith}
 use Rattle.std.proofs.lemmas.List.Elements.{All-map}
 use Rattle.syn_plan.specs.declared.plan.Plan.{Plan}
 use Rattle.syn_plan.specs.Naming.{built_of}
 use Rattle.syn_library.specs.Fitting.{Computes}
-use Rattle.syn_gain.specs.Proposals.{replacement}
 use Rattle.syn_gain.specs.Replacements.{Replacement}
 use Rattle.syn_pool.specs.Closing.{IsFirst, SavesNothing, SavesSome}
 use Rattle.syn_pool.proofs.Firsts.{first_is}

@@ -1,4 +1,4 @@
-use Rattle.std.proofs.Common.{◌≡◌, ◌<◌, ◌++◌, ◌+◌, List, ap, ◌∙◌, arith}
+use Rattle.std.proofs.Common.{◌++◌, List, ap, ◌∙◌, arith}
 use Rattle.syn_gain.specs.Replacements.{Replacement}
 use Rattle.syn_rewrite.specs.Rewriting.{cut_proposals}
 use Rattle.syn_rewrite.proofs.Candidates.{and_there, function_read, functions_at, functions_count, leaves_read, more_cuts}
