@@ -1,8 +1,9 @@
-//! Graphs of short texts.
+//! Graphs of texts.
 
 ghost use Rattle.std.specs.Prelude.{◌≤◌, length, IfOk};
 ghost use Rattle.syn_netlist.specs.Views.{netlist_in};
 ghost use Rattle.syn_reader.specs.Limits.{Within};
+ghost use Rattle.test_mapping.specs.declared.graphs.TheConstants.{MOST_BYTES};
 
 use std::alloc::Global;
 use syn_build::build_checked;
@@ -10,13 +11,16 @@ use syn_graph::Graph;
 use syn_netlist::CheckedNetlist;
 use syn_reader::{ReadFault, read_checked};
 
-// The netlist of a text of at most 999 bytes.
-fn read_short(alloc: Global, text: &str) -> Result<CheckedNetlist, ReadFault>
+// The most bytes of a text.
+const MOST_BYTES: usize = 1 << 24;
+
+// The netlist of a text of at most so many bytes.
+fn read_text(alloc: Global, text: &str) -> Result<CheckedNetlist, ReadFault>
     ensures within { IfOk result (λ checked. Within (netlist_in checked.netlist)) }
-    ensures names { IfOk result (λ checked. length checked.netlist.frame.names ≤ 999) }
+    ensures names { IfOk result (λ checked. length checked.netlist.frame.names ≤ MOST_BYTES) }
 {
     let bytes = text.as_bytes();
-    if bytes.len() > 999 {
+    if bytes.len() > MOST_BYTES {
         return Err(ReadFault::NoMemory);
     }
     read_checked(alloc, bytes)
@@ -24,6 +28,6 @@ fn read_short(alloc: Global, text: &str) -> Result<CheckedNetlist, ReadFault>
 
 /// The graph of its netlist.
 pub fn graph_of(alloc: Global, text: &str) -> Option<Graph> {
-    let checked = read_short(alloc, text).ok()?;
+    let checked = read_text(alloc, text).ok()?;
     build_checked(alloc, checked).ok()
 }

@@ -3,10 +3,11 @@
 ghost use Rattle.std.specs.Prelude.{◌≡◌, ◌<◌, ◌≤◌, IfSome, length};
 
 use crate::graphs::graph_of;
+use crate::parities::parity_net;
 use std::alloc::{AllocError, Global};
 use std::test::Fail;
 use std::thread::Threads;
-use syn_build_luts::build_luts;
+use syn_build_luts::{BuildFault, build_luts};
 use syn_graph::Graph;
 use syn_lutnet::LutNet;
 use syn_map::map;
@@ -69,17 +70,17 @@ fn greatest(levels: &[u32]) -> u32 {
     most
 }
 
-// The graph that a net of few sources becomes.
-fn rebuilt(alloc: Global, net: &LutNet) -> Option<Graph> {
+// The graph that a net of few sources becomes, or why it becomes none.
+fn rebuilt(alloc: Global, net: &LutNet) -> Option<Result<Graph, BuildFault>> {
     if net.source_count > 999 {
         return None;
     }
-    build_luts(alloc, net).ok()
+    Some(build_luts(alloc, net))
 }
 
 // Whether that has so many ANDs, and this greatest level.
 fn becomes(alloc: Global, net: &LutNet, wanted: Wanted) -> Result<bool, AllocError> {
-    let Some(graph) = rebuilt(alloc, net) else {
+    let Some(Ok(graph)) = rebuilt(alloc, net) else {
         return Ok(false);
     };
     let levels = graph.levels(alloc)?;
@@ -173,6 +174,41 @@ fn maps_graphs(rt: HostRuntime) -> Result<(), Fail> {
                 "{name}, with {workers} workers"
             );
         }
+    }
+    Ok(())
+}
+
+// How many ANDs the graph of a net of so many parities has, or why there is no graph.
+fn parities_become(alloc: Global, count: u32) -> Option<Result<u32, BuildFault>> {
+    let net = parity_net(alloc, count)?;
+    if net.count() != count {
+        return None;
+    }
+    match rebuilt(alloc, &net)? {
+        Ok(graph) => Some(Ok(graph.count())),
+        Err(fault) => Some(Err(fault)),
+    }
+}
+
+#[test]
+fn limits_gates(rt: HostRuntime) -> Result<(), Fail> {
+    let rows = [
+        (
+            "as many gates as may be, of ANDs that are shared",
+            279_620,
+            Ok(15),
+        ),
+        (
+            "one parity more",
+            279_621,
+            Err(BuildFault::TooManyGates(4_194_315)),
+        ),
+    ];
+    for (name, count, wanted) in rows {
+        assert!(rt;
+            parities_become(rt.alloc(), count) == Some(wanted),
+            "{name}"
+        );
     }
     Ok(())
 }
