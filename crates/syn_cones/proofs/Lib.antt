@@ -3,3 +3,6 @@ pub mod Wording
 pub mod Tabling
 pub mod Swapping
 pub mod Valued
+pub mod Gaps
+pub mod Together
+pub mod Carrying

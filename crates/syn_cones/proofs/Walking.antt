@@ -64,7 +64,7 @@ puts_new : (ns : List ℕ) (ms : List ℕ) → has_all (put_nodes ns ms) ns ≡ 
 puts_new [] ms = refl
 puts_new (x ∷ xs) ms = and_from (has_node (put_nodes xs (put_node x ms)) x) (has_all (put_nodes xs (put_node x ms)) xs) (puts_old xs x (put_node x ms) (put_new x ms)) (puts_new xs (put_node x ms))
 
-all_weaker : (xs ys ms : List ℕ) → ((n : ℕ) → has_node xs n ≡ true → has_node ys n ≡ true) → has_all xs ms ≡ true → has_all ys ms ≡ true
+pub all_weaker : (xs ys ms : List ℕ) → ((n : ℕ) → has_node xs n ≡ true → has_node ys n ≡ true) → has_all xs ms ≡ true → has_all ys ms ≡ true
 all_weaker xs ys [] f h = refl
 all_weaker xs ys (m ∷ ms) f h =
     let parts = and_parts (has_node xs m) (has_all xs ms) h in

@@ -114,7 +114,8 @@ fn cone_of(
 // How many hints there are: a place for each number modulo this one.
 const HINTS: usize = 64;
 
-// The place of a node, which probably stands where the hint for its number says.
+// The place of a node, which probably stands where the hint for its number says, and else is found by halves: the nodes
+// of a cone rise here.
 #[inline]
 fn place_near(nodes: &[u32], hints: &[u8; HINTS], node: u32) -> Option<usize>
     ensures some { IfSome result (λ i. (i < length nodes.now) × (slice_index_or nodes.now i 0 ≡ node)) }
@@ -124,7 +125,10 @@ fn place_near(nodes: &[u32], hints: &[u8; HINTS], node: u32) -> Option<usize>
     if guess < nodes.len() && nodes[guess] == node {
         return Some(guess);
     }
-    place_of(nodes, node)
+    match nodes.binary_search(&node) {
+        Ok(i) => Some(i),
+        Err(_) => place_of(nodes, node),
+    }
 }
 
 // The table of a literal, from those of nodes among which its node is.

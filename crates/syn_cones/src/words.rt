@@ -30,7 +30,7 @@ static VARIABLES: [u64; 6] = [
 
 // The word of a leaf: that of a variable.
 #[inline]
-fn variable(i: usize) -> u64
+pub(crate) fn variable(i: usize) -> u64
     requires { i < 6 }
     ensures { (xs : List Bool) → i < length xs → length xs ≤ 6 → value_in result xs ≡ slice_index_or xs i false }
 {
@@ -47,7 +47,7 @@ fn complement(word: u64) -> u64
 
 // The word of a literal, from that of its node.
 #[inline]
-fn lit_word(word: u64, lit: Lit) -> u64
+pub(crate) fn lit_word(word: u64, lit: Lit) -> u64
     ensures { (v : ℕ → Bool) (xs : List Bool) → length xs ≤ 6 → v (node_of lit) ≡ value_in word xs → lit_value v lit ≡ value_in result xs }
 {
     if lit.complemented() {
@@ -97,7 +97,7 @@ fn ones(vars: u8) -> u64
 
 // The table of at most six variables that has the values of a word.
 #[inline]
-fn table_of(vars: u8, word: u64) -> Truth
+pub(crate) fn table_of(vars: u8, word: u64) -> Truth
     requires { vars ≤ 6 }
     ensures vars { result.vars ≡ vars }
     ensures values { AtEach vars (λ xs. value_of result xs ≡ value_in word xs) }
