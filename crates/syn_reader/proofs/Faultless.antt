@@ -87,6 +87,7 @@ added_some above line kinds.Names (w ∷ ws) ss n f e =
 added_some above line kinds.Latch words ss n f e =
     let p = latch_some above line words f in
     (_, ap (option_map (λ l. with_latch l n)) p.1)
+added_some above line kinds.Subckt words ss n f e = (_, refl)
 added_some above line kinds.End words ss n f e = (_, refl)
 
 computed : (above ss : List Statement) → first_fault_of_lines checks above ss ≡ None → (n : Netlist) × (netlist_of ss ≡ Some n)

@@ -10,9 +10,14 @@ use Rattle.syn_reader.specs.declared.Kind.TheVariants as kinds
 use Rattle.syn_reader.specs.declared.signals.Mark.{Mark}
 use Rattle.syn_reader.specs.declared.signals.Mark.TheVariants as marks
 use Rattle.syn_reader.specs.Definitions.{may_share}
-use Rattle.syn_reader.specs.Marking.{mark_forbids, mark_after, forbidden, also, Same}
+use Rattle.syn_reader.specs.Marking.{mark_forbids, mark_after, forbidden, also, Same, with_words}
 use Rattle.syn_netlist.proofs.Places.{has_word_at}
 use Rattle.syn_reader.proofs.Naming.{known_before}
+
+-- names with more words behind them
+pub with_words-append : (names xs ys : List (List ℕ)) → with_words names (xs ++ ys) ≡ with_words (with_words names xs) ys
+with_words-append names [] ys = refl
+with_words-append names (x ∷ xs) ys = with_words-append (with_word names x) xs ys
 
 -- names
 
@@ -96,6 +101,7 @@ no_clock kinds.Outputs h = absurd (both_ways true h refl)
 no_clock kinds.Clock h = refl
 no_clock kinds.Names h = absurd (both_ways true h refl)
 no_clock kinds.Latch h = absurd (both_ways true h refl)
+no_clock kinds.Subckt h = absurd (both_ways true h refl)
 no_clock kinds.End h = absurd (both_ways true h refl)
 
 no_input : (k : Kind) → not (may_share kinds.Clock k) ≡ false → k ≡ kinds.Inputs
@@ -107,6 +113,7 @@ no_input kinds.Outputs h = absurd (both_ways true h refl)
 no_input kinds.Clock h = absurd (both_ways true h refl)
 no_input kinds.Names h = absurd (both_ways true h refl)
 no_input kinds.Latch h = absurd (both_ways true h refl)
+no_input kinds.Subckt h = absurd (both_ways true h refl)
 no_input kinds.End h = absurd (both_ways true h refl)
 
 both : (k : Kind) → (not (may_share kinds.Clock k) || not (may_share kinds.Inputs k)) ≡ true
@@ -118,6 +125,7 @@ both kinds.Outputs = refl
 both kinds.Clock = refl
 both kinds.Names = refl
 both kinds.Latch = refl
+both kinds.Subckt = refl
 both kinds.End = refl
 
 both_again : (k : Kind) → (not (may_share kinds.Inputs k) || not (may_share kinds.Clock k)) ≡ true
@@ -129,6 +137,7 @@ both_again kinds.Outputs = refl
 both_again kinds.Clock = refl
 both_again kinds.Names = refl
 both_again kinds.Latch = refl
+both_again kinds.Subckt = refl
 both_again kinds.End = refl
 
 after_is : (m : Mark) (k j : Kind) → mark_forbids m k ≡ false → mark_forbids (mark_after m k) j ≡ (not (may_share k j) || mark_forbids m j)
@@ -140,6 +149,7 @@ after_is marks.Free kinds.Outputs j h = refl
 after_is marks.Free kinds.Clock j h = sym (or-false (not (may_share kinds.Clock j)))
 after_is marks.Free kinds.Names j h = refl
 after_is marks.Free kinds.Latch j h = refl
+after_is marks.Free kinds.Subckt j h = refl
 after_is marks.Free kinds.End j h = refl
 after_is marks.Input k j h = sym (ap (λ q. not (may_share q j) || not (may_share kinds.Inputs j)) (no_clock k h) ∙ both j)
 after_is marks.Clock k j h = sym (ap (λ q. not (may_share q j) || not (may_share kinds.Clock j)) (no_input k h) ∙ both_again j)

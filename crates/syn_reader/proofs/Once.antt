@@ -61,6 +61,7 @@ later name above (s ∷ ss) n h e p =
     step line kinds.Outputs words t a ih = ap (λ (m : Netlist). has_word (map output_of m.tables) name) a ∙ ih
     step line kinds.Clock words t a ih = ap (λ (m : Netlist). has_word (map output_of m.tables) name) a ∙ ih
     step line kinds.Latch words t a ih = ap (λ (m : Netlist). has_word (map output_of m.tables) name) a.2 ∙ ih
+    step line kinds.Subckt words t a ih = ap (λ (m : Netlist). has_word (map output_of m.tables) name) a ∙ ih
     step line kinds.End words t a ih = ap (λ (m : Netlist). has_word (map output_of m.tables) name) a ∙ ih
     step line kinds.Names [] t a ih = absurd (no_words a.0.inputs a.0.output (a.1.names))
       where
@@ -88,6 +89,7 @@ once above (s ∷ ss) n e p =
     step line kinds.Outputs words f a ih = ap (λ (m : Netlist). distinct (map output_of m.tables)) a ∙ ih
     step line kinds.Clock words f a ih = ap (λ (m : Netlist). distinct (map output_of m.tables)) a ∙ ih
     step line kinds.Latch words f a ih = ap (λ (m : Netlist). distinct (map output_of m.tables)) a.2 ∙ ih
+    step line kinds.Subckt words f a ih = ap (λ (m : Netlist). distinct (map output_of m.tables)) a ∙ ih
     step line kinds.End words f a ih = ap (λ (m : Netlist). distinct (map output_of m.tables)) a ∙ ih
     step line kinds.Names [] f a ih = absurd (no_words a.0.inputs a.0.output (a.1.names))
       where
