@@ -1,17 +1,18 @@
 -- What each step of reading says of the text.
-use Rattle.std.proofs.Common.{◌≡◌, ℕ, not, Bool, true, if◌then◌else◌, List, [], ◌∷◌, map, flat_map, find, refl, sym, ap, ap₂, ◌∙◌, inl, inr, Option, Some, None, IfSome, option_map}
+use Rattle.std.proofs.Common.{◌≡◌, ℕ, not, true, List, [], map, flat_map, sym, ap, ◌∙◌, inl, inr, Option, Some, None, IfSome, option_map}
 use Rattle.std.specs.List.{list_all}
 use Rattle.std.specs.Option.{option_or}
-use Rattle.std.proofs.lemmas.Bool.{cond-false, and_parts, not_from_true}
 use Rattle.syn_lex.specs.Lines.{bad_byte}
 use Rattle.syn_netlist.specs.Faults as faults
-use Rattle.syn_netlist.specs.Faults.{IsChecked, ReachesCircle, OrderableReachesNoCircle, first_undefined}
+use Rattle.syn_netlist.specs.Faults.{IsChecked, first_undefined}
 use Rattle.syn_netlist.specs.Lists.{Netlist}
 use Rattle.syn_netlist.specs.Order.{defined}
 use Rattle.syn_netlist.specs.Words.{has_word}
 use Rattle.syn_netlist.proofs.Arranging.{none_found}
 use Rattle.syn_netlist.proofs.Checked.{orderable_reaches_no_circle}
 use Rattle.syn_netlist.proofs.Sets.{all_at, all_each}
+use Rattle.syn_models.proofs.Circles.{find_same}
+use Rattle.syn_models.proofs.Driven.{find_none}
 use Rattle.syn_reader.specs.Definitions.{definitions, name_of, reads, first_undriven}
 use Rattle.syn_reader.specs.Checking.{IsGathered, AreRead, IsGatheredFault}
 use Rattle.syn_reader.specs.Faults.{Fault, BadByte, Undriven}
@@ -22,27 +23,17 @@ use Rattle.syn_reader.specs.Statements.{Statement, statements}
 use Rattle.syn_reader.proofs.Defining.{spelled_names}
 use Rattle.syn_reader.proofs.ReadingPlaces.{spelled_reads}
 
-find_same : (s t : List ℕ → Bool) → ((w : List ℕ) → s w ≡ t w) → (xs : List (List ℕ)) → find s xs ≡ find t xs
-find_same s t e [] = refl
-find_same s t e (x ∷ xs) = ap₂ (λ b o. if b then Some x else o) (e x) (find_same s t e xs)
-
 -- the first name of the statements that is read and never defined, by their netlist
 pub undriven_is : (ss : List Statement) (n : Netlist) (read : List (List ℕ)) → Spell ss n → read ≡ flat_map reads ss → first_undriven ss ≡ first_undefined n read
 undriven_is ss n read spell e =
     find_same (λ name. not (has_word (map name_of (flat_map definitions ss)) name)) (λ name. not (has_word (defined n) name)) (λ w. ap not (spelled_names ss n w spell)) (flat_map reads ss)
     ∙ ap (first_undefined n) (sym e)
 
-pub none_from_all : (test : List ℕ → Bool) (ws : List (List ℕ)) → list_all test ws ≡ true → find (λ w. not (test w)) ws ≡ None
-none_from_all test [] h = refl
-none_from_all test (x ∷ xs) h =
-    let parts = and_parts (test x) (list_all test xs) h in
-    cond-false (not (test x)) (Some x) (find (λ w. not (test w)) xs) (not_from_true (test x) parts.0) ∙ none_from_all test xs parts.1
-
 -- where all that is read is defined, the netlist is driven
 pub all_driven : (n : Netlist) (read : List (List ℕ)) → AreRead n read → first_undefined n read ≡ None → faults.first_undriven n ≡ None
 all_driven n read are none =
     let all : list_all (has_word (defined n)) read ≡ true = none_found (has_word (defined n)) read none in
-    none_from_all (has_word (defined n)) (faults.reads n)
+    find_none (has_word (defined n)) (faults.reads n)
     (all_each (has_word (defined n)) (faults.reads n) (λ w h. all_at (has_word (defined n)) read w all (are w ∙ h)))
 
 -- the steps of reading, on the text

@@ -74,6 +74,7 @@ step kinds.Row words rows n m w a = ap (λ k. defines k w) a
 step kinds.Unknown words rows n m w a = absurd a
 step kinds.Model words rows n m w a = ap (λ k. defines k w) a.2
 step kinds.Outputs words rows n m w a = ap (λ k. defines k w) a
+step kinds.Subckt words rows n m w a = ap (λ k. defines k w) a
 step kinds.End words rows n m w a = ap (λ k. defines k w) a
 step kinds.Inputs words rows n m w a =
     let rest : Bool = has_word n.frame.clocks w || (has_word (map latch_output n.frame.latches) w || has_word (map output_of n.tables) w) in

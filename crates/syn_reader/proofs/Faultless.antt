@@ -1,5 +1,5 @@
 -- Statements without a fault of a line spell a netlist.
-use Rattle.std.proofs.Common.{◌≡◌, ℕ, suc, ◌&&◌, not, nat_lt, Bool, true, false, if◌then◌else◌, List, [], ◌∷◌, length, find, bytes_eq, codes, refl, sym, ap, ◌∙◌, subst, inl, inr, Option, Some, None, option_map, option_and_then, arith}
+use Rattle.std.proofs.Common.{◌≡◌, ℕ, suc, ◌&&◌, not, nat_lt, Bool, true, false, List, [], ◌∷◌, length, bytes_eq, codes, refl, sym, ap, ◌∙◌, subst, inl, inr, Option, Some, None, option_map, option_and_then, arith}
 use Rattle.std.proofs.lemmas.Bool.Decides.{nat_tests}
 use Rattle.std.proofs.lemmas.Bool.{both_ways, or_cases, not-false}
 use Rattle.syn_netlist.specs.Words.{has_word}
@@ -17,6 +17,7 @@ use Rattle.syn_reader.specs.Limits.{Within, IsNetFault}
 use Rattle.syn_reader.specs.Computed.{is_on, latch_of, init_of, type_of, signal_of, latch, added, netlist_of}
 use Rattle.syn_reader.specs.Laws.{FaultlessSpell, NotBoth}
 use Rattle.syn_netlist.proofs.Sets.{same_word}
+use Rattle.syn_models.proofs.WordSets.{found_passes}
 use Rattle.syn_reader.proofs.Spelled.{spell_back, one_spelled}
 use Rattle.syn_reader.proofs.Fine.{IsFine, parts_of, rows_fit, init_some}
 
@@ -86,6 +87,7 @@ added_some above line kinds.Names (w ∷ ws) ss n f e =
 added_some above line kinds.Latch words ss n f e =
     let p = latch_some above line words f in
     (_, ap (option_map (λ l. with_latch l n)) p.1)
+added_some above line kinds.Subckt words ss n f e = (_, refl)
 added_some above line kinds.End words ss n f e = (_, refl)
 
 computed : (above ss : List Statement) → first_fault_of_lines checks above ss ≡ None → (n : Netlist) × (netlist_of ss ≡ Some n)
@@ -98,14 +100,6 @@ computed above (s ∷ ss) e =
 
 pub faultless_spell : FaultlessSpell
 faultless_spell ss e = let c = computed [] ss e in (c.0, spell_back ss c.0 c.1)
-
-pub found_passes : (test : List ℕ → Bool) (xs : List (List ℕ)) (x : List ℕ) → find test xs ≡ Some x → test x ≡ true
-found_passes test [] x e = absurd (cc)
-found_passes test (y ∷ ys) x e = go (test y) refl e (found_passes test ys x)
-  where
-    go : (t : Bool) → test y ≡ t → (if t then Some y else find test ys) ≡ Some x → (find test ys ≡ Some x → test x ≡ true) → test x ≡ true
-    go true h e ih = ap test (let s : x ≡ y = cc in s) ∙ h
-    go false h e ih = ih e
 
 no_net_fault : (bytes : List ℕ) (n : Netlist) (fault : Fault) → Reads bytes n → Within n → IsNetFault n fault → ⊥
 no_net_fault bytes n (Cycle names) r w h =

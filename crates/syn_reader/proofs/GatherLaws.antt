@@ -1,13 +1,13 @@
 -- What is gathered, as names are added and lists grow.
-use Rattle.std.proofs.Common.{◌≡◌, ℕ, ◌+◌, ◌≤◌, not, nat_lt, true, List, [], ◌∷◌, ◌++◌, length, bytes_eq, Vec, refl, sym, ap, ap₂, ◌∙◌, Option, Some, None, option_map, append_assoc, append-nil}
+use Rattle.std.proofs.Common.{◌≡◌, ℕ, ◌+◌, ◌≤◌, not, true, List, [], ◌∷◌, ◌++◌, length, bytes_eq, Vec, refl, sym, ap, ap₂, ◌∙◌, Option, Some, None, option_map, append_assoc, append-nil}
 use Rattle.std.specs.Global.{Global}
 use Rattle.std.specs.List.{list_all}
-use Rattle.std.proofs.lemmas.Bool.{and_parts, and_from}
 use Rattle.syn_netlist.specs.Lists as lists
 use Rattle.syn_netlist.specs.Lists.{Netlist, control_of}
 use Rattle.syn_netlist.specs.Kept.{nil_word}
 use Rattle.syn_netlist.specs.Numbers.{word_at, words_at, all_below, Grows}
 use Rattle.syn_netlist.proofs.Growing.{words_at-grows, all_below-more, length-grows, latches_in-grows, latches_below-more, tables_in-grows, tables_below-more, no_nil_words}
+use Rattle.syn_netlist.proofs.Places.{all_below-append}
 use Rattle.syn_reader.specs.declared.Kind.TheVariants as kinds
 use Rattle.syn_reader.specs.declared.gathering.Gathering.{Gathering}
 use Rattle.syn_reader.specs.declared.signals.Signals.{Signals}
@@ -52,10 +52,6 @@ above_grows old s h g =
 pub words_append : (names : List (List ℕ)) (is js : List ℕ) → words_at names (is ++ js) ≡ words_at names is ++ words_at names js
 words_append names [] js = refl
 words_append names (i ∷ is) js = ap (λ (l : List (List ℕ)). word_at names i ∷ l) (words_append names is js)
-
-pub below_append : (n : ℕ) (is js : List ℕ) → all_below n is ≡ true → all_below n js ≡ true → all_below n (is ++ js) ≡ true
-below_append n [] js h k = k
-below_append n (i ∷ is) js h k = let p = and_parts (nat_lt i n) (all_below n is) h in and_from (nat_lt i n) (all_below n (is ++ js)) p.0 (below_append n is js p.1 k)
 
 pub extended : (names : List (List ℕ)) (is js items : List ℕ) (words : List (List ℕ)) → items ≡ is ++ js → words_at names js ≡ words → words_at names items ≡ words_at names is ++ words
 extended names is js items words e w = ap (words_at names) e ∙ (words_append names is js ∙ ap (λ l. words_at names is ++ l) w)
@@ -115,4 +111,4 @@ outputs_gathered old s x y line words v rows h g same w i j count = record {
 }
 
 pub extended_below : (n : ℕ) (is js items : List ℕ) → items ≡ is ++ js → all_below n is ≡ true → all_below n js ≡ true → all_below n items ≡ true
-extended_below n is js items e h k = ap (all_below n) e ∙ below_append n is js h k
+extended_below n is js items e h k = ap (all_below n) e ∙ all_below-append n is js h k

@@ -4,8 +4,6 @@ pub mod TableLaws
 pub mod Spelled
 pub mod Fine
 pub mod Faultless
-pub mod Sets
-pub mod CircleLaws
 pub mod Once
 pub mod OneFault
 pub mod LineWords

@@ -10,7 +10,7 @@ use Rattle.syn_reader.specs.Faults.{Fault, AfterEnd, UnknownKeyword, SecondModel
 use Rattle.syn_reader.specs.Statements.{Statement, is_row, is_end}
 use Rattle.syn_reader.specs.Shapes.{last_word, all_but_last, is_row_of, output_word}
 use Rattle.syn_reader.specs.Definitions.{Definition, definitions, names_defined, first_forbidden, forbids, reads}
-use Rattle.syn_reader.specs.LineFaults.{checks, first_found, first_fault_of_lines, table_above, first_row, is_stray, is_misshaped, has_bad_type, has_bad_init}
+use Rattle.syn_reader.specs.LineFaults.{Check, checks, first_found, first_fault_of_lines, table_above, first_row, is_stray, is_misshaped, has_bad_type, has_bad_init}
 use Rattle.syn_reader.specs.Heard.{statement, Begins, word_count}
 use Rattle.syn_reader.specs.Computed.{netlist_of}
 use Rattle.syn_netlist.specs.Lists.{Netlist}
@@ -73,6 +73,9 @@ found_latch above test line words e h =
 pub found_end : (above : List Statement) (line : ℕ) (words : List (List ℕ)) → list_any (λ t. is_end t.kind) above ≡ false → first_found checks above (statement line kinds.End words) ≡ None
 found_end above line words e = skip (list_any (λ t. is_end t.kind) above) (AfterEnd line) _ e
 
+pub found_subckt : (above : List Statement) (line : ℕ) (words : List (List ℕ)) → list_any (λ t. is_end t.kind) above ≡ false → first_found checks above (statement line kinds.Subckt words) ≡ None
+found_subckt above line words e = skip (list_any (λ t. is_end t.kind) above) (AfterEnd line) _ e
+
 pub found_unknown : (above : List Statement) (line : ℕ) (words : List (List ℕ)) → list_any (λ t. is_end t.kind) above ≡ false → first_found checks above (statement line kinds.Unknown words) ≡ Some (UnknownKeyword line)
 found_unknown above line words e = skip (list_any (λ t. is_end t.kind) above) (AfterEnd line) _ e
 
@@ -112,6 +115,7 @@ row_kind kinds.Outputs h = absurd (both_ways false refl h)
 row_kind kinds.Clock h = absurd (both_ways false refl h)
 row_kind kinds.Names h = absurd (both_ways false refl h)
 row_kind kinds.Latch h = absurd (both_ways false refl h)
+row_kind kinds.Subckt h = absurd (both_ways false refl h)
 row_kind kinds.End h = absurd (both_ways false refl h)
 
 found_any_row : (names : List (List ℕ)) (on : Option Bool) (above : List Statement) (s : Statement) → is_row s.kind ≡ true → table_above above ≡ Some names → list_any (λ t. is_end t.kind) above ≡ false → RowsAbove on above
@@ -135,11 +139,15 @@ abbrev pub above_rows : List Statement → List Statement → List Statement
 above_rows above [] = above
 above_rows above (s ∷ ss) = if is_row s.kind then above_rows (s ∷ above) ss else above
 
-pub rows_law : (names : List (List ℕ)) (on : Option Bool) (above ss : List Statement) → table_above above ≡ Some names → list_any (λ t. is_end t.kind) above ≡ false → RowsAbove on above
-    → first_fault_of_lines checks above ss ≡ option_or (rows_fault (length (all_but_last names)) on ss) (first_fault_of_lines checks (above_rows above ss) (below_rows ss))
-rows_law names on above [] t e r = refl
-rows_law names on above (s ∷ ss) t e r =
-    go (is_row s.kind) refl (λ k h. rows_law names (Some (output_with on s.words)) (s ∷ above) ss (cond-true (is_row s.kind) (table_above above) _ k ∙ t) (ap (λ j. is_end j || list_any (λ t. is_end t.kind) above) (row_kind s.kind k) ∙ e) (rows_above (length (all_but_last names)) on above s k h r))
+-- The list of checks finds on rows what the reader of one model finds.
+abbrev pub SameOnRows : List Check → Type 0
+SameOnRows list = (above : List Statement) (s : Statement) → is_row s.kind ≡ true → first_found list above s ≡ first_found checks above s
+
+pub rows_law_by : (list : List Check) → SameOnRows list → (names : List (List ℕ)) (on : Option Bool) (above ss : List Statement) → table_above above ≡ Some names → list_any (λ t. is_end t.kind) above ≡ false → RowsAbove on above
+    → first_fault_of_lines list above ss ≡ option_or (rows_fault (length (all_but_last names)) on ss) (first_fault_of_lines list (above_rows above ss) (below_rows ss))
+rows_law_by list same names on above [] t e r = refl
+rows_law_by list same names on above (s ∷ ss) t e r =
+    go (is_row s.kind) refl (λ k h. rows_law_by list same names (Some (output_with on s.words)) (s ∷ above) ss (cond-true (is_row s.kind) (table_above above) _ k ∙ t) (ap (λ j. is_end j || list_any (λ t. is_end t.kind) above) (row_kind s.kind k) ∙ e) (rows_above (length (all_but_last names)) on above s k h r))
   where
     n : ℕ
     n = length (all_but_last names)
@@ -148,16 +156,20 @@ rows_law names on above (s ∷ ss) t e r =
     out = Some (output_with on s.words)
 
     go : (b : Bool) → is_row s.kind ≡ b
-        → (is_row s.kind ≡ true → is_row_of n s.words ≡ true → first_fault_of_lines checks (s ∷ above) ss ≡ option_or (rows_fault n out ss) (first_fault_of_lines checks (above_rows (s ∷ above) ss) (below_rows ss)))
-        → option_or (first_found checks above s) (first_fault_of_lines checks (s ∷ above) ss)
-        ≡ option_or (if b then option_or (row_fault n on s) (rows_fault n out ss) else None) (first_fault_of_lines checks (if b then above_rows (s ∷ above) ss else above) (if b then below_rows ss else s ∷ ss))
+        → (is_row s.kind ≡ true → is_row_of n s.words ≡ true → first_fault_of_lines list (s ∷ above) ss ≡ option_or (rows_fault n out ss) (first_fault_of_lines list (above_rows (s ∷ above) ss) (below_rows ss)))
+        → option_or (first_found list above s) (first_fault_of_lines list (s ∷ above) ss)
+        ≡ option_or (if b then option_or (row_fault n on s) (rows_fault n out ss) else None) (first_fault_of_lines list (if b then above_rows (s ∷ above) ss else above) (if b then below_rows ss else s ∷ ss))
     go false k ih = refl
-    go true k ih = ap (λ o. option_or o (first_fault_of_lines checks (s ∷ above) ss)) (found_any_row names on above s k t e r) ∙ row (row_fault n on s) refl
+    go true k ih = ap (λ o. option_or o (first_fault_of_lines list (s ∷ above) ss)) (same above s k ∙ found_any_row names on above s k t e r) ∙ row (row_fault n on s) refl
       where
         row : (o : Option Fault) → row_fault n on s ≡ o
-            → option_or o (first_fault_of_lines checks (s ∷ above) ss) ≡ option_or (option_or o (rows_fault n out ss)) (first_fault_of_lines checks (above_rows (s ∷ above) ss) (below_rows ss))
+            → option_or o (first_fault_of_lines list (s ∷ above) ss) ≡ option_or (option_or o (rows_fault n out ss)) (first_fault_of_lines list (above_rows (s ∷ above) ss) (below_rows ss))
         row None z = ih k (shaped n on s z)
         row (Some f) z = refl
+
+pub rows_law : (names : List (List ℕ)) (on : Option Bool) (above ss : List Statement) → table_above above ≡ Some names → list_any (λ t. is_end t.kind) above ≡ false → RowsAbove on above
+    → first_fault_of_lines checks above ss ≡ option_or (rows_fault (length (all_but_last names)) on ss) (first_fault_of_lines checks (above_rows above ss) (below_rows ss))
+rows_law = rows_law_by checks (λ above s k. refl)
 
 -- Rows neither define nor read, and end nothing.
 pub rows_end : (above ss : List Statement) → list_any (λ t. is_end t.kind) (above_rows above ss) ≡ list_any (λ t. is_end t.kind) above

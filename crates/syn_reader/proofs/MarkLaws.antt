@@ -1,5 +1,6 @@
 -- Marks of names, as names are added and defined.
 use Rattle.std.proofs.Common.{◌≡◌, ◌≢◌, ℕ, zero, suc, ◌+◌, ◌<◌, ◌||◌, ◌&&◌, not, Bool, true, false, if◌then◌else◌, List, [], ◌∷◌, ◌++◌, length, bytes_eq, slice_index_or, slice_set, refl, sym, ap, ap₂, ◌∙◌, subst, inl, inr, arith, length-append}
+use Rattle.std.proofs.Math.Bool.{or-false}
 use Rattle.std.proofs.lemmas.Bool.{and_parts, both_ways, cases_Bool, cond-true, cond-false, not-true, false_from_ne_true}
 use Rattle.syn_netlist.specs.Numbers.{word_at, with_word}
 use Rattle.syn_netlist.specs.Words.{has_word, distinct}
@@ -9,12 +10,14 @@ use Rattle.syn_reader.specs.declared.Kind.TheVariants as kinds
 use Rattle.syn_reader.specs.declared.signals.Mark.{Mark}
 use Rattle.syn_reader.specs.declared.signals.Mark.TheVariants as marks
 use Rattle.syn_reader.specs.Definitions.{may_share}
-use Rattle.syn_reader.specs.Marking.{mark_forbids, mark_after, forbidden, also, Same}
-use Rattle.syn_reader.proofs.Naming.{known_before, has_at}
+use Rattle.syn_reader.specs.Marking.{mark_forbids, mark_after, forbidden, also, Same, with_words}
+use Rattle.syn_netlist.proofs.Places.{has_word_at}
+use Rattle.syn_reader.proofs.Naming.{known_before}
 
-pub or_false : (b : Bool) → (b || false) ≡ b
-or_false true = refl
-or_false false = refl
+-- names with more words behind them
+pub with_words-append : (names xs ys : List (List ℕ)) → with_words names (xs ++ ys) ≡ with_words (with_words names xs) ys
+with_words-append names [] ys = refl
+with_words-append names (x ∷ xs) ys = with_words-append (with_word names x) xs ys
 
 -- names
 
@@ -65,7 +68,7 @@ forbidden_at (n ∷ ns) [] i d m k h lt e a = absurd (omega arith)
 forbidden_at (n ∷ ns) (x ∷ ms) zero d m k h lt e a = cond-true (bytes_eq n n) (mark_forbids x k) (forbidden ns ms k n) (word_same n) ∙ ap (λ q. mark_forbids q k) a
 forbidden_at (n ∷ ns) (x ∷ ms) (suc i) d m k h lt e a =
     let p = and_parts (not (has_word ns n)) (distinct ns) h in
-    let other : bytes_eq n (word_at ns i) ≡ false = false_from_ne_true (bytes_eq n (word_at ns i)) (λ z. both_ways (has_word ns n) (not-true _ p.0) (subst (λ v. has_word ns v ≡ true) (sym (same_word n (word_at ns i) z)) (has_at ns i (omega arith)))) in
+    let other : bytes_eq n (word_at ns i) ≡ false = false_from_ne_true (bytes_eq n (word_at ns i)) (λ z. both_ways (has_word ns n) (not-true _ p.0) (subst (λ v. has_word ns v ≡ true) (sym (same_word n (word_at ns i) z)) (has_word_at ns i (omega arith)))) in
     cond-false (bytes_eq n (word_at ns i)) (mark_forbids x k) (forbidden ns ms k (word_at ns i)) other ∙ forbidden_at ns ms i d m k p.1 (omega arith) (omega arith) a
 
 forbidden_set : (ns : List (List ℕ)) (ms : List Mark) (i : ℕ) (m : Mark) (k : Kind) (w : List ℕ) → distinct ns ≡ true → i < length ns → length ms ≡ length ns
@@ -84,7 +87,7 @@ forbidden_set (n ∷ ns) (x ∷ ms) (suc i) m k w h lt e = go (bytes_eq n w) ref
     go false q ih = ih
     go true q ih =
         let p = and_parts (not (has_word ns n)) (distinct ns) h in
-        let other : bytes_eq (word_at ns i) w ≡ false = false_from_ne_true (bytes_eq (word_at ns i) w) (λ z. both_ways (has_word ns n) (not-true _ p.0) (subst (λ v. has_word ns v ≡ true) (same_word (word_at ns i) w z ∙ sym (same_word n w q)) (has_at ns i (omega arith)))) in
+        let other : bytes_eq (word_at ns i) w ≡ false = false_from_ne_true (bytes_eq (word_at ns i) w) (λ z. both_ways (has_word ns n) (not-true _ p.0) (subst (λ v. has_word ns v ≡ true) (same_word (word_at ns i) w z ∙ sym (same_word n w q)) (has_word_at ns i (omega arith)))) in
         sym (cond-false (bytes_eq (word_at ns i) w) (mark_forbids m k) (mark_forbids x k) other)
 
 -- the mark after a definition
@@ -98,6 +101,7 @@ no_clock kinds.Outputs h = absurd (both_ways true h refl)
 no_clock kinds.Clock h = refl
 no_clock kinds.Names h = absurd (both_ways true h refl)
 no_clock kinds.Latch h = absurd (both_ways true h refl)
+no_clock kinds.Subckt h = absurd (both_ways true h refl)
 no_clock kinds.End h = absurd (both_ways true h refl)
 
 no_input : (k : Kind) → not (may_share kinds.Clock k) ≡ false → k ≡ kinds.Inputs
@@ -109,6 +113,7 @@ no_input kinds.Outputs h = absurd (both_ways true h refl)
 no_input kinds.Clock h = absurd (both_ways true h refl)
 no_input kinds.Names h = absurd (both_ways true h refl)
 no_input kinds.Latch h = absurd (both_ways true h refl)
+no_input kinds.Subckt h = absurd (both_ways true h refl)
 no_input kinds.End h = absurd (both_ways true h refl)
 
 both : (k : Kind) → (not (may_share kinds.Clock k) || not (may_share kinds.Inputs k)) ≡ true
@@ -120,6 +125,7 @@ both kinds.Outputs = refl
 both kinds.Clock = refl
 both kinds.Names = refl
 both kinds.Latch = refl
+both kinds.Subckt = refl
 both kinds.End = refl
 
 both_again : (k : Kind) → (not (may_share kinds.Inputs k) || not (may_share kinds.Clock k)) ≡ true
@@ -131,17 +137,19 @@ both_again kinds.Outputs = refl
 both_again kinds.Clock = refl
 both_again kinds.Names = refl
 both_again kinds.Latch = refl
+both_again kinds.Subckt = refl
 both_again kinds.End = refl
 
 after_is : (m : Mark) (k j : Kind) → mark_forbids m k ≡ false → mark_forbids (mark_after m k) j ≡ (not (may_share k j) || mark_forbids m j)
 after_is marks.Free kinds.Row j h = refl
 after_is marks.Free kinds.Unknown j h = refl
 after_is marks.Free kinds.Model j h = refl
-after_is marks.Free kinds.Inputs j h = sym (or_false (not (may_share kinds.Inputs j)))
+after_is marks.Free kinds.Inputs j h = sym (or-false (not (may_share kinds.Inputs j)))
 after_is marks.Free kinds.Outputs j h = refl
-after_is marks.Free kinds.Clock j h = sym (or_false (not (may_share kinds.Clock j)))
+after_is marks.Free kinds.Clock j h = sym (or-false (not (may_share kinds.Clock j)))
 after_is marks.Free kinds.Names j h = refl
 after_is marks.Free kinds.Latch j h = refl
+after_is marks.Free kinds.Subckt j h = refl
 after_is marks.Free kinds.End j h = refl
 after_is marks.Input k j h = sym (ap (λ q. not (may_share q j) || not (may_share kinds.Inputs j)) (no_clock k h) ∙ both j)
 after_is marks.Clock k j h = sym (ap (λ q. not (may_share q j) || not (may_share kinds.Clock j)) (no_input k h) ∙ both_again j)

@@ -1,22 +1,16 @@
 -- Names and their numbers, as words are added and looked up.
-use Rattle.std.proofs.Common.{◌≡◌, ℕ, zero, suc, ◌<◌, nat_lt, true, List, [], ◌∷◌, ◌++◌, length, refl, sym, ap, ◌∙◌, subst, arith}
+use Rattle.std.proofs.Common.{◌≡◌, ℕ, ◌<◌, nat_lt, true, List, [], ◌∷◌, ◌++◌, length, refl, sym, ap, ◌∙◌, subst}
 use Rattle.std.proofs.lemmas.Bool.{and_parts, and_from, lt-ltb}
 use Rattle.syn_netlist.specs.Words.{has_word}
 use Rattle.syn_netlist.specs.Numbers.{word_at, words_at, with_word, all_below, Grows}
 use Rattle.syn_netlist.proofs.Growing.{Grows-with_word, word_at-grows}
-use Rattle.syn_netlist.proofs.Sets.{has_head, has_tail}
-
--- the word of a number is a name
-pub has_at : (names : List (List ℕ)) (i : ℕ) → i < length names → has_word names (word_at names i) ≡ true
-has_at [] i lt = absurd (omega arith)
-has_at (w ∷ ws) zero lt = has_head w ws
-has_at (w ∷ ws) (suc i) lt = has_tail w (word_at ws i) ws (has_at ws i (omega arith))
+use Rattle.syn_netlist.proofs.Places.{has_word_at}
 
 -- a number that was there before
 pub known_before : (names more : List (List ℕ)) (word : List ℕ) (i : ℕ) → more ≡ with_word names word → word_at more i ≡ word → i < length names → has_word names word ≡ true
 known_before names more word i m w lt =
     let grown : Grows names more = subst (Grows names) (sym m) (Grows-with_word names word) in
-    subst (λ v. has_word names v ≡ true) (sym (word_at-grows names more i grown lt) ∙ w) (has_at names i lt)
+    subst (λ v. has_word names v ≡ true) (sym (word_at-grows names more i grown lt) ∙ w) (has_word_at names i lt)
 
 pub words_at-append : (names : List (List ℕ)) (is : List ℕ) (i : ℕ) → words_at names (is ++ i ∷ []) ≡ words_at names is ++ word_at names i ∷ []
 words_at-append names [] i = refl

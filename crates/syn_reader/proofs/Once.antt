@@ -1,7 +1,7 @@
 -- Without a second definition the outputs of the tables are distinct.
 use Rattle.std.proofs.Common.{◌≡◌, ℕ, ◌<◌, ◌≤◌, ◌||◌, not, Bool, true, false, if◌then◌else◌, List, [], ◌∷◌, ◌++◌, length, map, flat_map, bytes_eq, refl, sym, ap, ap₂, ◌∙◌, subst, inl, inr, ◌⊎◌, Option, Some, None, option_map}
 use Rattle.std.specs.List.{list_any}
-use Rattle.std.proofs.lemmas.Bool.{both_ways, false_from_ne_true, and_from, or_left, or_right}
+use Rattle.std.proofs.lemmas.Bool.{both_ways, cases_lt, false_from_ne_true, and_from, or_left, or_right}
 use Rattle.syn_netlist.specs.Words.{has_word, distinct}
 use Rattle.syn_netlist.specs.Lists.{Table, Netlist, output_of, sources}
 use Rattle.syn_netlist.specs.Faults.{ReachesCircle, IsAnsweredCircle}
@@ -19,9 +19,8 @@ use Rattle.syn_netlist.specs.Costs.{cost_of}
 use Rattle.syn_reader.specs.Laws.{EitherOr}
 use Rattle.syn_reader.proofs.Words.{last_snoc}
 use Rattle.syn_netlist.proofs.Sets.{same_word, word_same}
-use Rattle.syn_reader.proofs.Sets.{le_or}
 use Rattle.syn_reader.proofs.Fine.{or_none, parts_of}
-use Rattle.syn_reader.proofs.CircleLaws.{circle_or_none}
+use Rattle.syn_models.proofs.Circles.{circle_or_none}
 use Rattle.syn_reader.proofs.Faultless.{faultless_spell}
 
 abbrev pub by_table : List ℕ → Definition
@@ -62,6 +61,7 @@ later name above (s ∷ ss) n h e p =
     step line kinds.Outputs words t a ih = ap (λ (m : Netlist). has_word (map output_of m.tables) name) a ∙ ih
     step line kinds.Clock words t a ih = ap (λ (m : Netlist). has_word (map output_of m.tables) name) a ∙ ih
     step line kinds.Latch words t a ih = ap (λ (m : Netlist). has_word (map output_of m.tables) name) a.2 ∙ ih
+    step line kinds.Subckt words t a ih = ap (λ (m : Netlist). has_word (map output_of m.tables) name) a ∙ ih
     step line kinds.End words t a ih = ap (λ (m : Netlist). has_word (map output_of m.tables) name) a ∙ ih
     step line kinds.Names [] t a ih = absurd (no_words a.0.inputs a.0.output (a.1.names))
       where
@@ -89,6 +89,7 @@ once above (s ∷ ss) n e p =
     step line kinds.Outputs words f a ih = ap (λ (m : Netlist). distinct (map output_of m.tables)) a ∙ ih
     step line kinds.Clock words f a ih = ap (λ (m : Netlist). distinct (map output_of m.tables)) a ∙ ih
     step line kinds.Latch words f a ih = ap (λ (m : Netlist). distinct (map output_of m.tables)) a.2 ∙ ih
+    step line kinds.Subckt words f a ih = ap (λ (m : Netlist). distinct (map output_of m.tables)) a ∙ ih
     step line kinds.End words f a ih = ap (λ (m : Netlist). distinct (map output_of m.tables)) a ∙ ih
     step line kinds.Names [] f a ih = absurd (no_words a.0.inputs a.0.output (a.1.names))
       where
@@ -105,16 +106,16 @@ either_or bytes = go (first_fault_of_text bytes) refl
   where
     net : (n : Netlist) → first_fault_of_text bytes ≡ None → Spell (statements bytes) n
         → (((w : List ℕ) → ReachesCircle n.tables w → ⊥) ⊎ ((names : List (List ℕ)) × (first : List ℕ) × (before : List (List ℕ)) × (set : List ℕ → Bool) × IsAnsweredCircle n.tables first before names set))
-        → (length (sources n.frame) ≤ most_sources) ⊎ (most_sources < length (sources n.frame)) → (cost_of n ≤ most_cost) ⊎ (most_cost < cost_of n)
+        → (most_sources < length (sources n.frame)) ⊎ (length (sources n.frame) ≤ most_sources) → (most_cost < cost_of n) ⊎ (cost_of n ≤ most_cost)
         → ((m : Netlist) × Reads bytes m × Within m) ⊎ ((fault : Fault) × IsFirstFault bytes fault)
     net n e p (inr c) s t = inr (Cycle c.0, inr (e, (n, p, (c.1, c.2, c.3, c.4))))
-    net n e p (inl c) (inr s) t = inr (TooManySources (length (sources n.frame)), inr (e, (n, p, (c, refl, s))))
-    net n e p (inl c) (inl s) (inr t) = inr (TooLarge (cost_of n), inr (e, (n, p, (c, s, refl, t))))
-    net n e p (inl c) (inl s) (inl t) = inl (n, record { faultless = e; spelled = p; acyclic = c }, record { sources = s; cost = t })
+    net n e p (inl c) (inl s) t = inr (TooManySources (length (sources n.frame)), inr (e, (n, p, (c, refl, s))))
+    net n e p (inl c) (inr s) (inl t) = inr (TooLarge (cost_of n), inr (e, (n, p, (c, s, refl, t))))
+    net n e p (inl c) (inr s) (inr t) = inl (n, record { faultless = e; spelled = p; acyclic = c }, record { sources = s; cost = t })
 
     go : (o : Option Fault) → first_fault_of_text bytes ≡ o → ((m : Netlist) × Reads bytes m × Within m) ⊎ ((fault : Fault) × IsFirstFault bytes fault)
     go (Some fault) e = inr (fault, inl e)
     go None e =
         let lines = (or_none (first_fault_of_lines checks [] (statements bytes)) (option_map Undriven (first_undriven (statements bytes))) (or_none (option_map BadByte (bad_byte bytes)) _ e).1).0 in
         let n = faultless_spell (statements bytes) lines in
-        net n.0 e n.1 (circle_or_none n.0.tables (once [] (statements bytes) n.0 lines n.1)) (le_or (length (sources n.0.frame)) most_sources) (le_or (cost_of n.0) most_cost)
+        net n.0 e n.1 (circle_or_none n.0.tables (once [] (statements bytes) n.0 lines n.1)) (cases_lt most_sources (length (sources n.0.frame))) (cases_lt most_cost (cost_of n.0))

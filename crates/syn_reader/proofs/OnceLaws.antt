@@ -64,6 +64,7 @@ puts kinds.Model kinds.Clock words rows n m a = ap (of_kind kinds.Clock) a.2
 puts kinds.Model kinds.Latch words rows n m a = ap (of_kind kinds.Latch) a.2
 puts kinds.Model kinds.Names words rows n m a = ap (of_kind kinds.Names) a.2
 puts kinds.Model kind words rows n m a = refl
+puts kinds.Subckt kind words rows n m a = ap (of_kind kind) a
 puts kinds.End kind words rows n m a = ap (of_kind kind) a
 puts kinds.Inputs kinds.Inputs words rows n m a = ap (of_kind kinds.Inputs) a
 puts kinds.Inputs kinds.Clock words rows n m a = ap (of_kind kinds.Clock) a

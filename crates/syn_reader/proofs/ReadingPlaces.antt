@@ -72,6 +72,7 @@ step kinds.Unknown words rows n m w a = absurd a
 step kinds.Model words rows n m w a = ap (λ k. is_read k w) a.2
 step kinds.Inputs words rows n m w a = ap (λ k. is_read k w) a
 step kinds.Clock words rows n m w a = ap (λ k. is_read k w) a
+step kinds.Subckt words rows n m w a = ap (λ k. is_read k w) a
 step kinds.End words rows n m w a = ap (λ k. is_read k w) a
 step kinds.Outputs words rows n m w a =
     let rest : Bool = has_word (flat_map latch_reads n.frame.latches) w || has_word (flat_map inputs_of n.tables) w in

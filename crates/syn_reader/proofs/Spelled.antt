@@ -20,6 +20,7 @@ adds_again kinds.Outputs words rows n m h = ap Some (sym h)
 adds_again kinds.Clock words rows n m h = ap Some (sym h)
 adds_again kinds.Names words rows n m h = ap (option_map (λ t. with_table t n)) (table_again words rows h.0 h.1) ∙ ap Some (sym h.2)
 adds_again kinds.Latch words rows n m h = ap (option_map (λ l. with_latch l n)) (latch_again words h.0 h.1) ∙ ap Some (sym h.2)
+adds_again kinds.Subckt words rows n m h = ap Some (sym h)
 adds_again kinds.End words rows n m h = ap Some (sym h)
 
 some_same : (n m : Netlist) → Some n ≡ Some m → n ≡ m
@@ -36,6 +37,7 @@ adds_back kinds.Outputs words rows n m e = sym (some_same _ _ e)
 adds_back kinds.Clock words rows n m e = sym (some_same _ _ e)
 adds_back kinds.Names words rows n m e = let p = mapped (λ t. with_table t n) (table_of words rows) m e in (p.0, table_back words rows p.0 p.1, sym p.2)
 adds_back kinds.Latch words rows n m e = let p = mapped (λ l. with_latch l n) (latch_of words) m e in (p.0, latch_back words p.0 p.1, sym p.2)
+adds_back kinds.Subckt words rows n m e = sym (some_same _ _ e)
 adds_back kinds.End words rows n m e = sym (some_same _ _ e)
 
 pub spell_again : (ss : List Statement) (n : Netlist) → Spell ss n → netlist_of ss ≡ Some n

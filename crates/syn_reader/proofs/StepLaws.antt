@@ -1,5 +1,5 @@
 -- One more statement is gathered.
-use Rattle.std.proofs.Common.{◌≡◌, ℕ, ◌≤◌, ◌||◌, Bool, true, false, List, [], ◌∷◌, ◌++◌, length, flat_map, refl, sym, ap, ap₂, ◌∙◌, Option, Some, None, option_map, option_and_then, arith, append_assoc}
+use Rattle.std.proofs.Common.{◌≡◌, ℕ, ◌≤◌, ◌||◌, Bool, true, false, List, [], ◌∷◌, ◌++◌, length, flat_map, refl, sym, ap, ap₂, ◌∙◌, Option, Some, None, option_map, option_and_then, arith, append_assoc, append-nil}
 use Rattle.std.specs.Option.{option_or}
 use Rattle.std.specs.List.{list_any}
 use Rattle.std.proofs.lemmas.Bool.{both_ways, false_from_ne_true}
@@ -20,7 +20,7 @@ use Rattle.syn_reader.specs.Marking.{by_kind, forbidden_by}
 use Rattle.syn_reader.specs.Keywords.{line_fault}
 use Rattle.syn_reader.specs.Rows.{below_rows, rows_fault}
 use Rattle.syn_reader.specs.Gathers.{Above, above_in, in_front, forbids_in, Gathers, HasGathered}
-use Rattle.syn_reader.proofs.LineLaws.{found_inputs, found_clocks, found_outputs, found_names, found_latch, found_end, found_unknown, found_model, found_stray, rows_law, above_rows, rows_end, rows_definitions, rows_nil, rows_reads, rows_netlist, rows_gone, rows_count}
+use Rattle.syn_reader.proofs.LineLaws.{found_inputs, found_clocks, found_outputs, found_names, found_latch, found_end, found_unknown, found_subckt, found_model, found_stray, rows_law, above_rows, rows_end, rows_definitions, rows_nil, rows_reads, rows_netlist, rows_gone, rows_count}
 
 forbidden_append : (xs ys : List Definition) (k : Kind) (w : List ℕ) → forbidden_by (xs ++ ys) k w ≡ (forbidden_by xs k w || forbidden_by ys k w)
 forbidden_append [] ys k w = refl
@@ -93,6 +93,17 @@ outputs_step all ss line words old new h g = plain all ss kinds.Outputs line wor
 
 pub latch_step : (all ss : List Statement) (line : ℕ) (words : List (List ℕ)) (old new : Gathering) → HasGathered all (statement line kinds.Latch words ∷ ss) old → Gathers kinds.Latch line words (rows_below ss) old new → HasGathered all ss new
 latch_step all ss line words old new h g = plain all ss kinds.Latch line words old new h refl refl (found_latch h.above (forbids_in old) line words h.going h.taken) g
+
+-- a subcircuit, which adds nothing to the lists of its own model
+pub subckt_step : (all ss : List Statement) (line : ℕ) (words : List (List ℕ)) (old : Gathering) → HasGathered all (statement line kinds.Subckt words ∷ ss) old → HasGathered all ss old
+subckt_step all ss line words old h =
+    plain all ss kinds.Subckt line words old old h refl refl (found_subckt h.above line words h.going) (record {
+      faultless = refl;
+      defined = λ k w. refl;
+      spelled = λ n. refl;
+      reads = sym (append-nil (above_in old).reads);
+      count = omega arith;
+    })
 
 -- a table with its rows
 pub table_step : (all ss : List Statement) (line : ℕ) (words : List (List ℕ)) (old new : Gathering) → HasGathered all (statement line kinds.Names words ∷ ss) old

@@ -14,7 +14,7 @@ use Rattle.syn_reader.specs.Keywords.{fault_where, line_fault}
 use Rattle.syn_reader.specs.Marking.{by_kind, forbidden_by, also, Adds, Same, first_twice}
 use Rattle.syn_reader.proofs.Words.{last_snoc}
 use Rattle.syn_reader.proofs.TableLaws.{table_again, rows_back}
-use Rattle.syn_reader.proofs.MarkLaws.{or_false}
+use Rattle.std.proofs.Math.Bool.{or-false}
 
 pub defines_last : (xs : List (List ℕ)) (x : List ℕ) → names_defined kinds.Names (xs ++ x ∷ []) ≡ x ∷ []
 defines_last [] x = refl
@@ -42,7 +42,7 @@ pub adds_one : (by : Kind) (words : List (List ℕ)) (x : List ℕ) (old mid new
 adds_one by words x old mid new e s t k w =
     t k w
     ∙ (ap (λ b. forbids (by_kind by x) (by_kind k w) || b) (s k w)
-    ∙ (ap (λ b. b || old k w) (sym (or_false (forbids (by_kind by x) (by_kind k w))))
+    ∙ (ap (λ b. b || old k w) (sym (or-false (forbids (by_kind by x) (by_kind k w))))
     ∙ ap (λ ws. forbidden_by (map (by_kind by) ws) k w || old k w) (sym e)))
 
 -- the table of a line with its rows

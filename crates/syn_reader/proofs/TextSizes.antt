@@ -12,7 +12,7 @@ use Rattle.syn_reader.specs.declared.Kind.{Kind}
 use Rattle.syn_reader.specs.declared.Kind.TheVariants as kinds
 use Rattle.syn_reader.specs.Heard.{all_words, lines_words, word_count}
 use Rattle.syn_reader.specs.Shapes.{IsTable, is_input_part, row_words, output_word}
-use Rattle.syn_reader.specs.Statements.{Statement, begins_with_dot, kind_in, keywords, statement_at, statement_of, statements, is_row}
+use Rattle.syn_reader.specs.Statements.{Statement, begins_with_dot, kind_in, keywords, statement_by, line_by, statements, is_row}
 use Rattle.syn_reader.specs.Reading.{Adds, Spell, rows_below}
 use Rattle.syn_reader.proofs.LineWords.{logical_words}
 
@@ -100,11 +100,11 @@ filtered_size (l ∷ ls) = go (has_words l) (filtered_size ls)
     go true h = omega (arith, h)
     go false h = omega (arith, h)
 
-at_size : (line : ℕ) (words : List (List ℕ)) → size_text (statement_at line words).words ≤ size_text words
-at_size line [] = omega arith
-at_size line (w ∷ ws) = go (begins_with_dot w)
+at_size : (table : List (List ℕ × Kind)) (line : ℕ) (words : List (List ℕ)) → size_text (statement_by table line words).words ≤ size_text words
+at_size table line [] = omega arith
+at_size table line (w ∷ ws) = go (begins_with_dot w)
   where
-    go : (t : Bool) → size_text (let s : Statement = if t then record { line = line; kind = kind_in keywords w; words = ws } else record { line = line; kind = kinds.Row; words = w ∷ ws } in s).words ≤ length w + size_text ws
+    go : (t : Bool) → size_text (let s : Statement = if t then record { line = line; kind = kind_in table w; words = ws } else record { line = line; kind = kinds.Row; words = w ∷ ws } in s).words ≤ length w + size_text ws
     go true = omega arith
     go false = omega arith
 
@@ -112,17 +112,17 @@ texts_size : (ws : List Word) → size_text (map text_of ws) ≡ size_words ws
 texts_size [] = refl
 texts_size (w ∷ ws) = let e = texts_size ws in omega (arith, e)
 
-statements_size : (lines : List LogicalLine) → size_statements (map statement_of lines) ≤ size_lines lines
-statements_size [] = omega arith
-statements_size (l ∷ ls) =
-    let here = at_size l.number (map text_of l.words) in
+statements_size : (table : List (List ℕ × Kind)) (lines : List LogicalLine) → size_statements (map (line_by table) lines) ≤ size_lines lines
+statements_size table [] = omega arith
+statements_size table (l ∷ ls) =
+    let here = at_size table l.number (map text_of l.words) in
     let size = texts_size l.words in
-    let rest = statements_size ls in
+    let rest = statements_size table ls in
     omega (arith, here, size, rest)
 
-few_letters : (bytes : List ℕ) → size_statements (statements bytes) ≤ length bytes
-few_letters bytes =
-    let a = statements_size (logical_lines bytes) in
+few_letters : (table : List (List ℕ × Kind)) (bytes : List ℕ) → size_statements (map (line_by table) (logical_lines bytes)) ≤ length bytes
+few_letters table bytes =
+    let a = statements_size table (logical_lines bytes) in
     let b = filtered_size (joined_lines 1 0 (physical_lines bytes)) in
     let c = lines_size 1 0 (physical_lines bytes) in
     let d = physical_size bytes in
@@ -139,28 +139,31 @@ texts_are_words : (ws : List Word) → all_words ws ≡ true → list_all is_wor
 texts_are_words [] h = refl
 texts_are_words (w ∷ ws) h = let parts = and_parts (is_word w.text) (all_words ws) h in and_from (is_word w.text) (list_all is_word (map text_of ws)) parts.0 (texts_are_words ws parts.1)
 
-at_few : (line : ℕ) (words : List (List ℕ)) → list_all is_word words ≡ true → length (statement_at line words).words ≤ size_text (statement_at line words).words
-at_few line [] h = omega arith
-at_few line (w ∷ ws) h = go (begins_with_dot w)
+at_few : (table : List (List ℕ × Kind)) (line : ℕ) (words : List (List ℕ)) → list_all is_word words ≡ true → length (statement_by table line words).words ≤ size_text (statement_by table line words).words
+at_few table line [] h = omega arith
+at_few table line (w ∷ ws) h = go (begins_with_dot w)
   where
-    go : (t : Bool) → length (let s : Statement = if t then record { line = line; kind = kind_in keywords w; words = ws } else record { line = line; kind = kinds.Row; words = w ∷ ws } in s).words
-        ≤ size_text (let s : Statement = if t then record { line = line; kind = kind_in keywords w; words = ws } else record { line = line; kind = kinds.Row; words = w ∷ ws } in s).words
+    go : (t : Bool) → length (let s : Statement = if t then record { line = line; kind = kind_in table w; words = ws } else record { line = line; kind = kinds.Row; words = w ∷ ws } in s).words
+        ≤ size_text (let s : Statement = if t then record { line = line; kind = kind_in table w; words = ws } else record { line = line; kind = kinds.Row; words = w ∷ ws } in s).words
     go true = no_more_than_letters ws (and_parts (is_word w) (list_all is_word ws) h).1
     go false = no_more_than_letters (w ∷ ws) h
 
-statements_few : (lines : List LogicalLine) → lines_words lines ≡ true → word_count (map statement_of lines) ≤ size_statements (map statement_of lines)
-statements_few [] h = omega arith
-statements_few (l ∷ ls) h =
+statements_few : (table : List (List ℕ × Kind)) (lines : List LogicalLine) → lines_words lines ≡ true → word_count (map (line_by table) lines) ≤ size_statements (map (line_by table) lines)
+statements_few table [] h = omega arith
+statements_few table (l ∷ ls) h =
     let parts = and_parts (all_words l.words) (lines_words ls) h in
-    let here = at_few l.number (map text_of l.words) (texts_are_words l.words parts.0) in
-    let rest = statements_few ls parts.1 in
+    let here = at_few table l.number (map text_of l.words) (texts_are_words l.words parts.0) in
+    let rest = statements_few table ls parts.1 in
     omega (arith, here, rest)
 
-pub few_words : (bytes : List ℕ) → word_count (statements bytes) ≤ length bytes
-few_words bytes =
-    let a = statements_few (logical_lines bytes) (logical_words bytes) in
-    let b = few_letters bytes in
+pub few_words_by : (table : List (List ℕ × Kind)) (bytes : List ℕ) → word_count (map (line_by table) (logical_lines bytes)) ≤ length bytes
+few_words_by table bytes =
+    let a = statements_few table (logical_lines bytes) (logical_words bytes) in
+    let b = few_letters table bytes in
     omega (arith, a, b)
+
+pub few_words : (bytes : List ℕ) → word_count (statements bytes) ≤ length bytes
+few_words bytes = few_words_by keywords bytes
 
 -- the cost of a table, by the rows that spell it
 
@@ -194,6 +197,7 @@ step kinds.Inputs words rows n m size a h = let e = ap cost_of a in omega (arith
 step kinds.Outputs words rows n m size a h = let e = ap cost_of a in omega (arith, e, h)
 step kinds.Clock words rows n m size a h = let e = ap cost_of a in omega (arith, e, h)
 step kinds.Latch words rows n m size a h = let e = ap cost_of a.2 in omega (arith, e, h)
+step kinds.Subckt words rows n m size a h = let e = ap cost_of a in omega (arith, e, h)
 step kinds.End words rows n m size a h = let e = ap cost_of a in omega (arith, e, h)
 step kinds.Names words rows n m size a h =
     let e = ap cost_of a.2 in
@@ -207,7 +211,7 @@ spelled_cost (s ∷ ss) n spell = step s.kind s.words (rows_below ss) spell.0 n 
 
 pub cost_within : (bytes : List ℕ) (ss : List Statement) (n : Netlist) → ss ≡ statements bytes → Spell ss n → cost_of n ≤ length bytes
 cost_within bytes ss n e spell =
-    let a = few_letters bytes in
+    let a = few_letters keywords bytes in
     let b = spelled_cost ss n spell in
     let c = ap size_statements e in
     omega (arith, a, b, c)

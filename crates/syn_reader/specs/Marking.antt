@@ -1,6 +1,7 @@
 -- What the definitions of names forbid, by a mark for each name.
 use Rattle.std.specs.Prelude.{ℕ, ◌≡◌, ◌||◌, not, Bool, true, false, if◌then◌else◌, List, [], ◌∷◌, map, bytes_eq, Option, Some, None}
 use Rattle.std.specs.List.{list_any}
+use Rattle.syn_netlist.specs.Numbers.{with_word}
 use Rattle.syn_reader.specs.declared.Kind.{Kind}
 use Rattle.syn_reader.specs.declared.Kind.TheVariants as kinds
 use Rattle.syn_reader.specs.declared.signals.Mark.{Mark}
@@ -50,3 +51,8 @@ Adds by words old new = (kind : Kind) (word : List ℕ) → new kind word ≡ (f
 -- Two tests forbid the same.
 abbrev pub Same : (Kind → List ℕ → Bool) → (Kind → List ℕ → Bool) → Type 0
 Same old new = (kind : Kind) (word : List ℕ) → new kind word ≡ old kind word
+
+-- Names with words put behind them in order, each where it is none of them yet.
+abbrev pub with_words : List (List ℕ) → List (List ℕ) → List (List ℕ)
+with_words names [] = names
+with_words names (w ∷ ws) = with_words (with_word names w) ws

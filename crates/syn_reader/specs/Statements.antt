@@ -11,7 +11,7 @@ pub record Statement : Type 0 where
   pub kind : Kind
   pub words : List (List ℕ)
 
--- The keywords.
+-- The keywords of a file of one model.
 abbrev pub keywords : List (List ℕ × Kind)
 keywords =
     (codes ".model", kinds.Model)
@@ -23,6 +23,11 @@ keywords =
     ∷ (codes ".end", kinds.End)
     ∷ []
 
+-- The keywords, with `.subckt` where a file may have subcircuits.
+abbrev pub keywords_with : Bool → List (List ℕ × Kind)
+keywords_with false = keywords
+keywords_with true = (codes ".subckt", kinds.Subckt) ∷ keywords
+
 -- The kind of a keyword: unknown where it isn't one of these.
 abbrev pub kind_in : List (List ℕ × Kind) → List ℕ → Kind
 kind_in [] word = kinds.Unknown
@@ -32,13 +37,20 @@ abbrev pub begins_with_dot : List ℕ → Bool
 begins_with_dot [] = false
 begins_with_dot (b ∷ bs) = b == 46
 
--- A first word that begins with a dot is a keyword; any other line is a row.
-abbrev pub statement_at : ℕ → List (List ℕ) → Statement
-statement_at line [] = record { line = line; kind = kinds.Row; words = [] }
-statement_at line (word ∷ words) =
+-- A first word that begins with a dot is a keyword, one of these or unknown; any other line is a row.
+abbrev pub statement_by : List (List ℕ × Kind) → ℕ → List (List ℕ) → Statement
+statement_by table line [] = record { line = line; kind = kinds.Row; words = [] }
+statement_by table line (word ∷ words) =
     if begins_with_dot word
-    then record { line = line; kind = kind_in keywords word; words = words }
+    then record { line = line; kind = kind_in table word; words = words }
     else record { line = line; kind = kinds.Row; words = word ∷ words }
+
+abbrev pub line_by : List (List ℕ × Kind) → LogicalLine → Statement
+line_by table line = statement_by table line.number (map text_of line.words)
+
+-- The same in a file of one model.
+abbrev pub statement_at : ℕ → List (List ℕ) → Statement
+statement_at line words = statement_by keywords line words
 
 abbrev pub statement_of : LogicalLine → Statement
 statement_of line = statement_at line.number (map text_of line.words)
@@ -46,6 +58,10 @@ statement_of line = statement_at line.number (map text_of line.words)
 -- The statements of a text: its logical lines, in order.
 abbrev pub statements : List ℕ → List Statement
 statements bytes = map statement_of (logical_lines bytes)
+
+-- Those of a text that may have subcircuits.
+abbrev pub model_statements : List ℕ → List Statement
+model_statements bytes = map (line_by (keywords_with true)) (logical_lines bytes)
 
 -- Tests on the kind of a statement.
 abbrev pub is_row : Kind → Bool
@@ -76,6 +92,15 @@ abbrev pub is_latch : Kind → Bool
 is_latch kinds.Latch = true
 is_latch kind = false
 
+abbrev pub is_subckt : Kind → Bool
+is_subckt kinds.Subckt = true
+is_subckt kind = false
+
 abbrev pub is_end : Kind → Bool
 is_end kinds.End = true
 is_end kind = false
+
+-- The first of the statements is `.model`.
+abbrev pub begins_model : List Statement → Bool
+begins_model [] = false
+begins_model (s ∷ ss) = is_model s.kind

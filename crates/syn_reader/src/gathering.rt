@@ -231,6 +231,7 @@ impl Gathering {
         match parts.kind {
             Kind::Row => Err(ReadFault::StrayRow(parts.line)),
             Kind::Unknown => Err(ReadFault::UnknownKeyword(parts.line)),
+            Kind::Subckt => Ok(()),
             Kind::Model => Err(ReadFault::SecondModel(parts.line)),
             Kind::Inputs => self.add_inputs(alloc, parts.line, parts.words),
             Kind::Outputs => self.add_outputs(alloc, parts.words),

@@ -53,6 +53,20 @@ struct Rest<'a> {
     init: Option<&'a [u8]>,
 }
 
+impl Rest<'_> {
+    // How many words they are.
+    fn count(&self) -> u32
+        ensures { result ≡ length (rest_words self.now) }
+    {
+        match (self.kind, self.init) {
+            (Some(_), Some(_)) => 3,
+            (Some(_), None) => 2,
+            (None, Some(_)) => 1,
+            (None, None) => 0,
+        }
+    }
+}
+
 // At most three words as those behind the output.
 fn rest_of<'a>(words: LineWords<'a>) -> Option<Rest<'a>>
     requires { all_words words ≡ true }
@@ -118,16 +132,18 @@ fn init_in(line: u32, word: Option<&[u8]>) -> Result<u8, ReadFault>
     }
 }
 
-// A `.latch` line: what it loads, its output, its type with the word of its control, and its initial value.
+/// A `.latch` line: what it loads, its output, its type with the word of its control, and its initial value.
 #[derive(Clone, Copy)]
 pub struct LatchLine<'a> {
     pub feed: &'a [u8],
     pub output: &'a [u8],
     pub kind: Option<(LatchKind, &'a [u8])>,
     pub init: u8,
+    /// How many words there are behind the keyword.
+    pub count: u32,
 }
 
-// The latch of a line with these words; or else the fault of its words.
+/// The latch of a line with these words; or else the fault of its words.
 pub fn read_latch<'a>(line: u32, words: LineWords<'a>) -> Result<LatchLine<'a>, ReadFault>
     requires { all_words words ≡ true }
     ensures latch { IfOk result (λ l. latch_of (map text_of words.entry) ≡ Some (latch_of_line l)) }
@@ -136,6 +152,7 @@ pub fn read_latch<'a>(line: u32, words: LineWords<'a>) -> Result<LatchLine<'a>, 
     ensures small { IfOk result (λ l. l.init < 4) }
     ensures words { IfOk result (λ l. are_words (l.feed.now ∷ l.output.now ∷ control_words l.kind) ≡ true) }
     ensures count { IfOk result (λ l. 2 + length (control_words l.kind) ≤ length words.entry) }
+    ensures all { IfOk result (λ l. l.count ≡ length words.entry) }
     ensures faultless { OnOk result (latch_fault line (map text_of words.entry) ≡ None) }
     ensures fault { IfErr result (λ e. IfSome (fault_in e) (λ f. latch_fault line (map text_of words.entry) ≡ Some f)) }
 {
@@ -156,5 +173,6 @@ pub fn read_latch<'a>(line: u32, words: LineWords<'a>) -> Result<LatchLine<'a>, 
         output,
         kind,
         init,
+        count: 2 + rest.count(),
     })
 }

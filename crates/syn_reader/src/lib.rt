@@ -7,13 +7,13 @@
 #![tactic(auto)]
 
 mod gathering;
-mod latch_lines;
+pub mod latch_lines;
 mod laws;
 mod limits;
 mod reading;
-mod rows;
-mod signals;
-mod statements;
+pub mod rows;
+pub mod signals;
+pub mod statements;
 
 pub use laws::{
     circle_or_none, either_or, faultless_spell, not_both, one_fault, one_netlist, spell_computed,
@@ -43,6 +43,8 @@ pub enum Kind {
     Names,
     /// `.latch`
     Latch,
+    /// `.subckt`
+    Subckt,
     /// `.end`
     End,
 }

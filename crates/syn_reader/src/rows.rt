@@ -100,14 +100,14 @@ fn push_row(
     Ok(())
 }
 
-// The rows of a table: their input parts, and whether they list where it is true.
+/// The rows of a table: their input parts, and whether they list where it is true.
 #[derive(Drop)]
 pub struct Rows {
     pub parts: Vec<Word>,
     pub on: bool,
 }
 
-// Takes the rows in front of the statements, which are rows for so many inputs and have one output.
+/// Takes the rows in front of the statements, which are rows for so many inputs and have one output.
 pub fn read_rows(
     alloc: Global,
     statements: &mut Statements<'_>,

@@ -4,6 +4,7 @@ ghost use Rattle.std.specs.Prelude.{[], ◌∷◌, ◌++◌, bytes_eq, not, ◌�
 ghost use Rattle.syn_lex.specs.Words.{text_of};
 ghost use Rattle.std.specs.List.{list_all};
 ghost use Rattle.syn_netlist.specs.Kept.{control_number, latch_in, latch_numbers, nil_word};
+ghost use Rattle.syn_netlist.specs.Lists.{control_of};
 ghost use Rattle.syn_netlist.specs.Numbers.{all_below, Grows, kind_at, with_word, word_at, words_at};
 ghost use Rattle.syn_netlist.specs.Words.{distinct, is_word};
 ghost use Rattle.syn_reader.specs.Causes.{fault_in};
@@ -12,7 +13,7 @@ ghost use Rattle.syn_reader.specs.Faults.{DefinedTwice};
 ghost use Rattle.syn_reader.specs.Heard.{all_words};
 ghost use Rattle.syn_reader.specs.Keywords.{line_fault};
 ghost use Rattle.syn_reader.specs.LatchWords.{are_words, control_words, kind_of, latch_of_line};
-ghost use Rattle.syn_reader.specs.Marking.{Adds, also, first_twice, forbidden, mark_after, mark_forbids, Same};
+ghost use Rattle.syn_reader.specs.Marking.{Adds, also, first_twice, forbidden, mark_after, mark_forbids, Same, with_words};
 
 use crate::latch_lines::LatchLine;
 use crate::{Kind, ReadFault};
@@ -58,14 +59,14 @@ impl Mark {
     }
 }
 
-// A word of these bytes.
+/// A word of these bytes.
 pub fn copy_word(alloc: Global, bytes: &[u8]) -> Result<Word, AllocError>
     ensures { IfOk result (λ word. word ≡ bytes.now) }
 {
     Ok(Word::of(bytes.to_vec(alloc)?))
 }
 
-// The numbers of the names of a `.names` line: of those that the table reads, and of the one that it defines.
+/// The numbers of the names of a `.names` line: of those that the table reads, and of the one that it defines.
 #[derive(Drop)]
 pub struct TableLine {
     pub inputs: Vec<u32>,
@@ -80,7 +81,7 @@ pub struct Signals {
 }
 
 impl Signals {
-    // No names.
+    /// No names.
     pub fn new(alloc: Global) -> Signals
         ensures names { result.names ≡ [] }
         ensures marks { result.marks.items ≡ [] }
@@ -91,7 +92,7 @@ impl Signals {
         }
     }
 
-    // The number of a word, which is a free name from now on where it was none.
+    /// The number of a word, which is a free name from now on where it was none.
     pub fn add(&mut self, alloc: Global, word: &[u8]) -> Result<u32, AllocError>
         requires marked { length self.old.marks.items ≡ length self.old.names }
         requires few { length self.old.names + 1 < 2 ^ 32 }
@@ -102,6 +103,7 @@ impl Signals {
         ensures count { OnOk result (length self.new.names ≤ length self.old.names + 1) }
         ensures same { OnOk result (Same (forbidden self.old.names self.old.marks.items) (forbidden self.new.names self.new.marks.items)) }
         ensures distinct { OnOk result (distinct self.new.names ≡ true) }
+        ensures names { OnOk result (self.new.names ≡ with_word self.old.names word.now) }
     {
         let count = self.names.len();
         let i = self.names.add(alloc, word)?;
@@ -111,7 +113,7 @@ impl Signals {
         Ok(i)
     }
 
-    // Defines a name by a line of this kind, and gives its number.
+    /// Defines a name by a line of this kind, and gives its number.
     pub fn define(
         &mut self,
         alloc: Global,
@@ -126,6 +128,7 @@ impl Signals {
         ensures marked { OnOk result (length self.new.marks.items ≡ length self.new.names) }
         ensures grows { OnOk result (Grows self.old.names self.new.names) }
         ensures count { OnOk result (length self.new.names ≤ length self.old.names + 1) }
+        ensures names { OnOk result (self.new.names ≡ with_word self.old.names word.now) }
         ensures free { OnOk result (forbidden self.old.names self.old.marks.items kind word.now ≡ false) }
         ensures defined { OnOk result (Same (also kind word.now (forbidden self.old.names self.old.marks.items)) (forbidden self.new.names self.new.marks.items)) }
         ensures fault { IfErr result (λ e. IfSome (fault_in e) (λ f. (f ≡ DefinedTwice line word.now) × (forbidden self.old.names self.old.marks.items kind word.now ≡ true))) }
@@ -139,7 +142,7 @@ impl Signals {
         Ok(i)
     }
 
-    // The numbers of words.
+    /// The numbers of words.
     pub fn add_all(&mut self, alloc: Global, words: LineWords<'_>) -> Result<Vec<u32>, AllocError>
         requires marked { length self.old.marks.items ≡ length self.old.names }
         requires few { length self.old.names + length words < 2 ^ 32 }
@@ -149,6 +152,7 @@ impl Signals {
         ensures marked { OnOk result (length self.new.marks.items ≡ length self.new.names) }
         ensures grows { OnOk result (Grows self.old.names self.new.names) }
         ensures count { OnOk result (length self.new.names ≤ length self.old.names + length words.entry) }
+        ensures names { OnOk result (self.new.names ≡ with_words self.old.names (map text_of words.entry)) }
         ensures same { OnOk result (Same (forbidden self.old.names self.old.marks.items) (forbidden self.new.names self.new.marks.items)) }
     {
         let mut numbers = Vec::new(alloc);
@@ -158,7 +162,7 @@ impl Signals {
         Ok(numbers)
     }
 
-    // Defines names by a line of this kind, and gives their numbers.
+    /// Defines names by a line of this kind, and gives their numbers.
     pub fn define_all(
         &mut self,
         alloc: Global,
@@ -174,6 +178,7 @@ impl Signals {
         ensures marked { OnOk result (length self.new.marks.items ≡ length self.new.names) }
         ensures grows { OnOk result (Grows self.old.names self.new.names) }
         ensures count { OnOk result (length self.new.names ≤ length self.old.names + length words.entry) }
+        ensures names { OnOk result (self.new.names ≡ with_words self.old.names (map text_of words.entry)) }
         ensures once { OnOk result (first_twice (forbidden self.old.names self.old.marks.items) kind (map text_of words.entry) ≡ None) }
         ensures defined { OnOk result (Adds kind (map text_of words.entry) (forbidden self.old.names self.old.marks.items) (forbidden self.new.names self.new.marks.items)) }
         ensures fault { IfErr result (λ e. IfSome (fault_in e) (λ f. option_map (DefinedTwice line) (first_twice (forbidden self.old.names self.old.marks.items) kind (map text_of words.entry)) ≡ Some f)) }
@@ -200,6 +205,7 @@ impl Signals {
         ensures marked { OnOk result (length self.new.marks.items ≡ length self.new.names) }
         ensures grows { OnOk result (Grows self.old.names self.new.names) }
         ensures count { OnOk result (length self.new.names ≤ length self.old.names + length (control_words kind.entry)) }
+        ensures names { OnOk result (self.new.names ≡ with_words self.old.names (control_of (kind_of kind.entry))) }
         ensures same { OnOk result (Same (forbidden self.old.names self.old.marks.items) (forbidden self.new.names self.new.marks.items)) }
     {
         let Some((kind, control)) = kind else {
@@ -212,7 +218,7 @@ impl Signals {
         Ok(Some((kind, Some(i))))
     }
 
-    // The latch of a line, by numbers of names.
+    /// The latch of a line, by numbers of names.
     pub fn define_latch(
         &mut self,
         alloc: Global,
@@ -229,6 +235,7 @@ impl Signals {
         ensures marked { OnOk result (length self.new.marks.items ≡ length self.new.names) }
         ensures grows { OnOk result (Grows self.old.names self.new.names) }
         ensures count { OnOk result (length self.new.names ≤ length self.old.names + (2 + length (control_words latch.entry.kind))) }
+        ensures names { OnOk result (self.new.names ≡ with_words self.old.names (latch.entry.feed.now ∷ (control_of (kind_of latch.entry.kind) ++ latch.entry.output.now ∷ []))) }
         ensures free { OnOk result (forbidden self.old.names self.old.marks.items Kind.Latch latch.entry.output.now ≡ false) }
         ensures defined { OnOk result (Same (also Kind.Latch latch.entry.output.now (forbidden self.old.names self.old.marks.items)) (forbidden self.new.names self.new.marks.items)) }
         ensures fault { IfErr result (λ e. IfSome (fault_in e) (λ f. (f ≡ DefinedTwice line latch.entry.output.now) × (forbidden self.old.names self.old.marks.items Kind.Latch latch.entry.output.now ≡ true))) }
@@ -244,7 +251,7 @@ impl Signals {
         })
     }
 
-    // The names of a `.names` line with these words; or else the fault of the line.
+    /// The names of a `.names` line with these words; or else the fault of the line.
     pub fn define_table(
         &mut self,
         alloc: Global,
@@ -260,6 +267,7 @@ impl Signals {
         ensures marked { OnOk result (length self.new.marks.items ≡ length self.new.names) }
         ensures grows { OnOk result (Grows self.old.names self.new.names) }
         ensures count { OnOk result (length self.new.names ≤ length self.old.names + length words.entry) }
+        ensures names { OnOk result (self.new.names ≡ with_words self.old.names (map text_of words.entry)) }
         ensures faultless { OnOk result (line_fault (forbidden self.old.names self.old.marks.items) Kind.Names line (map text_of words.entry) ≡ None) }
         ensures defined { OnOk result (Adds Kind.Names (names_defined Kind.Names (map text_of words.entry)) (forbidden self.old.names self.old.marks.items) (forbidden self.new.names self.new.marks.items)) }
         ensures fault { IfErr result (λ e. IfSome (fault_in e) (λ f. line_fault (forbidden self.old.names self.old.marks.items) Kind.Names line (map text_of words.entry) ≡ Some f)) }

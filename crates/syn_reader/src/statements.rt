@@ -4,7 +4,7 @@ ghost use Rattle.std.specs.Prelude.{◌≡◌, ℕ, ◌↔◌, List, [], ◌∷�
 ghost use Rattle.syn_lex.specs.Lines.{LogicalLine};
 ghost use Rattle.syn_lex.specs.Words.{text_of};
 ghost use Rattle.syn_reader.specs.Heard.{all_words, Begins, line_words, lines_words, statement};
-ghost use Rattle.syn_reader.specs.Statements.{begins_with_dot, keywords, kind_in, statement_of};
+ghost use Rattle.syn_reader.specs.Statements.{begins_model, begins_with_dot, keywords, keywords_with, kind_in, line_by, statement_of};
 ghost use Rattle.syn_reader.specs.Parts.{ahead, ahead_words, is_settled, statement_in};
 
 use crate::Kind;
@@ -34,13 +34,27 @@ fn kind_of(word: &[u8]) -> Kind
     }
 }
 
+// The kind of a keyword, which `.subckt` is where there may be subcircuits.
+fn kind_with(word: &[u8], subcircuits: bool) -> Kind
+    ensures { result ≡ kind_in (keywords_with subcircuits) word.now }
+{
+    if !subcircuits {
+        return kind_of(word);
+    }
+    if b".subckt".as_slice() == word {
+        Kind::Subckt
+    } else {
+        kind_of(word)
+    }
+}
+
 fn begins_with_dot(word: &[u8]) -> bool
     ensures { result ≡ begins_with_dot word.now }
 {
     word.first() == Some(&b'.')
 }
 
-// A line as a statement: its number, its kind, and its words; behind a keyword these are the further words.
+/// A line as a statement: its number, its kind, and its words; behind a keyword these are the further words.
 #[derive(Drop)]
 pub struct Parts<'a> {
     pub line: u32,
@@ -48,15 +62,15 @@ pub struct Parts<'a> {
     pub words: LineWords<'a>,
 }
 
-fn parts_of<'a>(line: &Line<'a>) -> Parts<'a>
-    ensures value { statement_in result ≡ statement_of line.now }
+fn parts_of<'a>(line: &Line<'a>, subcircuits: bool) -> Parts<'a>
+    ensures value { statement_in result ≡ line_by (keywords_with subcircuits) line.now }
     ensures words { line_words line.now ≡ true → all_words result.words ≡ true }
 {
     let mut words = line.words();
     match words.next() {
         Some((_, first)) if begins_with_dot(first) => Parts {
             line: line.number(),
-            kind: kind_of(first),
+            kind: kind_with(first, subcircuits),
             words,
         },
         _ => Parts {
@@ -67,60 +81,91 @@ fn parts_of<'a>(line: &Line<'a>) -> Parts<'a>
     }
 }
 
-// The statements that are left of a text. Contracts see their list.
+/// The statements that are left of a text. Contracts see their list.
 #[derive(Drop)]
 pub struct Statements<'a> {
     next: Option<Parts<'a>>,
     lines: Logical<'a>,
+    subcircuits: bool,
 }
 
 impl<'a> Model for Statements<'a> {
     ghost use Rattle.std.specs.Prelude.{◌≡◌, ◌++◌, true, List, map};
     ghost use Rattle.syn_reader.specs.Heard.{lines_words};
-    ghost use Rattle.syn_reader.specs.Statements.{Statement, statement_of};
+    ghost use Rattle.syn_reader.specs.Statements.{Statement, keywords_with, line_by};
     ghost use Rattle.syn_reader.specs.Parts.{ahead, ahead_words, is_settled};
 
     ghost Value = { List Statement };
 
-    ghost view = { λ s. ahead s.next ++ map statement_of s.lines };
+    ghost view = { λ s. ahead s.next ++ map (line_by (keywords_with s.subcircuits)) s.lines };
 
     ghost invariant = { λ s. (ahead_words s.next ≡ true) × (lines_words s.lines ≡ true) × (is_settled s.next s.lines ≡ true) };
 }
 
-fn next_parts<'a>(lines: &mut Logical<'a>) -> Option<Parts<'a>>
+fn next_parts<'a>(lines: &mut Logical<'a>, subcircuits: bool) -> Option<Parts<'a>>
     requires { lines_words lines.old ≡ true }
-    ensures value { ahead result ++ map statement_of lines.new ≡ map statement_of lines.old }
+    ensures value { ahead result ++ map (line_by (keywords_with subcircuits)) lines.new ≡ map (line_by (keywords_with subcircuits)) lines.old }
     ensures settled { is_settled result lines.new ≡ true }
     ensures words { ahead_words result ≡ true }
     ensures left { lines_words lines.new ≡ true }
 {
     let line = lines.next()?;
-    Some(parts_of(&line))
+    Some(parts_of(&line, subcircuits))
 }
 
 impl<'a> Statements<'a> {
-    // The statements of the lines.
+    // The statements of the lines, with `.subckt` as a keyword where there may be subcircuits.
+    fn with(lines: Logical<'a>, subcircuits: bool) -> Statements<'a>
+        requires { lines_words lines ≡ true }
+        ensures { result ≡ map (line_by (keywords_with subcircuits)) lines.entry }
+    {
+        let mut lines = lines;
+        let next = next_parts(&mut lines, subcircuits);
+        Statements {
+            next,
+            lines,
+            subcircuits,
+        }
+    }
+
+    /// The statements of the lines of a file of one model.
     pub fn of(lines: Logical<'a>) -> Statements<'a>
         requires { lines_words lines ≡ true }
         ensures { result ≡ map statement_of lines.entry }
     {
-        let mut lines = lines;
-        let next = next_parts(&mut lines);
-        Statements { next, lines }
+        Statements::with(lines, false)
     }
 
-    // Takes the next statement.
+    /// The statements of the lines of a file that may have subcircuits.
+    pub fn of_models(lines: Logical<'a>) -> Statements<'a>
+        requires { lines_words lines ≡ true }
+        ensures { result ≡ map (line_by (keywords_with true)) lines.entry }
+    {
+        Statements::with(lines, true)
+    }
+
+    /// Whether the next statement is `.model`.
+    pub fn begins_model(&self) -> bool
+        ensures { result ≡ begins_model self.now }
+    {
+        match &self.next {
+            Some(parts) => matches!(parts.kind, Kind::Model),
+            None => false,
+        }
+    }
+
+    /// Takes the next statement.
     pub fn next(&mut self) -> Option<Parts<'a>>
         ensures none { IfNone result ((self.old ≡ []) × (self.new ≡ [])) }
         ensures some { IfSome result (λ parts. self.old ≡ statement_in parts ∷ self.new) }
         ensures words { IfSome result (λ parts. all_words parts.words ≡ true) }
     {
         let parts = self.next.take()?;
-        self.next = next_parts(&mut self.lines);
+        self.next = next_parts(&mut self.lines, self.subcircuits);
         Some(parts)
     }
 
-    // Takes the next statement where it is of this kind.
+    /// Takes the next statement where it is of this kind.
     pub fn take(&mut self, kind: Kind) -> Option<Parts<'a>>
         ensures none { IfNone result ((self.new ≡ self.old) × (Begins kind self.old → ⊥)) }
         ensures some { IfSome result (λ parts. self.old ≡ statement parts.line kind (map text_of parts.words) ∷ self.new) }
@@ -133,7 +178,7 @@ impl<'a> Statements<'a> {
             self.next = Some(parts);
             return None;
         }
-        self.next = next_parts(&mut self.lines);
+        self.next = next_parts(&mut self.lines, self.subcircuits);
         Some(parts)
     }
 }

@@ -145,6 +145,7 @@ keyed kinds.Row (w ∷ ws) h =
     let p = and_parts (list_all is_word (w ∷ ws)) (not (begins_with_dot w)) h in
     (w, ws, record { words = refl; fit = p.0; read = λ k. cond-false (begins_with_dot w) _ _ (not-true (begins_with_dot w) p.1) })
 keyed kinds.Unknown words h = absurd (both_ways false refl ((and_parts (list_all is_word words) false h).1))
+keyed kinds.Subckt words h = absurd (both_ways false refl ((and_parts (list_all is_word words) false h).1))
 
 -- a line in front of bytes
 in_front : (w : List ℕ) (ws : List (List ℕ)) (more : List ℕ) → line w ws ++ more ≡ (w ++ blanked ws) ++ 10 ∷ more

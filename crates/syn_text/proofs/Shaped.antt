@@ -10,9 +10,9 @@ use Rattle.syn_netlist.specs.Order.{Ordered, defined, reads_known}
 use Rattle.syn_netlist.specs.Words.{has_word, without, firsts}
 use Rattle.syn_netlist.proofs.Sets.{has_word-append, has_left, has_right, all_at, all_each}
 use Rattle.syn_shapes.specs.GraphShape.{and_tables, end_tables}
-use Rattle.syn_lutshapes.specs.LutShape.{LutShape, lut_tables}
+use Rattle.syn_lutshapes.specs.LutShape.{lut_tables}
 use Rattle.syn_lutshapes.specs.LutShape as luts
-use Rattle.syn_reader.proofs.Answering.{none_from_all}
+use Rattle.syn_models.proofs.Driven.{find_none}
 use Rattle.syn_reader.proofs.Defining.{has_word-without}
 use Rattle.syn_text.specs.WellFormed.{ShapedIsChecked, LutsAreChecked}
 
@@ -66,7 +66,7 @@ read_defined n ts ends shape order w h =
 
 checked : (n : Netlist) (ts ends : List Table) → HasEnds n ts ends → Ordered n → IsChecked n
 checked n ts ends shape order = record {
-  driven = none_from_all (has_word (defined n)) (reads n) (all_each (has_word (defined n)) (reads n) (read_defined n ts ends shape order));
+  driven = find_none (has_word (defined n)) (reads n) (all_each (has_word (defined n)) (reads n) (read_defined n ts ends shape order));
   order = n.tables;
   ordered = record { permuted = IsPermutation-refl n.tables; ordered = order };
 }

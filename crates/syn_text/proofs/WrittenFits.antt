@@ -3,6 +3,7 @@ use Rattle.std.proofs.Common.{◌≡◌, ℕ, zero, suc, ◌<◌, ◌==◌, ◌&
 use Rattle.std.specs.List.{list_all}
 use Rattle.std.proofs.lemmas.Bool.Decides.{nat_tests}
 use Rattle.std.proofs.lemmas.Bool.{and_parts, and_from, or_cases, eqb-true}
+use Rattle.std.proofs.lemmas.List.Folds.{list_all-append}
 use Rattle.syn_netlist.specs.Words.{is_word, is_word_byte}
 use Rattle.syn_netlist.specs.Lists.{Latch, Table, Netlist, latch_reads, control_of}
 use Rattle.syn_netlist.specs.declared.LatchKind.{LatchKind}
@@ -11,7 +12,6 @@ use Rattle.syn_netlist.specs.Kept.{nil_word, is_row_character, row_fits, rows_fi
 use Rattle.syn_shapes.specs.Printed.{line, kind_word, kind_words, digit, latch_line, row_line, table_lines, clock_line, printed}
 use Rattle.syn_reader.specs.declared.Kind.TheVariants as kinds
 use Rattle.syn_reader.specs.Shapes.{output_word}
-use Rattle.syn_reader.proofs.Sets.{all_snoc}
 use Rattle.syn_text.specs.WellFormed.{latch_fits, table_fits, IsWellFormed}
 use Rattle.syn_text.specs.Written.{Line, said, line_bytes, line_fits, latch_words, row_said, table_said, from_tables, from_latches, from_clocks, lines_of}
 
@@ -127,7 +127,8 @@ tables_fit (t ∷ ts) h =
     let f = table_parts t p.0 in
     all_append (table_said t) (from_tables ts)
     (and_from (line_fits (said kinds.Names (t.inputs ++ t.output ∷ []))) (list_all line_fits (map (row_said t.inputs t.on) t.rows))
-    (and_from (list_all is_word (t.inputs ++ t.output ∷ [])) true (all_snoc is_word t.inputs t.output f.inputs f.output) refl)
+    (and_from (list_all is_word (t.inputs ++ t.output ∷ [])) true
+    (list_all-append is_word t.inputs (t.output ∷ []) ∙ and_from (list_all is_word t.inputs) (list_all is_word (t.output ∷ [])) f.inputs (and_from (is_word t.output) true f.output refl)) refl)
     (rows_line_fit t.inputs t.on t.rows f.rows))
     (tables_fit ts p.1)
 

@@ -44,6 +44,7 @@ is_row_start (w ∷ ws) = not (begins_with_dot w)
 abbrev pub kind_fits : Kind → List (List ℕ) → Bool
 kind_fits kinds.Row words = is_row_start words
 kind_fits kinds.Unknown words = false
+kind_fits kinds.Subckt words = false
 kind_fits kind words = true
 
 -- A line that reads as the statement of its kind: its words are words of the format, and a row begins with no keyword.

@@ -1,5 +1,6 @@
-use Rattle.std.proofs.Common.{◌∷◌, map, refl, sym, ap, ◌∙◌, List, ℕ}
+use Rattle.std.proofs.Common.{◌∷◌, arith, length, map, refl, sym, ap, ◌∙◌, List, ℕ}
 use Rattle.std.proofs.lemmas.Bool.{and_parts}
+use Rattle.std.proofs.lemmas.List.{length-map}
 use Rattle.std.proofs.lemmas.Result.{err_from_is_err_and}
 use Rattle.syn_lex.specs.Words.{text_of}
 use Rattle.syn_netlist.specs.Words.{is_word}
@@ -34,3 +35,12 @@ pub returns-clause-faultless : goal.returns-clause-faultless
 returns-clause-faultless c =
     let words = ap (map text_of) c.in-Some.ensures.steps ∙ (ap (λ (l : List (List ℕ)). c.in-Some.feed.now ∷ l) (ap (map text_of) c.in-Some-next.ensures.steps) ∙ ap (λ (l : List (List ℕ)). c.in-Some.feed.now ∷ c.in-Some-next.output.now ∷ l) c.in-Some-rest_of.ensures.some) in
     no_fault c.args.line c.in-Some.feed.now c.in-Some-next.output.now c.in-Some-rest_of.rest c.in_ok-kind.kind c.in_ok-init.init (map text_of c.args.words) words c.in_ok-kind.ensures.ok c.in_ok-init.ensures.ok
+
+pub returns-clause-all : goal.returns-clause-all
+returns-clause-all c =
+    let one = ap length c.in-Some.ensures.steps in
+    let two = ap length c.in-Some-next.ensures.steps in
+    let rest = ap length c.in-Some-rest_of.ensures.some in
+    let size = length-map c.next-2.new.self text_of in
+    let count = c.count.ensures in
+    omega (arith, one, two, rest, size, count)

@@ -6,6 +6,7 @@ use Rattle.syn_netlist.specs.Numbers.{words_at}
 use Rattle.syn_netlist.specs.Words.{is_word}
 use Rattle.syn_netlist.proofs.Growing.{Grows-again}
 use Rattle.syn_reader.specs.Heard.{all_words}
+use Rattle.syn_reader.specs.Marking.{with_words}
 use Rattle.syn_reader.proofs.NumberLaws.{numbers_more, below_more}
 use Rattle.syn_reader.proofs.signals.Signals.add_all.Goals as goal
 
@@ -28,6 +29,7 @@ loop-word-preserved c =
       same = λ k w. one.same k w ∙ before.same k w;
       words = (and_parts (is_word c.in-Some.word.now) (all_words c.next.new.self) words).1;
       few = before.few;
+      known = ap (λ n. with_words n (map text_of c.next.new.self)) one.names ∙ (ap (λ l. with_words old (map text_of l)) (sym left) ∙ before.known);
       can = tt;
       ends = tt;
     }

@@ -2,7 +2,7 @@ use Rattle.std.proofs.Common.{◌≡◌, ◌+◌, ◌^◌, ◌<◌, ◌≤◌, �
 use Rattle.syn_lex.specs.Words.{text_of}
 use Rattle.syn_netlist.specs.Numbers.{all_below, words_at, Grows}
 use Rattle.syn_reader.specs.Heard.{all_words}
-use Rattle.syn_reader.specs.Marking.{forbidden, Same}
+use Rattle.syn_reader.specs.Marking.{forbidden, Same, with_words}
 use Rattle.syn_reader.proofs.signals.Signals.add_all.Given as goal
 
 abbrev pub invariant-loop-word : goal.invariant-loop-word
@@ -15,6 +15,7 @@ invariant-loop-word l = record {
   same : Same (forbidden l.fn.self.names l.fn.self.marks.items) (forbidden l.self.names l.self.marks.items);
   words : all_words l.word-iterator ≡ true;
   few : length l.fn.self.names + length l.fn.words < 2 ^ 32;
+  known : with_words l.self.names (map text_of l.word-iterator) ≡ with_words l.fn.self.names (map text_of l.fn.words);
   can : (goal.iterator-loop-word).can_next l.word-iterator;
   ends : (goal.iterator-loop-word).is_finite l.word-iterator;
 }

@@ -6,7 +6,7 @@ use Rattle.syn_netlist.specs.Numbers.{words_at}
 use Rattle.syn_netlist.specs.Words.{is_word}
 use Rattle.syn_netlist.proofs.Growing.{Grows-again}
 use Rattle.syn_reader.specs.Heard.{all_words}
-use Rattle.syn_reader.specs.Marking.{by_kind, first_twice, forbidden, forbidden_by}
+use Rattle.syn_reader.specs.Marking.{by_kind, first_twice, forbidden, forbidden_by, with_words}
 use Rattle.syn_reader.proofs.NumberLaws.{numbers_more, below_more, twice_step, adds_step}
 use Rattle.syn_reader.proofs.signals.Signals.define_all.Goals as goal
 
@@ -32,6 +32,7 @@ loop-word-preserved c =
           (λ k v. ap (λ l. forbidden_by (map (by_kind c.args.kind) (map text_of l)) k v || forbidden old c.loop-word.self.marks.items k v) (sym left) ∙ before.adds k v) one.defined;
       words = (and_parts (is_word c.in-Some.word.now) (all_words c.next.new.self) words).1;
       few = before.few;
+      known = ap (λ n. with_words n (map text_of c.next.new.self)) one.names ∙ (ap (λ l. with_words old (map text_of l)) (sym left) ∙ before.known);
       can = tt;
       ends = tt;
     }

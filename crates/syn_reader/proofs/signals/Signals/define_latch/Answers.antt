@@ -1,4 +1,9 @@
+use Rattle.std.proofs.Common.{◌∷◌, [], sym, ap, ◌∙◌}
+use Rattle.syn_netlist.specs.Lists.{control_of}
+use Rattle.syn_netlist.specs.Numbers.{with_word}
 use Rattle.syn_reader.specs.LatchWords.{kind_of}
+use Rattle.syn_reader.specs.Marking.{with_words}
+use Rattle.syn_reader.proofs.MarkLaws.{with_words-append}
 use Rattle.syn_reader.proofs.LatchNumbers.{latch_words, latch_below, latch_signal}
 use Rattle.syn_reader.proofs.signals.Signals.define_latch.Goals as goal
 
@@ -22,3 +27,10 @@ returns-clause-signal c =
     let kind = c.in_ok-kind.ensures in
     let output = c.in_ok-output.ensures in
     latch_signal c.add_kind.new.self.names c.define.new.self.names c.in_ok-kind.kind output.grows kind.below kind.signal
+
+pub returns-clause-names : goal.returns-clause-names
+returns-clause-names c =
+    let control = control_of (kind_of c.args.latch.kind) in
+    c.in_ok-output.ensures.names
+    ∙ (ap (λ n. with_word n c.args.latch.output.now) (c.in_ok-kind.ensures.names ∙ ap (λ n. with_words n control) c.in_ok-feed.ensures.names)
+    ∙ sym (with_words-append (with_word c.args.self.now.names c.args.latch.feed.now) control (c.args.latch.output.now ∷ [])))

@@ -11,7 +11,7 @@ use Rattle.syn_reader.specs.declared.Kind.TheVariants as kinds
 use Rattle.syn_reader.specs.Faults.{Fault, DefinedTwice}
 use Rattle.syn_reader.specs.Heard.{all_words}
 use Rattle.syn_reader.specs.Keywords.{line_fault}
-use Rattle.syn_reader.specs.Marking.{forbidden}
+use Rattle.syn_reader.specs.Marking.{forbidden, with_words}
 use Rattle.syn_reader.proofs.NumberLaws.{numbers_more, below_more}
 use Rattle.syn_reader.proofs.TableLines.{table_faultless, table_twice, adds_one, defines_last}
 use Rattle.syn_reader.proofs.FaultLaws.{passes_fault}
@@ -38,6 +38,7 @@ loop-word-preserved c =
       last = both.0;
       words = both.1;
       few = before.few;
+      known = ap (λ n. with_words n (c.in-Some-2.word.now ∷ map text_of c.next-in-loop-word.new.self)) one.names ∙ (ap (λ l. with_words old (c.loop-word.last.now ∷ map text_of l)) (sym left) ∙ before.known);
       can = tt;
       ends = tt;
     }
@@ -75,3 +76,7 @@ returns-clause-defined c =
     let words = sym before.numbers ∙ ap (λ l. words_at c.loop-word.self.names c.loop-word.inputs.items ++ c.loop-word.last.now ∷ map text_of l) c.in-None.ensures.steps.0 in
     adds_one kinds.Names (names_defined kinds.Names (map text_of c.args.words)) c.loop-word.last.now (forbidden c.args.self.now.names c.args.self.now.marks.items) (forbidden c.loop-word.self.names c.loop-word.self.marks.items) (forbidden c.define.new.self.names c.define.new.self.marks.items)
     (ap (names_defined kinds.Names) words ∙ defines_last (words_at c.loop-word.self.names c.loop-word.inputs.items) c.loop-word.last.now) before.same c.in_ok-output.ensures.defined
+
+pub returns-clause-names : goal.returns-clause-names
+returns-clause-names c =
+    c.in_ok-output.ensures.names ∙ (ap (λ l. with_words c.loop-word.self.names (c.loop-word.last.now ∷ map text_of l)) (sym c.in-None.ensures.steps.0) ∙ c.loop-word.invariant.known)

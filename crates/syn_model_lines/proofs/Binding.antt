@@ -1,0 +1,91 @@
+-- Binds and subcircuits, word by word.
+use Rattle.std.proofs.Common.{◌≡◌, ℕ, suc, ◌+◌, ◌==◌, ◌&&◌, ◌||◌, Bool, true, false, if◌then◌else◌, List, [], ◌∷◌, ◌++◌, length, take, drop, bytes_eq, refl, sym, ap, ◌∙◌, inl, inr, ◌⊎◌, Option, Some, None, option_map, option_and_then, append_assoc, arith}
+use Rattle.std.specs.List.{list_all}
+use Rattle.std.proofs.lemmas.Bool.{and_from, and_parts, both_ways, or_parts}
+use Rattle.std.proofs.lemmas.List.Folds.{list_all-append}
+use Rattle.syn_lex.specs.Pieces.{before}
+use Rattle.syn_models.specs.Models.{Bind, Subcircuit}
+use Rattle.syn_netlist.specs.Words.{is_word, is_word_byte}
+use Rattle.syn_reader.specs.Shapes.{nil_control}
+use Rattle.syn_model_lines.specs.Subcircuits.{cut_at, bind_of, bind_with, is_no_bind, binds_of, subcircuit_of}
+
+-- the subcircuit of a model whose binds begin with these
+abbrev pub subcircuit_from : List ℕ → List Bind → List Bind → Subcircuit
+subcircuit_from model front rest = record { model = model; binds = front ++ rest }
+
+-- one more word is a bind
+pub bind_step : (model : List ℕ) (front : List Bind) (words : List (List ℕ)) (w : List ℕ) (rest : List (List ℕ)) (b : Bind) (all : Option Subcircuit) → words ≡ w ∷ rest → bind_of w ≡ Some b
+    → option_map (subcircuit_from model front) (binds_of words) ≡ all → option_map (subcircuit_from model (front ++ b ∷ [])) (binds_of rest) ≡ all
+bind_step model front words w rest b all e f h = go (binds_of rest) (sym (ap (λ o. option_map (subcircuit_from model front) (option_and_then (λ b. option_map (λ bs. b ∷ bs) (binds_of rest)) o)) f) ∙ (sym (ap (λ l. option_map (subcircuit_from model front) (binds_of l)) e) ∙ h))
+  where
+    go : (o : Option (List Bind)) → option_map (subcircuit_from model front) (option_map (λ bs. b ∷ bs) o) ≡ all → option_map (subcircuit_from model (front ++ b ∷ [])) o ≡ all
+    go None h = h
+    go (Some bs) h = ap (λ l. Some (record { model = model; binds = l })) (append_assoc front (b ∷ []) bs) ∙ h
+
+-- or it is none
+pub bind_stop : (model : List ℕ) (front : List Bind) (words : List (List ℕ)) (w : List ℕ) (rest : List (List ℕ)) (all : Option Subcircuit) → words ≡ w ∷ rest → bind_of w ≡ None
+    → option_map (subcircuit_from model front) (binds_of words) ≡ all → all ≡ None
+bind_stop model front words w rest all e f h =
+    sym h ∙ (ap (λ l. option_map (subcircuit_from model front) (binds_of l)) e
+    ∙ ap (λ o. option_map (subcircuit_from model front) (option_and_then (λ b. option_map (λ bs. b ∷ bs) (binds_of rest)) o)) f)
+
+-- where no bind stands yet
+pub bind_first : (model : List ℕ) (words : List (List ℕ)) → option_map (subcircuit_from model []) (binds_of words) ≡ subcircuit_of (model ∷ words)
+bind_first model words = go (binds_of words)
+  where
+    go : (o : Option (List Bind)) → option_map (subcircuit_from model []) o ≡ option_map (λ binds. record { model = model; binds = binds }) o
+    go None = refl
+    go (Some bs) = refl
+
+-- a choice of two sides
+abbrev sides : List ℕ → List ℕ → Option (List ℕ × List ℕ)
+sides front back = Some (front, back)
+
+abbrev wider : ℕ → List ℕ × List ℕ → List ℕ × List ℕ
+wider b both = (b ∷ both.0, both.1)
+
+-- what stands before the first byte of a value, and behind it
+cut_here : (byte : ℕ) (word front back : List ℕ) → front ≡ take (before (λ b. b == byte) word) word → back ≡ drop (before (λ b. b == byte) word) word
+    → ((back ≡ []) × (cut_at byte word ≡ None)) ⊎ ((b : ℕ) × (rest : List ℕ) × (back ≡ b ∷ rest) × (cut_at byte word ≡ sides front rest))
+cut_here byte [] front back e f = inl (f, refl)
+cut_here byte (x ∷ xs) front back e f = go (x == byte) e f (cut_here byte xs (take (before (λ b. b == byte) xs) xs) (drop (before (λ b. b == byte) xs) xs) refl refl)
+  where
+    k : ℕ
+    k = before (λ b. b == byte) xs
+
+    go : (t : Bool) → front ≡ take (if t then 0 else suc k) (x ∷ xs) → back ≡ drop (if t then 0 else suc k) (x ∷ xs)
+        → ((drop k xs ≡ []) × (cut_at byte xs ≡ None)) ⊎ ((b : ℕ) × (rest : List ℕ) × (drop k xs ≡ b ∷ rest) × (cut_at byte xs ≡ sides (take k xs) rest))
+        → ((back ≡ []) × ((if t then sides [] xs else option_map (wider x) (cut_at byte xs)) ≡ None))
+        ⊎ ((b : ℕ) × (rest : List ℕ) × (back ≡ b ∷ rest) × ((if t then sides [] xs else option_map (wider x) (cut_at byte xs)) ≡ sides front rest))
+    go true e f ih = inr (x, xs, f, ap (λ l. sides l xs) (sym e))
+    go false e f (inl z) = inl (f ∙ z.0, ap (option_map (wider x)) z.1)
+    go false e f (inr z) = inr (z.0, z.1, f ∙ z.2, ap (option_map (wider x)) z.3 ∙ ap (λ l. sides l z.1) (sym e))
+
+pub cut_none : (word front back : List ℕ) (k : ℕ) → k ≡ before (λ b. b == 61) word → front ≡ take k word → back ≡ drop k word → length back ≡ 0 → bind_of word ≡ None
+cut_none word front back k n e f z = elim (cut_here 61 word front back (e ∙ ap (λ i. take i word) n) (f ∙ ap (λ i. drop i word) n)) [
+  | inl h ↦ ap (option_and_then bind_with) h.1
+  | inr h ↦ absurd (let w : suc (length h.1) ≡ 0 = sym (ap length h.2) ∙ z in omega (arith, w))
+]
+
+pub cut_some : (word front back : List ℕ) (k b : ℕ) (rest : List ℕ) → k ≡ before (λ b. b == 61) word → front ≡ take k word → back ≡ drop k word → back ≡ b ∷ rest → bind_of word ≡ bind_with (front, rest)
+cut_some word front back k b rest n e f s = elim (cut_here 61 word front back (e ∙ ap (λ i. take i word) n) (f ∙ ap (λ i. drop i word) n)) [
+  | inl h ↦ absurd (let w : b ∷ rest ≡ [] = sym s ∙ h.0 in cc)
+  | inr h ↦ (let w : b ∷ rest ≡ h.0 ∷ h.1 = sym s ∙ h.2 in let r : h.1 ≡ rest = cc in ap (option_and_then bind_with) h.3 ∙ ap (λ (l : List ℕ). bind_with (front, l)) r)
+]
+
+-- two sides of a word that are not empty are words
+all_bytes : (word : List ℕ) → is_word word ≡ true → list_all is_word_byte word ≡ true
+all_bytes [] h = refl
+all_bytes (b ∷ bs) h = h
+
+word_of : (bytes : List ℕ) → (length bytes == 0) ≡ false → list_all is_word_byte bytes ≡ true → is_word bytes ≡ true
+word_of [] n h = absurd (both_ways true n refl)
+word_of (b ∷ bs) n h = h
+
+pub sides_are_words : (word front back : List ℕ) (b : ℕ) (rest : List ℕ) → word ≡ front ++ back → back ≡ b ∷ rest → is_no_bind front rest ≡ false → is_word word ≡ true → (is_word front && is_word rest) ≡ true
+sides_are_words word front back b rest w s n h =
+    let all = sym (list_all-append is_word_byte front (b ∷ rest)) ∙ (ap (list_all is_word_byte) (sym (w ∙ ap (λ l. front ++ l) s)) ∙ all_bytes word h) in
+    let both = and_parts (list_all is_word_byte front) (list_all is_word_byte (b ∷ rest)) all in
+    let empty = or_parts (length front == 0) (length rest == 0 || bytes_eq nil_control rest) n in
+    let more = or_parts (length rest == 0) (bytes_eq nil_control rest) empty.1 in
+    and_from (is_word front) (is_word rest) (word_of front empty.0 both.0) (word_of rest more.0 (and_parts (is_word_byte b) (list_all is_word_byte rest) both.1).1)

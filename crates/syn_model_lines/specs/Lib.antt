@@ -1,0 +1,9 @@
+pub mod Subcircuits
+pub mod Parted
+pub mod Faults
+pub mod Reading
+pub mod Computed
+pub mod Laws
+pub mod Causes
+pub mod Binds
+pub mod Worked
