@@ -202,7 +202,8 @@ impl CutFunction {
     #[inline]
     pub fn table(self, leaves: &[u32]) -> Truth
         requires few { length leaves.now ≤ 4 }
-        ensures { (rows : List Row) (node : ℕ) → IsCutFunction rows leaves.now node self → IsTruthOver rows leaves.now node result }
+        ensures vars { result.vars ≡ length leaves.now }
+        ensures truth { (rows : List Row) (node : ℕ) → IsCutFunction rows leaves.now node self → IsTruthOver rows leaves.now node result }
     {
         table_of(leaves.len() as u8, u64::from(self.word))
     }

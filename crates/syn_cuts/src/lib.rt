@@ -19,3 +19,4 @@ pub use laws::{
     arranged_in_order, listed_are_cuts, listed_cuts_rise, signatures_bound_unions, worked_cuts,
 };
 pub use lists::CutLists;
+pub use signatures::signature;

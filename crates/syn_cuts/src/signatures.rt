@@ -13,7 +13,7 @@ pub const SIGNED: usize = 32;
 
 /// The signature of a cut: for each leaf the bit of its number modulo 64.
 #[inline]
-pub(crate) fn signature(leaves: &[u32]) -> u64
+pub fn signature(leaves: &[u32]) -> u64
     ensures { result ≡ signature leaves.now }
 {
     let mut bits = 0;

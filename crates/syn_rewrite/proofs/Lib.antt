@@ -6,3 +6,4 @@ mod Cuts
 mod Fitted
 mod Listed
 mod Candidates
+mod Carried

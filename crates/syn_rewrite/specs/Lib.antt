@@ -4,3 +4,4 @@ pub mod Rewriting
 pub mod Laws
 pub mod PlansOf
 pub mod Prepared
+pub mod Carried

@@ -6,17 +6,17 @@ ghost use Rattle.syn_rows.specs.Rows.{row_at};
 ghost use Rattle.syn_rows.specs.Reach.{is_and};
 ghost use Rattle.syn_cuts.specs.Cuts.{listed_cuts};
 ghost use Rattle.syn_cuts.specs.Leaves.{leaves_of};
-ghost use Rattle.syn_rewrite.specs.Prepared.{AreFunctionsOver, HaveFunctions, IsPreparedFor, cuts_of};
+ghost use Rattle.syn_rewrite.specs.Carried.{HaveCarried};
+ghost use Rattle.syn_rewrite.specs.Prepared.{HaveFunctions, IsPreparedFor, cuts_of};
 ghost use Rattle.syn_rewrite.specs.Rewriting.{all_but_last};
 
-use crate::functions::functions_over;
+use crate::functions::{Functions, functions_at};
 use crate::known_plans::KnownPlans;
 use std::alloc::{AllocError, Global};
 use std::thread::Threads;
 use syn_cuts::{Cut, CutLists, listed};
 use syn_graph::Graph;
 use syn_library::Prepared as Classes;
-use syn_rows::Row;
 
 /// The most leaves of a cut that is looked at.
 const MOST_LEAVES: u8 = 4;
@@ -48,35 +48,24 @@ pub(crate) fn cuts_of(cuts: &CutLists, node: u32) -> &[Cut]
     but_last(cuts.of(node))
 }
 
-// The functions of a node over its cuts; none where it is no AND.
-fn functions_at(
-    alloc: Global,
-    graph: &Graph,
-    cuts: &CutLists,
-    node: u32,
-) -> Result<Vec<u16>, AllocError>
-    requires node { node < length graph.now.rows }
-    requires cuts { cuts.now ≡ listed_cuts 4 graph.now.rows }
-    ensures { IfOk result (λ v. is_and (row_at graph.now.rows node) ≡ true → AreFunctionsOver graph.now.rows node (cuts_of graph.now.rows node) v.items) }
-{
-    match graph.rows.as_slice()[node as usize] {
-        Row::And(_, _) => functions_over(alloc, graph, node, cuts_of(cuts, node)),
-        _ => Ok(Vec::new(alloc)),
-    }
-}
-
-// The functions of each AND over its cuts.
+// The functions of each AND over its cuts, as numbers.
 fn all_functions(alloc: Global, graph: &Graph, cuts: &CutLists) -> Result<Vec<Vec<u16>>, AllocError>
     requires { cuts.now ≡ listed_cuts 4 graph.now.rows }
     ensures count { IfOk result (λ v. length v.items ≡ length graph.now.rows) }
     ensures functions { IfOk result (λ v. HaveFunctions graph.now.rows v.items) }
 {
     let _count = graph.count();
-    let mut functions = Vec::new(alloc);
+    let mut carried = Vec::new(alloc);
+    let mut numbers = Vec::new(alloc);
     for node in 0..graph.rows.as_slice().len() as u32 {
-        functions.push(functions_at(alloc, graph, cuts, node)?)?;
+        let Functions {
+            carried: carries,
+            numbers: numbered,
+        } = functions_at(alloc, graph, cuts, &carried, node)?;
+        carried.push(carries)?;
+        numbers.push(numbered)?;
     }
-    Ok(functions)
+    Ok(numbers)
 }
 
 /// What is listed for a graph.
