@@ -19,7 +19,7 @@ use Rattle.syn_decide.specs.declared.decisions.TheConstants.{MOST_INNER}
 use Rattle.syn_decide.specs.declared.decisions.Want.TheVariants as want
 use Rattle.syn_decide.specs.declared.decisions.Decision.{Decision}
 use Rattle.syn_decide.specs.declared.decisions.Decision.TheVariants as decision
-use Rattle.syn_decide.specs.Decided.{Busy, Differs, Next, Reach, Wide, told}
+use Rattle.syn_decide.specs.Decided.{Answered, Busy, Differs, Next, Reach, Unfit, Wide, told}
 use Rattle.syn_decide.specs.Tasks.{Task}
 use Rattle.syn_decide.specs.Walk.{enters, from_entered, is_met, nodes_of}
 use Rattle.syn_decide.specs.Functions.{in_circle, is_same_function, now_table, used_leaves, was_table}
@@ -29,17 +29,18 @@ use Rattle.syn_decide.proofs.Walking.{always_walked, entered_new, node_row, node
 use Rattle.syn_decide.proofs.Linking.{always_linked}
 use Rattle.syn_commit.specs.Pools.{KeepsPool, found_claimed}
 use Rattle.syn_commit.specs.Walks.{AreKnown, IsEntered, IsOfReads, IsWalking}
+use Rattle.syn_commit.proofs.Ranking.{row_fits}
 use Rattle.syn_commit.proofs.Trying.{claimed_append, held_stays, missed_keeps, or_none, other, rest_on, row_stays, used_keeps}
 
 -- ---- the reads of a call
-after_more : (t : Task) (s : State) (met : List Seen) (read : Seen) → after_reads t s (met ++ read ∷ []) ≡ read_one t (after_reads t s met) read
+pub after_more : (t : Task) (s : State) (met : List Seen) (read : Seen) → after_reads t s (met ++ read ∷ []) ≡ read_one t (after_reads t s met) read
 after_more t s [] read = refl
 after_more t s (x ∷ met) read = after_more t (read_one t s x) met read
 
 reads_begin : (t : Task) (v : View) → IsOfReads t v v (begin t)
 reads_begin t v = record { met = []; reads = sym (append-nil v.reads); misses = sym (append-nil v.misses); state = refl }
 
-reads_more : (t : Task) (start v w : View) (s z : State) (read : Seen) → IsOfReads t start v s → w.reads ≡ v.reads ++ read ∷ [] → w.misses ≡ v.misses ++ found_claimed (read ∷ []) → z ≡ read_one t s read → IsOfReads t start w z
+pub reads_more : (t : Task) (start v w : View) (s z : State) (read : Seen) → IsOfReads t start v s → w.reads ≡ v.reads ++ read ∷ [] → w.misses ≡ v.misses ++ found_claimed (read ∷ []) → z ≡ read_one t s read → IsOfReads t start w z
 reads_more t start v w s z read h reads misses next = record {
   met = h.met ++ read ∷ [];
   reads = reads ∙ (ap (λ rs. rs ++ read ∷ []) h.reads ∙ append_assoc start.reads h.met (read ∷ []));
@@ -81,7 +82,7 @@ none_asked decision.Unfit s e none n asked = let same : told decision.Unfit ≡ 
 row_read : (t : Task) (s : State) (n : ℕ) (waiting : List ℕ) (r : Row) → s.stage ≡ Walking (n ∷ waiting) → read_one t s (seen.Row n r) ≡ row_loaded t s n r waiting
 row_read t s n waiting r e = ap (λ g. read_at t s g (seen.Row n r)) e ∙ ap (λ b. if b then row_loaded t s n r waiting else failed s) (node_same n)
 
-miss_read : (t : Task) (s : State) (n : ℕ) (waiting : List ℕ) → s.stage ≡ Walking (n ∷ waiting) → read_one t s (seen.Miss n) ≡ answered s (Busy n)
+pub miss_read : (t : Task) (s : State) (n : ℕ) (waiting : List ℕ) → s.stage ≡ Walking (n ∷ waiting) → read_one t s (seen.Miss n) ≡ answered s (Busy n)
 miss_read t s n waiting e = ap (λ g. read_at t s g (seen.Miss n)) e ∙ ap (λ b. if b then answered s (Busy n) else failed s) (node_same n)
 
 -- the inner rows after it
@@ -92,20 +93,28 @@ inner_after t s n waiting r = pick (is_derived r) (walk_on t (s.inner ++ node_ro
     pick true stage = refl
     pick false stage = refl
 
+-- no hit comes in the walk
+hits_after : (t : Task) (s : State) (n : ℕ) (waiting : List ℕ) (r : Row) → (row_loaded t s n r waiting).hits ≡ s.hits
+hits_after t s n waiting r = pick (is_derived r) (walk_on t (s.inner ++ node_row n r ∷ []) (from_entered t.proposal.leaves (s.inner ++ node_row n r ∷ []) (refs_of r ++ waiting)))
+  where
+    pick : (b : Bool) (stage : Stage) → (if b then at (with_inner s n r) stage else answered s (Reach n)).hits ≡ s.hits
+    pick true stage = refl
+    pick false stage = refl
+
 -- ---- known rows
-known_stays : (v w : View) (n : ℕ) (rows : List NodeRow) → ((m : ℕ) → m ≢ n → known_row w m ≡ known_row v m) → ((m : ℕ) → has_node (nodes_of rows) m ≡ true → m ≢ n) → AreKnown v rows → AreKnown w rows
+pub known_stays : (v w : View) (n : ℕ) (rows : List NodeRow) → ((m : ℕ) → m ≢ n → known_row w m ≡ known_row v m) → ((m : ℕ) → has_node (nodes_of rows) m ≡ true → m ≢ n) → AreKnown v rows → AreKnown w rows
 known_stays v w n [] same apart k = tt
 known_stays v w n (r ∷ rows) same apart k = (
   same r.node (apart r.node (or_left (r.node == r.node) (has_node (nodes_of rows) r.node) (node_same r.node))) ∙ k.0,
   known_stays v w n rows same (λ m h. apart m (or_right (r.node == m) (has_node (nodes_of rows) m) h)) k.1,
 )
 
-known_more : (w : View) (rows : List NodeRow) (r : NodeRow) → AreKnown w rows → known_row w r.node ≡ Some r.row → AreKnown w (rows ++ r ∷ [])
+pub known_more : (w : View) (rows : List NodeRow) (r : NodeRow) → AreKnown w rows → known_row w r.node ≡ Some r.row → AreKnown w (rows ++ r ∷ [])
 known_more w [] r k e = (e, tt)
 known_more w (q ∷ rows) r k e = (k.0, known_more w rows r k.1 e)
 
 -- a node that an inner row refers to
-referring : (v : View) (rows : List NodeRow) (n : ℕ) → AreKnown v rows → is_met rows n ≡ true → (m : ℕ) × (r : Row) × (known_row v m ≡ Some r) × (has_node (refs_of r) n ≡ true)
+pub referring : (v : View) (rows : List NodeRow) (n : ℕ) → AreKnown v rows → is_met rows n ≡ true → (m : ℕ) × (r : Row) × (known_row v m ≡ Some r) × (has_node (refs_of r) n ≡ true)
 referring v [] n k h = absurd (cc)
 referring v (q ∷ rows) n k h = elim (or_cases (has_node (refs_of q.row) n) (is_met rows n) h) [ inl own ↦ (q.node, q.row, k.0, own) | inr more ↦ referring v rows n k.1 more ]
 
@@ -116,8 +125,12 @@ walk_begins t v pool s keeps alone e = subst (IsWalking t v pool v) (sym e) reco
   spare = keeps;
   held = λ n. alone n ∙ sym (or_none (has_node pool n));
   known = tt;
+  hits = refl;
   rest = record { number = refl; pins = refl; idle = refl; changes = refl; difference = refl };
 }
+
+pub fits_begins : (t : Task) (s : State) → s ≡ begin t → wants s ≡ Unfit → ⊥
+fits_begins t s e unfit = let next : Next (want.Row t.proposal.root) ≡ Unfit = sym (ap wants e) ∙ unfit in cc
 
 module _ (t : Task) (start v : View) (pool : List ℕ) (s : State) (h : IsWalking t start pool v s) (n : ℕ) (waiting : List ℕ) (stage : s.stage ≡ Walking (n ∷ waiting)) where
   -- ---- the node that is entered next
@@ -166,6 +179,7 @@ module _ (t : Task) (start v : View) (pool : List ℕ) (s : State) (h : IsWalkin
           spare = missed_keeps v n pool none h.spare;
           held = λ m. h.held m ∙ ap (λ rows. has_node pool m || has_node (nodes_of rows) m) (sym inner);
           known = subst (AreKnown (views.missed v n)) (sym inner) (known_stays v (views.missed v n) n s.inner (λ m ne. refl) inner_apart h.known);
+          hits = ap (λ (y : State). y.hits) (e ∙ miss_read t s n waiting stage) ∙ h.hits;
           rest = rest_on start v (views.missed v n) h.rest (record { number = refl; pins = refl; idle = refl; changes = refl; difference = refl });
         }
 
@@ -190,6 +204,7 @@ module _ (t : Task) (start v : View) (pool : List ℕ) (s : State) (h : IsWalkin
       known = subst (AreKnown (views.row_loaded (views.claimed v n) n r)) (sym inner)
           (known_more (views.row_loaded (views.claimed v n) n r) s.inner (node_row n r)
           (known_stays v (views.row_loaded (views.claimed v n) n r) n s.inner (λ m ne. look_there m n r v.rows ne) inner_apart h.known) (look_here n r v.rows));
+      hits = ap (λ (y : State). y.hits) (e ∙ row_read t s n waiting r stage) ∙ (hits_after t s n waiting r ∙ h.hits);
       rest = rest_on start v (views.row_loaded (views.claimed v n) n r) h.rest (record { number = refl; pins = refl; idle = refl; changes = refl; difference = refl });
     }
 
@@ -200,17 +215,31 @@ module _ (t : Task) (start v : View) (pool : List ℕ) (s : State) (h : IsWalkin
       held = λ m. held_stays v n pool none h.spare m ∙ (h.held m ∙ ap (λ rows. has_node pool m || has_node (nodes_of rows) m) (sym inner));
       known = subst (AreKnown (views.released (views.row_loaded (views.claimed v n) n r) n)) (sym inner)
           (known_stays v (views.released (views.row_loaded (views.claimed v n) n r) n) n s.inner (λ m ne. row_stays v n pool none h.spare r m ne) inner_apart h.known);
+      hits = ap (λ (y : State). y.hits) (e ∙ row_read t s n waiting r stage) ∙ (hits_after t s n waiting r ∙ h.hits);
       rest = rest_on start v (views.released (views.row_loaded (views.claimed v n) n r) n) h.rest (record { number = refl; pins = refl; idle = refl; changes = refl; difference = refl });
     }
 
-    pub walk_goes_on : (numbers : ℕ) (w : View) (z : State) → IsEntered t numbers n v s w z → IsWalking t start pool w z
-    walk_goes_on numbers w z (inl miss) = subst (λ y. IsWalking t start pool y z) (sym miss.1) (missed_on z miss.2)
-    walk_goes_on numbers w z (inr row) = subst (λ y. IsWalking t start pool y z) (sym row.1) (go (is_derived row.0) (ap (λ (y : State). y.inner) (row.2 ∙ row_read t s n waiting row.0 stage) ∙ inner_after t s n waiting row.0))
+    pub walk_goes_on : (nodes numbers : ℕ) (w : View) (z : State) → IsEntered t nodes numbers n v s w z → IsWalking t start pool w z
+    walk_goes_on nodes numbers w z (inl miss) = subst (λ y. IsWalking t start pool y z) (sym miss.1) (missed_on z miss.2)
+    walk_goes_on nodes numbers w z (inr row) = subst (λ y. IsWalking t start pool y z) (sym row.1) (go (is_derived row.0) (ap (λ (y : State). y.inner) (row.2 ∙ row_read t s n waiting row.0 stage) ∙ inner_after t s n waiting row.0))
       where
         go : (b : Bool) → z.inner ≡ (if b then s.inner ++ node_row n row.0 ∷ [] else s.inner)
             → IsWalking t start pool (if b then views.row_loaded (views.claimed v n) n row.0 else views.released (views.row_loaded (views.claimed v n) n row.0) n) z
         go true inner = gate_on row.0 z row.2 inner
         go false inner = other_on row.0 z row.2 inner
+
+    -- the row that was asked for fits
+    pub walk_fits : (nodes numbers : ℕ) (w : View) (z : State) → enters t.proposal.leaves [] t.proposal.root ≡ true → IsEntered t nodes numbers n v s w z → wants z ≡ Unfit → ⊥
+    walk_fits nodes numbers w z root (inl miss) unfit = let busy : Answered (Busy n) ≡ Unfit = sym (ap wants (miss.2 ∙ miss_read t s n waiting stage)) ∙ unfit in cc
+    walk_fits nodes numbers w z root (inr row) unfit =
+        let r : Row = row.0 in
+        let was : after_reads t (begin t) h.reads.met ≡ s = sym h.reads.state in
+        row_fits t h.reads.met nodes n (views.row_loaded (views.claimed v n) n r) r root
+        (ap wants was ∙ ap (λ g. wanted_at s g) stage) row.3.no_circle (λ m q e. (row.3.rows m q e).0)
+        (subst (λ (y : State). AreKnown (views.row_loaded (views.claimed v n) n r) (y.inner ++ node_row n r ∷ [])) h.reads.state
+        (known_more (views.row_loaded (views.claimed v n) n r) s.inner (node_row n r)
+        (known_stays v (views.row_loaded (views.claimed v n) n r) n s.inner (λ m ne. look_there m n r v.rows ne) inner_apart h.known) (look_here n r v.rows)))
+        (ap wants (after_more t (begin t) h.reads.met (seen.Row n r) ∙ (ap (λ y. read_one t y (seen.Row n r)) was ∙ sym row.2)) ∙ unfit)
 
 -- ---- how long the walk goes on
 -- one more than the rows for which there is room, while the walk goes on
@@ -260,8 +289,8 @@ pub room_begins : (t : Task) (s : State) → s ≡ begin t → HasRoom s
 room_begins t s e waiting w = let none : length s.inner ≡ 0 = ap (λ (y : State). length y.inner) e in omega arith
 
 -- the program's measure falls with each node that is entered
-pub falls : (t : Task) (numbers n : ℕ) (v w : View) (s z : State) (waiting : List ℕ) → s.stage ≡ Walking (n ∷ waiting) → HasRoom s → IsEntered t numbers n v s w z → (left_to_enter z < left_to_enter s) × HasRoom z
-falls t numbers n v w s z waiting stage room entered = fewer (after entered)
+pub falls : (t : Task) (nodes numbers n : ℕ) (v w : View) (s z : State) (waiting : List ℕ) → s.stage ≡ Walking (n ∷ waiting) → HasRoom s → IsEntered t nodes numbers n v s w z → (left_to_enter z < left_to_enter s) × HasRoom z
+falls t nodes numbers n v w s z waiting stage room entered = fewer (after entered)
   where
     few : length s.inner < 49
     few = room (n ∷ waiting) stage
@@ -280,7 +309,7 @@ falls t numbers n v w s z waiting stage room entered = fewer (after entered)
     loaded r ahead true = on_less t (s.inner ++ node_row n r ∷ []) (length s.inner) ahead few (one r)
     loaded r ahead false = over (length s.inner) (length s.inner) (Ended (Reach n)) few refl (λ w e. cc)
 
-    after : IsEntered t numbers n v s w z → IsLess (length s.inner) z.stage (length z.inner)
+    after : IsEntered t nodes numbers n v s w z → IsLess (length s.inner) z.stage (length z.inner)
     after (inl miss) = subst (λ (y : State). IsLess (length s.inner) y.stage (length y.inner)) (sym (miss.2 ∙ miss_read t s n waiting stage)) (over (length s.inner) (length s.inner) (Ended (Busy n)) few refl (λ w e. cc))
     after (inr row) = subst (λ (y : State). IsLess (length s.inner) y.stage (length y.inner)) (sym (row.2 ∙ row_read t s n waiting row.0 stage))
         (loaded row.0 (from_entered t.proposal.leaves (s.inner ++ node_row n row.0 ∷ []) (refs_of row.0 ++ waiting)) (is_derived row.0))

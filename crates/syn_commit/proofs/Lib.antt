@@ -1,2 +1,6 @@
 pub mod Trying
 pub mod Entering
+mod Ranking
+mod Staging
+mod Loads
+mod Draining

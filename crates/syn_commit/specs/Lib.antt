@@ -1,2 +1,4 @@
 pub mod Pools
 pub mod Walks
+pub mod Stages
+pub mod Giving

@@ -1,5 +1,5 @@
 -- The walk of a commit: rows are loaded under claims, and each is a read of the decision.
-use Rattle.std.specs.Prelude.{◌≡◌, ◌≢◌, ◌⊎◌, ℕ, ◌||◌, if◌then◌else◌, List, ◌++◌, Some}
+use Rattle.std.specs.Prelude.{◌≡◌, ◌≢◌, ◌⊎◌, ℕ, ◌||◌, if◌then◌else◌, List, [], ◌++◌, Some}
 use Rattle.std.specs.List.{AllByRecursion}
 use Rattle.syn_rows.specs.declared.Row.{Row}
 use Rattle.syn_rows.specs.Rows.{is_derived}
@@ -7,6 +7,7 @@ use Rattle.syn_rows.specs.Nodes.{has_node}
 use Rattle.syn_core_laws.specs.declared.View.{View}
 use Rattle.syn_core_laws.specs.declared.Seen.{Seen}
 use Rattle.syn_core_laws.specs.declared.Seen.TheVariants as seen
+use Rattle.syn_core_laws.specs.Shown.{IsShown}
 use Rattle.syn_core_laws.specs.Views.{claimed, known_row, missed, released, row_loaded}
 use Rattle.syn_decide.specs.declared.decisions.NodeRow.{NodeRow}
 use Rattle.syn_decide.specs.Tasks.{Task}
@@ -31,14 +32,15 @@ pub record IsWalking (t : Task) (start : View) (pool : List ℕ) (v : View) (s :
   pub spare : KeepsPool v pool
   pub held : (n : ℕ) → has_node v.held n ≡ (has_node pool n || has_node (nodes_of s.inner) n)
   pub known : AreKnown v s.inner
+  pub hits : s.hits ≡ []
   pub rest : LeavesRest start v
 
 -- the view once a node's row was loaded under a claim: a node that is no gate is let go again
 abbrev pub looked_at : View → ℕ → Row → View
 looked_at v n r = if is_derived r then row_loaded (claimed v n) n r else released (row_loaded (claimed v n) n r) n
 
--- The node's claim failed, which doesn't come to a seat that has all numbers, or its row was loaded; either is read.
-abbrev pub IsEntered : Task → ℕ → ℕ → View → State → View → State → Type 0
-IsEntered t numbers n v s w z =
+-- The node's claim failed, which doesn't come to a seat that has all numbers, or its row was loaded; either is read. With the row that was loaded, known rows are in no circle.
+abbrev pub IsEntered : Task → ℕ → ℕ → ℕ → View → State → View → State → Type 0
+IsEntered t nodes numbers n v s w z =
     ((numbers ≢ 64) × (w ≡ missed v n) × (z ≡ read_one t s (seen.Miss n)))
-    ⊎ ((r : Row) × (w ≡ looked_at v n r) × (z ≡ read_one t s (seen.Row n r)))
+    ⊎ ((r : Row) × (w ≡ looked_at v n r) × (z ≡ read_one t s (seen.Row n r)) × IsShown nodes (row_loaded (claimed v n) n r))

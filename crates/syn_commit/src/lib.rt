@@ -3,6 +3,8 @@
 
 mod gates;
 mod hints;
+mod leaving;
+mod loading;
 mod pools;
 mod walking;
 

@@ -1,7 +1,8 @@
 //! The spare nodes of a worker.
 
-ghost use Rattle.std.specs.Prelude.{◌≡◌, ◌+◌, ◌<◌, ◌≤◌, ◌++◌, ◌∷◌, ℕ, [], false, true, length};
+ghost use Rattle.std.specs.Prelude.{◌≡◌, ◌+◌, ◌<◌, ◌≤◌, ◌++◌, ◌∷◌, ℕ, [], false, true, length, nat_lt, if◌then◌else◌};
 ghost use Rattle.syn_rows.specs.Nodes.{has_node};
+ghost use Rattle.syn_core_laws.specs.Views.{released};
 ghost use Rattle.syn_table.specs.Seating.{IsOf, known_of, nodes_of, view_of};
 ghost use Rattle.syn_table.specs.Steps.{with_view};
 ghost use Rattle.syn_commit.specs.Pools.{HoldsNoneOf, IsEmptied, IsFilled, IsTried, KeepsPool};
@@ -91,6 +92,23 @@ impl Pool {
         match shared.row_of(seat, node) {
             Row::Free => self.nodes.push(node),
             Row::Source | Row::And(_, _) | Row::Alias(_) => shared.release(seat, node),
+        }
+    }
+
+    // Takes in a node that the seat holds, or lets it go where the pool has 512.
+    pub(crate) fn take_in(&mut self, shared: &Shared, seat: &mut Seat, node: u32)
+        requires table { IsOf seat.old shared.now }
+        requires held { has_node (view_of seat.old).held node ≡ true }
+        requires busy { has_node (view_of seat.old).idle node ≡ false }
+        ensures table { IsOf seat.new shared.now }
+        ensures known { known_of seat.new ≡ with_view (known_of seat.old) (view_of seat.new) }
+        ensures view { view_of seat.new ≡ (if nat_lt (length self.old) 512 then view_of seat.old else released (view_of seat.old) node) }
+        ensures pool { self.new ≡ (if nat_lt (length self.old) 512 then self.old ++ node ∷ [] else self.old) }
+    {
+        if self.nodes.len() < MOST_SPARE {
+            self.nodes.push(node);
+        } else {
+            shared.release(seat, node);
         }
     }
 

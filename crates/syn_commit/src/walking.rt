@@ -2,14 +2,13 @@
 
 ghost use Rattle.std.specs.Prelude.{◌≡◌, ◌<◌, ℕ, [], false, length, true};
 ghost use Rattle.syn_rows.specs.Nodes.{has_node};
-ghost use Rattle.syn_decide.specs.declared.decisions.Want.TheVariants as want;
-ghost use Rattle.syn_decide.specs.Decided.{Next};
 ghost use Rattle.syn_decide.specs.Fold as fold;
 ghost use Rattle.syn_decide.specs.Tasks.{task_of};
 ghost use Rattle.syn_decide.specs.Walk.{enters};
 ghost use Rattle.syn_table.specs.Seating.{IsOf, known_of, nodes_of, view_of};
 ghost use Rattle.syn_table.specs.Steps.{with_view};
 ghost use Rattle.syn_commit.specs.Pools.{KeepsPool};
+ghost use Rattle.syn_commit.specs.Stages.{IsPastWalk};
 ghost use Rattle.syn_commit.specs.Walks.{IsEntered, IsWalking};
 
 use crate::Pool;
@@ -30,7 +29,7 @@ fn enter(
     requires free { has_node (view_of seat.old).held node ≡ false }
     ensures table { IsOf seat.new shared.now }
     ensures known { known_of seat.new ≡ with_view (known_of seat.old) (view_of seat.new) }
-    ensures entered { IsEntered (task_of attempt.now) (length (known_of seat.old).numbers) node (view_of seat.old) deciding.old (view_of seat.new) deciding.new }
+    ensures entered { IsEntered (task_of attempt.now) (nodes_of shared.now) (length (known_of seat.old).numbers) node (view_of seat.old) deciding.old (view_of seat.new) deciding.new }
 {
     shared.seats_reach_nodes(seat);
     if !shared.claim(seat, node) {
@@ -38,6 +37,7 @@ fn enter(
         return;
     }
     let row = shared.row_of(seat, node);
+    shared.seats_reach_nodes(seat);
     deciding.read(attempt, Seen::Row(node, row));
     if !row.is_derived() {
         shared.release(seat, node);
@@ -62,7 +62,7 @@ pub(crate) fn walk(
     ensures table { IsOf seat.new shared.now }
     ensures known { known_of seat.new ≡ with_view (known_of seat.old) (view_of seat.new) }
     ensures walked { IsWalking (task_of attempt.now) (view_of seat.old) pool.now (view_of seat.new) deciding.new }
-    ensures over { (n : ℕ) → fold.wants deciding.new ≡ Next (want.Row n) → ⊥ }
+    ensures past { IsPastWalk deciding.new.stage }
 {
     let _ = pool;
     while let Decision::Next(Want::Row(node)) = deciding.wants() {

@@ -1,7 +1,9 @@
 //! The decision of one commit, read by read.
 
-ghost use Rattle.std.specs.Prelude.{◌≡◌, ◌<◌, ℕ, length, drop};
+ghost use Rattle.std.specs.Prelude.{◌≡◌, ◌<◌, ◌≤◌, ℕ, length, drop};
 ghost use Rattle.syn_rows.specs.declared.TheConstants.{NODE_LIMIT};
+ghost use Rattle.syn_plan.specs.declared.TheConstants.{MOST_GATES};
+ghost use Rattle.syn_decide.specs.declared.decisions.TheConstants.{MOST_INNER};
 ghost use Rattle.syn_decide.specs.Decided.{told};
 ghost use Rattle.syn_decide.specs.Tasks.{asked, task_of};
 ghost use Rattle.syn_decide.specs.Fold as fold;
@@ -102,6 +104,22 @@ impl Deciding {
             Phase::Ended(_) => Phase::Failed,
             Phase::Failed => Phase::Failed,
         };
+    }
+
+    /// The inner rows that were met, in the order of the walk.
+    pub fn inner(&self) -> &[NodeRow]
+        ensures rows { result.now ≡ self.now.inner }
+        ensures few { length result.now ≤ MOST_INNER }
+    {
+        self.inner.as_slice()
+    }
+
+    /// The hits, with their rows, in the order in which they were found.
+    pub fn hits(&self) -> &[NodeRow]
+        ensures rows { result.now ≡ self.now.hits }
+        ensures few { length result.now ≤ MOST_GATES }
+    {
+        self.hits.as_slice()
     }
 
     /// What is decided so far.

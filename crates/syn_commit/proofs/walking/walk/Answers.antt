@@ -4,7 +4,7 @@ use Rattle.syn_decide.specs.declared.decisions.Decision.TheVariants as decision
 use Rattle.syn_decide.specs.Tasks.{task_of}
 use Rattle.syn_table.specs.Seating.{IsOf, known_of, nodes_of, view_of}
 use Rattle.syn_table.specs.Steps.{with_view}
-use Rattle.syn_commit.proofs.Entering.{row_asked, entered_free, entered_reach, falls, room_begins, walk_begins, walk_goes_on}
+use Rattle.syn_commit.proofs.Entering.{row_asked, entered_free, entered_reach, falls, fits_begins, room_begins, walk_begins, walk_fits, walk_goes_on}
 use Rattle.syn_commit.proofs.walking.walk.Goals as goal
 
 pub loop-node-init : goal.loop-node-init
@@ -13,6 +13,7 @@ loop-node-init c = record {
   known = refl;
   walked = walk_begins (task_of c.args.attempt.now) _ _ _ c.requires.pool c.requires.alone c.requires.start;
   room = room_begins (task_of c.args.attempt.now) _ c.requires.start;
+  fits = fits_begins (task_of c.args.attempt.now) _ c.requires.start;
 }
 
 pub enter-requires-clause-node : goal.enter-requires-clause-node
@@ -35,7 +36,7 @@ pub loop-node-smaller : goal.loop-node-smaller
 loop-node-smaller c =
     let n = c.in-Next-Row.node in
     let asked = row_asked c.wants.result c.loop-node.deciding n c.wants.ensures (c.in-Next-Row.is ∙ ap decision.Next c.in-Next-Row.field-0-is) in
-    (falls (task_of c.args.attempt.now) (length (known_of c.loop-node.seat).numbers) n (view_of c.loop-node.seat) (view_of c.enter.new.seat) c.loop-node.deciding c.enter.new.deciding asked.0 asked.1 c.loop-node.invariant.room c.enter.ensures.entered).0
+    (falls (task_of c.args.attempt.now) (nodes_of c.args.shared.now) (length (known_of c.loop-node.seat).numbers) n (view_of c.loop-node.seat) (view_of c.enter.new.seat) c.loop-node.deciding c.enter.new.deciding asked.0 asked.1 c.loop-node.invariant.room c.enter.ensures.entered).0
 
 pub loop-node-preserved : goal.loop-node-preserved
 loop-node-preserved c =
@@ -50,6 +51,8 @@ loop-node-preserved c =
       table = table;
       known = known;
       walked = walk_goes_on (task_of c.args.attempt.now) (view_of c.args.seat.now) (view_of c.loop-node.seat) c.args.pool.now c.loop-node.deciding c.loop-node.invariant.walked n asked.0 asked.1 none
-          (length (known_of c.loop-node.seat).numbers) (view_of c.enter.new.seat) c.enter.new.deciding c.enter.ensures.entered;
-      room = (falls (task_of c.args.attempt.now) (length (known_of c.loop-node.seat).numbers) n (view_of c.loop-node.seat) (view_of c.enter.new.seat) c.loop-node.deciding c.enter.new.deciding asked.0 asked.1 c.loop-node.invariant.room c.enter.ensures.entered).1;
+          (nodes_of c.args.shared.now) (length (known_of c.loop-node.seat).numbers) (view_of c.enter.new.seat) c.enter.new.deciding c.enter.ensures.entered;
+      room = (falls (task_of c.args.attempt.now) (nodes_of c.args.shared.now) (length (known_of c.loop-node.seat).numbers) n (view_of c.loop-node.seat) (view_of c.enter.new.seat) c.loop-node.deciding c.enter.new.deciding asked.0 asked.1 c.loop-node.invariant.room c.enter.ensures.entered).1;
+      fits = walk_fits (task_of c.args.attempt.now) (view_of c.args.seat.now) (view_of c.loop-node.seat) c.args.pool.now c.loop-node.deciding c.loop-node.invariant.walked n asked.0 asked.1 none
+          (nodes_of c.args.shared.now) (length (known_of c.loop-node.seat).numbers) (view_of c.enter.new.seat) c.enter.new.deciding c.requires.enters c.enter.ensures.entered;
     }

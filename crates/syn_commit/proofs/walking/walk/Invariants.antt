@@ -1,4 +1,6 @@
-use Rattle.std.proofs.Common.{◌≡◌}
+use Rattle.std.proofs.Common.{◌≡◌, ◌≢◌}
+use Rattle.syn_decide.specs.Decided.{Unfit}
+use Rattle.syn_decide.specs.Fold.{wants}
 use Rattle.syn_decide.specs.Tasks.{task_of}
 use Rattle.syn_table.specs.Seating.{IsOf, known_of, view_of}
 use Rattle.syn_table.specs.Steps.{with_view}
@@ -12,6 +14,7 @@ invariant-loop-node l = record {
   known : known_of l.seat ≡ with_view (known_of l.fn.seat) (view_of l.seat);
   walked : IsWalking (task_of l.attempt) (view_of l.fn.seat) l.pool (view_of l.seat) l.deciding;
   room : HasRoom l.deciding;
+  fits : wants l.deciding ≢ Unfit;
 }
 
 abbrev pub decreases-loop-node : goal.decreases-loop-node

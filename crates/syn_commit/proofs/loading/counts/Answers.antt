@@ -1,0 +1,24 @@
+use Rattle.std.proofs.Common.{ap, ◌∙◌}
+use Rattle.syn_decide.specs.Tasks.{task_of}
+use Rattle.syn_table.specs.Seating.{nodes_of, view_of}
+use Rattle.syn_table.specs.Steps.{with_view}
+use Rattle.syn_commit.proofs.Loads.{count_asked, count_falls, count_goes_on, counting_ends}
+use Rattle.syn_commit.proofs.loading.counts.Goals as goal
+
+pub loop-node-preserved : goal.loop-node-preserved
+loop-node-preserved c =
+    let n = c.in-Some.node in
+    let asked = count_asked c.loop-node.deciding n c.in-Some.ensures.some in
+    let t = task_of c.args.attempt.now in
+    record {
+      table = c.load_count.ensures.table;
+      known = c.load_count.ensures.known ∙ ap (λ k. with_view k (view_of c.load_count.new.seat)) c.loop-node.invariant.known;
+      trying = count_goes_on t (view_of c.args.start.now.value) (view_of c.loop-node.seat) c.args.pool.now c.args.pins.now.items c.loop-node.deciding c.loop-node.invariant.trying n asked
+          (nodes_of c.args.shared.now) (view_of c.load_count.new.seat) c.load_count.new.deciding c.load_count.ensures.counted;
+      past = (count_falls t (view_of c.args.start.now.value) (view_of c.loop-node.seat) c.args.pool.now c.args.pins.now.items c.loop-node.deciding c.loop-node.invariant.trying n asked
+          (nodes_of c.args.shared.now) (view_of c.load_count.new.seat) c.load_count.new.deciding c.load_count.ensures.counted).1;
+    }
+
+pub returns-clause-ended : goal.returns-clause-ended
+returns-clause-ended c =
+    counting_ends (task_of c.args.attempt.now) (view_of c.args.start.now.value) (view_of c.loop-node.seat) c.loop-node.deciding c.loop-node.invariant.trying.reads c.loop-node.invariant.past c.in_default.ensures.none
