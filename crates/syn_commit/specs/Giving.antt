@@ -1,15 +1,17 @@
 -- What a commit gives back at its end: its pins, the rows to which nobody refers any more, and the nodes that it took.
-use Rattle.std.specs.Prelude.{◌≡◌, ◌⊎◌, ℕ, ◌+◌, ◌*◌, ◌≤◌, nat_lt, if◌then◌else◌, true, List, [], ◌∷◌, ◌++◌, length, Some, ⊤}
+use Rattle.std.specs.Prelude.{◌≡◌, ◌⊎◌, ℕ, ◌+◌, ◌*◌, ◌≤◌, nat_lt, if◌then◌else◌, true, pos, ◌+ℤ◌, List, [], ◌∷◌, ◌++◌, length, Some, ⊤}
 use Rattle.syn_rows.specs.declared.Row.TheVariants.{Free}
 use Rattle.syn_rows.specs.Nodes.{has_node}
 use Rattle.syn_rows.specs.References.{times}
 use Rattle.syn_core_laws.specs.declared.View.{View}
+use Rattle.syn_core_laws.specs.declared.Change.{Change}
 use Rattle.syn_core_laws.specs.declared.EventKind.{EventKind}
 use Rattle.syn_core_laws.specs.declared.EventKind.TheVariants as Kind
 use Rattle.syn_core_laws.specs.Views.{known_row, own_pins}
 use Rattle.syn_decide.specs.declared.decisions.NodeRow.{NodeRow}
 use Rattle.syn_decide.specs.Walk.{nodes_of}
 use Rattle.syn_decide.specs.Walked.{AreGates}
+use Rattle.syn_commit_laws.specs.Freeing.{ands_freed, redefines}
 use Rattle.syn_commit_laws.specs.Turning.{Turns}
 use Rattle.syn_commit.specs.Pools.{KeepsPool}
 use Rattle.syn_commit.specs.Walks.{AreKnown}
@@ -83,3 +85,27 @@ pub record IsLetGo (v w : View) : Type 0 where
   pub misses : w.misses ≡ v.misses
   pub changes : w.changes ≡ v.changes
   pub difference : w.difference ≡ v.difference
+
+-- the gates with one more, if its node isn't there yet
+abbrev pub with_gate : List NodeRow → NodeRow → List NodeRow
+with_gate gates r = if has_node (nodes_of gates) r.node then gates else gates ++ r ∷ []
+
+-- the same of rows, in order
+abbrev pub with_gates : List NodeRow → List NodeRow → List NodeRow
+with_gates gates [] = gates
+with_gates gates (r ∷ rows) = with_gates (with_gate gates r) rows
+
+-- the seat holds the nodes of the pool alone, has no pins, and nothing is on its zero list
+pub record HoldsAlone (pool : List ℕ) (v : View) : Type 0 where
+  pub spare : KeepsPool v pool
+  pub held : (n : ℕ) → has_node v.held n ≡ has_node pool n
+  pub pins : v.pins ≡ []
+  pub idle : v.idle ≡ []
+
+-- A seat gave back, and then let go of the gates that were left.
+abbrev pub HasGivenUp : ℕ → View → List ℕ → View → List ℕ → Type 0
+HasGivenUp nodes v pool w grown = (u : View) × Gives nodes v pool u grown × IsLetGo u w
+
+-- Since the start nothing was stored but free rows, and the difference fell by exactly the ANDs that were freed.
+abbrev pub FellByLate : View → View → Type 0
+FellByLate start v = (changes : List Change) × (v.changes ≡ start.changes ++ changes) × (redefines changes ≡ []) × (v.difference +ℤ pos (ands_freed (λ n. true) changes) ≡ start.difference)

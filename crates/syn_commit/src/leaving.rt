@@ -6,17 +6,21 @@ ghost use Rattle.syn_rows.specs.Rows.{refs_of};
 ghost use Rattle.syn_rows.specs.Nodes.{has_node};
 ghost use Rattle.syn_core_laws.specs.declared.EventKind.TheVariants as Kind;
 ghost use Rattle.syn_decide.specs.declared.decisions.NodeRow.{NodeRow};
-ghost use Rattle.syn_decide.specs.Walk.{nodes_of as nodes_of_rows};
+ghost use Rattle.syn_decide.specs.Tasks.{task_of};
+ghost use Rattle.syn_decide.specs.Walk.{enters, nodes_of as nodes_of_rows};
 ghost use Rattle.syn_table.specs.Seating.{IsOf, known_of, nodes_of, view_of};
 ghost use Rattle.syn_table.specs.Steps.{with_view};
 ghost use Rattle.syn_commit_laws.specs.Turning.{Turns};
-ghost use Rattle.syn_commit.specs.Giving.{Gives, IsGiving, IsLetGo, work_left};
+ghost use Rattle.syn_commit.specs.Stages.{IsTrying};
+ghost use Rattle.syn_commit.specs.Walks.{IsOfReads};
+ghost use Rattle.syn_commit.specs.Giving.{FellByLate, Gives, HasGivenUp, HoldsAlone, IsGiving, IsLetGo, with_gate, with_gates, work_left};
 
 use crate::Pool;
 use crate::loading::MOST_PINS;
 use crate::pools::MOST_SPARE;
 use arrayvec::ArrayVec;
-use syn_decide::NodeRow;
+use std::snapshot::Snapshot;
+use syn_decide::{Attempt, Deciding, NodeRow};
 use syn_rows::Row;
 use syn_table::{Seat, Shared};
 
@@ -37,6 +41,7 @@ pub(crate) struct Holding {
 // Where the node stands among the rows.
 fn place_of(rows: &[NodeRow], node: u32) -> Option<usize>
     ensures none { IfNone result (has_node (nodes_of_rows rows.now) node ≡ false) }
+    ensures there { IfSome result (λ i. has_node (nodes_of_rows rows.now) node ≡ true) }
     ensures within { IfSome result (λ i. i < length rows.now) }
     ensures node { IfSome result (λ i. (r : NodeRow) → (slice_index_or rows.now i r).node ≡ node) }
 {
@@ -165,4 +170,70 @@ pub(crate) fn let_go(shared: &Shared, seat: &mut Seat, pool: &Pool, holding: &mu
         shared.seats_reach_nodes(seat);
         shared.release(seat, gate.node);
     }
+}
+
+// Adds a gate, if its node isn't there yet.
+fn add_gate(gates: &mut ArrayVec<NodeRow, MOST_HELD>, gate: NodeRow)
+    requires { length gates.old.items < MOST_HELD }
+    ensures { gates.new.items ≡ with_gate gates.old.items gate }
+{
+    if place_of(gates.as_slice(), gate.node).is_none() {
+        gates.push(gate);
+    }
+}
+
+// Adds the gates whose nodes aren't there yet.
+fn add_gates(gates: &mut ArrayVec<NodeRow, MOST_HELD>, rows: &[NodeRow])
+    requires room { length gates.old.items + length rows.now ≤ MOST_HELD }
+    ensures gates { gates.new.items ≡ with_gates gates.old.items rows.now }
+    ensures few { length gates.new.items ≤ length gates.old.items + length rows.now }
+{
+    for row in rows {
+        add_gate(gates, *row);
+    }
+}
+
+/// What a commit has, by its decision and its pins: nothing is on the zero list.
+pub(crate) fn hold(deciding: &Deciding, pins: ArrayVec<u32, MOST_PINS>) -> Holding
+    ensures pins { result.pins.items ≡ pins.items }
+    ensures gates { result.gates.items ≡ with_gates (with_gates [] deciding.now.inner) deciding.now.hits }
+    ensures idle { result.idle.items ≡ [] }
+    ensures few { length result.gates.items ≤ 512 }
+{
+    let mut gates = ArrayVec::new();
+    add_gates(&mut gates, deciding.inner());
+    add_gates(&mut gates, deciding.hits());
+    Holding {
+        pins,
+        gates,
+        idle: ArrayVec::new(),
+    }
+}
+
+/// A commit gives up: it takes its pins back, frees what nobody refers to any more, and lets the other nodes go that it
+/// took.
+pub(crate) fn give_up(
+    shared: &Shared,
+    seat: &mut Seat,
+    pool: &mut Pool,
+    attempt: &Attempt<'_>,
+    deciding: &Deciding,
+    pins: ArrayVec<u32, MOST_PINS>,
+    start: &Snapshot<Seat>,
+)
+    requires table { IsOf seat.old shared.now }
+    requires enters { enters attempt.now.candidate.leaves.now [] attempt.now.candidate.root ≡ true }
+    requires trying { IsTrying (task_of attempt.now) (view_of start.now.value) pool.old pins.items (view_of seat.old) deciding.now }
+    ensures table { IsOf seat.new shared.now }
+    ensures known { known_of seat.new ≡ with_view (known_of seat.old) (view_of seat.new) }
+    ensures alone { HoldsAlone pool.new (view_of seat.new) }
+    ensures reads { IsOfReads (task_of attempt.now) (view_of start.now.value) (view_of seat.new) deciding.now }
+    ensures given { HasGivenUp (nodes_of shared.now) (view_of seat.old) pool.old (view_of seat.new) pool.new }
+    ensures late { FellByLate (view_of start.now.value) (view_of seat.new) }
+{
+    let _ = attempt;
+    let _ = start;
+    let mut holding = hold(deciding, pins);
+    drain(shared, seat, pool, &mut holding);
+    let_go(shared, seat, pool, &mut holding);
 }

@@ -1,14 +1,16 @@
 //! The decision of one commit, read by read.
 
-ghost use Rattle.std.specs.Prelude.{◌≡◌, ◌<◌, ◌≤◌, ℕ, length, drop};
+ghost use Rattle.std.specs.Prelude.{◌≡◌, ◌<◌, ◌≤◌, ℕ, length, drop, slice_get, Some, IfNone, IfSome};
 ghost use Rattle.syn_rows.specs.declared.TheConstants.{NODE_LIMIT};
 ghost use Rattle.syn_plan.specs.declared.TheConstants.{MOST_GATES};
 ghost use Rattle.syn_decide.specs.declared.decisions.TheConstants.{MOST_INNER};
 ghost use Rattle.syn_decide.specs.Decided.{told};
 ghost use Rattle.syn_decide.specs.Tasks.{asked, task_of};
 ghost use Rattle.syn_decide.specs.Fold as fold;
+ghost use Rattle.syn_decide.specs.Hints as hints;
 
-use crate::answers::{read_counting, read_hinting, read_keying};
+use crate::answers::{self, read_counting, read_hinting, read_keying};
+use crate::place::Placing;
 use crate::stages::read_walking;
 use crate::waiting::Waiting;
 use crate::{Attempt, Decision, MOST_INNER, NodeRow, Phase, Want};
@@ -17,6 +19,7 @@ use std::marker::Model;
 use syn_core_laws::Seen;
 use syn_gain::Proposal;
 use syn_plan::MOST_GATES;
+use syn_rows::Row;
 
 /// What is kept of the reads of a commit, inline. Contracts see it as the definition's state.
 #[derive(Debug, Drop)]
@@ -120,6 +123,17 @@ impl Deciding {
         ensures few { length result.now ≤ MOST_GATES }
     {
         self.hits.as_slice()
+    }
+
+    /// The pair of the new gate at this place, with the hits so far, and whether a hint may be tried for it.
+    pub fn asked_pair(&self, attempt: &Attempt<'_>, place: usize) -> Option<(Row, bool)>
+        ensures none { IfNone result (length (fold.placed_now (task_of attempt.now) self.now).extra ≤ place) }
+        ensures pair { IfSome result (λ p. slice_get (fold.placed_now (task_of attempt.now) self.now).extra place ≡ Some p.0) }
+        ensures asked { IfSome result (λ p. p.1 ≡ hints.is_asked (fold.placed_now (task_of attempt.now) self.now).extra p.0) }
+    {
+        let mut placing = Placing::new();
+        answers::place(attempt, self.hits.as_slice(), &mut placing);
+        placing.asked_pair(place)
     }
 
     /// What is decided so far.

@@ -1,6 +1,6 @@
 //! What the gates of a plan become.
 
-ghost use Rattle.std.specs.Prelude.{◌≡◌, ℕ, ◌+◌, ◌-◌, ◌*◌, ◌^◌, ◌<◌, ◌≤◌, ◌∷◌, ◌++◌, [], All, length, map, reverse, slice_index_or, if◌then◌else◌, None};
+ghost use Rattle.std.specs.Prelude.{◌≡◌, ℕ, ◌+◌, ◌-◌, ◌*◌, ◌^◌, ◌<◌, ◌≤◌, ◌∷◌, ◌++◌, [], All, length, map, reverse, slice_index_or, if◌then◌else◌, None, Some, IfNone, IfSome, slice_get};
 ghost use Rattle.std.specs.List.{list_any};
 ghost use Rattle.arrayvec.specs.ArrayVec.{array_vec_len};
 ghost use Rattle.syn_rows.specs.declared.TheConstants.{NODE_LIMIT};
@@ -301,6 +301,18 @@ impl Placing {
                 !is_new_gate(a) && !is_new_gate(b) && has_pair(self.extra.as_slice(), a, b)
             }
             Row::Free | Row::Source | Row::Alias(_) => false,
+        }
+    }
+
+    /// The pair of the new gate at this place, and whether a hint is asked for it.
+    pub(crate) fn asked_pair(&self, place: usize) -> Option<(Row, bool)>
+        ensures none { IfNone result (length self.now.extra ≤ place) }
+        ensures pair { IfSome result (λ p. slice_get self.now.extra place ≡ Some p.0) }
+        ensures asked { IfSome result (λ p. p.1 ≡ spec.is_asked self.now.extra p.0) }
+    {
+        match self.extra.as_slice().get(place) {
+            None => None,
+            Some(row) => Some((*row, self.asks(*row))),
         }
     }
 
