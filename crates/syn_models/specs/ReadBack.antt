@@ -2,7 +2,6 @@
 use Rattle.std.specs.Prelude.{ℕ, suc, ◌-◌, ◌&&◌, ◌||◌, nat_lt, not, if◌then◌else◌, Bool, false, List, [], ◌∷◌, map, drop, bytes_eq}
 use Rattle.std.specs.Int.Digits.{number_from_digits}
 use Rattle.std.specs.List.{list_any}
-use Rattle.syn_models.specs.Flattening.{inner_name}
 use Rattle.syn_models.specs.Models.{Bind, is_bound}
 use Rattle.syn_models.specs.Walking.{Entry}
 
