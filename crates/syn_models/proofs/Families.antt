@@ -14,7 +14,8 @@ use Rattle.syn_models.specs.Opening.{Opened, End, Plain, Instance, Opens, instan
 use Rattle.syn_models.specs.Flattening.{inner_name, outer_or, called_inside, as_it_is, flat, tables_called, taken, clashes}
 use Rattle.syn_models.specs.Families.{Bound, IsFamily, Agrees, names_inside}
 use Rattle.syn_models.specs.Laws.{ValuationsAreFamilies, FamiliesAreValuations, OneValuation}
-use Rattle.syn_models.proofs.InnerNames.{number_in, name_in, number_back, name_back}
+use Rattle.syn_models.specs.ReadBack.{number_in, name_in}
+use Rattle.syn_models.proofs.InnerNames.{number_back, name_back}
 use Rattle.syn_models.proofs.Lists.{by_append, by_left, by_right, none_at, none_bound, called_table_value}
 
 -- the valuation gives the table's output what the table gives

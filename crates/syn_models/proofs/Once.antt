@@ -18,7 +18,8 @@ use Rattle.syn_models.specs.declared.flat_fault.FlatFault.TheVariants.{UnknownMo
 use Rattle.syn_models.specs.FlatFaults.{Site, unknown_model, unknown_port, port_missing, defined_twice, where_holds, where_named, checks, first_found, statement_fault, first_of_statements, first_of_models, first_fault_of_models, first_undriven, defines_of, defined_plainly, defined_inside, first_again}
 use Rattle.syn_models.specs.Laws.{FlatteningDefinesOnce}
 use Rattle.syn_models.proofs.Existing.{Among, named_among}
-use Rattle.syn_models.proofs.InnerNames.{number_in, name_in, number_back, name_back}
+use Rattle.syn_models.specs.ReadBack.{number_in, name_in}
+use Rattle.syn_models.proofs.InnerNames.{number_back, name_back}
 use Rattle.syn_models.proofs.Lists.{none_at, none_bound}
 use Rattle.syn_models.proofs.Occurrences.{bit, occ, bit-le, bit-on, bit-off, occ-append, occ_none, occ_some, occ_once, once_occ}
 
@@ -515,7 +516,7 @@ reading_listed m y h = elim (cases_Bool (has_word (inputs_of m) y)) [
 
 -- names of a model
 
-pub all_append : (test : List ℕ → Bool) (xs ys : List (List ℕ)) → list_all test xs ≡ true → list_all test ys ≡ true → list_all test (xs ++ ys) ≡ true
+pub all_append : {A : Type 0} (test : A → Bool) (xs ys : List A) → list_all test xs ≡ true → list_all test ys ≡ true → list_all test (xs ++ ys) ≡ true
 all_append test [] ys a b = b
 all_append test (x ∷ xs) ys a b = let parts = and_parts (test x) (list_all test xs) a in and_from (test x) (list_all test (xs ++ ys)) parts.0 (all_append test xs ys parts.1 b)
 

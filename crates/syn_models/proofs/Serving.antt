@@ -15,7 +15,7 @@ use Rattle.syn_models.specs.Models.{name_of, Model, all_of}
 use Rattle.syn_models.specs.FlatFaults.{contents}
 use Rattle.syn_models.specs.Numbered.{inner_at, contains_before, ContainsByNumbers, OrderServesTotals}
 
-output_is : (ms : List Model) (t : ℕ) → (slice_index_or (map contents ms) t no_table).output ≡ word_at (map name_of ms) t
+pub output_is : (ms : List Model) (t : ℕ) → (slice_index_or (map contents ms) t no_table).output ≡ word_at (map name_of ms) t
 output_is [] t = refl
 output_is (m ∷ ms) zero = refl
 output_is (m ∷ ms) (suc t) = output_is ms t

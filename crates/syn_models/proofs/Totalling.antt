@@ -74,7 +74,7 @@ totals_are_told models totals h m tree o = statements_told models totals h m.wor
 
 -- recursion
 
-inputs_known : (models : List Model) (ss : List Statement) → Known models ss → list_all (has_word (map name_of models)) (contained_in ss) ≡ true
+pub inputs_known : (models : List Model) (ss : List Statement) → Known models ss → list_all (has_word (map name_of models)) (contained_in ss) ≡ true
 inputs_known models [] k = refl
 inputs_known models (s ∷ ss) k = by_kind s.kind refl (inputs_known models ss k.1)
   where

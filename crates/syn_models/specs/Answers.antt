@@ -1,5 +1,6 @@
 -- What flattening answers.
-use Rattle.std.specs.Prelude.{List, [], ◌∷◌, map}
+use Rattle.std.specs.Prelude.{◌≡◌, List, [], ◌∷◌, map}
+use Rattle.syn_netlist.specs.Lists as lists
 use Rattle.syn_models.specs.declared.flat_fault.FlatFault.{FlatFault}
 use Rattle.syn_models.specs.declared.flat_fault.FlatFault.TheVariants.{NoMemory}
 use Rattle.syn_models.specs.declared.hierarchy.Model.{Model}
@@ -20,3 +21,12 @@ models_in (main ∷ others) = record { main = model_in main; others = map model_
 abbrev pub IsFlatFault : models.Models → FlatFault → Type 0
 IsFlatFault models NoMemory = Unit {0}
 IsFlatFault models fault = IsFirstFlatFault models fault
+
+-- The model is the first of the models.
+pub record IsFirst (models : List Model) (main : Model) : Type 0 where
+  pub others : List Model
+  pub is : models ≡ main ∷ others
+
+-- what the main model has beside its tables, with these latches
+abbrev pub frame_with : Model → List lists.Latch → lists.Frame
+frame_with main latches = record { model = main.name; inputs = models.inputs_of (model_in main); clocks = models.clocks_of (model_in main); outputs = models.outputs_of (model_in main); latches = latches }

@@ -25,8 +25,8 @@ impl From<AllocError> for FlatFault {
     }
 }
 
-// The first fault of a subcircuit, or else the first name that is read and never defined.
-fn file_fault(alloc: Global, file: &File<'_>) -> Result<Option<FlatFault>, AllocError>
+/// The first fault of a subcircuit, or else the first name that is read and never defined.
+pub(crate) fn file_fault(alloc: Global, file: &File<'_>) -> Result<Option<FlatFault>, AllocError>
     requires { IsFile file.now }
     ensures { IfOk result (λ r. r ≡ option_or (first_of_models checks (all_in file.now) (all_in file.now)) (option_map Undriven (first_undriven (all_in file.now) (all_in file.now)))) }
 {

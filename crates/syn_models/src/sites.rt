@@ -21,8 +21,8 @@ use crate::ports::{Ports, is_port, is_reading, number_named};
 use std::alloc::{AllocError, Global};
 use syn_netlist::{Names, Word};
 
-// A copy of a word.
-fn copied(alloc: Global, word: &[u8]) -> Result<Word, AllocError>
+/// A copy of a word. The only error is want of memory.
+pub(crate) fn copied(alloc: Global, word: &[u8]) -> Result<Word, AllocError>
     ensures { IfOk result (λ w. w ≡ word.now) }
 {
     Ok(Word::of(word.to_vec(alloc)?))
