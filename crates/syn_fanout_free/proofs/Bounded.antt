@@ -14,22 +14,22 @@ use Rattle.syn_rows.specs.Nodes.{has_node}
 use Rattle.syn_rows.proofs.Ends.{reached_set}
 use Rattle.syn_rows.proofs.Nodes.{here_or_there}
 use Rattle.syn_rows.proofs.Reaches.{one_ands_is}
-use Rattle.syn_fanout_free.specs.Bounding.{IsHeld, IsLostBut, SavedIsBounded}
-use Rattle.syn_fanout_free.specs.Freed.{is_free, is_new, refers, uses, IsKept, IsFreed, IsFreedByCount, added, lost, count_below}
+use Rattle.syn_fanout_free.specs.Bounding.{IsHeld, IsLostBut, IsMostLost, SavedIsBounded}
+use Rattle.syn_fanout_free.specs.Freed.{is_free, is_new, refers, uses, IsKept, Frees, FreesByCount, IsFreedByCount, added, lost, count_below}
 use Rattle.syn_fanout_free.specs.Freeing.{ands_among, open_to}
 use Rattle.syn_fanout_free.specs.Keeping.{IsKeeping}
 use Rattle.syn_fanout_free.specs.Saved.{replaced, IsExtra, IsOwned, IsSaved}
 use Rattle.syn_fanout_free.proofs.Pointwise.{inside, refers_not_free, closes_of}
-use Rattle.syn_fanout_free.proofs.Numbers.{one_if, ands_count, count_beyond, highest}
+use Rattle.syn_fanout_free.proofs.Numbers.{one_if, ands_count, count_beyond, count-le, highest}
 use Rattle.syn_fanout_free.proofs.Sets.{old_refers, SparesOnlyUsed, reached_or_freed}
-use Rattle.syn_fanout_free.proofs.Counts.{is_and_gate, is_and_not_free, freed_from_counts}
+use Rattle.syn_fanout_free.proofs.Counts.{is_and_gate, is_and_not_free, frees_one_by_one}
 use Rattle.syn_fanout_free.proofs.Ends.{added_is, keeping_kept, kept_rows, lost_is, uses_same}
 use Rattle.syn_fanout_free.proofs.Existing.{all_ands_reached}
 use Rattle.syn_fanout_free.proofs.Kept.{kept_reached, any_below_some}
 use Rattle.syn_fanout_free.proofs.Replaced.{replaced_keeps, replaced_length, replaced_within, order_within, lits_from}
 
 -- at most as many at each number makes at most as many of the whole
-count_le : (k : ℕ) (f g h j : ℕ → Bool) → ((p : ℕ) → one_if (f p) + one_if (g p) ≤ one_if (h p) + one_if (j p)) → count_below k f + count_below k g ≤ count_below k h + count_below k j
+pub count_le : (k : ℕ) (f g h j : ℕ → Bool) → ((p : ℕ) → one_if (f p) + one_if (g p) ≤ one_if (h p) + one_if (j p)) → count_below k f + count_below k g ≤ count_below k h + count_below k j
 count_le zero f g h j each = omega arith
 count_le (suc k) f g h j each = omega (arith, count_le k f g h j each, each k)
 
@@ -76,7 +76,7 @@ held_reached was now observed n kept after m stays reach still held = by_hold he
 bounded_in_set : (was : List Row) (observed : List Lit) (counts : ℕ → ℕ) (n : ℕ) (row : Row) (extra : List Row) (kept : ℕ → Bool) (spared : List ℕ) (freed after : ℕ → Bool)
     → IsOwned was observed counts n → IsKept was (replaced was n row extra) n kept
     → ((m : ℕ) → has_node spared m ≡ true → IsHeld was n (uses was (replaced was n row extra) n kept) m)
-    → IsFreedByCount was counts n (open_to was n spared) freed → IsReachedSet (replaced was n row extra) observed after
+    → FreesByCount was counts n (open_to was n spared) freed → IsReachedSet (replaced was n row extra) observed after
     → all_ands was + added was (replaced was n row extra) n kept ≤ ands_in after (replaced was n row extra) + lost was n freed
 bounded_in_set was observed counts n row extra kept spared freed after owned keeping holds by reach =
     let far : (p : ℕ) → length was ≤ p → is_and (row_at was p) ≡ false = λ p ge. ap is_and (get_or_past was p Free ge) in
@@ -102,12 +102,12 @@ bounded_in_set was observed counts n row extra kept spared freed after owned kee
           (and_from (not (m == n)) (not (has_node spared m)) (not_from_false (m == n) (ne_eqb m n ne)) (not_from_false (has_node spared m) none))))
     ]
 
-    freeing : IsFreed was observed n (open_to was n spared) freed
-    freeing = freed_from_counts was observed counts n (open_to was n spared) freed (λ m ok. owned.counted m) by
+    freeing : Frees was observed n (open_to was n spared) freed
+    freeing = frees_one_by_one was observed counts n (open_to was n spared) freed (λ m ok. owned.counted m) by
 
     either : (p : ℕ) → is_and (row_at was p) ≡ true → (after p ≡ true) ⊎ (freed p ≡ true)
     either p gate =
-        reached_or_freed was now observed n (open_to was n spared) after freed (λ j. j) (suc (sum_below (length was) (λ j. j))) (replaced_keeps was n row extra) reach owned.reached only freeing.frees owned.order
+        reached_or_freed was now observed n (open_to was n spared) after freed (λ j. j) (suc (sum_below (length was) (λ j. j))) (replaced_keeps was n row extra) reach owned.reached only freeing owned.order
         (λ q k r. highest (λ j. j) (length was) q (inside was q (refers_not_free (row_at was q) k r)))
         (suc (sum_below (length was) (λ j. j))) p (omega arith) (is_and_gate (row_at was p) gate)
 
@@ -128,7 +128,7 @@ bounded_in_set was observed counts n row extra kept spared freed after owned kee
     ]
 
 -- all ANDs of owned rows are reached
-owned_ands : (was : List Row) (observed : List Lit) (counts : ℕ → ℕ) (n : ℕ) → IsOwned was observed counts n → Ands was observed (all_ands was)
+pub owned_ands : (was : List Row) (observed : List Lit) (counts : ℕ → ℕ) (n : ℕ) → IsOwned was observed counts n → Ands was observed (all_ands was)
 owned_ands was observed counts n owned =
     all_ands_reached was observed (order_within was owned.order) (lits_from (length was) observed owned.within) (λ m h. owned.gates m (is_and_gate (row_at was m) h))
 
@@ -136,8 +136,7 @@ pub saved_is_bounded : SavedIsBounded
 saved_is_bounded was observed counts n row extra kept spared k s there owned fits keeping holds but (j, l, before, (after, reach, e), is) =
     within (all_ands was) (ands_in after (replaced was n row extra)) (added was (replaced was n row extra) n kept) k s
     (ap pos (one_ands_is was observed (all_ands was) j (owned_ands was observed counts n owned) before) ∙ is ∙ ap (λ t. pos t +ℤ s) (sym e))
-    (subst (λ t. all_ands was + added was (replaced was n row extra) n kept ≤ ands_in after (replaced was n row extra) + t) (sym but.lost)
-    (bounded_in_set was observed counts n row extra kept spared but.freed after owned keeping holds but.freeing reach))
+    (omega (arith, but.most, bounded_in_set was observed counts n row extra kept spared but.freed after owned keeping holds but.frees reach))
   where
     within : (a b c k : ℕ) (s : ℤ) → pos a ≡ (pos b +ℤ s) → a + c ≤ b + k → (s +ℤ pos c) ≤ℤ pos k
     within a b c k s e le = omega (arith, ints, e, le)
@@ -158,7 +157,7 @@ some_saved was observed counts n row extra there owned fits =
 pub nothing_saved : (was : List Row) (observed : List Lit) (counts : ℕ → ℕ) (n : ℕ) (row : Row) (extra : List Row) (kept : ℕ → Bool) (spared : List ℕ) (k come : ℕ)
     → n < length was → IsOwned was observed counts n → IsExtra (length was) row extra → IsKept was (replaced was n row extra) n kept
     → ((m : ℕ) → has_node spared m ≡ true → IsHeld was n (uses was (replaced was n row extra) n kept) m)
-    → IsLostBut was counts n spared k → come ≡ added was (replaced was n row extra) n kept → k ≤ come
+    → IsMostLost was counts n spared k → come ≡ added was (replaced was n row extra) n kept → k ≤ come
     → (s : ℤ) × IsSaved was (replaced was n row extra) observed s × (s ≤ℤ pos 0)
 nothing_saved was observed counts n row extra kept spared k come there owned fits keeping holds but is le =
     let some = some_saved was observed counts n row extra there owned fits in (
@@ -189,6 +188,17 @@ lost_is_but was counts n spared dead k there by is = record {
   lost = is ∙ sym (lost_is was n dead there (root_stays was counts n spared dead by));
 }
 
+pub most_of_but : (was : List Row) (counts : ℕ → ℕ) (n : ℕ) (spared : List ℕ) (k : ℕ) → IsLostBut was counts n spared k → IsMostLost was counts n spared k
+most_of_but was counts n spared k but = record { freed = but.freed; frees = but.freeing.frees; most = omega (arith, but.lost) }
+
+-- all nodes obey the rule of freeing, and are no more than there are rows
+pub most_of_all : (was : List Row) (counts : ℕ → ℕ) (n : ℕ) (spared : List ℕ) (k : ℕ) → length was ≤ k → IsMostLost was counts n spared k
+most_of_all was counts n spared k le = record {
+  freed = λ m. true;
+  frees = λ m ok few. refl;
+  most = omega (arith, le, count-le (length was) (λ m. is_and (row_at was m) && ((m == n) || true)));
+}
+
 -- a node of a list stands at some place
 pub has_place : (xs : List ℕ) (n : ℕ) → has_node xs n ≡ true → (i : ℕ) × (i < length xs) × (get_or xs i 0 ≡ n)
 has_place [] n h = absurd (cc)
@@ -213,7 +223,7 @@ held_by_list was n row extra marks used m there full k held = by_hold held
 -- where the sweep found that as many are added as go, nothing is saved
 pub nothing_near : (was : List Row) (observed : List Lit) (counts : ℕ → ℕ) (n : ℕ) (row : Row) (extra : List Row) (marks : List Bool) (used spared : List ℕ) (k come : ℕ)
     → n < length was → IsOwned was observed counts n → IsExtra (length was) row extra → IsKeeping (length was) row extra 0 marks used
-    → ((m : ℕ) → has_node spared m ≡ true → IsHeld was n (has_node used) m) → IsLostBut was counts n spared k
+    → ((m : ℕ) → has_node spared m ≡ true → IsHeld was n (has_node used) m) → IsMostLost was counts n spared k
     → come ≡ and_count row + count_below (length extra) (λ m. is_and (row_at extra m) && value_in marks m) → k ≤ come
     → (s : ℤ) × IsSaved was (replaced was n row extra) observed s × (s ≤ℤ pos 0)
 nothing_near was observed counts n row extra marks used spared k come there owned fits keeping holds but is le =

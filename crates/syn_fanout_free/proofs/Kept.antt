@@ -73,7 +73,7 @@ any_below_some (suc k) f h = elim (or_cases (f k) (any_below k f) h) [
 ]
 
 -- what may be freed is not used by a reached new row
-spares_used : (was now : List Row) (observed : List Lit) (n : ℕ) (rank : ℕ → ℕ) (kept after : ℕ → Bool)
+pub spares_used : (was now : List Row) (observed : List Lit) (n : ℕ) (rank : ℕ → ℕ) (kept after : ℕ → Bool)
     → IsReplacement was now observed n rank → IsKept was now n kept → IsReachedSet now observed after → SparesUsed was now n after (unused was now n kept)
 spares_used was now observed n rank kept after r k reach m ok =
     let parts = and_parts (not (m == n)) (not (uses was now n kept m)) (and_parts (is_derived (row_at was m)) (not (m == n) && not (uses was now n kept m)) ok).1 in

@@ -11,3 +11,4 @@ pub mod Steps
 pub mod Sweeps
 pub mod Ends
 pub mod Bounded
+pub mod AtLeast

@@ -23,6 +23,10 @@ ands_among rows nodes = count_below (length rows) (λ m. is_and (row_at rows m) 
 abbrev pub refs_from_dead : List Row → ℕ → List ℕ → ℕ → ℕ
 refs_from_dead rows n dead m = refs m (row_at rows n) + refs_from rows (λ p. has_node dead p && not (p == n)) m
 
+-- each of the nodes is freed: it is in every set that obeys the rule of freeing by counts
+abbrev pub AreFreed : List Row → (ℕ → ℕ) → ℕ → (ℕ → Bool) → List ℕ → Type 0
+AreFreed rows counts n may nodes = (set : ℕ → Bool) → FreesByCount rows counts n may set → (m : ℕ) → has_node nodes m ≡ true → set m ≡ true
+
 -- All nodes from the bound on are settled; those below wait, as often as the old row of n and dead rows refer to them.
 pub record IsFreeing (rows : List Row) (counts : ℕ → ℕ) (n : ℕ) (may : ℕ → Bool) (bound : ℕ) (dead : List ℕ) (waits : ℕ → ℕ) : Type 0 where
   pub waiting : (m : ℕ) → m < bound → waits m ≡ refs_from_dead rows n dead m

@@ -1,29 +1,31 @@
 //! A bound of what a replacement saves, asked before the cone that goes is followed.
 
-ghost use Rattle.std.specs.Prelude.{◌≡◌, ◌≢◌, ℕ, ℤ, pos, ◌≤ℤ◌, ◌+◌, ◌<◌, ◌^◌, ◌==◌, true, false, List, length, IfOk};
+ghost use Rattle.std.specs.Prelude.{◌≡◌, ◌≢◌, ℕ, ℤ, pos, ◌≤ℤ◌, ◌+◌, ◌<◌, ◌≤◌, ◌^◌, ◌==◌, true, false, List, length, IfOk};
 ghost use Rattle.std.specs.List.Sorted.{IsNonDecreasing};
 ghost use Rattle.syn_rows.specs.declared.Lit.{Lit};
 ghost use Rattle.syn_rows.specs.Nodes.{has_node};
 ghost use Rattle.syn_rows.specs.Rows.{InOrder, row_at};
-ghost use Rattle.syn_fanout_free.specs.Bounding.{IsHeld, IsLostBut};
+ghost use Rattle.syn_fanout_free.specs.Bounding.{IsHeld, IsLostBut, IsMostLost};
 ghost use Rattle.syn_fanout_free.specs.Freed.{refers};
 ghost use Rattle.syn_fanout_free.specs.Freeing.{AllReferred};
 ghost use Rattle.syn_fanout_free.specs.Saved.{count_in, IsExtra, IsOwned, IsSaved, replaced};
 
 use crate::cone::{and_count, freed};
 use crate::extra::{KeptRows, keep};
-use crate::saving::{added_ands, saved_of_kept};
+use crate::saving::{added_ands, saves_of_kept};
 use std::alloc::{AllocError, Global};
 use syn_rows::Row;
 
-/// How many ANDs go with the row of n where these nodes stay: its own, and those that are freed then. No replacement that
-/// holds the nodes loses more. The only error is want of memory, which a small cone doesn't take.
+/// A number that no fewer ANDs go with the row of n than where these nodes stay: its own, and those that are freed then.
+/// No replacement that holds the nodes loses more. It is their number where that is at most `limit`, and above `limit` the
+/// cone isn't followed further. The only error is want of memory, which a small cone doesn't take.
 pub fn lost_but(
     alloc: Global,
     was: &[Row],
     counts: &[u32],
     n: u32,
     spared: &[u32],
+    limit: u32,
 ) -> Result<u32, AllocError>
     requires few { length was.now < 2 ^ 31 }
     requires there { n < length was.now }
@@ -31,9 +33,13 @@ pub fn lost_but(
     requires order { InOrder was.now }
     requires referred { AllReferred was.now (count_in counts.now) }
     requires rises { IsNonDecreasing spared.now }
-    ensures { IfOk result (λ k. IsLostBut was.now (count_in counts.now) n spared.now k) }
+    ensures most { IfOk result (λ k. IsMostLost was.now (count_in counts.now) n spared.now k) }
+    ensures exact { IfOk result (λ k. k ≤ limit → IsLostBut was.now (count_in counts.now) n spared.now k) }
 {
-    let dead = freed(alloc, was, counts, n, spared)?;
+    let dead = freed(alloc, was, counts, n, spared, limit)?;
+    if dead.ands > limit {
+        return Ok(u32::MAX);
+    }
     Ok(and_count(was[n as usize]) + dead.ands)
 }
 
@@ -84,8 +90,8 @@ fn are_held(was: &[Row], n: u32, used: &[u32], spared: &[u32]) -> bool
     true
 }
 
-/// Whether a replacement of the row of n saves, the new rows standing at the end. `most` ANDs go with the row where the
-/// spared nodes stay: where it holds these and adds as many, it saves nothing, and the cone that goes isn't followed. It
+/// Whether a replacement of the row of n saves, the new rows standing at the end. No more than `most` ANDs go with the row
+/// where the spared nodes stay: where it holds these and adds as many, it saves nothing, and the cone that goes isn't followed. It
 /// holds for all observed literals that the counts count. `kept` is room that is used again. The only error is want of
 /// memory, which a small cone doesn't take.
 pub fn saves_near(
@@ -105,7 +111,7 @@ pub fn saves_near(
     requires order { InOrder was.now }
     requires referred { AllReferred was.now (count_in counts.now) }
     requires extra { IsExtra (length was.now) row extra.now }
-    requires most { IsLostBut was.now (count_in counts.now) n spared.now most }
+    requires most { IsMostLost was.now (count_in counts.now) n spared.now most }
     ensures some { IfOk result (λ some. some ≡ true → (observed : List Lit) → IsOwned was.now observed (count_in counts.now) n → (s : ℤ) × IsSaved was.now (replaced was.now n row extra.now) observed s × (pos 1 ≤ℤ s)) }
     ensures none { IfOk result (λ some. some ≡ false → (observed : List Lit) → IsOwned was.now observed (count_in counts.now) n → (s : ℤ) × IsSaved was.now (replaced was.now n row extra.now) observed s × (s ≤ℤ pos 0)) }
 {
@@ -114,5 +120,5 @@ pub fn saves_near(
     if most <= added && are_held(was, n, kept.used.as_slice(), spared) {
         return Ok(false);
     }
-    Ok(saved_of_kept(alloc, was, counts, n, row, extra, kept)? > 0)
+    saves_of_kept(alloc, was, counts, n, row, extra, added, kept)
 }

@@ -6,7 +6,7 @@ ghost use Rattle.syn_rows.specs.Reach.{is_and};
 ghost use Rattle.syn_rows.specs.References.{and_count, refs};
 ghost use Rattle.syn_rows.specs.Rows.{InOrder, row_at};
 ghost use Rattle.syn_fanout_free.specs.Freed.{IsFreedByCount};
-ghost use Rattle.syn_fanout_free.specs.Freeing.{AllReferred, ands_among, IsFreeing, IsTaken, open_to};
+ghost use Rattle.syn_fanout_free.specs.Freeing.{AllReferred, AreFreed, ands_among, IsFreeing, IsTaken, open_to};
 ghost use Rattle.syn_rows.specs.Nodes.{has_node};
 ghost use Rattle.syn_fanout_free.specs.Saved.{count_in};
 ghost use Rattle.syn_fanout_free.specs.Waits.{waits_in};
@@ -76,13 +76,15 @@ pub struct DeadRows {
 }
 
 /// The rows that a replacement of the row of n frees: the ANDs and aliases that it doesn't use and whose references all
-/// come from the old row of n and from freed rows. Only these rows and what they refer to are visited.
+/// come from the old row of n and from freed rows. Only these rows and what they refer to are visited, until more than
+/// `limit` ANDs were found.
 pub fn freed(
     alloc: Global,
     rows: &[Row],
     counts: &[u32],
     n: u32,
     used: &[u32],
+    limit: u32,
 ) -> Result<DeadRows, AllocError>
     requires few { length rows.now < 2 ^ 31 }
     requires within { n < length rows.now }
@@ -90,7 +92,8 @@ pub fn freed(
     requires order { InOrder rows.now }
     requires rises { IsNonDecreasing used.now }
     requires referred { AllReferred rows.now (count_in counts.now) }
-    ensures freed { IfOk result (λ f. IsFreedByCount rows.now (count_in counts.now) n (open_to rows.now n used.now) (λ m. has_node f.nodes.items m)) }
+    ensures freed { IfOk result (λ f. f.ands ≤ limit → IsFreedByCount rows.now (count_in counts.now) n (open_to rows.now n used.now) (λ m. has_node f.nodes.items m)) }
+    ensures sound { IfOk result (λ f. AreFreed rows.now (count_in counts.now) n (open_to rows.now n used.now) f.nodes.items) }
     ensures ands { IfOk result (λ f. f.ands ≡ ands_among rows.now f.nodes.items) }
 {
     let mut waiting = Waiting::new(alloc);
@@ -101,6 +104,9 @@ pub fn freed(
     };
     let mut bound = n;
     while let Some((node, often)) = waiting.take() {
+        if dead.ands > limit {
+            return Ok(dead);
+        }
         prove!(node < bound);
         settle(rows, counts, n, used, node, often, &mut waiting, &mut dead)?;
         bound = node;

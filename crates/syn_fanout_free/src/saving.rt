@@ -1,6 +1,6 @@
 //! What a replacement saves, from its kept rows on.
 
-ghost use Rattle.std.specs.Prelude.{◌≡◌, pos, ◌-ℤ◌, ◌&&◌, ◌+◌, ◌<◌, ◌^◌, List, length, IfOk};
+ghost use Rattle.std.specs.Prelude.{◌≡◌, ℤ, pos, ◌-ℤ◌, ◌≤ℤ◌, ◌&&◌, ◌+◌, ◌<◌, ◌^◌, true, false, List, length, IfOk};
 ghost use Rattle.syn_rows.specs.declared.Lit.{Lit};
 ghost use Rattle.syn_rows.specs.Rows.{InOrder, row_at};
 ghost use Rattle.syn_rows.specs.Reach.{is_and};
@@ -53,7 +53,36 @@ pub(crate) fn saved_of_kept(
 {
     let added = added_ands(row, extra, kept);
     sort_used(&mut kept.used);
-    let dead = freed(alloc, was, counts, n, kept.used.as_slice())?;
+    let dead = freed(alloc, was, counts, n, kept.used.as_slice(), u32::MAX)?;
     let lost = and_count(was[n as usize]) + dead.ands;
     Ok(difference(lost, added))
+}
+
+/// Whether a replacement saves, where its kept rows were found, and add so many ANDs. The cone that goes is followed until
+/// more of its ANDs go.
+pub(crate) fn saves_of_kept(
+    alloc: Global,
+    was: &[Row],
+    counts: &[u32],
+    n: u32,
+    row: Row,
+    extra: &[Row],
+    added: u32,
+    kept: &mut KeptRows,
+) -> Result<bool, AllocError>
+    requires few { length was.now + length extra.now < 2 ^ 31 }
+    requires there { n < length was.now }
+    requires same { length counts.now ≡ length was.now }
+    requires order { InOrder was.now }
+    requires referred { AllReferred was.now (count_in counts.now) }
+    requires extra { IsExtra (length was.now) row extra.now }
+    requires keeping { IsKeeping (length was.now) row extra.now 0 kept.old.marks.items kept.old.used.items }
+    requires added { added ≡ and_count row + count_below (length extra.now) (λ m. is_and (row_at extra.now m) && value_in kept.old.marks.items m) }
+    ensures some { IfOk result (λ some. some ≡ true → (observed : List Lit) → IsOwned was.now observed (count_in counts.now) n → (s : ℤ) × IsSaved was.now (replaced was.now n row extra.now) observed s × (pos 1 ≤ℤ s)) }
+    ensures none { IfOk result (λ some. some ≡ false → (observed : List Lit) → IsOwned was.now observed (count_in counts.now) n → (s : ℤ) × IsSaved was.now (replaced was.now n row extra.now) observed s × (s ≤ℤ pos 0)) }
+{
+    sort_used(&mut kept.used);
+    let dead = freed(alloc, was, counts, n, kept.used.as_slice(), added)?;
+    let lost = and_count(was[n as usize]) + dead.ands;
+    Ok(lost > added)
 }

@@ -1,11 +1,12 @@
 //! Whether a proposal saves, where a bound is asked first.
 
-ghost use Rattle.std.specs.Prelude.{◌≡◌, ℤ, pos, ◌≤ℤ◌, true, false, length, IfOk};
+ghost use Rattle.std.specs.Prelude.{◌≡◌, ℤ, pos, ◌≤ℤ◌, ◌≤◌, true, false, length, IfOk};
 ghost use Rattle.syn_rows.specs.Rows.{row_at};
 ghost use Rattle.syn_rows.specs.Reach.{is_and};
-ghost use Rattle.syn_fanout_free.specs.Bounding.{IsLostBut};
+ghost use Rattle.syn_fanout_free.specs.Bounding.{IsLostBut, IsMostLost};
 ghost use Rattle.syn_fanout_free.specs.Saved.{count_in};
 ghost use Rattle.syn_gain.specs.Leaves.{rise_above};
+ghost use Rattle.syn_gain.specs.declared.bounding.TheConstants.{MOST_COUNTED};
 ghost use Rattle.syn_gain.specs.Proposals.{replacement_of};
 ghost use Rattle.syn_gain.specs.Replacements.{SavedBy};
 ghost use Rattle.syn_gain.specs.Uses.{IsUsesOf};
@@ -37,8 +38,12 @@ impl Room {
     }
 }
 
+/// How many ANDs that go with a row are counted before a plan is looked at; few plans add as many.
+pub const MOST_COUNTED: u32 = 64;
+
 /// How many ANDs go with the row of an AND where these leaves stay: its own, and those that are freed then. All plans over
-/// the leaves share the number. The only error is want of memory, which a small cone doesn't take.
+/// the leaves share the number. Where there are more than `MOST_COUNTED`, it is a greater number. The only error is want of
+/// memory, which a small cone doesn't take.
 pub fn lost_but(
     alloc: Global,
     graph: &Graph,
@@ -49,7 +54,8 @@ pub fn lost_but(
     requires uses { IsUsesOf uses.now graph.now }
     requires root { is_and (row_at graph.now.rows root) ≡ true }
     requires rise { rise_above 0 leaves.now ≡ true }
-    ensures { IfOk result (λ k. IsLostBut graph.now.rows (count_in uses.now.counts.items) root leaves.now k) }
+    ensures most { IfOk result (λ k. IsMostLost graph.now.rows (count_in uses.now.counts.items) root leaves.now k) }
+    ensures exact { IfOk result (λ k. k ≤ MOST_COUNTED → IsLostBut graph.now.rows (count_in uses.now.counts.items) root leaves.now k) }
 {
     syn_fanout_free::lost_but(
         alloc,
@@ -57,10 +63,11 @@ pub fn lost_but(
         uses.counts.as_slice(),
         root,
         leaves,
+        MOST_COUNTED,
     )
 }
 
-/// Whether a proposal for an AND saves, where `most` ANDs go with the root's row if its leaves stay. Where the plan holds
+/// Whether a proposal for an AND saves, where no more than `most` ANDs go with the root's row if its leaves stay. Where the plan holds
 /// the leaves and adds as many, it saves nothing, and the cone that goes isn't followed. The only error is want of memory,
 /// which a small plan doesn't take.
 pub fn saves(
@@ -73,7 +80,7 @@ pub fn saves(
 ) -> Result<bool, AllocError>
     requires uses { IsUsesOf uses.now graph.now }
     requires root { is_and (row_at graph.now.rows candidate.root) ≡ true }
-    requires most { IsLostBut graph.now.rows (count_in uses.now.counts.items) candidate.root candidate.leaves.now most }
+    requires most { IsMostLost graph.now.rows (count_in uses.now.counts.items) candidate.root candidate.leaves.now most }
     ensures some { IfOk result (λ some. some ≡ true → (s : ℤ) × SavedBy graph.now.rows graph.now.observed (replacement_of candidate.entry) s × (pos 1 ≤ℤ s)) }
     ensures none { IfOk result (λ some. some ≡ false → (s : ℤ) × SavedBy graph.now.rows graph.now.observed (replacement_of candidate.entry) s × (s ≤ℤ pos 0)) }
 {

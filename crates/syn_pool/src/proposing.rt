@@ -6,7 +6,7 @@ ghost use Rattle.std.specs.Thread.{IsSync};
 ghost use Rattle.syn_rows.specs.declared.Row.{Row};
 ghost use Rattle.syn_rows.specs.Rows.{row_at};
 ghost use Rattle.syn_rows.specs.Reach.{is_and};
-ghost use Rattle.syn_fanout_free.specs.Bounding.{IsLostBut};
+ghost use Rattle.syn_fanout_free.specs.Bounding.{IsMostLost};
 ghost use Rattle.syn_fanout_free.specs.Saved.{count_in};
 ghost use Rattle.syn_gain.specs.Proposals.{replacement, replacement_of};
 ghost use Rattle.syn_gain.specs.Replacements.{Replacement};
@@ -151,7 +151,7 @@ pub fn saves_bounded(
 ) -> Result<bool, AllocError>
     requires uses { IsUsesOf uses.now graph.now }
     requires root { is_and (row_at graph.now.rows candidate.root) ≡ true }
-    requires most { IsLostBut graph.now.rows (count_in uses.now.counts.items) candidate.root candidate.leaves.now most }
+    requires most { IsMostLost graph.now.rows (count_in uses.now.counts.items) candidate.root candidate.leaves.now most }
     ensures some { IfOk result (λ some. some ≡ true → SavesSome graph.now.rows graph.now.observed (replacement_of candidate.entry)) }
     ensures none { IfOk result (λ some. some ≡ false → SavesNothing graph.now.rows graph.now.observed (replacement_of candidate.entry)) }
 {

@@ -25,7 +25,7 @@ settle-requires-clause-taken c =
     c.loop-node.invariant.freeing c.in-Some.ensures.some.0 c.in-Some.ensures.some.1 c.in-Some.ensures.rest c.in-Some.ensures.greatest
 
 pub returns-clause-freed : goal.returns-clause-freed
-returns-clause-freed c =
+returns-clause-freed c = λ few.
     freeing_ends c.args.rows.now (count_in c.args.counts.now) c.args.n (open_to c.args.rows.now c.args.n c.args.used.now) c.loop-node.bound c.loop-node.dead.nodes.items
     (waits_in c.loop-node.waiting) c.requires.referred (λ m h. open_gates c.args.rows.now (not (m == c.args.n)) (not (has_node c.args.used.now m)) m h)
     c.loop-node.invariant.freeing c.in_default.ensures.none

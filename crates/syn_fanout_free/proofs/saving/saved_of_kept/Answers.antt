@@ -28,7 +28,7 @@ returns c observed owned =
     let f : SFits w64 c.difference.result = search rules in
     let dead : List ℕ = c.in_ok-dead.dead.nodes.items in
     let free = subst (λ (u : List ℕ). IsFreedByCount c.args.was.now (count_in c.args.counts.now) c.args.n (open_to c.args.was.now c.args.n u) (λ m. has_node dead m))
-    c.as_slice.ensures c.in_ok-dead.ensures.freed in
+    c.as_slice.ensures (c.in_ok-dead.ensures.freed (omega arith)) in
     subst (IsSaved c.args.was.now (replaced c.args.was.now c.args.n c.args.row c.args.extra.now) observed)
     (sym (to_z-of_z w64 c.difference.result f ∙ c.difference.ensures))
     (saved_by_cone c.args.was.now observed (count_in c.args.counts.now) c.args.n c.args.row c.args.extra.now
