@@ -243,8 +243,8 @@ impl Gathering {
     }
 }
 
-// The name of a `.model` line; or else the fault of its words.
-fn read_model(alloc: Global, line: u32, words: LineWords<'_>) -> Result<Word, ReadFault>
+/// The name of a `.model` line; or else the fault of its words.
+pub fn read_model(alloc: Global, line: u32, words: LineWords<'_>) -> Result<Word, ReadFault>
     requires { all_words words ≡ true }
     ensures name { IfOk result (λ name. map text_of words.entry ≡ name ∷ []) }
     ensures word { IfOk result (λ name. is_word name ≡ true) }
