@@ -1,3 +1,12 @@
 pub mod Saying
 pub mod Faultless
 pub mod Binding
+pub mod Growing
+pub mod Gathered
+pub mod Owning
+pub mod Steps
+pub mod Naming
+pub mod Beginning
+pub mod Finishing
+pub mod Counting
+pub mod Parting

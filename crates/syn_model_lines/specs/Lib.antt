@@ -6,4 +6,6 @@ pub mod Computed
 pub mod Laws
 pub mod Causes
 pub mod Binds
+pub mod Gathers
+pub mod Owned
 pub mod Worked

@@ -5,9 +5,12 @@
 //! together is asked above.
 #![tactic(auto)]
 
+mod gathering;
 mod laws;
 mod lines_fault;
+mod reading;
 mod subcircuits;
 
 pub use laws::{faultless_say, say_computed, worked_models, worked_parts, worked_subcircuits};
 pub use lines_fault::LinesFault;
+pub use reading::read_models;

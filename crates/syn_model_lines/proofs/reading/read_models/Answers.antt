@@ -1,0 +1,30 @@
+use Rattle.std.proofs.Common.{length, map, true, ap, ◌∙◌, arith}
+use Rattle.syn_reader.specs.Heard.{lines_words, word_count}
+use Rattle.syn_reader.specs.Statements.{keywords_with, line_by, model_statements}
+use Rattle.syn_reader.proofs.LineWords.{logical_words}
+use Rattle.syn_model_lines.specs.Parted.{words_of}
+use Rattle.syn_model_lines.proofs.Counting.{few_statements, few_words, totals_few}
+use Rattle.syn_model_lines.proofs.reading.read_models.Goals as goal
+
+pub of_models-requires : goal.of_models-requires
+of_models-requires c = ap lines_words c.in-Ok.ensures.ok.1 ∙ logical_words c.args.bytes.now
+
+pub gather_models-requires-clause-words : goal.gather_models-requires-clause-words
+gather_models-requires-clause-words c =
+    let same = ap word_count (c.of_models.ensures ∙ ap (map (line_by (keywords_with true))) c.in-Ok.ensures.ok.1) in
+    let few = few_words c.args.bytes.now in
+    omega (arith, same, few, c.requires)
+
+pub gather_models-requires-clause-total : goal.gather_models-requires-clause-total
+gather_models-requires-clause-total c =
+    let same = ap words_of (c.of_models.ensures ∙ ap (map (line_by (keywords_with true))) c.in-Ok.ensures.ok.1) in
+    let few = few_words c.args.bytes.now in
+    let lines = few_statements c.args.bytes.now in
+    let total = totals_few (model_statements c.args.bytes.now) in
+    omega (arith, same, few, lines, total, c.requires)
+
+pub gather_models-requires-clause-lines : goal.gather_models-requires-clause-lines
+gather_models-requires-clause-lines c =
+    let same = ap length (c.of_models.ensures ∙ ap (map (line_by (keywords_with true))) c.in-Ok.ensures.ok.1) in
+    let lines = few_statements c.args.bytes.now in
+    omega (arith, same, lines, c.requires)
