@@ -2,6 +2,7 @@
 #![tactic(auto)]
 
 mod gates;
+mod hinting;
 mod hints;
 mod leaving;
 mod loading;
