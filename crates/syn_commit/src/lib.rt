@@ -1,6 +1,7 @@
 //! One commit on the shared table: its tools.
 #![tactic(auto)]
 
+mod answering;
 mod gates;
 mod hinting;
 mod hints;
