@@ -5,3 +5,5 @@ mod Staging
 mod Loads
 mod Draining
 mod Handing
+mod Meeting
+mod Meshing

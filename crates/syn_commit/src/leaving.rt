@@ -53,6 +53,13 @@ fn place_of(rows: &[NodeRow], node: u32) -> Option<usize>
     None
 }
 
+/// Whether the node stands among the rows.
+pub(crate) fn has_gate(rows: &[NodeRow], node: u32) -> bool
+    ensures { result ≡ has_node (nodes_of_rows rows.now) node }
+{
+    place_of(rows, node).is_some()
+}
+
 // A gate joins those on the zero list.
 fn set_idle(holding: &mut Holding, place: usize)
     requires within { place < length holding.old.gates.items }
@@ -177,7 +184,7 @@ fn add_gate(gates: &mut ArrayVec<NodeRow, MOST_HELD>, gate: NodeRow)
     requires { length gates.old.items < MOST_HELD }
     ensures { gates.new.items ≡ with_gate gates.old.items gate }
 {
-    if place_of(gates.as_slice(), gate.node).is_none() {
+    if !has_gate(gates.as_slice(), gate.node) {
         gates.push(gate);
     }
 }

@@ -1,7 +1,9 @@
 //! One commit on the shared table: its tools.
 #![tactic(auto)]
 
+mod answering;
 mod gates;
+mod hinting;
 mod hints;
 mod leaving;
 mod loading;

@@ -125,6 +125,17 @@ impl Deciding {
         self.hits.as_slice()
     }
 
+    /// Whether hints may stand now: behind the root's key, and before the first count.
+    pub fn takes_hints(&self) -> bool
+        ensures { result ≡ fold.is_hinting self.now.stage }
+    {
+        match self.phase {
+            Phase::Hinting(_) => true,
+            Phase::Walking | Phase::Keying | Phase::Counting | Phase::Ended(_) | Phase::Failed =>
+                false,
+        }
+    }
+
     /// The pair of the new gate at this place, with the hits so far, and whether a hint may be tried for it.
     pub fn asked_pair(&self, attempt: &Attempt<'_>, place: usize) -> Option<(Row, bool)>
         ensures none { IfNone result (length (fold.placed_now (task_of attempt.now) self.now).extra ≤ place) }
