@@ -4,8 +4,8 @@ use Rattle.syn_netlist.specs.Words.{distinct, has_word}
 use Rattle.syn_models.specs.Models.{name_of}
 use Rattle.syn_models.specs.Views.{model_in}
 use Rattle.syn_models.proofs.Listing.{names_size}
-use Rattle.test_models.proofs.Chaining.{added, taken_all}
-use Rattle.test_models.proofs.chains.are_different.Goals as goal
+use Rattle.test_flattening.proofs.Chaining.{added, taken_all}
+use Rattle.test_flattening.proofs.chains.are_different.Goals as goal
 
 pub loop-m-preserved : goal.loop-m-preserved
 loop-m-preserved c =

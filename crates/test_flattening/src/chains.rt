@@ -5,7 +5,7 @@ ghost use Rattle.std.specs.List.{AllByRecursion};
 ghost use Rattle.syn_models.specs.Models.{name_of};
 ghost use Rattle.syn_models.specs.Views.{all_counted, model_in};
 ghost use Rattle.syn_netlist.specs.Words.{distinct, is_word};
-ghost use Rattle.test_models.specs.Bare.{IsBare};
+ghost use Rattle.test_flattening.specs.Bare.{IsBare};
 
 use std::alloc::{AllocError, Global};
 use syn_models::{Bind, Model, Models, Statement, StatementKind, Subcircuit, inner_name};

@@ -17,7 +17,7 @@ use Rattle.syn_models.specs.Models as models
 use Rattle.syn_models.specs.Views.{all_counted, model_in}
 use Rattle.syn_models.proofs.Listing.{name_at, names_size, taken_to}
 use Rattle.syn_models.specs.Models.{name_of, alone, binds_once, formals_once, subcircuits_in}
-use Rattle.test_models.specs.Bare.{IsBare}
+use Rattle.test_flattening.specs.Bare.{IsBare}
 
 abbrev bare : List ℕ → Subcircuit
 bare name = record { model = name; binds = [] }

@@ -1,8 +1,8 @@
 use Rattle.std.proofs.Common.{◌≡◌, ◌++◌, ◌∷◌, [], rules, sym, subst}
 use Rattle.std.specs.List.{AllByRecursion}
-use Rattle.test_models.specs.Bare.{IsBare}
+use Rattle.test_flattening.specs.Bare.{IsBare}
 use Rattle.syn_models.proofs.Lists.{by_append}
-use Rattle.test_models.proofs.chains.all_contained.Goals as goal
+use Rattle.test_flattening.proofs.chains.all_contained.Goals as goal
 
 pub loop-preserved : goal.loop-preserved
 loop-preserved c =

@@ -3,8 +3,8 @@ use Rattle.syn_models.specs.declared.hierarchy.Statement.{Statement}
 use Rattle.syn_models.specs.Kept.{formals_are_words, has_no_nil, model_of, statements_below}
 use Rattle.syn_models.specs.Models.{alone, formals_once}
 use Rattle.syn_netlist.specs.Order.{DefinedOnce}
-use Rattle.test_models.proofs.Chaining.{bare_below, bare_defined, bare_no_nil, bare_once, bare_spelled}
-use Rattle.test_models.proofs.chains.chain_model.Goals as goal
+use Rattle.test_flattening.proofs.Chaining.{bare_below, bare_defined, bare_no_nil, bare_once, bare_spelled}
+use Rattle.test_flattening.proofs.chains.chain_model.Goals as goal
 
 pub invariant_of-result-clause-spelled : goal.invariant_of-result-clause-spelled
 invariant_of-result-clause-spelled c =
