@@ -7,3 +7,4 @@ mod Draining
 mod Handing
 mod Meeting
 mod Meshing
+mod Sole

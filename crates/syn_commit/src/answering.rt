@@ -1,8 +1,8 @@
 //! A commit up to its answer.
 
-ghost use Rattle.std.specs.Prelude.{◌≡◌, ◌<◌, ℕ, [], false, true};
+ghost use Rattle.std.specs.Prelude.{◌≡◌, ◌<◌, ℕ, [], false, length, true};
 ghost use Rattle.syn_rows.specs.Nodes.{has_node};
-ghost use Rattle.syn_decide.specs.Decided.{Answered, told_answer};
+ghost use Rattle.syn_decide.specs.Decided.{Answered, Busy, told_answer};
 ghost use Rattle.syn_decide.specs.Fold as fold;
 ghost use Rattle.syn_decide.specs.Tasks.{task_of};
 ghost use Rattle.syn_decide.specs.Walk.{enters};
@@ -53,6 +53,7 @@ fn walked(
     ensures table { IsOf seat.new shared.now }
     ensures known { known_of seat.new ≡ with_view (known_of seat.old) (view_of seat.new) }
     ensures trying { IsTrying (task_of attempt.now) (view_of start.now.value) pool.now [] (view_of seat.new) deciding.new }
+    ensures sole { length (known_of seat.old).numbers ≡ 64 → (view_of seat.new).misses ≡ (view_of seat.old).misses }
     ensures past { IsPastWalk deciding.new.stage }
 {
     let _ = start;
@@ -83,6 +84,7 @@ pub(crate) fn answer<G: Gate>(
     ensures table { IsOf seat.new tools.now.shared.now }
     ensures known { known_of seat.new ≡ with_view (known_of seat.old) (view_of seat.new) }
     ensures trying { IsTrying (task_of attempt.now) (view_of start.now.value) pool.now pins.new.items (view_of seat.new) deciding.new }
+    ensures free { length (known_of seat.old).numbers ≡ 64 → (n : ℕ) → fold.wants deciding.new ≡ Answered (Busy n) → ⊥ }
     ensures ended { HasEnded deciding.new.stage }
 {
     walked(tools.shared, seat, pool, attempt, deciding, start);

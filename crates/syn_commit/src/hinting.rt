@@ -77,6 +77,7 @@ fn try_held(
     ensures table { IsOf seat.new shared.now }
     ensures known { known_of seat.new ≡ with_view (known_of seat.old) (view_of seat.new) }
     ensures hinting { IsHinting (task_of attempt.now) (view_of start.now.value) pool.now pins.new.items (view_of seat.new) deciding.new }
+    ensures misses { (view_of seat.new).misses ≡ (view_of seat.old).misses }
     ensures hits { length deciding.new.hits ≤ length deciding.old.hits + 1 }
     ensures pins { length pins.new.items ≤ length pins.old.items + 1 }
 {
@@ -111,6 +112,7 @@ fn try_other(
     ensures table { IsOf seat.new shared.now }
     ensures known { known_of seat.new ≡ with_view (known_of seat.old) (view_of seat.new) }
     ensures hinting { IsHinting (task_of attempt.now) (view_of start.now.value) pool.now pins.new.items (view_of seat.new) deciding.new }
+    ensures sole { length (known_of seat.old).numbers ≡ 64 → (view_of seat.new).misses ≡ (view_of seat.old).misses }
     ensures hits { length deciding.new.hits ≤ length deciding.old.hits + 1 }
     ensures pins { length pins.new.items ≤ length pins.old.items + 1 }
 {
@@ -167,6 +169,7 @@ fn try_hint(
     ensures table { IsOf seat.new shared.now }
     ensures known { known_of seat.new ≡ with_view (known_of seat.old) (view_of seat.new) }
     ensures hinting { IsHinting (task_of attempt.now) (view_of start.now.value) pool.now pins.new.items (view_of seat.new) deciding.new }
+    ensures sole { length (known_of seat.old).numbers ≡ 64 → (view_of seat.new).misses ≡ (view_of seat.old).misses }
     ensures pins { length pins.new.items ≤ length pins.old.items + 1 }
 {
     let Row::And(first, second) = pair else {
@@ -204,6 +207,7 @@ fn try_place(
     ensures table { IsOf seat.new shared.now }
     ensures known { known_of seat.new ≡ with_view (known_of seat.old) (view_of seat.new) }
     ensures hinting { IsHinting (task_of attempt.now) (view_of start.now.value) pool.now pins.new.items (view_of seat.new) deciding.new }
+    ensures sole { length (known_of seat.old).numbers ≡ 64 → (view_of seat.new).misses ≡ (view_of seat.old).misses }
     ensures pins { length pins.new.items ≤ length pins.old.items + 1 }
 {
     let Some((pair, asked)) = deciding.asked_pair(attempt, place) else {
@@ -235,6 +239,7 @@ pub(crate) fn try_hints(
     ensures table { IsOf seat.new shared.now }
     ensures known { known_of seat.new ≡ with_view (known_of seat.old) (view_of seat.new) }
     ensures trying { IsTrying (task_of attempt.now) (view_of start.now.value) pool.now pins.new.items (view_of seat.new) deciding.new }
+    ensures sole { length (known_of seat.old).numbers ≡ 64 → (view_of seat.new).misses ≡ (view_of seat.old).misses }
     ensures few { length pins.new.items ≤ 390 }
     ensures past { IsPastKeys deciding.new.stage }
 {

@@ -10,6 +10,7 @@ invariant-loop-step l = record {
   table : IsOf l.seat l.shared;
   known : known_of l.seat ≡ with_view (known_of l.fn.seat) (view_of l.seat);
   hinting : IsHinting (task_of l.attempt) (view_of l.start.value) l.pool l.pins.items (view_of l.seat) l.deciding;
+  sole : length (known_of l.fn.seat).numbers ≡ 64 → (view_of l.seat).misses ≡ (view_of l.fn.seat).misses;
   few : length l.pins.items ≤ 9 + l._step;
   place : l.place ≤ l._step;
 }
