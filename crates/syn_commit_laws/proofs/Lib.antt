@@ -6,3 +6,9 @@ pub mod Goings
 pub mod Cored
 pub mod Giving
 pub mod Bridging
+pub mod Valued
+pub mod Placed
+pub mod Chosen
+pub mod Stored
+pub mod Keeping
+pub mod WorkedRows

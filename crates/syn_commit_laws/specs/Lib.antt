@@ -4,3 +4,5 @@ pub mod Freeing
 pub mod Running
 pub mod Laws
 pub mod Counted
+pub mod Redefining
+pub mod Worked

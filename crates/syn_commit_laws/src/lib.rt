@@ -1,7 +1,9 @@
-//! What a commit frees: the laws on dying rows, on a seat's view and on lists of events. It computes nothing.
+//! What a commit frees and what it stores: the laws on dying rows, on the value of the root, on a seat's view and on lists of events. It computes nothing.
 #![tactic(auto)]
 
 ghost use Rattle.syn_commit_laws.specs.Counted.{CountedRowsDie};
+ghost use Rattle.syn_commit_laws.specs.Redefining.{MetLeavesAreFew, RedefinesKeepValue};
+ghost use Rattle.syn_commit_laws.specs.Worked.{WorkedRedefine};
 ghost use Rattle.syn_commit_laws.specs.Laws.{CommitsFree, CommittedRowsAreFreed, CountsLoad, DifferencesTell, DyingAreDoomed, DyingAreExplained, DyingRowsAreFreed, EarlyTells, EventsTurn, FindingBegins, FindingEnds, FindingGoesOn, FreedTellGain, FreeNodesLive, FreesAddNone, RedefinesAddOne, FreeingBegins, FreeingEnds, FreeingGoesOn, GatesFall, GivenUpTells, GivingUpBegins, GivingUpGoesOn, ListsTell, LoadsTell, NewRowsSpare, NodesStay, OthersStay, RedefinesAppend, RootsAreOut, RunsTurn, TellingBegins, TellingGoesOn, UnpinsTurn, MakesTurn, RedefinesTurn, FreesTurn};
 
 /// The dying rows are those whose counts dead rows explain; new rows refer to none of them.
@@ -84,4 +86,15 @@ pub fn sound_views()
 pub fn dying_rows_are_freed()
     ensures stores { DyingRowsAreFreed }
     ensures whole { CommittedRowsAreFreed }
+{}
+
+/// The row that a commit gives its root has the value of the old one, over the leaves that its walk met.
+pub fn redefines_keep_value()
+    ensures value { RedefinesKeepValue }
+    ensures few { MetLeavesAreFew }
+{}
+
+/// The definitions, tried on a worked redefine.
+pub fn worked_redefine()
+    ensures { WorkedRedefine }
 {}

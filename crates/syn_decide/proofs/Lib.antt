@@ -10,3 +10,4 @@ pub mod Hitting
 pub mod Counting
 pub mod LeafTables
 pub mod Steps
+pub mod Fitting

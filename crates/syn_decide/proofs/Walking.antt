@@ -106,7 +106,7 @@ all_rows : (P Q : NodeRow → Type 0) (rows : List NodeRow) → ((r : NodeRow) �
 all_rows P Q [] f h = tt
 all_rows P Q (r ∷ rows) f h = (f r h.0, all_rows P Q rows f h.1)
 
-all_more : (P : NodeRow → Type 0) (rows : List NodeRow) (r : NodeRow) → AllByRecursion P rows → P r → AllByRecursion P (rows ++ r ∷ [])
+pub all_more : (P : NodeRow → Type 0) (rows : List NodeRow) (r : NodeRow) → AllByRecursion P rows → P r → AllByRecursion P (rows ++ r ∷ [])
 all_more P [] r h p = (p, tt)
 all_more P (q ∷ rows) r h p = (h.0, all_more P rows r h.1 p)
 

@@ -10,5 +10,6 @@ pub mod Told
 pub mod Phases
 pub mod Walked
 pub mod Hitting
+pub mod Fitting
 pub mod Laws
 pub mod Worked

@@ -2,6 +2,7 @@
 
 ghost use Rattle.syn_decide.specs.Laws.{EmptyReads, DyingAreLeast, NothingBehindAnAnswer, OneReadMore};
 ghost use Rattle.syn_decide.specs.Walked.{AlwaysLinked, AlwaysWalked, CountedAreFirst, RowsAlwaysFit};
+ghost use Rattle.syn_decide.specs.Fitting.{AlwaysFitting, HitsAlwaysInside};
 ghost use Rattle.syn_decide.specs.Hitting.{HitsLeaveEarlierGates, OpenGatesAsk};
 ghost use Rattle.syn_decide.specs.Worked.{Further, NextLoads, NoStep, Worked};
 
@@ -53,4 +54,10 @@ pub fn hits_in_order()
 /// The counted rows are the first of the inner rows.
 pub fn counted_are_first()
     ensures { CountedAreFirst }
+{}
+
+/// From the first key on the plan fits the inner rows, and hits are neither node 0 nor leaves.
+pub fn always_fitting()
+    ensures fitting { AlwaysFitting }
+    ensures hits { HitsAlwaysInside }
 {}

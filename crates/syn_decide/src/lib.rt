@@ -19,6 +19,6 @@ pub use decisions::{
     Phase, StaleCause, Want,
 };
 pub use laws::{
-    always_linked, always_walked, counted_are_first, dying_are_least, empty_reads, hits_in_order,
-    one_read_more, rows_always_fit, worked_reads,
+    always_fitting, always_linked, always_walked, counted_are_first, dying_are_least, empty_reads,
+    hits_in_order, one_read_more, rows_always_fit, worked_reads,
 };
