@@ -4,3 +4,4 @@ mod Ranking
 mod Staging
 mod Loads
 mod Draining
+mod Making

@@ -2,3 +2,4 @@ pub mod Pools
 pub mod Walks
 pub mod Stages
 pub mod Giving
+pub mod Storing

@@ -34,8 +34,8 @@ pub(crate) struct Holding {
     pub(crate) idle: ArrayVec<NodeRow, MOST_HELD>,
 }
 
-// Where the node stands among the rows.
-fn place_of(rows: &[NodeRow], node: u32) -> Option<usize>
+/// Where the node stands among the rows.
+pub(crate) fn place_of(rows: &[NodeRow], node: u32) -> Option<usize>
     ensures none { IfNone result (has_node (nodes_of_rows rows.now) node ≡ false) }
     ensures within { IfSome result (λ i. i < length rows.now) }
     ensures node { IfSome result (λ i. (r : NodeRow) → (slice_index_or rows.now i r).node ≡ node) }

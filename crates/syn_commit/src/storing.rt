@@ -1,0 +1,106 @@
+//! The stores of a commit: a row for each of its new gates, and then the root's.
+
+ghost use Rattle.std.specs.Prelude.{◌≡◌, ℕ, ◌+◌, ◌<◌, ◌≤◌, ◌++◌, ◌∷◌, [], length, slice_index_or};
+ghost use Rattle.std.specs.List.{remove};
+ghost use Rattle.syn_rows.specs.Rows.{AllRefs, refs_of};
+ghost use Rattle.syn_core_laws.specs.Events.{IsAnd, MayPin};
+ghost use Rattle.syn_core_laws.specs.Views.{pinned};
+ghost use Rattle.syn_decide.specs.declared.decisions.NodeRow.{NodeRow};
+ghost use Rattle.syn_table.specs.Seating.{IsOf, known_of, view_of};
+ghost use Rattle.syn_table.specs.Steps.{with_view};
+ghost use Rattle.syn_commit.specs.Giving.{IsGiving};
+ghost use Rattle.syn_commit.specs.Storing.{MayReferTo, row_stored, with_pins};
+
+use crate::Pool;
+use crate::leaving::{Holding, place_of};
+use syn_decide::NodeRow;
+use syn_rows::Row;
+use syn_table::{Seat, Shared};
+
+// A gate of the zero list is referred to again.
+fn set_busy(holding: &mut Holding, place: usize)
+    requires within { place < length holding.old.idle.items }
+    requires room { length holding.old.gates.items + length holding.old.idle.items ≤ 512 }
+    ensures idle { holding.new.idle.items ≡ remove holding.old.idle.items place }
+    ensures gates { (e : NodeRow) × (e ≡ slice_index_or holding.old.idle.items place e) × (holding.new.gates.items ≡ holding.old.gates.items ++ e ∷ []) }
+    ensures size { length holding.new.idle.items + 1 ≡ length holding.old.idle.items }
+    ensures pins { holding.new.pins.items ≡ holding.old.pins.items }
+{
+    let gate = holding.idle.remove(place);
+    holding.gates.push(gate);
+}
+
+// Pins a node for one place of a row to come.
+fn pin_place(shared: &Shared, seat: &mut Seat, pool: &Pool, holding: &mut Holding, node: u32)
+    requires table { IsOf seat.old shared.now }
+    requires giving { IsGiving pool.now holding.old.pins.items holding.old.gates.items holding.old.idle.items (view_of seat.old) }
+    requires may { MayPin (view_of seat.old) node }
+    requires few { length holding.old.pins.items < 512 }
+    ensures table { IsOf seat.new shared.now }
+    ensures known { known_of seat.new ≡ with_view (known_of seat.old) (pinned (view_of seat.old) node) }
+    ensures giving { IsGiving pool.now holding.new.pins.items holding.new.gates.items holding.new.idle.items (view_of seat.new) }
+    ensures pins { holding.new.pins.items ≡ holding.old.pins.items ++ node ∷ [] }
+    ensures size { length holding.new.gates.items + length holding.new.idle.items ≡ length holding.old.gates.items + length holding.old.idle.items }
+{
+    let _ = pool;
+    shared.pin(seat, node);
+    holding.pins.push(node);
+    let Some(place) = place_of(holding.idle.as_slice(), node) else {
+        return;
+    };
+    set_busy(holding, place);
+}
+
+// Pins each node to which a row to come refers, once for each place.
+fn pin_places(shared: &Shared, seat: &mut Seat, pool: &Pool, holding: &mut Holding, row: Row)
+    requires table { IsOf seat.old shared.now }
+    requires giving { IsGiving pool.now holding.old.pins.items holding.old.gates.items holding.old.idle.items (view_of seat.old) }
+    requires may { AllRefs (MayPin (view_of seat.old)) row }
+    requires few { length holding.old.pins.items + 2 ≤ 512 }
+    ensures table { IsOf seat.new shared.now }
+    ensures known { known_of seat.new ≡ with_view (known_of seat.old) (with_pins (refs_of row) (view_of seat.old)) }
+    ensures giving { IsGiving pool.now holding.new.pins.items holding.new.gates.items holding.new.idle.items (view_of seat.new) }
+    ensures pins { holding.new.pins.items ≡ holding.old.pins.items ++ refs_of row }
+    ensures size { length holding.new.gates.items + length holding.new.idle.items ≡ length holding.old.gates.items + length holding.old.idle.items }
+{
+    match row {
+        Row::Free | Row::Source => (),
+        Row::And(a, b) => {
+            pin_place(shared, seat, pool, holding, a.node());
+            pin_place(shared, seat, pool, holding, b.node());
+        }
+        Row::Alias(a) => pin_place(shared, seat, pool, holding, a.node()),
+    }
+}
+
+// Makes a row in a node of the pool, which the pool loses.
+fn make_one(
+    shared: &Shared,
+    seat: &mut Seat,
+    pool: &mut Pool,
+    holding: &mut Holding,
+    row: Row,
+    key: u64,
+) -> u32
+    requires table { IsOf seat.old shared.now }
+    requires giving { IsGiving pool.old holding.old.pins.items holding.old.gates.items holding.old.idle.items (view_of seat.old) }
+    requires row { IsAnd row }
+    requires may { AllRefs (MayReferTo (view_of seat.old) key) row }
+    requires some { 1 ≤ length pool.old }
+    requires few { length holding.old.pins.items + 2 ≤ 512 }
+    requires room { length holding.old.gates.items + length holding.old.idle.items < 512 }
+    ensures table { IsOf seat.new shared.now }
+    ensures known { known_of seat.new ≡ with_view (known_of seat.old) (row_stored (view_of seat.old) result row key) }
+    ensures giving { IsGiving pool.new holding.new.pins.items holding.new.gates.items holding.new.idle.items (view_of seat.new) }
+    ensures pool { pool.old ≡ pool.new ++ result ∷ [] }
+    ensures pins { holding.new.pins.items ≡ holding.old.pins.items }
+    ensures size { length holding.new.gates.items + length holding.new.idle.items ≡ length holding.old.gates.items + length holding.old.idle.items + 1 }
+{
+    let before = holding.pins.len();
+    pin_places(shared, seat, pool, holding, row);
+    let node = pool.take();
+    shared.make(seat, node, row, key);
+    holding.pins.truncate(before);
+    holding.idle.push(NodeRow { node, row });
+    node
+}
