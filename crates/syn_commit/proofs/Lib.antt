@@ -5,3 +5,4 @@ mod Staging
 mod Loads
 mod Draining
 mod Making
+mod Stepping

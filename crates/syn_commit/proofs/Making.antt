@@ -185,6 +185,16 @@ module _ (pool pins : List ℕ) (gates idle : List NodeRow) (u : View) (n key : 
   left_pool : are_distinct pool ≡ true × ((m : ℕ) → has_node pool m ≡ true → m ≢ n)
   left_pool = distinct_less pool n g.spare.distinct
 
+  pub made_pinned : (m : ℕ) → own_pins stored m ≡ times m pins
+  made_pinned m =
+      let less = times_less_each m (refs_of row) u.pins there in
+      let p = g.pinned m in
+      let e = times_append m pins (refs_of row) in
+      omega (arith, less, p, e)
+    where
+      there : (k : ℕ) → times k (refs_of row) ≤ times k u.pins
+      there k = let p = g.pinned k in let e = times_append k pins (refs_of row) in omega (arith, p, e)
+
   pub made_gives : is_derived row ≡ true → length gates + length idle < 512 → IsGiving pool pins gates (idle ++ entry ∷ []) stored
   made_gives derived room = record {
     spare = record {
@@ -216,12 +226,7 @@ module _ (pool pins : List ℕ) (gates idle : List NodeRow) (u : View) (n key : 
           has_there n m u.idle (g.idle_all m (omega (arith, l, more, none)))
           )
     ];
-    pinned = λ m.
-        let all = λ (k : ℕ). (let p = g.pinned k in let e = times_append k pins (refs_of row) in let le : times k (refs_of row) ≤ times k u.pins = omega (arith, p, e) in le) in
-        let less = times_less_each m (refs_of row) u.pins all in
-        let p = g.pinned m in
-        let e = times_append m pins (refs_of row) in
-        omega (arith, less, p, e);
+    pinned = made_pinned;
     room = let more : length (idle ++ entry ∷ []) ≡ length idle + 1 = length-append idle (entry ∷ []) in omega (arith, more, room);
   }
     where

@@ -1,15 +1,16 @@
 //! The stores of a commit: a row for each of its new gates, and then the root's.
 
-ghost use Rattle.std.specs.Prelude.{◌≡◌, ℕ, ◌+◌, ◌<◌, ◌≤◌, ◌++◌, ◌∷◌, [], length, slice_index_or};
+ghost use Rattle.std.specs.Prelude.{◌≡◌, ℕ, suc, ◌+◌, ◌<◌, ◌≤◌, ◌++◌, ◌∷◌, [], length, slice_index_or, Some};
 ghost use Rattle.std.specs.List.{remove};
 ghost use Rattle.syn_rows.specs.Rows.{AllRefs, refs_of};
 ghost use Rattle.syn_core_laws.specs.Events.{IsAnd, MayPin};
-ghost use Rattle.syn_core_laws.specs.Views.{pinned};
+ghost use Rattle.syn_core_laws.specs.Views.{known_row, pinned};
 ghost use Rattle.syn_decide.specs.declared.decisions.NodeRow.{NodeRow};
-ghost use Rattle.syn_table.specs.Seating.{IsOf, known_of, view_of};
+ghost use Rattle.syn_table.specs.Seating.{IsOf, known_of, nodes_of, view_of};
 ghost use Rattle.syn_table.specs.Steps.{with_view};
+ghost use Rattle.syn_commit_laws.specs.Turning.{TurnsAll};
 ghost use Rattle.syn_commit.specs.Giving.{IsGiving};
-ghost use Rattle.syn_commit.specs.Storing.{MayReferTo, row_stored, with_pins};
+ghost use Rattle.syn_commit.specs.Storing.{KeepsKnown, MayReferTo, makes_row, row_stored, with_pins};
 
 use crate::Pool;
 use crate::leaving::{Holding, place_of};
@@ -91,11 +92,16 @@ fn make_one(
     requires room { length holding.old.gates.items + length holding.old.idle.items < 512 }
     ensures table { IsOf seat.new shared.now }
     ensures known { known_of seat.new ≡ with_view (known_of seat.old) (row_stored (view_of seat.old) result row key) }
+    ensures turns { TurnsAll (nodes_of shared.now) (view_of seat.old) (makes_row result row key) (view_of seat.new) }
+    ensures keeps { KeepsKnown (view_of seat.old) (view_of seat.new) }
+    ensures keyed { MayReferTo (view_of seat.new) (suc key) result }
+    ensures row { known_row (view_of seat.new) result ≡ Some row }
     ensures giving { IsGiving pool.new holding.new.pins.items holding.new.gates.items holding.new.idle.items (view_of seat.new) }
     ensures pool { pool.old ≡ pool.new ++ result ∷ [] }
     ensures pins { holding.new.pins.items ≡ holding.old.pins.items }
     ensures size { length holding.new.gates.items + length holding.new.idle.items ≡ length holding.old.gates.items + length holding.old.idle.items + 1 }
 {
+    shared.seats_reach_nodes(seat);
     let before = holding.pins.len();
     pin_places(shared, seat, pool, holding, row);
     let node = pool.take();
