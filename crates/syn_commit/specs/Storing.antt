@@ -12,6 +12,7 @@ use Rattle.syn_core_laws.specs.Views.{key_set, known_key, known_row, made, pinne
 use Rattle.syn_decide.specs.declared.decisions.NodeRow.{NodeRow}
 use Rattle.syn_decide.specs.Hints.{first_new, is_new_gate}
 use Rattle.syn_decide.specs.Walk.{nodes_of}
+use Rattle.syn_decide.specs.Walked.{AreGates}
 use Rattle.syn_commit_laws.specs.Redefining.{row_made}
 use Rattle.syn_commit.specs.Walks.{AreKnown}
 
@@ -75,4 +76,5 @@ node_at rows i = slice_index_or (nodes_of rows) i 0
 pub record AreMade (low step : ℕ) (rows : List Row) (new : List NodeRow) (w : View) : Type 0 where
   pub stored : (i : ℕ) (d : NodeRow) → i < length new → (slice_index_or new i d).row ≡ row_made (nodes_of new) (row_at rows i)
   pub known : AreKnown w new
+  pub gates : AreGates new
   pub keyed : (i : ℕ) → i < length new → MayReferTo w (suc (key_at low step i)) (node_at new i)

@@ -69,8 +69,8 @@ fn may_hit(leaves: &[u32], high: u64, n: u32, key: u64) -> bool
     n < NODE_LIMIT as u32 && n != 0 && !has(leaves, n) && key < high
 }
 
-// What the gates of a proposal become with these hits.
-fn place(attempt: &Attempt<'_>, hits: &[NodeRow], placing: &mut Placing)
+/// What the gates of a proposal become with these hits.
+pub(crate) fn place(attempt: &Attempt<'_>, hits: &[NodeRow], placing: &mut Placing)
     requires { All (λ h. h.node < NODE_LIMIT) hits.now }
     ensures { placing.new ≡ hints.placed_by_hits (task_of attempt.now) hits.now }
 {
