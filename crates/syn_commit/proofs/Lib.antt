@@ -6,3 +6,4 @@ mod Loads
 mod Draining
 mod Making
 mod Stepping
+mod Following

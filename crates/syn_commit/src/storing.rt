@@ -1,21 +1,27 @@
 //! The stores of a commit: a row for each of its new gates, and then the root's.
 
-ghost use Rattle.std.specs.Prelude.{◌≡◌, ℕ, suc, ◌+◌, ◌<◌, ◌≤◌, ◌++◌, ◌∷◌, [], length, slice_index_or, Some};
+ghost use Rattle.std.specs.Prelude.{◌≡◌, ℕ, suc, ◌+◌, ◌*◌, ◌^◌, ◌<◌, ◌≤◌, ◌++◌, ◌∷◌, [], length, reverse, slice_index_or, Some};
 ghost use Rattle.std.specs.List.{remove};
 ghost use Rattle.syn_rows.specs.Rows.{AllRefs, refs_of};
 ghost use Rattle.syn_core_laws.specs.Events.{IsAnd, MayPin};
 ghost use Rattle.syn_core_laws.specs.Views.{known_row, pinned};
+ghost use Rattle.syn_plan.specs.declared.TheConstants.{MOST_GATES};
 ghost use Rattle.syn_decide.specs.declared.decisions.NodeRow.{NodeRow};
+ghost use Rattle.syn_decide.specs.Walk.{nodes_of as nodes_of_rows};
 ghost use Rattle.syn_table.specs.Seating.{IsOf, known_of, nodes_of, view_of};
 ghost use Rattle.syn_table.specs.Steps.{with_view};
+ghost use Rattle.syn_commit_laws.specs.Redefining as redefining;
 ghost use Rattle.syn_commit_laws.specs.Turning.{TurnsAll};
 ghost use Rattle.syn_commit.specs.Giving.{IsGiving};
-ghost use Rattle.syn_commit.specs.Storing.{KeepsKnown, MayReferTo, makes_row, row_stored, with_pins};
+ghost use Rattle.syn_commit.specs.Storing as spec;
+ghost use Rattle.syn_commit.specs.Storing.{AreMade, AreNewRows, KeepsKnown, MayReferTo, makes_row, makes_rows, with_pins};
 
 use crate::Pool;
 use crate::leaving::{Holding, place_of};
+use arrayvec::ArrayVec;
 use syn_decide::NodeRow;
-use syn_rows::Row;
+use syn_plan::MOST_GATES;
+use syn_rows::{Lit, NODE_LIMIT, Row, ordered_and};
 use syn_table::{Seat, Shared};
 
 // A gate of the zero list is referred to again.
@@ -91,7 +97,7 @@ fn make_one(
     requires few { length holding.old.pins.items + 2 ≤ 512 }
     requires room { length holding.old.gates.items + length holding.old.idle.items < 512 }
     ensures table { IsOf seat.new shared.now }
-    ensures known { known_of seat.new ≡ with_view (known_of seat.old) (row_stored (view_of seat.old) result row key) }
+    ensures known { known_of seat.new ≡ with_view (known_of seat.old) (view_of seat.new) }
     ensures turns { TurnsAll (nodes_of shared.now) (view_of seat.old) (makes_row result row key) (view_of seat.new) }
     ensures keeps { KeepsKnown (view_of seat.old) (view_of seat.new) }
     ensures keyed { MayReferTo (view_of seat.new) (suc key) result }
@@ -109,4 +115,87 @@ fn make_one(
     holding.pins.truncate(before);
     holding.idle.push(NodeRow { node, row });
     node
+}
+
+// The number of the first new gate.
+const FIRST_NEW: u32 = NODE_LIMIT as u32;
+
+// The node at a place of the list, 0 past its end.
+fn node_at(rows: &[NodeRow], place: usize) -> u32
+    ensures { result ≡ spec.node_at rows.now place }
+{
+    if place < rows.len() {
+        rows[place].node
+    } else {
+        0
+    }
+}
+
+// A literal where its node is: that of a new gate is at the gate's place of the list.
+fn literal_made(made: &[NodeRow], l: Lit) -> Lit
+    requires { (i : ℕ) → spec.node_at made.now i < 2 ^ 31 }
+    ensures { result ≡ redefining.literal_made (nodes_of_rows made.now) l }
+{
+    if l.node() < FIRST_NEW {
+        return l;
+    }
+    let node = node_at(made, (l.node() - FIRST_NEW) as usize);
+    Lit::of(node, l.complemented())
+}
+
+// A new row as it is stored.
+fn row_made(made: &[NodeRow], row: Row) -> Row
+    requires { (i : ℕ) → spec.node_at made.now i < 2 ^ 31 }
+    ensures { result ≡ redefining.row_made (nodes_of_rows made.now) row }
+{
+    match row {
+        Row::Free | Row::Source => row,
+        Row::And(a, b) => ordered_and(literal_made(made, a), literal_made(made, b)),
+        Row::Alias(a) => Row::Alias(literal_made(made, a)),
+    }
+}
+
+/// Makes the first of the rows, as many as are needed, in nodes of the pool, and notes them in order. Their keys are a
+/// step apart, from `low` on.
+pub(crate) fn make_rows(
+    shared: &Shared,
+    seat: &mut Seat,
+    pool: &mut Pool,
+    holding: &mut Holding,
+    rows: &[Row],
+    need: u32,
+    low: u64,
+    step: u64,
+    made: &mut ArrayVec<NodeRow, MOST_GATES>,
+)
+    requires table { IsOf seat.old shared.now }
+    requires giving { IsGiving pool.old holding.old.pins.items holding.old.gates.items holding.old.idle.items (view_of seat.old) }
+    requires rows { AreNewRows (view_of seat.old) low need rows.now }
+    requires there { need ≤ length rows.now }
+    requires gates { need ≤ MOST_GATES }
+    requires pool { need ≤ length pool.old }
+    requires step { 1 ≤ step }
+    requires keys { low + need * step < 2 ^ 64 }
+    requires none { made.old.items ≡ [] }
+    requires few { length holding.old.pins.items + 2 ≤ 512 }
+    requires room { length holding.old.gates.items + length holding.old.idle.items + need ≤ 512 }
+    ensures table { IsOf seat.new shared.now }
+    ensures known { known_of seat.new ≡ with_view (known_of seat.old) (view_of seat.new) }
+    ensures turns { TurnsAll (nodes_of shared.now) (view_of seat.old) (makes_rows low step 0 made.new.items) (view_of seat.new) }
+    ensures keeps { KeepsKnown (view_of seat.old) (view_of seat.new) }
+    ensures made { AreMade low step rows.now made.new.items (view_of seat.new) }
+    ensures count { length made.new.items ≡ need }
+    ensures giving { IsGiving pool.new holding.new.pins.items holding.new.gates.items holding.new.idle.items (view_of seat.new) }
+    ensures pool { pool.old ≡ pool.new ++ reverse (nodes_of_rows made.new.items) }
+    ensures pins { holding.new.pins.items ≡ holding.old.pins.items }
+    ensures size { length holding.new.gates.items + length holding.new.idle.items ≡ length holding.old.gates.items + length holding.old.idle.items + need }
+{
+    let mut key = low;
+    for i in 0..need {
+        shared.seats_reach_nodes(seat);
+        key += step;
+        let row = row_made(made.as_slice(), rows[i as usize]);
+        let node = make_one(shared, seat, pool, holding, row, key);
+        made.push(NodeRow { node, row });
+    }
 }
