@@ -7,3 +7,4 @@ mod Draining
 mod Making
 mod Stepping
 mod Following
+mod Replacing

@@ -1,5 +1,6 @@
 -- The stores of a commit: rows for its new gates are made in nodes of the pool, in order, and then the root is redefined.
-use Rattle.std.specs.Prelude.{◌≡◌, ◌≢◌, ◌⊎◌, ℕ, suc, ◌+◌, ◌*◌, ◌<◌, true, false, List, [], ◌∷◌, ◌++◌, length, slice_index_or, Some}
+use Rattle.std.specs.Prelude.{◌≡◌, ◌≢◌, ◌⊎◌, ℕ, suc, ◌+◌, ◌*◌, ◌<◌, ◌==◌, if◌then◌else◌, true, false, List, [], ◌∷◌, ◌++◌, length, slice_index_or, Some}
+use Rattle.arrayvec.specs.ArrayVec.{ArrayVec}
 use Rattle.syn_rows.specs.declared.Lit.{Lit}
 use Rattle.syn_rows.specs.declared.Row.{Row}
 use Rattle.syn_rows.specs.declared.Row.TheVariants.{Free, And}
@@ -14,6 +15,7 @@ use Rattle.syn_decide.specs.Hints.{first_new, is_new_gate}
 use Rattle.syn_decide.specs.Walk.{nodes_of}
 use Rattle.syn_decide.specs.Walked.{AreGates}
 use Rattle.syn_commit_laws.specs.Redefining.{row_made}
+use Rattle.syn_commit_laws.specs.Turning.{TurnsAll}
 use Rattle.syn_commit.specs.Walks.{AreKnown}
 
 -- A row of this key may refer to the node: the seat may pin it and knows its key, which is below.
@@ -78,3 +80,17 @@ pub record AreMade (low step : ℕ) (rows : List Row) (new : List NodeRow) (w : 
   pub known : AreKnown w new
   pub gates : AreGates new
   pub keyed : (i : ℕ) → i < length new → MayReferTo w (suc (key_at low step i)) (node_at new i)
+
+-- ---- the root
+-- a row is stored in the place of another: a pin for each of its places, then the row, over these nodes
+abbrev pub redefines_row : ℕ → Row → ArrayVec ℕ → List EventKind
+redefines_row n row over = pins_of (refs_of row) ++ (Kind.Redefine n row over ∷ [])
+
+-- the gates once the node has this row
+abbrev pub with_row : ℕ → Row → List NodeRow → List NodeRow
+with_row n row [] = []
+with_row n row (r ∷ rows) = (if r.node == n then record { node = n; row = row } else r) ∷ with_row n row rows
+
+-- the row was stored in the place of another, whichever nodes the event names
+abbrev pub RedefinesRow : ℕ → View → ℕ → Row → View → Type 0
+RedefinesRow nodes v n row w = (over : ArrayVec ℕ) → TurnsAll nodes v (redefines_row n row over) w

@@ -1,10 +1,11 @@
 //! The stores of a commit: a row for each of its new gates, and then the root's.
 
-ghost use Rattle.std.specs.Prelude.{◌≡◌, ℕ, suc, ◌+◌, ◌*◌, ◌^◌, ◌<◌, ◌≤◌, ◌++◌, ◌∷◌, [], length, reverse, slice_index_or, Some};
+ghost use Rattle.std.specs.Prelude.{◌≡◌, ℕ, suc, ◌+◌, ◌*◌, ◌^◌, ◌<◌, ◌≤◌, ◌++◌, ◌∷◌, [], true, length, reverse, slice_index_or, Some};
 ghost use Rattle.std.specs.List.{remove};
-ghost use Rattle.syn_rows.specs.Rows.{AllRefs, refs_of};
+ghost use Rattle.syn_rows.specs.Rows.{AllRefs, is_derived, refs_of};
 ghost use Rattle.syn_core_laws.specs.Events.{IsAnd, MayPin};
-ghost use Rattle.syn_core_laws.specs.Views.{known_row, pinned};
+ghost use Rattle.syn_core_laws.specs.SameValue.{SameValue};
+ghost use Rattle.syn_core_laws.specs.Views.{known_key, known_row, pinned};
 ghost use Rattle.syn_plan.specs.declared.TheConstants.{MOST_GATES};
 ghost use Rattle.syn_decide.specs.declared.decisions.NodeRow.{NodeRow};
 ghost use Rattle.syn_decide.specs.Walk.{nodes_of as nodes_of_rows};
@@ -14,10 +15,11 @@ ghost use Rattle.syn_commit_laws.specs.Redefining as redefining;
 ghost use Rattle.syn_commit_laws.specs.Turning.{TurnsAll};
 ghost use Rattle.syn_commit.specs.Giving.{IsGiving};
 ghost use Rattle.syn_commit.specs.Storing as spec;
-ghost use Rattle.syn_commit.specs.Storing.{AreMade, AreNewRows, KeepsKnown, MayReferTo, makes_row, makes_rows, with_pins};
+ghost use Rattle.syn_commit.specs.Storing.{AreMade, AreNewRows, KeepsKnown, MayReferTo, RedefinesRow, makes_row, makes_rows, with_pins, with_row};
 
 use crate::Pool;
-use crate::leaving::{Holding, place_of};
+use crate::leaving::{Holding, MOST_HELD, place_of};
+use crate::loading::MOST_PINS;
 use arrayvec::ArrayVec;
 use syn_decide::NodeRow;
 use syn_plan::MOST_GATES;
@@ -198,4 +200,71 @@ pub(crate) fn make_rows(
         let node = make_one(shared, seat, pool, holding, row, key);
         made.push(NodeRow { node, row });
     }
+}
+
+// The node's gate has this row now.
+fn set_row(gates: &mut ArrayVec<NodeRow, MOST_HELD>, node: u32, row: Row)
+    ensures gates { gates.new.items ≡ with_row node row gates.old.items }
+    ensures size { length gates.new.items ≡ length gates.old.items }
+{
+    for i in 0..gates.len() {
+        if gates.as_slice()[i].node == node {
+            gates.as_mut_slice()[i] = NodeRow { node, row };
+        }
+    }
+}
+
+// The nodes of a row become pins.
+fn add_refs(pins: &mut ArrayVec<u32, MOST_PINS>, row: Row)
+    requires { length pins.old.items + 2 ≤ 512 }
+    ensures { pins.new.items ≡ pins.old.items ++ refs_of row }
+{
+    match row {
+        Row::Free | Row::Source => (),
+        Row::And(a, b) => {
+            pins.push(a.node());
+            pins.push(b.node());
+        }
+        Row::Alias(a) => pins.push(a.node()),
+    }
+}
+
+/// Gives the root its new row, which has the old one's value over these nodes: a pin for each place, and then the row.
+/// What the old row referred to is pinned.
+pub(crate) fn redefine_root(
+    shared: &Shared,
+    seat: &mut Seat,
+    pool: &Pool,
+    holding: &mut Holding,
+    root: NodeRow,
+    row: Row,
+    key: u64,
+    over: &[u32],
+)
+    requires table { IsOf seat.old shared.now }
+    requires giving { IsGiving pool.now holding.old.pins.items holding.old.gates.items holding.old.idle.items (view_of seat.old) }
+    requires root { known_row (view_of seat.old) root.node ≡ Some root.row }
+    requires key { known_key (view_of seat.old) root.node ≡ Some key }
+    requires was { is_derived root.row ≡ true }
+    requires gate { is_derived row ≡ true }
+    requires may { AllRefs (MayReferTo (view_of seat.old) key) row }
+    requires over { length over.now ≤ 8 }
+    requires same { SameValue (view_of seat.old) over.now root.row row }
+    requires few { length holding.old.pins.items + 4 ≤ 512 }
+    ensures table { IsOf seat.new shared.now }
+    ensures known { known_of seat.new ≡ with_view (known_of seat.old) (view_of seat.new) }
+    ensures turns { RedefinesRow (nodes_of shared.now) (view_of seat.old) root.node row (view_of seat.new) }
+    ensures row { known_row (view_of seat.new) root.node ≡ Some row }
+    ensures giving { IsGiving pool.now holding.new.pins.items holding.new.gates.items holding.new.idle.items (view_of seat.new) }
+    ensures pins { holding.new.pins.items ≡ holding.old.pins.items ++ refs_of root.row }
+{
+    let _ = key;
+    shared.seats_reach_nodes(seat);
+    let before = holding.pins.len();
+    pin_places(shared, seat, pool, holding, row);
+    shared.redefine(seat, root.node, row, over);
+    holding.pins.truncate(before);
+    add_refs(&mut holding.pins, root.row);
+    set_row(&mut holding.gates, root.node, row);
+    set_row(&mut holding.idle, root.node, row);
 }
