@@ -8,3 +8,4 @@ mod Making
 mod Stepping
 mod Following
 mod Replacing
+mod Sparing

@@ -29,11 +29,13 @@ distinct_less [] n d = (refl, λ m h. absurd (cc))
 distinct_less (x ∷ xs) n d =
     let parts = and_parts (not (has_node (xs ++ n ∷ []) x)) (are_distinct (xs ++ n ∷ [])) d in
     let rest = distinct_less xs n parts.1 in
-    let out : has_node (xs ++ n ∷ []) x ≡ false = not_true (has_node (xs ++ n ∷ []) x) parts.0 in
-    (and_both (not (has_node xs x)) (are_distinct xs) (ap not (none x (has_node xs x) refl out)) rest.0, λ m h. elim (here_or_there x m xs h) [
-      | inl this ↦ (λ same. let yes : has_node (xs ++ n ∷ []) x ≡ true = subst (λ k. has_node (xs ++ k ∷ []) x ≡ true) (sym this ∙ same) (has_right xs (x ∷ []) x (has_here x [])) in cc)
-      | inr there ↦ rest.1 m there
-    ])
+    let out : has_node (xs ++ n ∷ []) x ≡ false = not_true (has_node (xs ++ n ∷ []) x) parts.0 in (
+      and_both (not (has_node xs x)) (are_distinct xs) (ap not (none x (has_node xs x) refl out)) rest.0,
+      λ m h. elim (here_or_there x m xs h) [
+        | inl this ↦ (λ same. let yes : has_node (xs ++ n ∷ []) x ≡ true = subst (λ k. has_node (xs ++ k ∷ []) x ≡ true) (sym this ∙ same) (has_right xs (x ∷ []) x (has_here x [])) in cc)
+        | inr there ↦ rest.1 m there
+      ],
+    )
   where
     none : (y : ℕ) (b : Bool) → has_node xs y ≡ b → has_node (xs ++ n ∷ []) y ≡ false → b ≡ false
     none y true e f = let yes : has_node (xs ++ n ∷ []) y ≡ true = has_left xs (n ∷ []) y e in absurd (cc)

@@ -1,5 +1,5 @@
 -- The root's new row: what is asked of it, and what is held then.
-use Rattle.std.proofs.Common.{◌≡◌, ◌≢◌, ◌⊎◌, ℕ, suc, ◌+◌, ◌<◌, ◌≤◌, ◌==◌, Bool, true, false, if◌then◌else◌, List, [], ◌∷◌, ◌++◌, length, get_or, set, take, drop, zero, Some, refl, sym, ap, ◌∙◌, subst, arith, inl, inr, length-append, length-set, get_or-set_same, get_or-set_other}
+use Rattle.std.proofs.Common.{◌≡◌, ◌≢◌, ℕ, suc, ◌+◌, ◌<◌, ◌≤◌, ◌==◌, Bool, true, false, if◌then◌else◌, List, [], ◌∷◌, ◌++◌, length, get_or, set, take, drop, zero, Some, refl, sym, ap, ◌∙◌, subst, arith, inl, inr, length-append, length-set, get_or-set_same, get_or-set_other}
 use Rattle.std.specs.List.{refill}
 use Rattle.std.proofs.lemmas.Bool.{eqb-true, eqb-false}
 use Rattle.std.proofs.lemmas.List.{take-set, take_all, take_at, take_more_same}
@@ -13,7 +13,7 @@ use Rattle.syn_core_laws.specs.declared.View.{View}
 use Rattle.syn_core_laws.specs.declared.EventKind.TheVariants as Kind
 use Rattle.syn_core_laws.specs.Lists.{look, without_each}
 use Rattle.syn_core_laws.specs.SameValue.{SameFor, SameValue}
-use Rattle.syn_core_laws.specs.Views.{known_key, known_row, own_pins, pins_after, redefined}
+use Rattle.syn_core_laws.specs.Views.{known_key, known_row, pins_after, redefined}
 use Rattle.syn_core_laws.proofs.Counting.{length_less_each, times_append, times_less_each}
 use Rattle.syn_core_laws.proofs.Listing.{look_here, look_there}
 use Rattle.syn_decide.specs.declared.decisions.NodeRow.{NodeRow}

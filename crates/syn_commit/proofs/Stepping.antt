@@ -1,18 +1,18 @@
 -- What one made row leaves as it was, and the events of it.
-use Rattle.std.proofs.Common.{◌≡◌, ◌≢◌, ◌⊎◌, ℕ, zero, suc, ◌+◌, ◌<◌, ◌≤◌, ◌==◌, ◌||◌, Bool, true, false, if◌then◌else◌, List, [], ◌∷◌, ◌++◌, length, Option, Some, None, refl, sym, ap, ◌∙◌, subst, arith, inl, inr}
-use Rattle.std.proofs.lemmas.Bool.{cases_eq, eq-eqb, ne_eqb, or_cases, or_left, or_right}
+use Rattle.std.proofs.Common.{◌≡◌, ◌≢◌, ◌⊎◌, ℕ, suc, ◌<◌, ◌≤◌, ◌==◌, Bool, true, false, if◌then◌else◌, List, [], ◌∷◌, ◌++◌, Option, Some, refl, sym, ap, ◌∙◌, subst, arith, inl, inr}
+use Rattle.std.proofs.lemmas.Bool.{cases_eq, eq-eqb, or_cases, or_left, or_right}
 use Rattle.syn_rows.specs.declared.Row.{Row}
-use Rattle.syn_rows.specs.declared.Row.TheVariants.{Free, Source, And, Alias}
+use Rattle.syn_rows.specs.declared.Row.TheVariants.{Free}
 use Rattle.syn_rows.specs.Rows.{is_derived, refs_of}
 use Rattle.syn_rows.specs.Nodes.{has_node}
 use Rattle.syn_rows.specs.References.{times}
 use Rattle.syn_core_laws.specs.declared.View.{View}
 use Rattle.syn_core_laws.specs.declared.EventKind.{EventKind}
 use Rattle.syn_core_laws.specs.declared.EventKind.TheVariants as Kind
-use Rattle.syn_core_laws.specs.Events.{KeyBelow, MayPin, Refers}
+use Rattle.syn_core_laws.specs.Events.{MayPin, Refers}
 use Rattle.syn_core_laws.specs.Lists.{look}
 use Rattle.syn_core_laws.specs.Shown.{IsShown}
-use Rattle.syn_core_laws.specs.Views.{is_mine, key_set, known_key, known_row, made, own_pins, pinned, refs_known}
+use Rattle.syn_core_laws.specs.Views.{is_mine, key_set, known_key, known_row, own_pins, pinned, refs_known}
 use Rattle.syn_core_laws.proofs.Counting.{has_times, times_has}
 use Rattle.syn_core_laws.proofs.Listing.{look_here, look_kept, look_there}
 use Rattle.syn_commit_laws.specs.Turning.{IsServed, TurnsAll}
@@ -99,15 +99,20 @@ module _ (nodes : ℕ) (v : View) (n : ℕ) (row : Row) (key : ℕ) (shown : IsS
   pin_stays m (inl (inr refers)) = inl (inr (go (cases_eq refers.0 n)))
     where
       go : (refers.0 ≡ n) ⊎ (refers.0 ≢ n) → Refers w m
-      go (inl same) = (n, row, row_known, elim refers.3 [
-        | inl first ↦ inl first
-        | inr some ↦ absurd (
-            let is : Some refers.1 ≡ Some Free = sym refers.2 ∙ (ap (known_row v) same ∙ free) in
-            let one : refers.1 ≡ Free = cc in
-            let none : 1 ≤ times m (refs_of Free) = subst (λ (r : Row). 1 ≤ times m (refs_of r)) one some in
-            omega (arith, none)
-            )
-      ])
+      go (inl same) = (
+        n,
+        row,
+        row_known,
+        elim refers.3 [
+          | inl first ↦ inl first
+          | inr some ↦ absurd (
+              let is : Some refers.1 ≡ Some Free = sym refers.2 ∙ (ap (known_row v) same ∙ free) in
+              let one : refers.1 ≡ Free = cc in
+              let none : 1 ≤ times m (refs_of Free) = subst (λ (r : Row). 1 ≤ times m (refs_of r)) one some in
+              omega (arith, none)
+              )
+        ],
+      )
       go (inr ne) = (refers.0, refers.1, rows_other refers.0 ne ∙ refers.2, refers.3)
   pin_stays m (inr pin) = inr (has_times m w.pins (subst (λ k. 1 ≤ k) (sym (pins m)) (times_has m v.pins pin)))
 

@@ -1,5 +1,6 @@
 -- The stores of a commit: rows for its new gates are made in nodes of the pool, in order, and then the root is redefined.
-use Rattle.std.specs.Prelude.{◌≡◌, ◌≢◌, ◌⊎◌, ℕ, suc, ◌+◌, ◌*◌, ◌<◌, ◌==◌, if◌then◌else◌, true, false, List, [], ◌∷◌, ◌++◌, length, slice_index_or, Some}
+use Rattle.std.specs.Prelude.{◌≡◌, ◌≢◌, ◌⊎◌, ℕ, suc, ◌+◌, ◌*◌, ◌<◌, ◌==◌, if◌then◌else◌, Bool, true, false, List, [], ◌∷◌, ◌++◌, length, slice_index_or, Some}
+use Rattle.std.specs.List.{AllByRecursion}
 use Rattle.arrayvec.specs.ArrayVec.{ArrayVec}
 use Rattle.syn_rows.specs.declared.Lit.{Lit}
 use Rattle.syn_rows.specs.declared.Row.{Row}
@@ -15,7 +16,9 @@ use Rattle.syn_decide.specs.Hints.{first_new, is_new_gate}
 use Rattle.syn_decide.specs.Walk.{nodes_of}
 use Rattle.syn_decide.specs.Walked.{AreGates}
 use Rattle.syn_commit_laws.specs.Redefining.{row_made}
-use Rattle.syn_commit_laws.specs.Turning.{TurnsAll}
+use Rattle.syn_commit_laws.specs.Dying.{AreDoomed}
+use Rattle.syn_commit_laws.specs.Freeing.{IsFreeing}
+use Rattle.syn_commit_laws.specs.Turning.{Spares, TurnsAll}
 use Rattle.syn_commit.specs.Walks.{AreKnown}
 
 -- A row of this key may refer to the node: the seat may pin it and knows its key, which is below.
@@ -94,3 +97,16 @@ with_row n row (r ∷ rows) = (if r.node == n then record { node = n; row = row 
 -- the row was stored in the place of another, whichever nodes the event names
 abbrev pub RedefinesRow : ℕ → View → ℕ → Row → View → Type 0
 RedefinesRow nodes v n row w = (over : ArrayVec ℕ) → TurnsAll nodes v (redefines_row n row over) w
+
+-- ---- what dies
+-- the nodes of these rows don't die, and the rows refer to nothing that does
+abbrev pub SparesAll : (ℕ → Bool) → List NodeRow → Type 0
+SparesAll dying rows = AllByRecursion (λ r. (dying r.node ≡ false) × Spares dying r.row) rows
+
+-- Since the loads of counts such rows were made, and the root was redefined: what is to die with the root still is, so many rows were made, and the root's is the one change.
+abbrev pub StoresFree : Type 0
+StoresFree =
+    (nodes root low step : ℕ) (dying : ℕ → Bool) (start v w x : View) (new : List NodeRow) (old row : Row) (over : ArrayVec ℕ)
+    → AreDoomed nodes root dying start → IsFreeing nodes root dying start 0 [] v → SparesAll dying new
+    → TurnsAll nodes v (makes_rows low step 0 new) w → known_row w root ≡ Some old → TurnsAll nodes w (redefines_row root row over) x
+    → IsFreeing nodes root dying start (length new) ((record { node = root; old = old; new = row }) ∷ []) x

@@ -15,7 +15,7 @@ ghost use Rattle.syn_commit_laws.specs.Redefining as redefining;
 ghost use Rattle.syn_commit_laws.specs.Turning.{TurnsAll};
 ghost use Rattle.syn_commit.specs.Giving.{IsGiving};
 ghost use Rattle.syn_commit.specs.Storing as spec;
-ghost use Rattle.syn_commit.specs.Storing.{AreMade, AreNewRows, KeepsKnown, MayReferTo, RedefinesRow, makes_row, makes_rows, with_pins, with_row};
+ghost use Rattle.syn_commit.specs.Storing.{AreMade, AreNewRows, KeepsKnown, MayReferTo, RedefinesRow, StoresFree, makes_row, makes_rows, with_pins, with_row};
 
 use crate::Pool;
 use crate::leaving::{Holding, MOST_HELD, place_of};
@@ -268,3 +268,8 @@ pub(crate) fn redefine_root(
     set_row(&mut holding.gates, root.node, row);
     set_row(&mut holding.idle, root.node, row);
 }
+
+/// Rows that are made and the root's are events of a commit: what is to die with the root still does.
+pub(crate) fn stores_free()
+    ensures { StoresFree }
+{}

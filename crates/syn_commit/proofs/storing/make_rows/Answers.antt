@@ -1,17 +1,15 @@
-use Rattle.std.proofs.Common.{◌≡◌, ℕ, suc, ◌+◌, ◌*◌, ◌<◌, ◌≤◌, ◌++◌, ◌∷◌, List, [], true, length, reverse, Some, refl, sym, ap, ap₂, ◌∙◌, subst, arith, length-append}
+use Rattle.std.proofs.Common.{◌≡◌, suc, ◌+◌, ◌<◌, ◌++◌, ◌∷◌, List, [], length, reverse, sym, ap, ap₂, ◌∙◌, subst, arith, length-append}
 use Rattle.std.proofs.lemmas.List.{get_or_default}
 use Rattle.syn_rows.specs.declared.Row.{Row}
 use Rattle.syn_rows.specs.declared.Row.TheVariants.{Free}
 use Rattle.syn_rows.specs.Rows.{AllRefs, is_derived, row_at}
 use Rattle.syn_core_laws.specs.Events.{IsAnd}
-use Rattle.syn_core_laws.specs.Views.{known_row}
 use Rattle.syn_decide.specs.declared.decisions.NodeRow.{NodeRow}
 use Rattle.syn_decide.specs.Walk.{nodes_of as nodes_of_rows}
 use Rattle.syn_table.specs.Seating.{nodes_of, view_of}
 use Rattle.syn_table.specs.Steps.{with_view}
 use Rattle.syn_commit_laws.specs.Redefining.{row_made}
 use Rattle.syn_commit_laws.specs.Turning.{TurnsAll}
-use Rattle.syn_commit.specs.Giving.{IsGiving}
 use Rattle.syn_commit.specs.Storing.{AreMade, IsNewRow, MayReferTo, key_at, makes_row, makes_rows, node_at}
 use Rattle.syn_commit.proofs.Following.{keeps_on, key_next, made_more, nodes_few, pool_falls, row_is_and, row_may, rows_turn}
 use Rattle.syn_commit.proofs.storing.make_rows.Goals as goal
