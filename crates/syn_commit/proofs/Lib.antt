@@ -8,3 +8,8 @@ mod Handing
 mod Meeting
 mod Meshing
 mod Sole
+mod Making
+mod Stepping
+mod Following
+mod Replacing
+mod Sparing

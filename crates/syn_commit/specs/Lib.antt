@@ -3,3 +3,4 @@ pub mod Walks
 pub mod Stages
 pub mod Giving
 pub mod Hinted
+pub mod Storing

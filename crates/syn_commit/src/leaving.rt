@@ -38,8 +38,8 @@ pub(crate) struct Holding {
     pub(crate) idle: ArrayVec<NodeRow, MOST_HELD>,
 }
 
-// Where the node stands among the rows.
-fn place_of(rows: &[NodeRow], node: u32) -> Option<usize>
+/// Where the node stands among the rows.
+pub(crate) fn place_of(rows: &[NodeRow], node: u32) -> Option<usize>
     ensures none { IfNone result (has_node (nodes_of_rows rows.now) node ≡ false) }
     ensures there { IfSome result (λ i. has_node (nodes_of_rows rows.now) node ≡ true) }
     ensures within { IfSome result (λ i. i < length rows.now) }

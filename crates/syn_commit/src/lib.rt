@@ -8,6 +8,7 @@ mod hints;
 mod leaving;
 mod loading;
 mod pools;
+mod storing;
 mod walking;
 
 pub use gates::{Gate, Moment, OpenGate};
