@@ -35,35 +35,35 @@ use Rattle.syn_commit.proofs.Trying.{has_self}
 none_there : NodeRow
 none_there = record { node = 0; row = Free }
 
-times_more : (n : ℕ) (rows : List NodeRow) (e : NodeRow) → times n (nodes_of (rows ++ e ∷ [])) ≡ times n (nodes_of rows) + hits n e.node
+pub times_more : (n : ℕ) (rows : List NodeRow) (e : NodeRow) → times n (nodes_of (rows ++ e ∷ [])) ≡ times n (nodes_of rows) + hits n e.node
 times_more n rows e = let a = ap (times n) (nodes_more rows e) ∙ times_append n (nodes_of rows) (e.node ∷ []) in omega (arith, a)
 
-times_removed : (n : ℕ) (rows : List NodeRow) (i : ℕ) (d : NodeRow) → i < length rows → times n (nodes_of (take i rows ++ drop (suc i) rows)) + hits n (get_or rows i d).node ≡ times n (nodes_of rows)
+pub times_removed : (n : ℕ) (rows : List NodeRow) (i : ℕ) (d : NodeRow) → i < length rows → times n (nodes_of (take i rows ++ drop (suc i) rows)) + hits n (get_or rows i d).node ≡ times n (nodes_of rows)
 times_removed n [] i d l = absurd (omega arith)
 times_removed n (r ∷ rows) zero d l = omega arith
 times_removed n (r ∷ rows) (suc i) d l = let rest = times_removed n rows i d (omega (arith, l)) in omega (arith, rest)
 
-all_removed : (P : NodeRow → Type 0) (rows : List NodeRow) (i : ℕ) → AllByRecursion P rows → AllByRecursion P (take i rows ++ drop (suc i) rows)
+pub all_removed : (P : NodeRow → Type 0) (rows : List NodeRow) (i : ℕ) → AllByRecursion P rows → AllByRecursion P (take i rows ++ drop (suc i) rows)
 all_removed P [] zero a = tt
 all_removed P [] (suc i) a = tt
 all_removed P (r ∷ rows) zero a = a.1
 all_removed P (r ∷ rows) (suc i) a = (a.0, all_removed P rows i a.1)
 
-all_at : (P : NodeRow → Type 0) (rows : List NodeRow) (i : ℕ) (d : NodeRow) → i < length rows → AllByRecursion P rows → P (get_or rows i d)
+pub all_at : (P : NodeRow → Type 0) (rows : List NodeRow) (i : ℕ) (d : NodeRow) → i < length rows → AllByRecursion P rows → P (get_or rows i d)
 all_at P [] i d l a = absurd (omega arith)
 all_at P (r ∷ rows) zero d l a = a.0
 all_at P (r ∷ rows) (suc i) d l a = all_at P rows i d (omega (arith, l)) a.1
 
-all_more : (P : NodeRow → Type 0) (rows : List NodeRow) (e : NodeRow) → AllByRecursion P rows → P e → AllByRecursion P (rows ++ e ∷ [])
+pub all_more : (P : NodeRow → Type 0) (rows : List NodeRow) (e : NodeRow) → AllByRecursion P rows → P e → AllByRecursion P (rows ++ e ∷ [])
 all_more P [] e a p = (p, tt)
 all_more P (r ∷ rows) e a p = (a.0, all_more P rows e a.1 p)
 
-all_less : (P : NodeRow → Type 0) (rows : List NodeRow) (e : NodeRow) → AllByRecursion P (rows ++ e ∷ []) → AllByRecursion P rows × P e
+pub all_less : (P : NodeRow → Type 0) (rows : List NodeRow) (e : NodeRow) → AllByRecursion P (rows ++ e ∷ []) → AllByRecursion P rows × P e
 all_less P [] e a = (tt, a.0)
 all_less P (r ∷ rows) e a = let rest = all_less P rows e a.1 in ((a.0, rest.0), rest.1)
 
 -- the row of a gate that is listed
-listed : (v : View) (rows : List NodeRow) (n : ℕ) → AreKnown v rows → AreGates rows → 1 ≤ times n (nodes_of rows) → is_derived_known (known_row v n) ≡ true
+pub listed : (v : View) (rows : List NodeRow) (n : ℕ) → AreKnown v rows → AreGates rows → 1 ≤ times n (nodes_of rows) → is_derived_known (known_row v n) ≡ true
 listed v [] n k g l = absurd (omega (arith, l))
 listed v (r ∷ rows) n k g l = elim (here_or_there r.node n (nodes_of rows) (has_times n (nodes_of (r ∷ rows)) l)) [
   | inl same ↦ ap (λ m. is_derived_known (known_row v m)) same ∙ (ap is_derived_known k.0 ∙ g.0)
@@ -71,12 +71,12 @@ listed v (r ∷ rows) n k g l = elim (here_or_there r.node n (nodes_of rows) (ha
 ]
 
 -- the same rows are known, whatever else changes
-known_again : (v w : View) (rows : List NodeRow) → ((n : ℕ) → known_row w n ≡ known_row v n) → AreKnown v rows → AreKnown w rows
+pub known_again : (v w : View) (rows : List NodeRow) → ((n : ℕ) → known_row w n ≡ known_row v n) → AreKnown v rows → AreKnown w rows
 known_again v w [] same k = tt
 known_again v w (r ∷ rows) same k = (same r.node ∙ k.0, known_again v w rows same k.1)
 
 -- a pool that is kept while other rows change
-pool_again : (v w : View) (pool : List ℕ) → ((n : ℕ) → has_node pool n ≡ true → has_node w.held n ≡ has_node v.held n) → ((n : ℕ) → has_node pool n ≡ true → known_row w n ≡ known_row v n) → KeepsPool v pool → KeepsPool w pool
+pub pool_again : (v w : View) (pool : List ℕ) → ((n : ℕ) → has_node pool n ≡ true → has_node w.held n ≡ has_node v.held n) → ((n : ℕ) → has_node pool n ≡ true → known_row w n ≡ known_row v n) → KeepsPool v pool → KeepsPool w pool
 pool_again v w pool held rows k = record { distinct = k.distinct; held = λ n h. held n h ∙ k.held n h; free = λ n h. rows n h ∙ k.free n h }
 
 -- ---- a pin is taken back

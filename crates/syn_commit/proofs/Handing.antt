@@ -25,6 +25,9 @@ use Rattle.syn_commit_laws.proofs.Goings.{frees_add_none, telling_begins, tellin
 use Rattle.syn_commit.specs.Giving.{FellByLate, GivesBackAll, HasGivenUp, HoldsAlone, IsGiving, with_gate, with_gates}
 use Rattle.syn_commit.specs.Stages.{IsTrying}
 use Rattle.syn_commit.specs.Walks.{IsOfReads}
+use Rattle.syn_commit.specs.Pools.{KeepsPool}
+use Rattle.syn_core_laws.specs.Shown.{IsShown}
+use Rattle.syn_commit.proofs.Trying.{not_idle, spare_not_idle}
 
 -- ---- the gates that a commit has
 either_gate : (P : List NodeRow → Type 0) (gates : List NodeRow) (r : NodeRow) → (has_node (nodes_of gates) r.node ≡ true → P gates) → (has_node (nodes_of gates) r.node ≡ false → P (gates ++ r ∷ [])) → P (with_gate gates r)
@@ -200,3 +203,15 @@ fell_by_late t start v w nodes pool grown pins s h g =
       told.alone,
       ap (λ d. d +ℤ pos (ands_freed (λ n. true) told.changes)) g.2.difference ∙ (early_tells v g.0 told.changes told.told told.alone ∙ h.difference),
     )
+
+-- a seat that holds its pool alone has nothing on its zero list
+pub nothing_idle : (nodes : ℕ) (v : View) (pool : List ℕ) → IsShown nodes v → KeepsPool v pool → ((n : ℕ) → has_node v.held n ≡ has_node pool n) → v.idle ≡ []
+nothing_idle nodes v pool shown keeps alone = go v.idle (λ n h. off n h (has_node pool n) refl)
+  where
+    off : (n : ℕ) → has_node v.idle n ≡ true → (b : Bool) → has_node pool n ≡ b → ⊥
+    off n h true e = let out : has_node v.idle n ≡ false = spare_not_idle nodes v n shown (keeps.free n e) in cc
+    off n h false e = let out : has_node v.idle n ≡ false = not_idle nodes v n shown (alone n ∙ e) in cc
+
+    go : (ns : List ℕ) → ((n : ℕ) → has_node ns n ≡ true → ⊥) → ns ≡ []
+    go [] f = refl
+    go (x ∷ ns) f = absurd (f x (has_here x ns))

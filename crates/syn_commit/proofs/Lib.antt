@@ -5,3 +5,11 @@ mod Staging
 mod Loads
 mod Draining
 mod Handing
+mod Meeting
+mod Meshing
+mod Sole
+mod Making
+mod Stepping
+mod Following
+mod Replacing
+mod Sparing

@@ -2,3 +2,5 @@ pub mod Pools
 pub mod Walks
 pub mod Stages
 pub mod Giving
+pub mod Hinted
+pub mod Storing

@@ -38,8 +38,8 @@ pub(crate) struct Holding {
     pub(crate) idle: ArrayVec<NodeRow, MOST_HELD>,
 }
 
-// Where the node stands among the rows.
-fn place_of(rows: &[NodeRow], node: u32) -> Option<usize>
+/// Where the node stands among the rows.
+pub(crate) fn place_of(rows: &[NodeRow], node: u32) -> Option<usize>
     ensures none { IfNone result (has_node (nodes_of_rows rows.now) node ≡ false) }
     ensures there { IfSome result (λ i. has_node (nodes_of_rows rows.now) node ≡ true) }
     ensures within { IfSome result (λ i. i < length rows.now) }
@@ -51,6 +51,13 @@ fn place_of(rows: &[NodeRow], node: u32) -> Option<usize>
         }
     }
     None
+}
+
+/// Whether the node stands among the rows.
+pub(crate) fn has_gate(rows: &[NodeRow], node: u32) -> bool
+    ensures { result ≡ has_node (nodes_of_rows rows.now) node }
+{
+    place_of(rows, node).is_some()
 }
 
 // A gate joins those on the zero list.
@@ -177,7 +184,7 @@ fn add_gate(gates: &mut ArrayVec<NodeRow, MOST_HELD>, gate: NodeRow)
     requires { length gates.old.items < MOST_HELD }
     ensures { gates.new.items ≡ with_gate gates.old.items gate }
 {
-    if place_of(gates.as_slice(), gate.node).is_none() {
+    if !has_gate(gates.as_slice(), gate.node) {
         gates.push(gate);
     }
 }

@@ -1,11 +1,14 @@
 //! One commit on the shared table: its tools.
 #![tactic(auto)]
 
+mod answering;
 mod gates;
+mod hinting;
 mod hints;
 mod leaving;
 mod loading;
 mod pools;
+mod storing;
 mod walking;
 
 pub use gates::{Gate, Moment, OpenGate};

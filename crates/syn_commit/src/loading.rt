@@ -100,6 +100,7 @@ pub(crate) fn keys(
     ensures table { IsOf seat.new shared.now }
     ensures known { known_of seat.new ≡ with_view (known_of seat.old) (view_of seat.new) }
     ensures trying { IsTrying (task_of attempt.now) (view_of start.now.value) pool.now pins.new.items (view_of seat.new) deciding.new }
+    ensures misses { (view_of seat.new).misses ≡ (view_of seat.old).misses }
     ensures few { length pins.new.items ≤ 9 }
     ensures past { IsPastKeys deciding.new.stage }
 {
@@ -172,6 +173,7 @@ pub(crate) fn counts(
     ensures table { IsOf seat.new shared.now }
     ensures known { known_of seat.new ≡ with_view (known_of seat.old) (view_of seat.new) }
     ensures trying { IsTrying (task_of attempt.now) (view_of start.now.value) pool.now pins.now.items (view_of seat.new) deciding.new }
+    ensures misses { (view_of seat.new).misses ≡ (view_of seat.old).misses }
     ensures ended { HasEnded deciding.new.stage }
 {
     let _ = pool;

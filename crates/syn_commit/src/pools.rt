@@ -112,6 +112,17 @@ impl Pool {
         }
     }
 
+    /// Takes the last node out of the pool.
+    pub(crate) fn take(&mut self) -> u32
+        requires { 1 ≤ length self.old }
+        ensures { self.old ≡ self.new ++ result ∷ [] }
+    {
+        let last = self.nodes.len() - 1;
+        let node = self.nodes.as_slice()[last];
+        self.nodes.truncate(last);
+        node
+    }
+
     /// Lets all nodes of the pool go.
     pub fn empty(self, shared: &Shared, seat: &mut Seat)
         requires table { IsOf seat.old shared.now }

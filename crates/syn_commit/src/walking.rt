@@ -63,6 +63,7 @@ pub(crate) fn walk(
     ensures known { known_of seat.new ≡ with_view (known_of seat.old) (view_of seat.new) }
     ensures walked { IsWalking (task_of attempt.now) (view_of seat.old) pool.now (view_of seat.new) deciding.new }
     ensures past { IsPastWalk deciding.new.stage }
+    ensures sole { length (known_of seat.old).numbers ≡ 64 → (view_of seat.new).misses ≡ (view_of seat.old).misses }
 {
     let _ = pool;
     while let Decision::Next(Want::Row(node)) = deciding.wants() {

@@ -9,7 +9,8 @@ use Rattle.syn_rows.specs.Rows.{node_of, row_at, InOrder}
 use Rattle.syn_rows.specs.Nodes.{has_node}
 use Rattle.syn_truth.specs.Words.{value_in}
 use Rattle.syn_cones.specs.Carried.{AreClear, IsCutFunction, IsFloor, IsMade}
-use Rattle.syn_cones.specs.Cones.{LeadsTo, FitsBetween}
+use Rattle.syn_cones.specs.Cones.{LeadsTo}
+use Rattle.syn_cones.specs.Laws.{FitsPastMore, HasNoInner}
 use Rattle.syn_cones.specs.Walk.{has_all}
 use Rattle.syn_cones.specs.Words.{IsWordOver}
 use Rattle.syn_cones.specs.declared.carried.CutFunction.{CutFunction}
@@ -18,16 +19,13 @@ use Rattle.syn_cones.proofs.Walking.{all_has, led_below}
 
 -- more leaves, none of them an inner node of the cone
 
-abbrev HasNoInner : List Row → List ℕ → List ℕ → ℕ → Type 0
-HasNoInner rows leaves more root = (n : ℕ) (path : List ℕ) → LeadsTo rows leaves root path n → has_node leaves n ≡ false → has_node more n ≡ false
-
 -- a path past no leaf is one past none of more
 led_past : (rows : List Row) (leaves more : List ℕ) (root : ℕ) (path : List ℕ) (n : ℕ) → HasNoInner rows leaves more root → LeadsTo rows leaves root path n → LeadsTo rows more root path n
 led_past rows leaves more root [] n past led = led
 led_past rows leaves more root (next ∷ path) n past led =
     (past root [] refl led.0, led.1, led_past rows leaves more next path n (λ m way on inner. past m (next ∷ way) (led.0, led.1, on) inner) led.2)
 
-fits_past : (rows : List Row) (leaves more : List ℕ) (root : ℕ) (v : ℕ → Bool) → HasNoInner rows leaves more root → FitsBetween rows more root v → FitsBetween rows leaves root v
+pub fits_past : FitsPastMore
 fits_past rows leaves more root v past fits n path led inner = fits n path (led_past rows leaves more root path n past led) (past n path led inner)
 
 -- leaves that are clear aren't inner nodes

@@ -1,8 +1,10 @@
 -- The walk from a root down to the leaves of a cut.
-use Rattle.std.proofs.Common.{◌≡◌, ℕ, zero, suc, ◌<◌, ◌≤◌, nat_lt, nat_eq, Bool, true, false, if◌then◌else◌, List, [], ◌∷◌, ◌++◌, refl, sym, subst, inl, inr, ◌⊎◌, arith}
+use Rattle.std.proofs.Common.{◌≡◌, ℕ, zero, suc, ◌<◌, ◌≤◌, nat_lt, nat_eq, Bool, true, false, if◌then◌else◌, List, [], ◌∷◌, ◌++◌, append_assoc, get_or, length, reverse, refl, sym, ap, ◌∙◌, subst, inl, inr, ◌⊎◌, arith}
 use Rattle.std.specs.List.{list_any, list_all}
 use Rattle.std.proofs.lemmas.Bool.{and_parts, and_from, or_cases, or_left, both_ways, ltb-true, lt-ltb}
 use Rattle.std.proofs.lemmas.Bool.Decides.{nat_tests}
+use Rattle.std.proofs.lemmas.List.{reverse-append}
+use Rattle.std.proofs.lemmas.List.Folds.{list_all-append}
 use Rattle.syn_rows.specs.declared.Row.{Row}
 use Rattle.syn_rows.specs.declared.Row.TheVariants.{Free, Source, And, Alias}
 use Rattle.syn_rows.proofs.Nodes.{same_node, has_here, has_there, has_cases, has_left, has_right, has_one}
@@ -210,15 +212,16 @@ all_less n (x ∷ xs) h =
     last p [] h = (and_parts (p n) true h).0
     last p (y ∷ ys) h = last p ys (and_parts (p y) (list_all p (ys ++ n ∷ [])) h).1
 
-rises_front : (front : List ℕ) (n : ℕ) → rises (front ++ n ∷ []) ≡ true → rises front ≡ true
-rises_front [] n h = refl
-rises_front (x ∷ xs) n h =
-    let parts = and_parts (list_all (nat_lt x) (xs ++ n ∷ [])) (rises (xs ++ n ∷ [])) h in
-    and_from (list_all (nat_lt x) xs) (rises xs) (first (nat_lt x) xs parts.0) (rises_front xs n parts.1)
-  where
-    first : (p : ℕ → Bool) (ys : List ℕ) → list_all p (ys ++ n ∷ []) ≡ true → list_all p ys ≡ true
-    first p [] h = refl
-    first p (y ∷ ys) h = let parts = and_parts (p y) (list_all p (ys ++ n ∷ [])) h in and_from (p y) (list_all p ys) parts.0 (first p ys parts.1)
+-- the first of rising nodes rise, and those from one on
+pub rises_first : (xs ys : List ℕ) → rises (xs ++ ys) ≡ true → rises xs ≡ true
+rises_first [] ys h = refl
+rises_first (x ∷ xs) ys h =
+    let parts = and_parts (list_all (nat_lt x) (xs ++ ys)) (rises (xs ++ ys)) h in
+    and_from (list_all (nat_lt x) xs) (rises xs) (and_parts (list_all (nat_lt x) xs) (list_all (nat_lt x) ys) (sym (list_all-append (nat_lt x) xs ys) ∙ parts.0)).0 (rises_first xs ys parts.1)
+
+rises_from : (front rest : List ℕ) (n : ℕ) → rises ((front ++ n ∷ []) ++ rest) ≡ true → rises (n ∷ rest) ≡ true
+rises_from [] rest n h = h
+rises_from (x ∷ xs) rest n h = rises_from xs rest n (and_parts (list_all (nat_lt x) ((xs ++ n ∷ []) ++ rest)) (rises ((xs ++ n ∷ []) ++ rest)) h).1
 
 all_put : (p : ℕ → Bool) (m : ℕ) (xs : List ℕ) → p m ≡ true → list_all p xs ≡ true → list_all p (put_node m xs) ≡ true
 all_put p m [] h a = and_from (p m) true h refl
@@ -283,7 +286,45 @@ top_falls rows leaves front n order h =
     omega (arith, low, last)
 
 pub rises_on : (rows : List Row) (leaves front : List ℕ) (n : ℕ) → rises (front ++ n ∷ []) ≡ true → rises (put_nodes (inner_refs rows leaves n) front) ≡ true
-rises_on rows leaves front n h = rises_puts (inner_refs rows leaves n) front (rises_front front n h)
+rises_on rows leaves front n h = rises_puts (inner_refs rows leaves n) front (rises_first front (n ∷ []) h)
+
+-- rising nodes below the first of others rise with them
+rises_join : (xs rest : List ℕ) (n : ℕ) → rises xs ≡ true → list_all (λ m. nat_lt m n) xs ≡ true → rises (n ∷ rest) ≡ true → rises (xs ++ n ∷ rest) ≡ true
+rises_join [] rest n h low last = last
+rises_join (x ∷ xs) rest n h low last =
+    let parts = and_parts (list_all (nat_lt x) xs) (rises xs) h in
+    let below = and_parts (nat_lt x n) (list_all (λ m. nat_lt m n) xs) low in
+    let above = and_parts (list_all (nat_lt n) rest) (rises rest) last in
+    and_from (list_all (nat_lt x) (xs ++ n ∷ rest)) (rises (xs ++ n ∷ rest))
+    (list_all-append (nat_lt x) xs (n ∷ rest) ∙ and_from (list_all (nat_lt x) xs) (list_all (nat_lt x) (n ∷ rest)) parts.0 (and_from (nat_lt x n) (list_all (nat_lt x) rest) below.0 (lt_trans x n rest below.0 above.0)))
+    (rises_join xs rest n parts.1 below.1 last)
+
+-- the nodes that wait, and behind them those that are done, backwards, go on rising
+pub rises_done : (rows : List Row) (leaves done front : List ℕ) (n : ℕ) → InOrder rows → rises ((front ++ n ∷ []) ++ reverse done) ≡ true
+    → rises (put_nodes (inner_refs rows leaves n) front ++ reverse (done ++ n ∷ [])) ≡ true
+rises_done rows leaves done front n order h =
+    let first = rises_first (front ++ n ∷ []) (reverse done) h in
+    subst (λ rest. rises (put_nodes (inner_refs rows leaves n) front ++ rest) ≡ true) (sym (reverse-append done (n ∷ [])))
+    (rises_join (put_nodes (inner_refs rows leaves n) front) (reverse done) n (rises_on rows leaves front n first)
+    (all_puts (λ m. nat_lt m n) (inner_refs rows leaves n) front (inner_all rows leaves n order) (all_less n front first)) (rises_from front (reverse done) n h))
+
+-- the next that is found stands behind those that were
+pub rises_found : (nodes front : List ℕ) (n : ℕ) → rises (nodes ++ reverse (front ++ n ∷ [])) ≡ true → rises ((nodes ++ n ∷ []) ++ reverse front) ≡ true
+rises_found nodes front n h =
+    subst (λ l. rises l ≡ true) (ap (λ rest. nodes ++ rest) (reverse-append front (n ∷ [])) ∙ sym (append_assoc nodes (n ∷ []) (reverse front))) h
+
+-- rising nodes are in order
+all_at : (p : ℕ → Bool) (xs : List ℕ) → list_all p xs ≡ true → (i : ℕ) → i < length xs → p (get_or xs i 0) ≡ true
+all_at p [] h i lt = absurd (omega arith)
+all_at p (x ∷ xs) h zero lt = (and_parts (p x) (list_all p xs) h).0
+all_at p (x ∷ xs) h (suc i) lt = all_at p xs (and_parts (p x) (list_all p xs) h).1 i (omega arith)
+
+pub rises_at : (xs : List ℕ) → rises xs ≡ true → (i j : ℕ) → i ≤ j → j < length xs → get_or xs i 0 ≤ get_or xs j 0
+rises_at [] h i j le lt = absurd (omega arith)
+rises_at (x ∷ xs) h zero zero le lt = omega arith
+rises_at (x ∷ xs) h zero (suc j) le lt = let above = all_at (nat_lt x) xs (and_parts (list_all (nat_lt x) xs) (rises xs) h).0 j (omega arith) in let less = ltb-true x (get_or xs j 0) above in omega (arith, less)
+rises_at (x ∷ xs) h (suc i) zero le lt = absurd (omega arith)
+rises_at (x ∷ xs) h (suc i) (suc j) le lt = rises_at xs (and_parts (list_all (nat_lt x) xs) (rises xs) h).1 i j (omega arith) (omega arith)
 
 -- the last that is done is found
 pub found_on : (rows : List Row) (leaves : List ℕ) (root : ℕ) (front others : List ℕ) (n : ℕ) → IsConeWalk rows leaves root (front ++ n ∷ []) others → IsConeWalk rows leaves root front (others ++ n ∷ [])

@@ -1,12 +1,12 @@
 -- Laws of cuts.
-use Rattle.std.specs.Prelude.{◌≡◌, ◌≢◌, ℕ, Bool, true, List, [], ◌∷◌}
+use Rattle.std.specs.Prelude.{◌≡◌, ◌≢◌, ℕ, Bool, true, false, List, [], ◌∷◌}
 use Rattle.syn_rows.specs.declared.Lit.{Lit}
 use Rattle.syn_rows.specs.declared.Row.{Row}
 use Rattle.syn_rows.specs.declared.Row.TheVariants.{And}
 use Rattle.syn_rows.specs.Rows.{node_of, row_at}
 use Rattle.syn_rows.specs.Values.{Fits}
 use Rattle.syn_rows.specs.Nodes.{has_node}
-use Rattle.syn_cones.specs.Cones.{FitsBetween, IsCut}
+use Rattle.syn_cones.specs.Cones.{FitsBetween, IsCut, LeadsTo}
 
 -- The two fan-ins of an AND are a cut of it.
 abbrev pub FanInsAreCut : Type 0
@@ -21,3 +21,11 @@ LeafMayBeReplaced = (rows : List Row) (leaves after : List ℕ) (root leaf : ℕ
 -- A valuation that fits all rows fits those between a root and leaves.
 abbrev pub AllFitBetween : Type 0
 AllFitBetween = (rows : List Row) (leaves : List ℕ) (root : ℕ) (v : ℕ → Bool) → Fits rows v → FitsBetween rows leaves root v
+
+-- none of more leaves is a node that is led to from the root and isn't a leaf
+abbrev pub HasNoInner : List Row → List ℕ → List ℕ → ℕ → Type 0
+HasNoInner rows leaves more root = (n : ℕ) (path : List ℕ) → LeadsTo rows leaves root path n → has_node leaves n ≡ false → has_node more n ≡ false
+
+-- What fits between a root and more leaves, none of which is a node between the root and the cut, fits between the root and the cut. So the function over more leaves is that over the cut.
+abbrev pub FitsPastMore : Type 0
+FitsPastMore = (rows : List Row) (leaves more : List ℕ) (root : ℕ) (v : ℕ → Bool) → HasNoInner rows leaves more root → FitsBetween rows more root v → FitsBetween rows leaves root v

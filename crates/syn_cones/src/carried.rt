@@ -225,6 +225,9 @@ fn floor_of(rows: &[Row], leaves: &[u32], node: u32, depth: u8) -> u32
     match row {
         Row::And(a, b) => {
             let first = floor_of(rows, leaves, a.node(), depth - 1);
+            if first == 0 {
+                return 0;
+            }
             let second = floor_of(rows, leaves, b.node(), depth - 1);
             node.min(first).min(second)
         }

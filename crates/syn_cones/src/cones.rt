@@ -1,6 +1,6 @@
 //! The function of a node over a cut.
 
-ghost use Rattle.std.specs.Prelude.{◌≡◌, ℕ, ◌<◌, ◌≤◌, Bool, List, [], true, false, IfNone, IfOk, IfSome, OnOk, length, map, slice_index_or};
+ghost use Rattle.std.specs.Prelude.{◌≡◌, ℕ, ◌<◌, ◌≤◌, Bool, List, [], true, false, IfNone, IfOk, IfSome, OnOk, length, map, reverse, slice_index_or};
 ghost use Rattle.std.specs.List.{insert};
 ghost use Rattle.syn_rows.specs.Rows.{InOrder, node_of, refs_of, row_at};
 ghost use Rattle.syn_rows.specs.Values.{RowFits, is_open, lit_value};
@@ -8,7 +8,7 @@ ghost use Rattle.syn_truth.specs.declared.TheConstants.{MOST_VARS};
 ghost use Rattle.syn_truth.specs.Truth.{value_of};
 ghost use Rattle.syn_rows.specs.Nodes.{has_node};
 ghost use Rattle.syn_cones.specs.Cones.{IsCut, IsTruthOver};
-ghost use Rattle.syn_cones.specs.Walk.{FitsInside, IsConeWalk, TablesAgree, has_all, have_vars, inner_refs, put_node, put_nodes};
+ghost use Rattle.syn_cones.specs.Walk.{FitsInside, IsConeWalk, TablesAgree, has_all, have_vars, inner_refs, put_node, put_nodes, rises};
 
 use crate::words::small_table;
 use smallvec::SmallVec;
@@ -99,7 +99,8 @@ fn cone_of(
 ) -> Result<SmallVec<u32, 32>, AllocError>
     requires order { InOrder rows.now }
     requires root { root < length rows.now }
-    ensures { IfOk result (λ cone. IsConeWalk rows.now leaves.now root cone.items []) }
+    ensures walk { IfOk result (λ cone. IsConeWalk rows.now leaves.now root cone.items []) }
+    ensures rising { IfOk result (λ cone. rises (reverse cone.items) ≡ true) }
 {
     let mut cone = SmallVec::new(alloc);
     let mut waiting = SmallVec::new(alloc);
@@ -114,10 +115,11 @@ fn cone_of(
 // How many hints there are: a place for each number modulo this one.
 const HINTS: usize = 64;
 
-// The place of a node, which probably stands where the hint for its number says, and else is found by halves: the nodes
-// of a cone rise here.
+// The place of a node among rising nodes. It probably stands where the hint for its number says, and else is found by
+// halves.
 #[inline]
 fn place_near(nodes: &[u32], hints: &[u8; HINTS], node: u32) -> Option<usize>
+    requires { rises nodes.now ≡ true }
     ensures some { IfSome result (λ i. (i < length nodes.now) × (slice_index_or nodes.now i 0 ≡ node)) }
     ensures none { IfNone result (has_node nodes.now node ≡ false) }
 {
@@ -127,13 +129,14 @@ fn place_near(nodes: &[u32], hints: &[u8; HINTS], node: u32) -> Option<usize>
     }
     match nodes.binary_search(&node) {
         Ok(i) => Some(i),
-        Err(_) => place_of(nodes, node),
+        Err(_) => None,
     }
 }
 
 // The table of a literal, from those of nodes among which its node is.
 fn lit_table(nodes: &[u32], hints: &[u8; HINTS], tables: &[Truth], lit: Lit) -> Truth
     requires count { length tables.now ≡ length nodes.now }
+    requires rising { rises nodes.now ≡ true }
     requires there { has_node nodes.now (node_of lit) ≡ true }
     ensures vars { (vars : ℕ) → have_vars vars tables.now ≡ true → result.vars ≡ vars }
     ensures values { (v : ℕ → Bool) (xs : List Bool) → have_vars (length xs) tables.now ≡ true → TablesAgree v xs nodes.now tables.now → lit_value v lit ≡ value_of result xs }
@@ -150,6 +153,7 @@ fn row_table(nodes: &[u32], hints: &[u8; HINTS], tables: &[Truth], row: Row, var
     requires few { vars ≤ MOST_VARS }
     requires count { length tables.now ≡ length nodes.now }
     requires vars { have_vars vars tables.now ≡ true }
+    requires rising { rises nodes.now ≡ true }
     requires there { has_all nodes.now (refs_of row) ≡ true }
     ensures vars { result.vars ≡ vars }
     ensures values { (n : ℕ) (v : ℕ → Bool) (xs : List Bool) → length xs ≡ vars → TablesAgree v xs nodes.now tables.now → is_open row ≡ false → RowFits v n row → v n ≡ value_of result xs }
@@ -177,6 +181,7 @@ fn node_table(
     requires node { node < length rows.now }
     requires count { length tables.now ≡ length nodes.now }
     requires vars { have_vars (length leaves.now) tables.now ≡ true }
+    requires rising { rises nodes.now ≡ true }
     requires there { has_all nodes.now (inner_refs rows.now leaves.now node) ≡ true }
     ensures vars { result.vars ≡ length leaves.now }
     ensures values { (v : ℕ → Bool) (xs : List Bool) → map v leaves.now ≡ xs → TablesAgree v xs nodes.now tables.now → FitsInside rows.now leaves.now v node → v node ≡ value_of result xs }
@@ -207,6 +212,7 @@ fn cone_table(
     requires root { root < length rows.now }
     requires cut { IsCut rows.now leaves.now root }
     requires walk { IsConeWalk rows.now leaves.now root cone.items [] }
+    requires rising { rises (reverse cone.items) ≡ true }
     ensures { IfOk result (IsTruthOver rows.now leaves.now root) }
 {
     let mut cone = cone;
@@ -226,7 +232,7 @@ fn cone_table(
         nodes.push(node)?;
         tables.push(table)?;
     }
-    match place_of(nodes.as_slice(), root) {
+    match place_near(nodes.as_slice(), &hints, root) {
         Some(i) => Ok(tables[i]),
         None => Ok(Truth::default()),
     }

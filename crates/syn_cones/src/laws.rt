@@ -1,6 +1,6 @@
 //! What holds of all cuts.
 
-ghost use Rattle.syn_cones.specs.Laws.{AllFitBetween, FanInsAreCut, LeafMayBeReplaced};
+ghost use Rattle.syn_cones.specs.Laws.{AllFitBetween, FanInsAreCut, FitsPastMore, LeafMayBeReplaced};
 ghost use Rattle.syn_cones.specs.Values.{TruthIsValueOver};
 
 /// The two fan-ins of an AND are a cut of it.
@@ -21,4 +21,10 @@ pub fn all_fit_between()
 /// The truth of a node over rising leaves below it has the values that are computed row by row.
 pub fn truth_is_value_over()
     ensures { TruthIsValueOver }
+{}
+
+/// What fits between a root and more leaves than those of a cut fits between it and the cut, where none of them is a node
+/// between; so the function over more leaves is that over the cut.
+pub fn fits_past_more()
+    ensures { FitsPastMore }
 {}

@@ -8,4 +8,6 @@ mod words;
 
 pub use carried::CutFunction;
 pub use cones::{function, gap_for};
-pub use laws::{all_fit_between, fan_ins_are_cut, leaf_may_be_replaced, truth_is_value_over};
+pub use laws::{
+    all_fit_between, fan_ins_are_cut, fits_past_more, leaf_may_be_replaced, truth_is_value_over,
+};

@@ -1,5 +1,5 @@
 -- The decision of one commit, as a fold over what its loads and failed claims met, in order.
-use Rattle.std.specs.Prelude.{ℕ, ◌+◌, ◌-◌, ◌==◌, ◌&&◌, not, nat_lt, nat_le, max, if◌then◌else◌, List, [], ◌∷◌, ◌++◌, fold, find, length, drop, Option, Some, None}
+use Rattle.std.specs.Prelude.{ℕ, ◌+◌, ◌-◌, ◌==◌, ◌&&◌, not, nat_lt, nat_le, max, if◌then◌else◌, Bool, true, false, List, [], ◌∷◌, ◌++◌, fold, find, length, drop, Option, Some, None}
 use Rattle.syn_rows.specs.declared.Row.{Row}
 use Rattle.syn_rows.specs.Rows.{refs_of}
 use Rattle.syn_rows.specs.Rows.{is_derived}
@@ -30,6 +30,15 @@ pub data Stage : Type 0 where
   Ended : Answer → Stage
   -- The reads fit no step.
   Failed : Stage
+
+-- Hints may stand: behind the root's key and before the first count.
+abbrev pub is_hinting : Stage → Bool
+is_hinting (Walking waiting) = false
+is_hinting (Keying left) = false
+is_hinting (Hinting last) = true
+is_hinting Counting = false
+is_hinting (Ended answer) = false
+is_hinting Failed = false
 
 -- What is kept of the reads.
 pub record State : Type 0 where

@@ -9,11 +9,11 @@ ghost use Rattle.syn_decide.specs.Tasks.{asked, task_of};
 ghost use Rattle.syn_decide.specs.Fold as fold;
 ghost use Rattle.syn_decide.specs.Hints as hints;
 
-use crate::answers::{self, read_counting, read_hinting, read_keying};
+use crate::answers::{self, place, read_counting, read_hinting, read_keying};
 use crate::place::Placing;
 use crate::stages::read_walking;
 use crate::waiting::Waiting;
-use crate::{Attempt, Decision, MOST_INNER, NodeRow, Phase, Want};
+use crate::{Attempt, Decision, MOST_INNER, NewRows, NodeRow, Phase, Want};
 use arrayvec::ArrayVec;
 use std::marker::Model;
 use syn_core_laws::Seen;
@@ -125,6 +125,17 @@ impl Deciding {
         self.hits.as_slice()
     }
 
+    /// Whether hints may stand now: behind the root's key, and before the first count.
+    pub fn takes_hints(&self) -> bool
+        ensures { result ≡ fold.is_hinting self.now.stage }
+    {
+        match self.phase {
+            Phase::Hinting(_) => true,
+            Phase::Walking | Phase::Keying | Phase::Counting | Phase::Ended(_) | Phase::Failed =>
+                false,
+        }
+    }
+
     /// The pair of the new gate at this place, with the hits so far, and whether a hint may be tried for it.
     pub fn asked_pair(&self, attempt: &Attempt<'_>, place: usize) -> Option<(Row, bool)>
         ensures none { IfNone result (length (fold.placed_now (task_of attempt.now) self.now).extra ≤ place) }
@@ -134,6 +145,17 @@ impl Deciding {
         let mut placing = Placing::new();
         answers::place(attempt, self.hits.as_slice(), &mut placing);
         placing.asked_pair(place)
+    }
+
+    /// What is stored for the attempt with the hits so far.
+    pub fn new_rows(&self, attempt: &Attempt<'_>) -> NewRows
+        ensures rows { result.rows.items ≡ (fold.placed_now (task_of attempt.now) self.now).extra }
+        ensures needed { result.needed ≡ hints.rows_needed (task_of attempt.now) (fold.placed_now (task_of attempt.now) self.now) }
+        ensures root { result.root ≡ hints.new_root_row (task_of attempt.now) (fold.placed_now (task_of attempt.now) self.now) }
+    {
+        let mut placing = Placing::new();
+        place(attempt, self.hits.as_slice(), &mut placing);
+        placing.into_rows(attempt.candidate.plan.out)
     }
 
     /// What is decided so far.

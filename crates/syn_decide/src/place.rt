@@ -12,7 +12,7 @@ ghost use Rattle.syn_decide.specs.declared.place.TheConstants.{MOST_INDEXES};
 ghost use Rattle.syn_decide.specs.Hints as spec;
 ghost use Rattle.syn_decide.specs.Told.{as_met};
 
-use crate::{MetPair, NodeRow};
+use crate::{MetPair, NewRows, NodeRow};
 use arrayvec::ArrayVec;
 use std::marker::Model;
 use syn_plan::{MOST_GATES, MOST_LEAVES, PLit, Plan};
@@ -324,6 +324,18 @@ impl Placing {
         self.extra.len() as u32
     }
 
+    // The row that the root becomes, where the plan's output is this.
+    fn root_row(&self, out: PLit) -> Row
+        ensures { result ≡ placing.root_row spec.first_new self.now.extra (placing.literal_for self.now.literals out) }
+    {
+        let literal = literal_for(self.literals.as_slice(), out);
+        let count = self.extra.len();
+        if u64::from(literal.0) + 2 != 2 * (u64::from(FIRST_NEW) + count as u64) {
+            return Row::Alias(literal);
+        }
+        last_or(self.extra.as_slice(), Row::Alias(literal))
+    }
+
     /// How many new gates need a row of their own, where the plan's output is this.
     pub(crate) fn needed(&self, out: PLit) -> u32
         ensures { result ≡ length self.now.extra - (if spec.is_last_new self.now.extra (placing.literal_for self.now.literals out) then 1 else 0) }
@@ -335,6 +347,39 @@ impl Placing {
         } else {
             count
         }
+    }
+}
+
+impl Placing {
+    /// The rows of the new gates and the root's, where the plan's output is this.
+    pub(crate) fn into_rows(self, out: PLit) -> NewRows
+        ensures rows { result.rows.items ≡ self.extra }
+        ensures needed { result.needed ≡ length self.extra - (if spec.is_last_new self.extra (placing.literal_for self.literals out) then 1 else 0) }
+        ensures root { result.root ≡ placing.root_row spec.first_new self.extra (placing.literal_for self.literals out) }
+    {
+        let needed = self.needed(out);
+        let root = self.root_row(out);
+        let Placing {
+            literals: _,
+            met: _,
+            extra,
+        } = self;
+        NewRows {
+            rows: extra,
+            needed,
+            root,
+        }
+    }
+}
+
+// The last of the rows, or another row where there is none.
+fn last_or(rows: &[Row], other: Row) -> Row
+    ensures { result ≡ slice_index_or rows.now (length rows.now - 1) other }
+{
+    if rows.is_empty() {
+        other
+    } else {
+        rows[rows.len() - 1]
     }
 }
 

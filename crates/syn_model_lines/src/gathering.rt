@@ -7,7 +7,6 @@ ghost use Rattle.syn_models.specs.Called.{actuals_below};
 ghost use Rattle.syn_models.specs.FlatFaults.{first_again};
 ghost use Rattle.syn_models.specs.Kept.{bind_in};
 ghost use Rattle.syn_models.specs.Models as models;
-ghost use Rattle.syn_netlist.specs.Kept.{polarity_fits, rows_fit};
 ghost use Rattle.syn_netlist.specs.Numbers.{Grows, with_word};
 ghost use Rattle.syn_netlist.specs.Words.{has_word};
 ghost use Rattle.syn_reader.specs.Causes.{fault_in};
@@ -33,12 +32,12 @@ use crate::subcircuits::{BindLine, read_subckt};
 use std::alloc::{AllocError, Global};
 use syn_lex::LineWords;
 use syn_models::{Bind, Statement, StatementKind, Subcircuit};
-use syn_netlist::{Items, Names, Table};
+use syn_netlist::{Items, Names};
 use syn_reader::latch_lines::read_latch;
-use syn_reader::rows::{Rows, read_rows};
-use syn_reader::signals::{Signals, TableLine, copy_word};
+use syn_reader::rows::read_rows;
+use syn_reader::signals::{Signals, copy_word};
 use syn_reader::statements::{Parts, Statements};
-use syn_reader::{Kind, ReadFault};
+use syn_reader::{Kind, ReadFault, table_of};
 
 /// What the statements above spell: names with their marks, statements by numbers of names, and how many words their lines have.
 #[derive(Drop)]
@@ -46,23 +45,6 @@ pub struct ModelGathering {
     pub signals: Signals,
     pub statements: Vec<Statement>,
     pub words: u64,
-}
-
-// The table of these names and rows.
-fn table_of(names: TableLine, rows: Rows) -> Table
-    requires rows { rows_fit (length names.inputs.items) rows.parts.items ≡ true }
-    requires polarity { polarity_fits rows.parts.items rows.on ≡ true }
-    ensures inputs { result.inputs ≡ names.inputs.items }
-    ensures output { result.output ≡ names.output }
-    ensures rows { result.rows ≡ rows.parts.items }
-    ensures on { result.on ≡ rows.on }
-{
-    Table {
-        inputs: Items::of(names.inputs),
-        output: names.output,
-        rows: Items::of(rows.parts),
-        on: rows.on,
-    }
 }
 
 // How many words so many rows have: of a table without inputs one each, else two.

@@ -287,8 +287,8 @@ fn push_reads(reads: &mut Vec<u32>, latch: Latch) -> Result<(), AllocError>
     }
 }
 
-// The table of these names and rows.
-fn table_of(names: TableLine, rows: Rows) -> Table
+/// The table of these names and rows.
+pub fn table_of(names: TableLine, rows: Rows) -> Table
     requires rows { rows_fit (length names.inputs.items) rows.parts.items ≡ true }
     requires polarity { polarity_fits rows.parts.items rows.on ≡ true }
     ensures inputs { result.inputs ≡ names.inputs.items }

@@ -15,7 +15,7 @@ pub mod rows;
 pub mod signals;
 pub mod statements;
 
-pub use gathering::read_model;
+pub use gathering::{read_model, table_of};
 pub use laws::{
     circle_or_none, either_or, faultless_spell, not_both, one_fault, one_netlist, spell_computed,
     worked_netlists, worked_prefixes, worked_texts,

@@ -2,6 +2,7 @@
 
 ghost use Rattle.std.specs.Prelude.{◌≡◌, ◌≢◌, ◌⊎◌, ℕ, suc, ◌+◌, ◌*◌, ◌==◌, ◌^◌, ◌<◌, ◌≤◌, true, false, if◌then◌else◌, IsTrue, ◌↔◌, length};
 ghost use Rattle.syn_rows.specs.declared.Row.{Row};
+ghost use Rattle.syn_rows.specs.declared.TheConstants.{NODE_LIMIT};
 ghost use Rattle.syn_rows.specs.Packing.{word_of, Packs};
 ghost use Rattle.syn_core_laws.specs.Events.{MayPin};
 ghost use Rattle.syn_rows.specs.Nodes.{has_node};
@@ -34,8 +35,8 @@ impl Shared {
         self.nodes
     }
 
-    /// What a seat shows by itself: it has a number, what it holds or may pin is a node of its table, and its known rows,
-    /// keys, pins and zero list are those of a seat of a sound core. A law: it makes no step.
+    /// What a seat shows by itself: it has a number, what it holds or may pin is a node of its table, which has fewer than
+    /// 2^29, and its known rows, keys, pins and zero list are those of a seat of a sound core. A law: it makes no step.
     #[inline]
     pub fn seats_reach_nodes(&self, seat: &Seat)
         requires { IsOf seat.now self.now }
@@ -43,6 +44,7 @@ impl Shared {
         ensures opening { length (known_of seat.now).opening ≡ nodes_of self.now }
         ensures number { (view_of seat.now).number < 64 }
         ensures shown { IsShown (nodes_of self.now) (view_of seat.now) }
+        ensures few { nodes_of self.now < NODE_LIMIT }
     {
         let _nodes = self.nodes;
         let _numbers = seat.numbers.as_slice();

@@ -97,13 +97,20 @@ fn takes_a_chain_of_inverters(rt: HostRuntime) -> Result<(), Fail> {
     let alloc = rt.alloc();
     let text = inverters(alloc)?;
     let written = ".model m\n.inputs a\n.outputs t0\n.names a t0\n1 1\n.end\n";
-    let script = "read_blif a; resyn2; write_blif o";
-    assert!(rt; ends(&rt, alloc, script, text.as_slice(), "", Some(written))?);
+    for script in [
+        "read_blif a; resyn2; write_blif o",
+        "read_blif a; if; write_blif o",
+    ] {
+        assert!(rt;
+            ends(&rt, alloc, script, text.as_slice(), "", Some(written))?,
+            "{script}"
+        );
+    }
     Ok(())
 }
 
-// Each AND keeps a node of its own where its literal is complemented, so balancing leaves the chain. Two neighbours are the
-// AND of `a` and the signal behind them, which saves one, so refactoring leaves one AND.
+// Each AND keeps a node of its own where its literal is complemented, so balancing leaves the chain. Each is a function of
+// the two inputs, so rewriting and refactoring leave one AND, and one LUT has them all.
 #[test]
 fn takes_a_chain_of_ands(rt: HostRuntime) -> Result<(), Fail> {
     let alloc = rt.alloc();
@@ -121,6 +128,18 @@ fn takes_a_chain_of_ands(rt: HostRuntime) -> Result<(), Fail> {
             "read_blif a; refactor; ps",
             "m : i/o = 2/1 lat = 0 and = 1 lev = 1\n",
         ),
+        (
+            "read_blif a; rewrite; ps",
+            "m : i/o = 2/1 lat = 0 and = 1 lev = 1\n",
+        ),
+        (
+            "read_blif a; resyn2; ps",
+            "m : i/o = 2/1 lat = 0 and = 1 lev = 1\n",
+        ),
+        (
+            "read_blif a; if; ps",
+            "m : i/o = 2/1 lat = 0 lut = 1 lev = 1\n",
+        ),
     ];
     for (script, printed) in rows {
         assert!(rt;
@@ -132,6 +151,7 @@ fn takes_a_chain_of_ands(rt: HostRuntime) -> Result<(), Fail> {
 }
 
 // The ANDs of one table are built from left to right, and none can be saved; 2^17 is the first power of two from 100,000 on.
+// Unbalanced, a LUT of six inputs takes five of the 99,999 ANDs at most, and each begins where one ends.
 #[test]
 fn takes_a_wide_table(rt: HostRuntime) -> Result<(), Fail> {
     let alloc = rt.alloc();
@@ -144,6 +164,10 @@ fn takes_a_wide_table(rt: HostRuntime) -> Result<(), Fail> {
         (
             "read_blif a; balance; ps",
             "m : i/o = 100000/1 lat = 0 and = 99999 lev = 17\n",
+        ),
+        (
+            "read_blif a; if; ps",
+            "m : i/o = 100000/1 lat = 0 lut = 20000 lev = 20000\n",
         ),
         (
             "read_blif a; resyn2; ps",

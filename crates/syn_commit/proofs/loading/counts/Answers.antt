@@ -1,4 +1,5 @@
 use Rattle.std.proofs.Common.{ap, ◌∙◌}
+use Rattle.syn_core_laws.specs.declared.View.{View}
 use Rattle.syn_decide.specs.Tasks.{task_of}
 use Rattle.syn_table.specs.Seating.{nodes_of, view_of}
 use Rattle.syn_table.specs.Steps.{with_view}
@@ -13,6 +14,7 @@ loop-node-preserved c =
     record {
       table = c.load_count.ensures.table;
       known = c.load_count.ensures.known ∙ ap (λ k. with_view k (view_of c.load_count.new.seat)) c.loop-node.invariant.known;
+      misses = ap (λ (v : View). v.misses) c.load_count.ensures.counted.1 ∙ c.loop-node.invariant.misses;
       trying = count_goes_on t (view_of c.args.start.now.value) (view_of c.loop-node.seat) c.args.pool.now c.args.pins.now.items c.loop-node.deciding c.loop-node.invariant.trying n asked
           (nodes_of c.args.shared.now) (view_of c.load_count.new.seat) c.load_count.new.deciding c.load_count.ensures.counted;
       past = (count_falls t (view_of c.args.start.now.value) (view_of c.loop-node.seat) c.args.pool.now c.args.pins.now.items c.loop-node.deciding c.loop-node.invariant.trying n asked

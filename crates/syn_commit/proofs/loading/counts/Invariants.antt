@@ -10,6 +10,7 @@ abbrev pub invariant-loop-node : goal.invariant-loop-node
 invariant-loop-node l = record {
   table : IsOf l.seat l.shared;
   known : known_of l.seat ≡ with_view (known_of l.fn.seat) (view_of l.seat);
+  misses : (view_of l.seat).misses ≡ (view_of l.fn.seat).misses;
   trying : IsTrying (task_of l.attempt) (view_of l.start.value) l.pool l.pins.items (view_of l.seat) l.deciding;
   past : IsPastKeys l.deciding.stage;
 }

@@ -3,6 +3,7 @@ use Rattle.syn_decide.specs.Tasks.{task_of}
 use Rattle.syn_table.specs.Seating.{view_of}
 use Rattle.syn_table.specs.Steps.{with_view}
 use Rattle.syn_commit.proofs.Loads.{key_asked, key_falls, key_goes_on, key_held, key_may, keying_begins, keying_ends}
+use Rattle.syn_commit.proofs.Sole.{keyed_misses}
 use Rattle.syn_commit.proofs.loading.keys.Goals as goal
 
 pub loop-node-init : goal.loop-node-init
@@ -11,6 +12,7 @@ loop-node-init c =
     record {
       table = c.requires.table;
       known = refl;
+      misses = refl;
       trying = c.requires.trying;
       keying = keying_begins (task_of c.args.attempt.now) _ _ _ _ _ c.requires.trying c.requires.none few c.requires.past;
     }
@@ -33,6 +35,7 @@ loop-node-preserved c =
     record {
       table = c.load_key.ensures.table;
       known = c.load_key.ensures.known ∙ ap (λ k. with_view k (view_of c.load_key.new.seat)) c.loop-node.invariant.known;
+      misses = keyed_misses t n (view_of c.loop-node.seat) c.loop-node.pins.items c.loop-node.deciding (view_of c.load_key.new.seat) c.load_key.new.pins.items c.load_key.new.deciding c.load_key.ensures.keyed ∙ c.loop-node.invariant.misses;
       trying = key_goes_on t (view_of c.args.start.now.value) (view_of c.loop-node.seat) c.args.pool.now c.loop-node.pins.items c.loop-node.deciding c.loop-node.invariant.trying n asked.0 asked.1
           (view_of c.load_key.new.seat) c.load_key.new.pins.items c.load_key.new.deciding c.load_key.ensures.keyed;
       keying = (key_falls t (view_of c.args.start.now.value) (view_of c.loop-node.seat) c.args.pool.now c.loop-node.pins.items c.loop-node.deciding c.loop-node.invariant.trying n asked.0 asked.1

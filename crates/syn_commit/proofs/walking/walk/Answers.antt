@@ -4,6 +4,8 @@ use Rattle.syn_decide.specs.declared.decisions.Decision.TheVariants as decision
 use Rattle.syn_decide.specs.Tasks.{task_of}
 use Rattle.syn_table.specs.Seating.{IsOf, known_of, nodes_of, view_of}
 use Rattle.syn_table.specs.Steps.{with_view}
+use Rattle.syn_table.specs.declared.Known.{Known}
+use Rattle.syn_commit.proofs.Sole.{entered_sole}
 use Rattle.syn_commit.proofs.Entering.{row_asked, entered_free, entered_reach, falls, fits_begins, room_begins, walk_begins, walk_fits, walk_goes_on}
 use Rattle.syn_commit.proofs.walking.walk.Goals as goal
 
@@ -14,6 +16,7 @@ loop-node-init c = record {
   walked = walk_begins (task_of c.args.attempt.now) _ _ _ c.requires.pool c.requires.alone c.requires.start;
   room = room_begins (task_of c.args.attempt.now) _ c.requires.start;
   fits = fits_begins (task_of c.args.attempt.now) _ c.requires.start;
+  sole = λ all. refl;
 }
 
 pub enter-requires-clause-node : goal.enter-requires-clause-node
@@ -55,4 +58,5 @@ loop-node-preserved c =
       room = (falls (task_of c.args.attempt.now) (nodes_of c.args.shared.now) (length (known_of c.loop-node.seat).numbers) n (view_of c.loop-node.seat) (view_of c.enter.new.seat) c.loop-node.deciding c.enter.new.deciding asked.0 asked.1 c.loop-node.invariant.room c.enter.ensures.entered).1;
       fits = walk_fits (task_of c.args.attempt.now) (view_of c.args.seat.now) (view_of c.loop-node.seat) c.args.pool.now c.loop-node.deciding c.loop-node.invariant.walked n asked.0 asked.1 none
           (nodes_of c.args.shared.now) (length (known_of c.loop-node.seat).numbers) (view_of c.enter.new.seat) c.enter.new.deciding c.requires.enters c.enter.ensures.entered;
+      sole = λ all. entered_sole (task_of c.args.attempt.now) (nodes_of c.args.shared.now) (length (known_of c.loop-node.seat).numbers) n (view_of c.loop-node.seat) c.loop-node.deciding (view_of c.enter.new.seat) c.enter.new.deciding (ap (λ (k : Known). length k.numbers) c.loop-node.invariant.known ∙ all) c.enter.ensures.entered ∙ c.loop-node.invariant.sole all;
     }

@@ -1,4 +1,4 @@
-use Rattle.std.proofs.Common.{◌≡◌, ◌≢◌}
+use Rattle.std.proofs.Common.{◌≡◌, ◌≢◌, length}
 use Rattle.syn_decide.specs.Decided.{Unfit}
 use Rattle.syn_decide.specs.Fold.{wants}
 use Rattle.syn_decide.specs.Tasks.{task_of}
@@ -15,6 +15,7 @@ invariant-loop-node l = record {
   walked : IsWalking (task_of l.attempt) (view_of l.fn.seat) l.pool (view_of l.seat) l.deciding;
   room : HasRoom l.deciding;
   fits : wants l.deciding ≢ Unfit;
+  sole : length (known_of l.fn.seat).numbers ≡ 64 → (view_of l.seat).misses ≡ (view_of l.fn.seat).misses;
 }
 
 abbrev pub decreases-loop-node : goal.decreases-loop-node

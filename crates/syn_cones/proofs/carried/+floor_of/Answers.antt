@@ -9,8 +9,8 @@ use Rattle.syn_cones.proofs.carried.+floor_of.Goals as goal
 pub returns-in-Some : goal.returns-in-Some
 returns-in-Some t c = let at = c.in-Some.ensures.some in leaf_floor c.args.rows.now c.args.leaves.now c.args.node 4294967295 (has_at c.args.leaves.now c.in-Some.field-0 c.args.node at.0 at.1)
 
-pub returns-in-And : goal.returns-in-And
-returns-in-And t c =
+pub returns-else-first-eq0 : goal.returns-else-first-eq0
+returns-else-first-eq0 t c =
     let rows = c.args.rows.now in
     let leaves = c.args.leaves.now in
     let a = c.in-And.a in

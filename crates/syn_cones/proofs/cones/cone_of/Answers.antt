@@ -1,7 +1,7 @@
-use Rattle.std.proofs.Common.{◌≡◌, ◌++◌, ◌∷◌, [], ap, subst, true, arith}
+use Rattle.std.proofs.Common.{◌≡◌, ◌++◌, ◌∷◌, [], ap, reverse, subst, true, arith}
 use Rattle.syn_cones.specs.Walk.{IsConeWalk, rises, top}
 use Rattle.syn_rows.proofs.Nodes.{has_here, has_right}
-use Rattle.syn_cones.proofs.Walking.{led_below, walk_on, rises_on, top_falls}
+use Rattle.syn_cones.proofs.Walking.{led_below, walk_on, rises_done, rises_first, top_falls}
 use Rattle.syn_cones.proofs.cones.cone_of.Goals as goal
 
 pub visit-requires : goal.visit-requires
@@ -19,7 +19,7 @@ pub loop-node-smaller : goal.loop-node-smaller
 loop-node-smaller c =
     let n = c.in-Some.node in
     let front = c.pop.new.self.items in
-    let less = top_falls c.args.rows.now c.args.leaves.now front n c.requires.order (subst (λ l. rises l ≡ true) c.in-Some.ensures.items c.loop-node.invariant.rising) in
+    let less = top_falls c.args.rows.now c.args.leaves.now front n c.requires.order (rises_first (front ++ n ∷ []) (reverse c.loop-node.cone.items) (subst (λ l. rises (l ++ reverse c.loop-node.cone.items) ≡ true) c.in-Some.ensures.items c.loop-node.invariant.rising)) in
     let now = ap top c.in_ok-visit.ensures in
     let old = ap top c.in-Some.ensures.items in
     omega (arith, less, now, old)
@@ -34,5 +34,5 @@ loop-node-preserved c =
     record {
       walk = rw (c.in_ok-push-2.ensures.ok, c.in_ok-visit.ensures)
           (walk_on rows leaves c.args.root done front n c.requires.order (subst (IsConeWalk rows leaves c.args.root done) c.in-Some.ensures.items c.loop-node.invariant.walk));
-      rising = rw c.in_ok-visit.ensures (rises_on rows leaves front n (subst (λ l. rises l ≡ true) c.in-Some.ensures.items c.loop-node.invariant.rising));
+      rising = rw (c.in_ok-push-2.ensures.ok, c.in_ok-visit.ensures) (rises_done rows leaves done front n c.requires.order (subst (λ l. rises (l ++ reverse done) ≡ true) c.in-Some.ensures.items c.loop-node.invariant.rising));
     }

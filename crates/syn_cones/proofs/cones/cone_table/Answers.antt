@@ -1,6 +1,6 @@
-use Rattle.std.proofs.Common.{length, ap, ◌∙◌, subst, arith}
-use Rattle.syn_cones.specs.Walk.{IsConeWalk, inner_refs, has_all}
-use Rattle.syn_cones.proofs.Walking.{closed_found, found_on, last_led, led_below}
+use Rattle.std.proofs.Common.{◌≡◌, ◌++◌, length, reverse, true, ap, ◌∙◌, subst, arith}
+use Rattle.syn_cones.specs.Walk.{IsConeWalk, inner_refs, has_all, rises}
+use Rattle.syn_cones.proofs.Walking.{closed_found, found_on, last_led, led_below, rises_first, rises_found}
 use Rattle.syn_cones.proofs.Tabling.{function_from, functions_on, vars_on}
 use Rattle.syn_cones.proofs.cones.cone_table.Goals as goal
 
@@ -23,6 +23,9 @@ node_table-table-requires-clause-there c =
     ap (λ l. has_all l (inner_refs rows leaves c.in-Some.node)) c.as_slice.ensures
     ∙ (closed_found rows leaves c.pop.new.self.items nodes c.in-Some.node walk.closed).1
 
+pub node_table-table-requires-clause-rising : goal.node_table-table-requires-clause-rising
+node_table-table-requires-clause-rising c = rw c.as_slice.ensures (rises_first c.loop-node.nodes.items (reverse c.loop-node.cone.items) c.loop-node.invariant.rising)
+
 pub loop-node-preserved : goal.loop-node-preserved
 loop-node-preserved c =
     let rows = c.args.rows.now in
@@ -40,5 +43,6 @@ loop-node-preserved c =
     record {
       walk = rw c.in_ok-push.ensures.ok (found_on rows leaves root front nodes n walk);
       functions = rw (c.in_ok-push.ensures.ok, c.in_ok-push-2.ensures.ok) (functions_on rows leaves root nodes tables n t c.loop-node.invariant.functions new);
+      rising = rw c.in_ok-push.ensures.ok (rises_found nodes front n (subst (λ l. rises (nodes ++ reverse l) ≡ true) c.in-Some.ensures.items c.loop-node.invariant.rising));
       vars = rw c.in_ok-push-2.ensures.ok (vars_on (length leaves) tables t c.loop-node.invariant.vars c.node_table-table.ensures.vars);
     }

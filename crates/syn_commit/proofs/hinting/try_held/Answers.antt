@@ -1,0 +1,22 @@
+use Rattle.std.proofs.Common.{◌≡◌, ◌++◌, ◌∷◌, [], false, true, sym, ap, subst, rules}
+use Rattle.syn_decide.specs.Tasks.{task_of}
+use Rattle.syn_table.specs.declared.Known.{Known}
+use Rattle.syn_table.specs.Seating.{view_of}
+use Rattle.syn_commit.specs.Hinted.{IsHinting}
+use Rattle.syn_commit.proofs.Meshing.{held_hits, held_misses}
+use Rattle.syn_commit.proofs.hinting.try_held.Goals as goal
+
+pub returns-then-not-load_hint-clause-hinting : goal.returns-then-not-load_hint-clause-hinting
+returns-then-not-load_hint-clause-hinting c =
+    let is : c.load_hint.result ≡ false = search rules in
+    held_misses (task_of c.args.attempt.now) (view_of c.args.start.now.value) (view_of c.args.seat.now) c.args.pool.now c.args.pins.now.items c.args.deciding.now c.requires.trying c.args.node c.args.pair c.requires.open
+    (view_of c.load_hint.new.seat) c.load_hint.new.deciding c.load_hint.result is c.load_hint.ensures.hint
+
+pub returns-clause-hinting : goal.returns-clause-hinting
+returns-clause-hinting c =
+    let is : c.load_hint.result ≡ true = search rules in
+    let t = task_of c.args.attempt.now in
+    subst (λ ps. IsHinting t (view_of c.args.start.now.value) c.args.pool.now ps (view_of c.pin.new.seat) c.load_hint.new.deciding) (sym c.push.ensures.items)
+    (subst (λ w. IsHinting t (view_of c.args.start.now.value) c.args.pool.now (c.args.pins.now.items ++ c.args.node ∷ []) w c.load_hint.new.deciding) (sym (ap (λ (k : Known). k.core) c.pin.ensures.known))
+    (held_hits t (view_of c.args.start.now.value) (view_of c.args.seat.now) c.args.pool.now c.args.pins.now.items c.args.deciding.now c.requires.trying c.args.node c.args.pair c.requires.open
+    (view_of c.load_hint.new.seat) c.load_hint.new.deciding c.load_hint.result is c.requires.inner c.load_hint.ensures.hint))

@@ -1,0 +1,8 @@
+//! Models from the lines of a text.
+//!
+//! Nothing here is for other crates: the tests stand in tables of small texts, with the answers worked by hand from the
+//! format.
+#![tactic(auto)]
+
+#[cfg(test)]
+mod reading;
