@@ -8,8 +8,8 @@ ghost use Rattle.syn_shell.specs.Stopping.{status_in, AnnouncesAs};
 
 use crate::refusal::Refusal;
 use itoa::Buffer;
-use syn_io::{Sink, SinkFailed};
 use syn_hierarchy::FileFault;
+use syn_io::{Sink, SinkFailed};
 use syn_model_lines::LinesFault;
 use syn_models::FlatFault;
 use syn_netlist::Word;

@@ -175,7 +175,11 @@ fn names_the_first_fault_of_models(rt: HostRuntime) -> Result<(), Fail> {
 fn doubling(alloc: Global, count: u32) -> Result<Vec<u8>, Fail> {
     let mut text = Vec::new(alloc);
     for j in 1..count {
-        let model = format!(in alloc; ".model m{j}\n.subckt m{}\n.subckt m{}\n.end\n", j + 1, j + 1)?;
+        let model = format!(in alloc;
+            ".model m{j}\n.subckt m{}\n.subckt m{}\n.end\n",
+            j + 1,
+            j + 1
+        )?;
         text.extend_from_slice(model.as_bytes())?;
     }
     let last = format!(in alloc; ".model m{count}\n.end\n")?;
