@@ -1,5 +1,5 @@
 -- A run that was ready is refused for want of memory alone, or where a call failed.
-use Rattle.std.proofs.Common.{◌≡◌, ◌⊎◌, ℕ, ◌+◌, ◌<◌, ◌≤◌, List, [], ◌∷◌, ◌++◌, length, refl, sym, ap, ◌∙◌, subst, arith, inl, inr, Option, None, Some, IfSome, IsSome}
+use Rattle.std.proofs.Common.{◌≡◌, ◌⊎◌, ℕ, ◌+◌, ◌<◌, ◌≤◌, List, [], ◌∷◌, ◌++◌, length, refl, sym, subst, arith, inl, inr, Option, None, Some, IfSome, IsSome}
 use Rattle.std.specs.Option.{IsSomeAnd}
 use Rattle.syn_io.specs.Outside.{Disk, Input, Screen, file_at, next_line}
 use Rattle.syn_netlist.specs.Lists.{Netlist}
@@ -12,17 +12,16 @@ use Rattle.syn_words.specs.declared.Command.{Command}
 use Rattle.syn_words.specs.Scripts.{IsScript}
 use Rattle.syn_words.proofs.Deciding.{script_has_no_fault}
 use Rattle.syn_shell.specs.declared.refusal.Refusal.{Refusal}
-use Rattle.syn_shell.specs.declared.refusal.Refusal.TheVariants.{Words, Script, Read, FileTooLong, LineTooLong, TooManyLines, TooManyGates, NoNetwork, GetFailed, PutFailed, LineFailed, SinkFailed, NoMemory}
+use Rattle.syn_shell.specs.declared.refusal.Refusal.TheVariants.{Script, Read, FileTooLong, LineTooLong, TooManyGates, NoNetwork, GetFailed, PutFailed, LineFailed, SinkFailed, NoMemory}
 use Rattle.syn_build_luts.specs.declared.luts.TheConstants.{MOST_GATES}
 use Rattle.syn_shell.specs.Networks.{Network, gates_in}
-use Rattle.syn_shell.specs.Outside.{State, FileIs, LineIsLong, GaveLine, script_limit}
+use Rattle.syn_shell.specs.Outside.{State, script_limit}
 use Rattle.syn_shell.specs.Lines.{refusal_status}
-use Rattle.syn_shell.specs.Steps.{Accepted, Denied, IsFaulty, Kind, Reading, Generating, Printing, Writing, Making, kind_of, file_limit, GeneratingRefused, MakingRefused, PrintRefused, ReadRefused, WriteRefused}
+use Rattle.syn_shell.specs.Steps.{Denied, Kind, Reading, Generating, Printing, Writing, Making, kind_of, file_limit, GeneratingRefused, MakingRefused, PrintRefused, ReadRefused, WriteRefused}
 use Rattle.syn_shell.specs.Scripts.{Refused, RunsCommands, RunsScript, ScriptRefused, nameless}
 use Rattle.syn_shell.specs.LineMode.{LineRefused, NoFurther, RunsLines, listed, most_lines}
 use Rattle.syn_shell.specs.Usage.{Usage, OneScript, EachLine, Faulty, usage_of}
-use Rattle.syn_shell.specs.Runs.{Ran, RunsUsage, RunsWords, status_of}
-use Rattle.syn_shell.specs.Counts.{SomeFault}
+use Rattle.syn_shell.specs.Runs.{RunsUsage, RunsWords, status_of}
 use Rattle.syn_shell.specs.Readiness.{CommandsReady, IsComplete, IsReadable, LineReady, LinesReady, Needs, ScriptReady, UsageReady, WordsReady}
 use Rattle.syn_shell.proofs.Concluding.{ran_seven}
 
