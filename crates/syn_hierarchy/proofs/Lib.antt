@@ -1,0 +1,10 @@
+pub mod Bare
+pub mod Alike
+pub mod Faults
+pub mod LineSizes
+pub mod Costs
+pub mod Flat
+pub mod Built
+pub mod Either
+pub mod OneLists
+pub mod OneModel

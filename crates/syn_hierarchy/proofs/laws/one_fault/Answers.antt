@@ -1,0 +1,5 @@
+use Rattle.syn_hierarchy.proofs.Faults.{one_fault as law}
+use Rattle.syn_hierarchy.proofs.laws.one_fault.Goals as goal
+
+pub returns : goal.returns
+returns c = law
