@@ -3,12 +3,12 @@ use Rattle.std.proofs.Common.{◌≡◌, ℕ, zero, suc, ◌+◌, ◌-◌, ◌<�
 use Rattle.std.specs.List.{AllByRecursion}
 use Rattle.std.proofs.lemmas.Bool.{and_from, and_parts}
 use Rattle.syn_rows.proofs.Nodes.{same_node}
-use Rattle.syn_rows.specs.References.{and_count, refs}
+use Rattle.syn_rows.specs.References.{and_count}
 use Rattle.syn_core_laws.specs.declared.View.{View}
 use Rattle.syn_rows.specs.Nodes.{has_node}
 use Rattle.syn_core_laws.specs.Views.{known_row, own_pins, refs_known}
 use Rattle.syn_decide.specs.declared.decisions.Counted.{Counted}
-use Rattle.syn_decide.specs.Dying.{ands_of, and_more, are_distinct, counted_nodes, dies, dying_after, dying_of, first_dying, refs_by_counted}
+use Rattle.syn_decide.specs.Dying.{ands_of, and_more, counted_nodes, dies, dying_after, dying_of, first_dying, refs_by_counted}
 use Rattle.syn_decide.proofs.Least.{IsOf, dies_parts, distinct_parts, first_some, has_of, none_left}
 use Rattle.syn_commit_laws.specs.Dying.{AreFound, IsDying, ands_among, ands_in, ands_known, explained_by, refs_among}
 use Rattle.syn_commit_laws.specs.Counted.{AreCounted, CountedRowsDie, dead_of, may_die}

@@ -131,7 +131,7 @@ module _ (t : Task) (inner hits : List NodeRow) (made : List ℕ) (v : View) (ch
   hits_there (h ∷ rows) k i = ((row_there h.node h.row i.0.0 k.0, i.0.1), hits_there rows k.1 i.1)
 
   made_there : (i : ℕ) → i < rows_needed t (placed_by_hits t hits) → IsRow (known_row v) (met_leaves t inner) (get_or made i 0) (row_made made (row_at extra i))
-  made_there i lt = row_there (get_or made i 0) (row_made made (row_at extra i)) (stored.made_inside i lt) (stored.made_known i lt)
+  made_there i lt = record { other = (stored.made_out i lt).0; out = (stored.made_out i lt).1; row = stored.made_known i lt }
 
   few : length extra ≤ suc (rows_needed t (placed_by_hits t hits))
   few = go (is_last_new extra (out_literal t (placed_by_hits t hits)))

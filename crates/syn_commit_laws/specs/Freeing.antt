@@ -1,6 +1,5 @@
 -- What became of the dying rows: those that changes freed, those that are left, and how many ANDs went.
 use Rattle.std.specs.Prelude.{◌≡◌, ◌⊎◌, ℕ, ◌+◌, ◌==◌, ◌&&◌, ◌||◌, not, Bool, true, false, if◌then◌else◌, List, [], ◌∷◌, ◌++◌, Some, None, pos, ◌+ℤ◌}
-use Rattle.syn_rows.specs.declared.Row.{Row}
 use Rattle.syn_rows.specs.declared.Row.TheVariants.{Free}
 use Rattle.syn_rows.specs.References.{and_count}
 use Rattle.syn_fanout_free.specs.Freed.{is_free}

@@ -1,11 +1,12 @@
 -- The redefine of a commit: which rows are stored for the new gates and the root, over which leaves, and that the root keeps its value.
-use Rattle.std.specs.Prelude.{◌≡◌, ◌≢◌, ℕ, ◌+◌, ◌-◌, ◌*◌, ◌%◌, ◌<◌, ◌≤◌, if◌then◌else◌, true, List, length, slice_index_or, Some}
+use Rattle.std.specs.Prelude.{◌≡◌, ◌≢◌, ℕ, ◌+◌, ◌-◌, ◌*◌, ◌%◌, ◌<◌, ◌≤◌, if◌then◌else◌, true, false, List, length, slice_index_or, Some}
 use Rattle.std.specs.List.{AllByRecursion, filter}
 use Rattle.syn_rows.specs.declared.Lit.{Lit}
 use Rattle.syn_rows.specs.declared.Row.{Row}
 use Rattle.syn_rows.specs.declared.Row.TheVariants.{Free, Source, And, Alias}
 use Rattle.syn_rows.specs.Rows.{node_of, row_at}
 use Rattle.syn_rows.specs.Joining.{ordered_and}
+use Rattle.syn_rows.specs.Nodes.{has_node}
 use Rattle.syn_gain.specs.Leaves.{are_below, rise_above}
 use Rattle.syn_core_laws.specs.declared.View.{View}
 use Rattle.syn_core_laws.specs.Views.{known_row}
@@ -14,7 +15,7 @@ use Rattle.syn_decide.specs.declared.decisions.NodeRow.{NodeRow}
 use Rattle.syn_decide.specs.Tasks.{Task}
 use Rattle.syn_decide.specs.Walk.{is_met}
 use Rattle.syn_decide.specs.Hints.{first_new, is_new_gate, new_root_row, placed_by_hits, rows_needed}
-use Rattle.syn_decide.specs.Fitting.{HitsAreInside, IsFitting, IsInside}
+use Rattle.syn_decide.specs.Fitting.{HitsAreInside, IsFitting}
 
 -- the leaves that the walk met, in their order
 abbrev pub met_leaves : Task → List NodeRow → List ℕ
@@ -39,12 +40,12 @@ pub record IsInOrder (t : Task) : Type 0 where
   pub there : t.proposal.root < first_new
 
 -- What a seat knows right before it redefines the root: the inner rows, the hits' rows, and the rows of the new gates, each at the node at its place of the list.
--- Neither a hit nor a node of a new row is node 0 or a leaf. (Where the last new gate becomes the root's row, it has no node.)
+-- No hit is node 0 or a leaf; no node of a new row is node 0 or a leaf that was met. (Where the last new gate becomes the root's row, it has no node.)
 pub record AreStored (t : Task) (inner hits : List NodeRow) (made : List ℕ) (v : View) : Type 0 where
   pub inner_known : AllByRecursion (λ r. known_row v r.node ≡ Some r.row) inner
   pub hits_known : AllByRecursion (λ h. known_row v h.node ≡ Some h.row) hits
   pub hits_inside : HitsAreInside t hits
-  pub made_inside : (i : ℕ) → i < rows_needed t (placed_by_hits t hits) → IsInside t (slice_index_or made i 0)
+  pub made_out : (i : ℕ) → i < rows_needed t (placed_by_hits t hits) → (slice_index_or made i 0 ≢ 0) × (has_node (met_leaves t inner) (slice_index_or made i 0) ≡ false)
   pub made_known : (i : ℕ) → i < rows_needed t (placed_by_hits t hits) → known_row v (slice_index_or made i 0) ≡ Some (row_made made (row_at (placed_by_hits t hits).extra i))
 
 -- The row that the root becomes, stored, has the value of its old row over the leaves that the walk met.

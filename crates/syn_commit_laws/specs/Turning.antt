@@ -10,7 +10,7 @@ use Rattle.syn_core_laws.specs.declared.EventKind.{EventKind}
 use Rattle.syn_core_laws.specs.declared.EventKind.TheVariants as Kind
 use Rattle.syn_rows.specs.Nodes.{has_node}
 use Rattle.syn_rows.specs.Rows.{is_derived}
-use Rattle.syn_core_laws.specs.Views.{is_derived_known, known_row, own_refs, own_pins, refs_known, claimed, missed, released, row_loaded, pinned, unpinned, count_loaded, key_loaded, key_set, made, redefined, freed}
+use Rattle.syn_core_laws.specs.Views.{is_derived_known, known_row, own_refs, own_pins, claimed, missed, released, row_loaded, pinned, unpinned, count_loaded, key_loaded, key_set, made, redefined, freed}
 use Rattle.syn_commit_laws.specs.Dying.{IsLoaded}
 
 -- a pin for each place of the row
