@@ -20,13 +20,13 @@ le_if a b h = search rules
 le_test : (a b : ℕ) → a ≤ b → nat_le a b ≡ true
 le_test a b h = search rules
 
-at_row : (P : Counted → Type 0) (rows : List Counted) → AllByRecursion P rows → (r : Counted) → IsOf r rows → P r
+pub at_row : (P : Counted → Type 0) (rows : List Counted) → AllByRecursion P rows → (r : Counted) → IsOf r rows → P r
 at_row P [] a r o = absurd o
 at_row P (q ∷ rows) a r (inl e) = subst P e a.0
 at_row P (q ∷ rows) a r (inr o) = at_row P rows a.1 r o
 
 -- the row of a node that is there
-row_of : (rows : List Counted) (m : ℕ) → has_node (counted_nodes rows) m ≡ true → (r : Counted) × IsOf r rows × (r.node ≡ m)
+pub row_of : (rows : List Counted) (m : ℕ) → has_node (counted_nodes rows) m ≡ true → (r : Counted) × IsOf r rows × (r.node ≡ m)
 row_of [] m h = absurd (cc)
 row_of (q ∷ rows) m h = go (q.node == m) refl h (row_of rows m)
   where

@@ -46,7 +46,7 @@ lacks_low low n (m ∷ ns) h le =
 lacks_high : (high : ℕ) (ns : List ℕ) → are_below high ns ≡ true → has_node ns high ≡ false
 lacks_high high ns h = lacks_all ns high (λ i lt e. let low = below_each high ns h i lt in omega (arith, low, e))
 
-length_each : {A : Type 0} (n : ℕ) (f : ℕ → A) → length (each_below n f) ≡ n
+pub length_each : {A : Type 0} (n : ℕ) (f : ℕ → A) → length (each_below n f) ≡ n
 length_each zero f = refl
 length_each (suc n) f = let rest = length_each n f in omega (arith, rest, length_push (each_below n f) (f n))
 

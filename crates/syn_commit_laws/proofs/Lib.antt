@@ -11,4 +11,6 @@ pub mod Placed
 pub mod Chosen
 pub mod Stored
 pub mod Keeping
+pub mod Origins
+pub mod Gains
 pub mod WorkedRows

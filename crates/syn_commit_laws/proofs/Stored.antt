@@ -18,7 +18,7 @@ use Rattle.syn_commit_laws.specs.Redefining.{literal_made, row_made}
 use Rattle.syn_commit_laws.proofs.Valued.{LitHas, LitVal, Val, alias_value, constant_value, known_row_value, one_row_value, one_value, pair_value}
 use Rattle.syn_commit_laws.proofs.Placed.{lit_plain}
 
-le_true : (a b : ℕ) → a ≤ b → nat_le a b ≡ true
+pub le_true : (a b : ℕ) → a ≤ b → nat_le a b ≡ true
 le_true a b h = search rules
 
 pub le_false : (a b : ℕ) → b < a → nat_le a b ≡ false

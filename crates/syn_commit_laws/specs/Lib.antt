@@ -5,4 +5,6 @@ pub mod Running
 pub mod Laws
 pub mod Counted
 pub mod Redefining
+pub mod Origins
+pub mod Gains
 pub mod Worked

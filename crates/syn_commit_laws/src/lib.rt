@@ -2,6 +2,8 @@
 #![tactic(auto)]
 
 ghost use Rattle.syn_commit_laws.specs.Counted.{CountedRowsDie};
+ghost use Rattle.syn_commit_laws.specs.Gains.{DoneTellsGain, NewGatesAreStored, StoredRowsSpare};
+ghost use Rattle.syn_commit_laws.specs.Origins.{NewRowsReferToOrigins};
 ghost use Rattle.syn_commit_laws.specs.Redefining.{MetLeavesAreFew, RedefinesKeepValue};
 ghost use Rattle.syn_commit_laws.specs.Worked.{WorkedRedefine};
 ghost use Rattle.syn_commit_laws.specs.Laws.{CommitsFree, CommittedRowsAreFreed, CountsLoad, DifferencesTell, DyingAreDoomed, DyingAreExplained, DyingRowsAreFreed, EarlyTells, EventsTurn, FindingBegins, FindingEnds, FindingGoesOn, FreedTellGain, FreeNodesLive, FreesAddNone, RedefinesAddOne, FreeingBegins, FreeingEnds, FreeingGoesOn, GatesFall, GivenUpTells, GivingUpBegins, GivingUpGoesOn, ListsTell, LoadsTell, NewRowsSpare, NodesStay, OthersStay, RedefinesAppend, RootsAreOut, RunsTurn, TellingBegins, TellingGoesOn, UnpinsTurn, MakesTurn, RedefinesTurn, FreesTurn};
@@ -92,6 +94,19 @@ pub fn dying_rows_are_freed()
 pub fn redefines_keep_value()
     ensures value { RedefinesKeepValue }
     ensures few { MetLeavesAreFew }
+{}
+
+/// New rows refer to used leaves, to hits and to earlier new gates.
+pub fn new_rows_refer_to_origins()
+    ensures { NewRowsReferToOrigins }
+{}
+
+/// What the answer `Done` tells, and what the new gates become: each is a made row or the root's, and they refer to nothing
+/// that dies.
+pub fn new_gates()
+    ensures gain { DoneTellsGain }
+    ensures stored { NewGatesAreStored }
+    ensures spare { StoredRowsSpare }
 {}
 
 /// The definitions, tried on a worked redefine.
