@@ -1,29 +1,27 @@
 -- A run that was ready is refused for want of memory alone, or where a call failed.
-use Rattle.std.proofs.Common.{◌≡◌, ◌⊎◌, ℕ, ◌+◌, ◌<◌, ◌≤◌, List, [], ◌∷◌, ◌++◌, length, refl, sym, ap, ◌∙◌, subst, arith, inl, inr, Option, None, Some, IfSome, IsSome}
+use Rattle.std.proofs.Common.{◌≡◌, ◌⊎◌, ℕ, ◌+◌, ◌<◌, ◌≤◌, List, [], ◌∷◌, ◌++◌, length, refl, sym, subst, arith, inl, inr, Option, None, Some, IfSome, IsSome}
 use Rattle.std.specs.Option.{IsSomeAnd}
 use Rattle.syn_io.specs.Outside.{Disk, Input, Screen, file_at, next_line}
 use Rattle.syn_netlist.specs.Lists.{Netlist}
-use Rattle.syn_reader.specs.declared.ReadFault.{ReadFault}
-use Rattle.syn_reader.specs.Causes.{fault_in}
-use Rattle.syn_reader.specs.Faults.{Fault}
-use Rattle.syn_reader.specs.Laws.{NotBoth}
-use Rattle.syn_reader.specs.Limits.{IsFirstFault, Within}
-use Rattle.syn_reader.specs.Reading.{Reads}
+use Rattle.syn_hierarchy.specs.Causes.{fault_in}
+use Rattle.syn_hierarchy.specs.Faults.{Fault}
+use Rattle.syn_hierarchy.specs.Laws.{NotBoth}
+use Rattle.syn_hierarchy.specs.Limits.{IsFirstFault, Within}
+use Rattle.syn_hierarchy.specs.Reading.{Reads}
 use Rattle.syn_words.specs.declared.Command.{Command}
 use Rattle.syn_words.specs.Scripts.{IsScript}
 use Rattle.syn_words.proofs.Deciding.{script_has_no_fault}
 use Rattle.syn_shell.specs.declared.refusal.Refusal.{Refusal}
-use Rattle.syn_shell.specs.declared.refusal.Refusal.TheVariants.{Words, Script, Read, FileTooLong, LineTooLong, TooManyLines, TooManyGates, NoNetwork, GetFailed, PutFailed, LineFailed, SinkFailed, NoMemory}
+use Rattle.syn_shell.specs.declared.refusal.Refusal.TheVariants.{Script, Read, FileTooLong, LineTooLong, TooManyGates, NoNetwork, GetFailed, PutFailed, LineFailed, SinkFailed, NoMemory}
 use Rattle.syn_build_luts.specs.declared.luts.TheConstants.{MOST_GATES}
 use Rattle.syn_shell.specs.Networks.{Network, gates_in}
-use Rattle.syn_shell.specs.Outside.{State, FileIs, LineIsLong, GaveLine, script_limit}
+use Rattle.syn_shell.specs.Outside.{State, script_limit}
 use Rattle.syn_shell.specs.Lines.{refusal_status}
-use Rattle.syn_shell.specs.Steps.{Accepted, Denied, IsFaulty, Kind, Reading, Generating, Printing, Writing, Making, kind_of, file_limit, GeneratingRefused, MakingRefused, PrintRefused, ReadRefused, WriteRefused}
+use Rattle.syn_shell.specs.Steps.{Denied, Kind, Reading, Generating, Printing, Writing, Making, kind_of, file_limit, GeneratingRefused, MakingRefused, PrintRefused, ReadRefused, WriteRefused}
 use Rattle.syn_shell.specs.Scripts.{Refused, RunsCommands, RunsScript, ScriptRefused, nameless}
 use Rattle.syn_shell.specs.LineMode.{LineRefused, NoFurther, RunsLines, listed, most_lines}
 use Rattle.syn_shell.specs.Usage.{Usage, OneScript, EachLine, Faulty, usage_of}
-use Rattle.syn_shell.specs.Runs.{Ran, RunsUsage, RunsWords, status_of}
-use Rattle.syn_shell.specs.Counts.{SomeFault}
+use Rattle.syn_shell.specs.Runs.{RunsUsage, RunsWords, status_of}
 use Rattle.syn_shell.specs.Readiness.{CommandsReady, IsComplete, IsReadable, LineReady, LinesReady, Needs, ScriptReady, UsageReady, WordsReady}
 use Rattle.syn_shell.proofs.Concluding.{ran_seven}
 
@@ -42,32 +40,32 @@ fine_as refusals others is fine = subst (λ (rs : List Refused). IsFine (status_
 
 -- a file that is readable has no fault and is not too long
 
-no_fault_here : NotBoth → (bytes : List ℕ) (net : Netlist) (fault : Option Fault) → Reads bytes net → Within net → IsSomeAnd fault (IsFirstFault bytes) → ⊥
-no_fault_here not_both bytes net None reads within first = first
-no_fault_here not_both bytes net (Some fault) reads within first = not_both bytes net fault reads within first
+-- the bytes are short enough, and spell a netlist within the limits
+abbrev ReadsWithin : List ℕ → Type 0
+ReadsWithin bytes = (length bytes ≤ file_limit) × (net : Netlist) × Reads bytes net × Within bytes net
 
-readable_at : NotBoth → (found : Option (List ℕ)) (bytes : List ℕ) (fault : Option Fault) → IsSomeAnd found (λ b. (length b ≤ file_limit) × (net : Netlist) × Reads b net × Within net)
-    → found ≡ Some bytes → IsSomeAnd fault (IsFirstFault bytes) → ⊥
+no_fault_here : NotBoth → (bytes : List ℕ) (fault : Option Fault) → ReadsWithin bytes → IsSomeAnd fault (IsFirstFault bytes) → ⊥
+no_fault_here not_both bytes None needs first = first
+no_fault_here not_both bytes (Some fault) (short, net, reads, within) first = not_both bytes net fault reads within first
+
+readable_at : NotBoth → (found : Option (List ℕ)) (bytes : List ℕ) (fault : Option Fault) → IsSomeAnd found ReadsWithin → found ≡ Some bytes → IsSomeAnd fault (IsFirstFault bytes) → ⊥
 readable_at not_both None bytes fault needs is first = needs
-readable_at not_both (Some b) bytes fault (short, net, reads, within) is first =
-    no_fault_here not_both bytes net fault (subst (λ (x : List ℕ). Reads x net) (same b bytes is) reads) within first
+readable_at not_both (Some b) bytes fault needs is first = no_fault_here not_both bytes fault (subst ReadsWithin (same b bytes is) needs) first
   where
     same : (x y : List ℕ) → Some x ≡ Some y → x ≡ y
     same x y e = cc
 
 not_faulty : NotBoth → (name : List ℕ) (told : Option (List (List ℕ × List ℕ))) (bytes : List ℕ) (fault : Option Fault)
-    → IsSomeAnd told (λ list. IsSomeAnd (file_at name list) (λ b. (length b ≤ file_limit) × (net : Netlist) × Reads b net × Within net))
-    → IfSome told (λ list. file_at name list ≡ Some bytes) → IsSomeAnd fault (IsFirstFault bytes) → ⊥
+    → IsSomeAnd told (λ list. IsSomeAnd (file_at name list) ReadsWithin) → IfSome told (λ list. file_at name list ≡ Some bytes) → IsSomeAnd fault (IsFirstFault bytes) → ⊥
 not_faulty not_both name None bytes fault needs file first = needs
 not_faulty not_both name (Some list) bytes fault needs file first = readable_at not_both (file_at name list) bytes fault needs file first
 
-short_at : (found : Option (List ℕ)) → IsSomeAnd found (λ b. (length b ≤ file_limit) × (net : Netlist) × Reads b net × Within net) → IsSomeAnd found (λ b. file_limit < length b) → ⊥
+short_at : (found : Option (List ℕ)) → IsSomeAnd found ReadsWithin → IsSomeAnd found (λ b. file_limit < length b) → ⊥
 short_at None needs long = needs
 short_at (Some b) (short, net, reads, within) long = absurd (omega (arith, short, long))
 
 not_too_long : (name : List ℕ) (told : Option (List (List ℕ × List ℕ)))
-    → IsSomeAnd told (λ list. IsSomeAnd (file_at name list) (λ b. (length b ≤ file_limit) × (net : Netlist) × Reads b net × Within net))
-    → IfSome told (λ list. IsSomeAnd (file_at name list) (λ b. file_limit < length b)) → ⊥
+    → IsSomeAnd told (λ list. IsSomeAnd (file_at name list) ReadsWithin) → IfSome told (λ list. IsSomeAnd (file_at name list) (λ b. file_limit < length b)) → ⊥
 not_too_long name None needs long = needs
 not_too_long name (Some list) needs long = short_at (file_at name list) needs long
 

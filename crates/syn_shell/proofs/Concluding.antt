@@ -2,12 +2,14 @@
 use Rattle.std.proofs.Common.{◌≡◌, ℕ, ◌+◌, ◌-◌, ◌^◌, ◌<◌, ◌≤◌, nat_eq, nat_lt, List, [], ◌∷◌, length, sym, ap, ◌∙◌, arith, inl, inr}
 use Rattle.std.proofs.lemmas.Bool.{both_ways, cases_Bool, eq-eqb, ltb-true, ltb-false}
 use Rattle.syn_io.specs.Outside.{Rose, Disk, Screen, Input}
-use Rattle.syn_reader.specs.declared.ReadFault.{ReadFault}
-use Rattle.syn_reader.specs.declared.ReadFault.TheVariants as file
+use Rattle.syn_models.specs.declared.flat_fault.FlatFault.{FlatFault}
+use Rattle.syn_models.specs.declared.flat_fault.FlatFault.TheVariants as models
+use Rattle.syn_hierarchy.specs.declared.file_fault.FileFault.{FileFault}
+use Rattle.syn_hierarchy.specs.declared.file_fault.FileFault.TheVariants as file
 use Rattle.syn_shell.specs.declared.refusal.Refusal.{Refusal}
 use Rattle.syn_shell.specs.declared.refusal.Refusal.TheVariants.{Read, GetFailed, PutFailed, LineFailed, SinkFailed}
 use Rattle.syn_shell.specs.Outside.{State}
-use Rattle.syn_shell.specs.Lines.{file_status, refusal_status}
+use Rattle.syn_shell.specs.Lines.{file_status, models_status, refusal_status}
 use Rattle.syn_shell.specs.Scripts.{Refused}
 use Rattle.syn_shell.specs.LineMode.{RunsLines, most_lines}
 use Rattle.syn_shell.specs.Usage.{usage_of}
@@ -25,8 +27,13 @@ rose_by a b n h = elim (cases_Bool (nat_lt b (2 ^ 64 - 1))) [
       omega arith
 ]
 
-file_not_seven : (fault : ReadFault) → file_status fault ≡ 7 → ⊥
-file_not_seven file.NoMemory e = absurd (omega (arith, e))
+models_not_seven : (fault : FlatFault) → models_status fault ≡ 7 → ⊥
+models_not_seven (models.TooManyWords count) e = absurd (omega (arith, e))
+models_not_seven models.NoMemory e = absurd (omega (arith, e))
+models_not_seven other e = absurd (omega (arith, e))
+
+file_not_seven : (fault : FileFault) → file_status fault ≡ 7 → ⊥
+file_not_seven (file.Models fault) e = models_not_seven fault e
 file_not_seven other e = absurd (omega (arith, e))
 
 seven_by : (cause : Refusal) (name : List ℕ) (more : List Refused) (d d' : Disk) (s s' : Screen) (i i' : Input) → refusal_status cause ≡ 7 → FaultsCover (record { cause = cause; name = name } ∷ more) d s i d' s' i' → SomeFault d s i d' s' i'

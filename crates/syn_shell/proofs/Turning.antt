@@ -1,8 +1,10 @@
 -- Lines one after the other, and the status that is kept.
 use Rattle.std.proofs.Common.{◌≡◌, ℕ, ◌+◌, ◌<◌, nat_eq, false, List, [], ◌∷◌, ◌++◌, refl, sym, ap, ◌∙◌, subst, inl, inr, Option, None, Some}
 use Rattle.std.proofs.lemmas.Bool.{cases_Bool, cond-true, cond-false}
-use Rattle.syn_reader.specs.declared.ReadFault.{ReadFault}
-use Rattle.syn_reader.specs.declared.ReadFault.TheVariants as file
+use Rattle.syn_models.specs.declared.flat_fault.FlatFault.{FlatFault}
+use Rattle.syn_models.specs.declared.flat_fault.FlatFault.TheVariants as models
+use Rattle.syn_hierarchy.specs.declared.file_fault.FileFault.{FileFault}
+use Rattle.syn_hierarchy.specs.declared.file_fault.FileFault.TheVariants as file
 use Rattle.syn_shell.specs.declared.refusal.Refusal.{Refusal}
 use Rattle.syn_shell.specs.declared.refusal.Refusal.TheVariants.{Words, Script, Read, FileTooLong, LineTooLong, TooManyLines, TooManyGates, NoNetwork, GetFailed, PutFailed, LineFailed, SinkFailed, NoMemory}
 use Rattle.syn_shell.specs.Networks.{Network}
@@ -12,7 +14,7 @@ use Rattle.syn_shell.specs.declared.line_mode.Turn.{Turn}
 use Rattle.syn_shell.specs.declared.line_mode.Turn.TheVariants as turn
 use Rattle.syn_io.specs.Outside.{Disk, Screen, Input}
 use Rattle.syn_shell.specs.Outside.{State, state, GaveLine, GaveNone}
-use Rattle.syn_shell.specs.Lines.{file_status, refusal_status}
+use Rattle.syn_shell.specs.Lines.{file_status, models_status, refusal_status}
 use Rattle.syn_shell.specs.Scripts.{Refused, nameless, RunsScript}
 use Rattle.syn_shell.specs.LineMode.{GoesOn, LineRefused, NoFurther, RunsLines, listed, most_lines}
 use Rattle.syn_shell.specs.Runs.{status_of}
@@ -21,21 +23,14 @@ use Rattle.syn_shell.proofs.Hearing.{nothing_run, nothing_status}
 
 -- no refusal has the status of an accepted run
 
-file_refused : (fault : ReadFault) → nat_eq (file_status fault) 0 ≡ false
-file_refused (file.BadByte at) = refl
-file_refused (file.AfterEnd line) = refl
-file_refused (file.UnknownKeyword line) = refl
-file_refused (file.SecondModel line) = refl
-file_refused (file.NoName line) = refl
-file_refused (file.ExtraWord line) = refl
-file_refused (file.StrayRow line) = refl
-file_refused (file.RowShape line) = refl
-file_refused (file.MixedRows line) = refl
-file_refused (file.LatchShape line) = refl
-file_refused (file.LatchType line) = refl
-file_refused (file.LatchInit line) = refl
-file_refused (file.DefinedTwice line name) = refl
-file_refused (file.Undriven name) = refl
+models_refused : (fault : FlatFault) → nat_eq (models_status fault) 0 ≡ false
+models_refused (models.TooManyWords count) = refl
+models_refused models.NoMemory = refl
+models_refused fault = refl
+
+file_refused : (fault : FileFault) → nat_eq (file_status fault) 0 ≡ false
+file_refused (file.Lines fault) = refl
+file_refused (file.Models fault) = models_refused fault
 file_refused (file.Cycle names) = refl
 file_refused (file.TooManySources count) = refl
 file_refused (file.TooLarge cost) = refl

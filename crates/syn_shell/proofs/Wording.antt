@@ -8,7 +8,7 @@ use Rattle.syn_shell.specs.declared.announcing.Announcement.TheVariants.{Whole, 
 use Rattle.syn_io.specs.Outside.{Disk, Screen, Input}
 use Rattle.syn_shell.specs.Outside.{State, state}
 use Rattle.syn_shell.specs.Scripts.{Refused, nameless}
-use Rattle.syn_shell.specs.Usage.{Usage, OneScript, EachLine, script_usage, usage_of, WordsRefused}
+use Rattle.syn_shell.specs.Usage.{Usage, OneScript, EachLine, usage_of, WordsRefused}
 use Rattle.syn_shell.specs.Runs.{Ran, RunsNothing, RunsUsage, RunsWords, status_of}
 use Rattle.syn_shell.specs.Stopping.{status_in, status_left, Leaves, RanLines, RanOne, AnnouncesAs}
 use Rattle.syn_shell.proofs.Counting.{words_counted}

@@ -9,7 +9,13 @@ use Rattle.syn_lutshapes.specs.LutShape.{count_of, depth_of}
 use Rattle.syn_words.specs.declared.ScriptFault.{ScriptFault}
 use Rattle.syn_words.specs.declared.ScriptFault.TheVariants as script
 use Rattle.syn_reader.specs.declared.ReadFault.{ReadFault}
-use Rattle.syn_reader.specs.declared.ReadFault.TheVariants as file
+use Rattle.syn_reader.specs.declared.ReadFault.TheVariants as read
+use Rattle.syn_model_lines.specs.declared.lines_fault.LinesFault.{LinesFault}
+use Rattle.syn_model_lines.specs.declared.lines_fault.LinesFault.TheVariants as lines
+use Rattle.syn_models.specs.declared.flat_fault.FlatFault.{FlatFault}
+use Rattle.syn_models.specs.declared.flat_fault.FlatFault.TheVariants as models
+use Rattle.syn_hierarchy.specs.declared.file_fault.FileFault.{FileFault}
+use Rattle.syn_hierarchy.specs.declared.file_fault.FileFault.TheVariants as file
 use Rattle.syn_shell.specs.Networks.{Network}
 use Rattle.syn_shell.specs.declared.refusal.Refusal.{Refusal}
 use Rattle.syn_shell.specs.declared.refusal.Refusal.TheVariants.{Words, Script, Read, FileTooLong, LineTooLong, TooManyLines, TooManyGates, NoNetwork, GetFailed, PutFailed, LineFailed, SinkFailed, NoMemory}
@@ -70,23 +76,58 @@ script_text (script.BadNumber at) = at_place at (codes "bad number")
 script_text (script.OutOfRange at) = at_place at (codes "out of range")
 script_text script.NoMemory = codes "out of memory"
 
+-- a name in a line of a file and what is wrong with it there
+abbrev pub name_at_line : ℕ → List ℕ → List ℕ → List ℕ
+name_at_line line name what = joined (codes "line " ∷ decimal line ∷ codes ": " ∷ name ∷ what ∷ [])
+
+-- what a circle is called, and its names
+abbrev pub chain_text : List ℕ → List (List ℕ) → List ℕ
+chain_text called names = called ++ flat_map (λ name. codes " " ++ name) names
+
+-- what a fault says that a file of one model may have
+abbrev pub read_text : ReadFault → List ℕ
+read_text (read.BadByte at) = joined (codes "byte " ∷ decimal at ∷ codes ": bad byte" ∷ [])
+read_text (read.AfterEnd line) = at_line line (codes "after end")
+read_text (read.UnknownKeyword line) = at_line line (codes "unknown keyword")
+read_text (read.SecondModel line) = at_line line (codes "second model")
+read_text (read.NoName line) = at_line line (codes "no name")
+read_text (read.ExtraWord line) = at_line line (codes "extra word")
+read_text (read.StrayRow line) = at_line line (codes "stray row")
+read_text (read.RowShape line) = at_line line (codes "row shape")
+read_text (read.MixedRows line) = at_line line (codes "mixed rows")
+read_text (read.LatchShape line) = at_line line (codes "latch shape")
+read_text (read.LatchType line) = at_line line (codes "latch type")
+read_text (read.LatchInit line) = at_line line (codes "latch init")
+read_text (read.DefinedTwice line name) = name_at_line line name (codes " defined twice")
+read_text (read.Undriven name) = joined (name ∷ codes " undriven" ∷ [])
+read_text (read.Cycle names) = chain_text (codes "cycle") names
+read_text (read.TooManySources count) = joined (decimal count ∷ codes " sources" ∷ [])
+read_text (read.TooLarge cost) = joined (codes "cost " ∷ decimal cost ∷ [])
+read_text read.NoMemory = codes "out of memory"
+
+-- what a fault of the lines of models says
+abbrev pub lines_text : LinesFault → List ℕ
+lines_text (lines.Read fault) = read_text fault
+lines_text (lines.ModelTwice line) = at_line line (codes "model defined twice")
+lines_text (lines.SubcktShape line) = at_line line (codes "subckt shape")
+lines_text (lines.PortTwice line formal) = name_at_line line formal (codes " bound twice")
+
+-- what a fault of models as subcircuits of each other says
+abbrev pub models_text : FlatFault → List ℕ
+models_text (models.UnknownModel line) = at_line line (codes "unknown model")
+models_text (models.UnknownPort line formal) = name_at_line line formal (codes " unknown port")
+models_text (models.PortMissing line port) = name_at_line line port (codes " unbound")
+models_text (models.DefinedTwice line name) = name_at_line line name (codes " defined twice")
+models_text (models.Undriven name) = joined (name ∷ codes " undriven" ∷ [])
+models_text (models.Recursion names) = chain_text (codes "recursion") names
+models_text (models.TooManyWords count) = joined (decimal count ∷ codes " words" ∷ [])
+models_text models.NoMemory = codes "out of memory"
+
 -- what a fault of a file says
-abbrev pub file_text : ReadFault → List ℕ
-file_text (file.BadByte at) = joined (codes "byte " ∷ decimal at ∷ codes ": bad byte" ∷ [])
-file_text (file.AfterEnd line) = at_line line (codes "after end")
-file_text (file.UnknownKeyword line) = at_line line (codes "unknown keyword")
-file_text (file.SecondModel line) = at_line line (codes "second model")
-file_text (file.NoName line) = at_line line (codes "no name")
-file_text (file.ExtraWord line) = at_line line (codes "extra word")
-file_text (file.StrayRow line) = at_line line (codes "stray row")
-file_text (file.RowShape line) = at_line line (codes "row shape")
-file_text (file.MixedRows line) = at_line line (codes "mixed rows")
-file_text (file.LatchShape line) = at_line line (codes "latch shape")
-file_text (file.LatchType line) = at_line line (codes "latch type")
-file_text (file.LatchInit line) = at_line line (codes "latch init")
-file_text (file.DefinedTwice line name) = joined (codes "line " ∷ decimal line ∷ codes ": " ∷ name ∷ codes " defined twice" ∷ [])
-file_text (file.Undriven name) = joined (name ∷ codes " undriven" ∷ [])
-file_text (file.Cycle names) = codes "cycle" ++ flat_map (λ name. codes " " ++ name) names
+abbrev pub file_text : FileFault → List ℕ
+file_text (file.Lines fault) = lines_text fault
+file_text (file.Models fault) = models_text fault
+file_text (file.Cycle names) = chain_text (codes "cycle") names
 file_text (file.TooManySources count) = joined (decimal count ∷ codes " sources" ∷ [])
 file_text (file.TooLarge cost) = joined (codes "cost " ∷ decimal cost ∷ [])
 file_text file.NoMemory = codes "out of memory"
@@ -111,12 +152,20 @@ refusal_text NoMemory name = codes "out of memory"
 abbrev pub refusal_line : Refusal → List ℕ → List ℕ
 refusal_line refusal name = codes "refused: " ++ (refusal_text refusal name ++ 10 ∷ [])
 
--- the status that a run ends with where a file's fault is refused first: its two limits have one of their own
-abbrev pub file_status : ReadFault → ℕ
+-- the status that a run ends with where a fault of models is refused first: their limit has one of its own
+abbrev pub models_status : FlatFault → ℕ
+models_status (models.TooManyWords count) = 5
+models_status models.NoMemory = 8
+models_status fault = 4
+
+-- the status that a run ends with where a file's fault is refused first: its three limits have one of their own
+abbrev pub file_status : FileFault → ℕ
+file_status (file.Lines fault) = 4
+file_status (file.Models fault) = models_status fault
+file_status (file.Cycle names) = 4
 file_status (file.TooManySources count) = 5
 file_status (file.TooLarge cost) = 5
 file_status file.NoMemory = 8
-file_status fault = 4
 
 -- the status that a run ends with where this is refused first
 abbrev pub refusal_status : Refusal → ℕ

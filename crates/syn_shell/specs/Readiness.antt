@@ -3,8 +3,8 @@ use Rattle.std.specs.Prelude.{◌≡◌, ◌⊎◌, ℕ, ◌+◌, ◌<◌, ◌�
 use mathlib.Core.Logic.{inl, inr}
 use Rattle.syn_io.specs.Outside.{Disk, Input, Screen, file_at, next_line}
 use Rattle.syn_netlist.specs.Lists.{Netlist}
-use Rattle.syn_reader.specs.Limits.{Within}
-use Rattle.syn_reader.specs.Reading.{Reads}
+use Rattle.syn_hierarchy.specs.Limits.{Within}
+use Rattle.syn_hierarchy.specs.Reading.{Reads}
 use Rattle.syn_build_luts.specs.declared.luts.TheConstants.{MOST_GATES}
 use Rattle.syn_words.specs.declared.Command.{Command}
 use Rattle.syn_words.specs.Scripts.{IsScript}
@@ -17,9 +17,9 @@ use Rattle.syn_shell.specs.Usage.{Usage, OneScript, EachLine, Faulty, usage_of}
 use Rattle.syn_shell.specs.Counts.{SomeFault}
 use Rattle.syn_shell.specs.Runs.{Ran, RunsUsage, RunsWords}
 
--- The file of that name is told and there; it is short enough, and spells a netlist within the limits.
+-- The file of that name is told and there; it is short enough, and spells a netlist within the three limits: words, sources and cost.
 abbrev pub IsReadable : List ℕ → Disk → Type 0
-IsReadable name files = IsSomeAnd files.told (λ list. IsSomeAnd (file_at name list) (λ bytes. (length bytes ≤ file_limit) × (net : Netlist) × Reads bytes net × Within net))
+IsReadable name files = IsSomeAnd files.told (λ list. IsSomeAnd (file_at name list) (λ bytes. (length bytes ≤ file_limit) × (net : Netlist) × Reads bytes net × Within bytes net))
 
 -- What a command needs, by its kind: its file, nothing, or a network, and to make it anew one that not too many gates make a graph.
 abbrev pub Needs : Kind → State → Type 0

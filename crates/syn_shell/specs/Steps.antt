@@ -21,10 +21,10 @@ use Rattle.syn_refactor.specs.Refactoring.{refactorings}
 use Rattle.syn_rewrite.specs.Rewriting.{rewritings}
 use Rattle.syn_words.specs.declared.Command.{Command}
 use Rattle.syn_words.specs.declared.Command.TheVariants as commands
-use Rattle.syn_reader.specs.declared.ReadFault.{ReadFault}
-use Rattle.syn_reader.specs.Causes.{fault_in}
-use Rattle.syn_reader.specs.Limits.{Within, IsFirstFault}
-use Rattle.syn_reader.specs.Reading.{Reads}
+use Rattle.syn_hierarchy.specs.declared.file_fault.FileFault.{FileFault}
+use Rattle.syn_hierarchy.specs.Causes.{fault_in}
+use Rattle.syn_hierarchy.specs.Limits.{Within, IsFirstFault}
+use Rattle.syn_hierarchy.specs.Reading.{Reads}
 use Rattle.syn_build.specs.Building.{IsGraphOf}
 use Rattle.syn_shell.specs.declared.refusal.Refusal.{Refusal}
 use Rattle.syn_shell.specs.declared.refusal.Refusal.TheVariants.{Read, FileTooLong, TooManyGates, NoNetwork, GetFailed, PutFailed, SinkFailed, NoMemory}
@@ -36,18 +36,18 @@ use Rattle.syn_shell.specs.Lines.{IsStatsLine}
 abbrev pub file_limit : ℕ
 file_limit = 16777216
 
--- What an accepted read makes of a file: its bytes spell a netlist within the limits, and the network is that netlist's graph.
+-- What an accepted read makes of a file: its bytes spell a netlist, that of their models flattened, within the limits, and the network is that netlist's graph.
 pub record IsReadAs (name : List ℕ) (files : Disk) (m : Netlist) : Type 0 where
   pub bytes : List ℕ
   pub netlist : Netlist
   pub file : FileIs name files bytes
   pub short : length bytes ≤ file_limit
   pub reads : Reads bytes netlist
-  pub within : Within netlist
+  pub within : Within bytes netlist
   pub graph : IsGraphOf netlist m
 
 -- The bytes of a file have this first fault, which is none of memory.
-pub record IsFaulty (name : List ℕ) (files : Disk) (fault : ReadFault) : Type 0 where
+pub record IsFaulty (name : List ℕ) (files : Disk) (fault : FileFault) : Type 0 where
   pub bytes : List ℕ
   pub file : FileIs name files bytes
   pub short : length bytes ≤ file_limit

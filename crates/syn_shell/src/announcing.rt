@@ -1,14 +1,17 @@
 //! The lines of refusals, put in pieces that take no memory, and their statuses.
 
 ghost use Rattle.std.specs.Prelude.{◌≡◌, ◌++◌, ◌∷◌, [], codes, decimal, flat_map, map};
-ghost use Rattle.syn_shell.specs.Lines.{at_line, at_place, file_status, file_text, joined, refusal_line, refusal_status, refusal_text, script_text};
+ghost use Rattle.syn_shell.specs.Lines.{at_line, at_place, chain_text, file_status, file_text, joined, lines_text, models_status, models_text, name_at_line, read_text, refusal_line, refusal_status, refusal_text, script_text};
 ghost use Rattle.syn_shell.specs.Outside.{Puts};
 ghost use Rattle.syn_shell.specs.Scripts.{Refused};
 ghost use Rattle.syn_shell.specs.Stopping.{status_in, AnnouncesAs};
 
 use crate::refusal::Refusal;
 use itoa::Buffer;
+use syn_hierarchy::FileFault;
 use syn_io::{Sink, SinkFailed};
+use syn_model_lines::LinesFault;
+use syn_models::FlatFault;
 use syn_netlist::Word;
 use syn_reader::ReadFault;
 use syn_words::ScriptFault;
@@ -58,11 +61,11 @@ fn put_names<O: Sink>(out: &mut O, names: &[Word]) -> Result<(), SinkFailed>
     Ok(())
 }
 
-// Puts the names of a circle.
-fn put_cycle<O: Sink>(out: &mut O, names: &[Word]) -> Result<(), SinkFailed>
-    ensures { Puts result (codes "cycle" ++ flat_map (λ name. codes " " ++ name) names.now) (O.screen out.old) (O.screen out.new) }
+// Puts what a circle is called, and its names.
+fn put_chain<O: Sink>(out: &mut O, called: &[u8], names: &[Word]) -> Result<(), SinkFailed>
+    ensures { Puts result (chain_text called.now names.now) (O.screen out.old) (O.screen out.new) }
 {
-    put(out, b"cycle")?;
+    put(out, called)?;
     put_names(out, names)
 }
 
@@ -101,9 +104,14 @@ fn put_at_line<O: Sink>(out: &mut O, line: u32, what: &[u8]) -> Result<(), SinkF
     )
 }
 
-// Puts the name that a line of a file defines once more.
-fn put_defined_twice<O: Sink>(out: &mut O, line: u32, name: &[u8]) -> Result<(), SinkFailed>
-    ensures { Puts result (joined (codes "line " ∷ decimal line ∷ codes ": " ∷ name.now ∷ codes " defined twice" ∷ [])) (O.screen out.old) (O.screen out.new) }
+// Puts a name in a line of a file and what is wrong with it there.
+fn put_name_at_line<O: Sink>(
+    out: &mut O,
+    line: u32,
+    name: &[u8],
+    what: &[u8],
+) -> Result<(), SinkFailed>
+    ensures { Puts result (name_at_line line name.now what.now) (O.screen out.old) (O.screen out.new) }
 {
     let mut buffer = Buffer::new();
     put_all(
@@ -113,7 +121,7 @@ fn put_defined_twice<O: Sink>(out: &mut O, line: u32, name: &[u8]) -> Result<(),
             buffer.format(line as u64).as_bytes(),
             b": ",
             name,
-            b" defined twice",
+            what,
         ],
     )
 }
@@ -133,9 +141,9 @@ fn put_script_fault<O: Sink>(out: &mut O, fault: &ScriptFault) -> Result<(), Sin
     }
 }
 
-// Puts what a fault of a file says.
-fn put_file_fault<O: Sink>(out: &mut O, fault: &ReadFault) -> Result<(), SinkFailed>
-    ensures { Puts result (file_text fault.now) (O.screen out.old) (O.screen out.new) }
+// Puts what a fault says that a file of one model may have.
+fn put_read_fault<O: Sink>(out: &mut O, fault: &ReadFault) -> Result<(), SinkFailed>
+    ensures { Puts result (read_text fault.now) (O.screen out.old) (O.screen out.new) }
 {
     match fault {
         ReadFault::BadByte(at) => put_number(out, b"byte ", *at as u64, b": bad byte"),
@@ -150,12 +158,64 @@ fn put_file_fault<O: Sink>(out: &mut O, fault: &ReadFault) -> Result<(), SinkFai
         ReadFault::LatchShape(line) => put_at_line(out, *line, b"latch shape"),
         ReadFault::LatchType(line) => put_at_line(out, *line, b"latch type"),
         ReadFault::LatchInit(line) => put_at_line(out, *line, b"latch init"),
-        ReadFault::DefinedTwice(line, name) => put_defined_twice(out, *line, name.as_slice()),
+        ReadFault::DefinedTwice(line, name) => {
+            put_name_at_line(out, *line, name.as_slice(), b" defined twice")
+        }
         ReadFault::Undriven(name) => put_all(out, &[name.as_slice(), b" undriven"]),
-        ReadFault::Cycle(names) => put_cycle(out, names.as_slice()),
+        ReadFault::Cycle(names) => put_chain(out, b"cycle", names.as_slice()),
         ReadFault::TooManySources(count) => put_number(out, b"", *count as u64, b" sources"),
         ReadFault::TooLarge(cost) => put_number(out, b"cost ", *cost, b""),
         ReadFault::NoMemory => put(out, b"out of memory"),
+    }
+}
+
+// Puts what a fault of the lines of models says.
+fn put_lines_fault<O: Sink>(out: &mut O, fault: &LinesFault) -> Result<(), SinkFailed>
+    ensures { Puts result (lines_text fault.now) (O.screen out.old) (O.screen out.new) }
+{
+    match fault {
+        LinesFault::Read(fault) => put_read_fault(out, fault),
+        LinesFault::ModelTwice(line) => put_at_line(out, *line, b"model defined twice"),
+        LinesFault::SubcktShape(line) => put_at_line(out, *line, b"subckt shape"),
+        LinesFault::PortTwice(line, formal) => {
+            put_name_at_line(out, *line, formal.as_slice(), b" bound twice")
+        }
+    }
+}
+
+// Puts what a fault of models as subcircuits of each other says.
+fn put_models_fault<O: Sink>(out: &mut O, fault: &FlatFault) -> Result<(), SinkFailed>
+    ensures { Puts result (models_text fault.now) (O.screen out.old) (O.screen out.new) }
+{
+    match fault {
+        FlatFault::UnknownModel(line) => put_at_line(out, *line, b"unknown model"),
+        FlatFault::UnknownPort(line, formal) => {
+            put_name_at_line(out, *line, formal.as_slice(), b" unknown port")
+        }
+        FlatFault::PortMissing(line, port) => {
+            put_name_at_line(out, *line, port.as_slice(), b" unbound")
+        }
+        FlatFault::DefinedTwice(line, name) => {
+            put_name_at_line(out, *line, name.as_slice(), b" defined twice")
+        }
+        FlatFault::Undriven(name) => put_all(out, &[name.as_slice(), b" undriven"]),
+        FlatFault::Recursion(names) => put_chain(out, b"recursion", names.as_slice()),
+        FlatFault::TooManyWords(count) => put_number(out, b"", *count, b" words"),
+        FlatFault::NoMemory => put(out, b"out of memory"),
+    }
+}
+
+// Puts what a fault of a file says.
+fn put_file_fault<O: Sink>(out: &mut O, fault: &FileFault) -> Result<(), SinkFailed>
+    ensures { Puts result (file_text fault.now) (O.screen out.old) (O.screen out.new) }
+{
+    match fault {
+        FileFault::Lines(fault) => put_lines_fault(out, fault),
+        FileFault::Models(fault) => put_models_fault(out, fault),
+        FileFault::Cycle(names) => put_chain(out, b"cycle", names.as_slice()),
+        FileFault::TooManySources(count) => put_number(out, b"", *count as u64, b" sources"),
+        FileFault::TooLarge(cost) => put_number(out, b"cost ", *cost, b""),
+        FileFault::NoMemory => put(out, b"out of memory"),
     }
 }
 
@@ -189,14 +249,26 @@ fn put_refusal<O: Sink>(out: &mut O, refusal: &Refusal, name: &[u8]) -> Result<(
     put(out, b"\n")
 }
 
-// The status of a run where a file's fault is refused first: its two limits have one of their own.
-fn file_status(fault: &ReadFault) -> u8
+// The status of a run where a fault of models is refused first: their limit has one of its own.
+fn models_status(fault: &FlatFault) -> u8
+    ensures { result ≡ models_status fault.now }
+{
+    match fault {
+        FlatFault::TooManyWords(_) => 5,
+        FlatFault::NoMemory => 8,
+        _ => 4,
+    }
+}
+
+// The status of a run where a file's fault is refused first: its three limits have one of their own.
+fn file_status(fault: &FileFault) -> u8
     ensures { result ≡ file_status fault.now }
 {
     match fault {
-        ReadFault::TooManySources(_) | ReadFault::TooLarge(_) => 5,
-        ReadFault::NoMemory => 8,
-        _ => 4,
+        FileFault::Lines(_) | FileFault::Cycle(_) => 4,
+        FileFault::Models(fault) => models_status(fault),
+        FileFault::TooManySources(_) | FileFault::TooLarge(_) => 5,
+        FileFault::NoMemory => 8,
     }
 }
 

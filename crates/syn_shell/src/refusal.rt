@@ -3,7 +3,7 @@
 ghost use Rattle.std.specs.Prelude.{◌≡◌};
 
 use std::alloc::AllocError;
-use syn_reader::ReadFault;
+use syn_hierarchy::FileFault;
 use syn_words::ScriptFault;
 
 /// Why a run or a command is refused. Each but `SinkFailed` has a line that says so.
@@ -16,7 +16,7 @@ pub enum Refusal {
     /// The first fault of a script.
     Script(ScriptFault),
     /// The first fault of the file that the command names.
-    Read(ReadFault),
+    Read(FileFault),
     /// The file that the command names has more than 16,777,216 bytes.
     FileTooLong,
     /// A script or a line has more than 65,536 bytes.

@@ -3,8 +3,8 @@
 ghost use Rattle.std.specs.Prelude.{◌≡◌, ◌⊎◌, ◌≤◌, ◌<◌, ◌^◌, length, IfOk, IfErr, OnOk, Some, None};
 ghost use Rattle.syn_io.specs.Outside.{Rose};
 ghost use Rattle.syn_netlist.specs.Views.{netlist_in};
-ghost use Rattle.syn_reader.specs.Reading.{Reads};
-ghost use Rattle.syn_reader.specs.Limits.{Within};
+ghost use Rattle.syn_hierarchy.specs.Reading.{Reads};
+ghost use Rattle.syn_hierarchy.specs.Limits.{Within};
 ghost use Rattle.syn_shapes.specs.Printed.{printed};
 ghost use Rattle.syn_graph.specs.Graphs as graphs;
 ghost use Rattle.syn_build.specs.Building.{IsGraphOf};
@@ -22,9 +22,9 @@ use std::marker::Model;
 use std::thread::Threads;
 use syn_build::{build, build_checked};
 use syn_graph::Graph;
+use syn_hierarchy::FileFault;
 use syn_io::{Files, GetFault, PutFault, Sink};
 use syn_netlist::CheckedNetlist;
-use syn_reader::ReadFault;
 use syn_words::Command;
 
 const FILE_LIMIT: u64 = 16_777_216;
@@ -63,17 +63,17 @@ fn get<F: Files>(alloc: Global, name: &str, files: &mut F) -> Result<Vec<u8>, Re
     }
 }
 
-// The netlist that bytes spell, checked, or their first fault.
+// The netlist that the bytes of a file spell, checked, or their first fault.
 fn parse(alloc: Global, bytes: &[u8]) -> Result<CheckedNetlist, Refusal>
     requires { length bytes.now ≤ file_limit }
     ensures reads { IfOk result (λ checked. Reads bytes.now (netlist_in checked.netlist)) }
-    ensures within { IfOk result (λ checked. Within (netlist_in checked.netlist)) }
+    ensures within { IfOk result (λ checked. Within bytes.now (netlist_in checked.netlist)) }
     ensures names { IfOk result (λ checked. length checked.netlist.frame.names < 2 ^ 31) }
     ensures refused { IfErr result (ParseRefused bytes.now) }
 {
-    match syn_reader::read_checked(alloc, bytes) {
+    match syn_hierarchy::read_checked(alloc, bytes) {
         Ok(checked) => Ok(checked),
-        Err(ReadFault::NoMemory) => Err(Refusal::NoMemory),
+        Err(FileFault::NoMemory) => Err(Refusal::NoMemory),
         Err(fault) => Err(Refusal::Read(fault)),
     }
 }
@@ -122,6 +122,7 @@ fn printed(alloc: Global, network: &Kept) -> Result<Vec<u8>, AllocError>
     ensures printed { IfOk result (λ bytes. bytes.items ≡ printed (network_of network.now).netlist) }
     ensures reads { IfOk result (λ bytes. Reads bytes.items (network_of network.now).netlist) }
 {
+    syn_hierarchy::one_model_reads();
     let netlist = network.netlist(alloc)?;
     let bytes = syn_text::print(alloc, &netlist)?;
     Ok(bytes)

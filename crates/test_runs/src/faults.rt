@@ -1,24 +1,7 @@
 //! Files that are refused, each with its first fault.
 
-use crate::harness::{Outcome, SCRIPT, script_leaves};
-use std::alloc::Global;
+use crate::harness::refuses;
 use std::test::Fail;
-use std::thread::Threads;
-
-// Whether a file of these bytes is refused with this line, and nothing is written.
-fn refuses<R: Threads + Sync>(
-    rt: &R,
-    alloc: Global,
-    bytes: &[u8],
-    printed: &str,
-) -> Result<bool, Fail> {
-    let wanted = Outcome {
-        status: 4,
-        printed,
-        written: None,
-    };
-    script_leaves(rt, alloc, SCRIPT, bytes, wanted)
-}
 
 #[test]
 fn names_the_first_fault(rt: HostRuntime) -> Result<(), Fail> {
@@ -42,7 +25,7 @@ fn names_the_first_fault(rt: HostRuntime) -> Result<(), Fail> {
         ),
         (
             "second model",
-            ".model a\n.model b c\n",
+            ".inputs a\n.model b\n",
             "refused: line 2: second model\n",
         ),
         ("no name", ".model\n", "refused: line 1: no name\n"),

@@ -112,3 +112,34 @@ pub fn script_leaves<R: Threads + Sync>(
     let out = sink(alloc)?;
     leaves(rt, alloc, &words, files, lines, out, wanted)
 }
+
+/// Whether a text is read, its line printed, and its graph written as this.
+pub fn writes<R: Threads + Sync>(
+    rt: &R,
+    alloc: Global,
+    text: &str,
+    printed: &str,
+    written: &str,
+) -> Result<bool, Fail> {
+    let wanted = Outcome {
+        status: 0,
+        printed,
+        written: Some(written),
+    };
+    script_leaves(rt, alloc, SCRIPT, text.as_bytes(), wanted)
+}
+
+/// Whether a file of these bytes is refused for a fault with this line, and nothing is written.
+pub fn refuses<R: Threads + Sync>(
+    rt: &R,
+    alloc: Global,
+    bytes: &[u8],
+    printed: &str,
+) -> Result<bool, Fail> {
+    let wanted = Outcome {
+        status: 4,
+        printed,
+        written: None,
+    };
+    script_leaves(rt, alloc, SCRIPT, bytes, wanted)
+}

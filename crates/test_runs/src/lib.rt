@@ -29,3 +29,5 @@ mod outside;
 mod refactoring;
 #[cfg(test)]
 mod scripts;
+#[cfg(test)]
+mod subcircuits;

@@ -110,6 +110,44 @@ fn reads_sources_up_to_their_limit(rt: HostRuntime) -> Result<(), Fail> {
     Ok(())
 }
 
+// A main model of so many empty lists and 4,094 instances of a model of 4,096 words.
+fn instances_of(alloc: Global, lists: usize) -> Result<Vec<u8>, AllocError> {
+    let mut text = b".model m\n".to_vec(alloc)?;
+    for _ in 0..lists {
+        text.extend_from_slice(b".inputs\n")?;
+    }
+    for _ in 0..4_094 {
+        text.extend_from_slice(b".subckt l\n")?;
+    }
+    text.extend_from_slice(b".model l\n")?;
+    for _ in 0..4_094 {
+        text.extend_from_slice(b".inputs\n")?;
+    }
+    Ok(text)
+}
+
+#[test]
+fn reads_words_up_to_their_limit(rt: HostRuntime) -> Result<(), Fail> {
+    let alloc = rt.alloc();
+    let rows = [
+        (2, 0, "m : i/o = 0/0 lat = 0 and = 0 lev = 0\n"),
+        (3, 5, "refused: 16777217 words\n"),
+    ];
+    for (lists, status, printed) in rows {
+        let wanted = Outcome {
+            status,
+            printed,
+            written: None,
+        };
+        let text = instances_of(alloc, lists)?;
+        assert!(rt;
+            script_leaves(&rt, alloc, "read_blif a; ps", text.as_slice(), wanted)?,
+            "{printed}"
+        );
+    }
+    Ok(())
+}
+
 #[test]
 fn runs_a_script_up_to_its_limit(rt: HostRuntime) -> Result<(), Fail> {
     let alloc = rt.alloc();

@@ -1,25 +1,7 @@
 //! Netlists that are read, printed and written.
 
-use crate::harness::{NAND, NAND_LINE, NAND_WRITTEN, Outcome, SCRIPT, script_leaves};
-use std::alloc::Global;
+use crate::harness::{NAND, NAND_LINE, NAND_WRITTEN, writes};
 use std::test::Fail;
-use std::thread::Threads;
-
-// Whether a text is read, its line printed, and its graph written as this.
-fn writes<R: Threads + Sync>(
-    rt: &R,
-    alloc: Global,
-    text: &str,
-    printed: &str,
-    written: &str,
-) -> Result<bool, Fail> {
-    let wanted = Outcome {
-        status: 0,
-        printed,
-        written: Some(written),
-    };
-    script_leaves(rt, alloc, SCRIPT, text.as_bytes(), wanted)
-}
 
 #[test]
 fn writes_what_is_read(rt: HostRuntime) -> Result<(), Fail> {
