@@ -101,6 +101,14 @@ hits_after t s n waiting r = pick (is_derived r) (walk_on t (s.inner ++ node_row
     pick true stage = refl
     pick false stage = refl
 
+-- nor a count
+counts_after : (t : Task) (s : State) (n : ℕ) (waiting : List ℕ) (r : Row) → (row_loaded t s n r waiting).counts ≡ s.counts
+counts_after t s n waiting r = pick (is_derived r) (walk_on t (s.inner ++ node_row n r ∷ []) (from_entered t.proposal.leaves (s.inner ++ node_row n r ∷ []) (refs_of r ++ waiting)))
+  where
+    pick : (b : Bool) (stage : Stage) → (if b then at (with_inner s n r) stage else answered s (Reach n)).counts ≡ s.counts
+    pick true stage = refl
+    pick false stage = refl
+
 -- ---- known rows
 pub known_stays : (v w : View) (n : ℕ) (rows : List NodeRow) → ((m : ℕ) → m ≢ n → known_row w m ≡ known_row v m) → ((m : ℕ) → has_node (nodes_of rows) m ≡ true → m ≢ n) → AreKnown v rows → AreKnown w rows
 known_stays v w n [] same apart k = tt
@@ -126,6 +134,7 @@ walk_begins t v pool s keeps alone e = subst (IsWalking t v pool v) (sym e) reco
   held = λ n. alone n ∙ sym (or_none (has_node pool n));
   known = tt;
   hits = refl;
+  counts = refl;
   rest = record { number = refl; pins = refl; idle = refl; changes = refl; difference = refl };
 }
 
@@ -180,6 +189,7 @@ module _ (t : Task) (start v : View) (pool : List ℕ) (s : State) (h : IsWalkin
           held = λ m. h.held m ∙ ap (λ rows. has_node pool m || has_node (nodes_of rows) m) (sym inner);
           known = subst (AreKnown (views.missed v n)) (sym inner) (known_stays v (views.missed v n) n s.inner (λ m ne. refl) inner_apart h.known);
           hits = ap (λ (y : State). y.hits) (e ∙ miss_read t s n waiting stage) ∙ h.hits;
+          counts = ap (λ (y : State). y.counts) (e ∙ miss_read t s n waiting stage) ∙ h.counts;
           rest = rest_on start v (views.missed v n) h.rest (record { number = refl; pins = refl; idle = refl; changes = refl; difference = refl });
         }
 
@@ -205,6 +215,7 @@ module _ (t : Task) (start v : View) (pool : List ℕ) (s : State) (h : IsWalkin
           (known_more (views.row_loaded (views.claimed v n) n r) s.inner (node_row n r)
           (known_stays v (views.row_loaded (views.claimed v n) n r) n s.inner (λ m ne. look_there m n r v.rows ne) inner_apart h.known) (look_here n r v.rows));
       hits = ap (λ (y : State). y.hits) (e ∙ row_read t s n waiting r stage) ∙ (hits_after t s n waiting r ∙ h.hits);
+      counts = ap (λ (y : State). y.counts) (e ∙ row_read t s n waiting r stage) ∙ (counts_after t s n waiting r ∙ h.counts);
       rest = rest_on start v (views.row_loaded (views.claimed v n) n r) h.rest (record { number = refl; pins = refl; idle = refl; changes = refl; difference = refl });
     }
 
@@ -216,6 +227,7 @@ module _ (t : Task) (start v : View) (pool : List ℕ) (s : State) (h : IsWalkin
       known = subst (AreKnown (views.released (views.row_loaded (views.claimed v n) n r) n)) (sym inner)
           (known_stays v (views.released (views.row_loaded (views.claimed v n) n r) n) n s.inner (λ m ne. row_stays v n pool none h.spare r m ne) inner_apart h.known);
       hits = ap (λ (y : State). y.hits) (e ∙ row_read t s n waiting r stage) ∙ (hits_after t s n waiting r ∙ h.hits);
+      counts = ap (λ (y : State). y.counts) (e ∙ row_read t s n waiting r stage) ∙ (counts_after t s n waiting r ∙ h.counts);
       rest = rest_on start v (views.released (views.row_loaded (views.claimed v n) n r) n) h.rest (record { number = refl; pins = refl; idle = refl; changes = refl; difference = refl });
     }
 

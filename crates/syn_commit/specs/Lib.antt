@@ -4,3 +4,5 @@ pub mod Stages
 pub mod Giving
 pub mod Hinted
 pub mod Storing
+pub mod Counts
+pub mod Finishing

@@ -33,6 +33,7 @@ pub record IsWalking (t : Task) (start : View) (pool : List ℕ) (v : View) (s :
   pub held : (n : ℕ) → has_node v.held n ≡ (has_node pool n || has_node (nodes_of s.inner) n)
   pub known : AreKnown v s.inner
   pub hits : s.hits ≡ []
+  pub counts : s.counts ≡ []
   pub rest : LeavesRest start v
 
 -- the view once a node's row was loaded under a claim: a node that is no gate is let go again

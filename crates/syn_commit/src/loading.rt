@@ -12,6 +12,7 @@ ghost use Rattle.syn_decide.specs.Tasks.{task_of};
 ghost use Rattle.syn_decide.specs.Walk.{enters};
 ghost use Rattle.syn_table.specs.Seating.{IsOf, known_of, nodes_of, view_of};
 ghost use Rattle.syn_table.specs.Steps.{with_view};
+ghost use Rattle.syn_commit.specs.Counts.{CountsAreLoaded};
 ghost use Rattle.syn_commit.specs.Stages.{HasEnded, IsCounted, IsKeyed, IsPastKeys, IsPastWalk, IsTrying, leaf_pinned, with_leaf};
 
 use crate::Pool;
@@ -97,11 +98,13 @@ pub(crate) fn keys(
     requires trying { IsTrying (task_of attempt.now) (view_of start.now.value) pool.now pins.old.items (view_of seat.old) deciding.old }
     requires none { pins.old.items ≡ [] }
     requires past { IsPastWalk deciding.old.stage }
+    requires uncounted { deciding.old.counts ≡ [] }
     ensures table { IsOf seat.new shared.now }
     ensures known { known_of seat.new ≡ with_view (known_of seat.old) (view_of seat.new) }
     ensures trying { IsTrying (task_of attempt.now) (view_of start.now.value) pool.now pins.new.items (view_of seat.new) deciding.new }
     ensures misses { (view_of seat.new).misses ≡ (view_of seat.old).misses }
     ensures few { length pins.new.items ≤ 9 }
+    ensures uncounted { deciding.new.counts ≡ [] }
     ensures past { IsPastKeys deciding.new.stage }
 {
     let _ = pool;
@@ -170,8 +173,10 @@ pub(crate) fn counts(
     requires trying { IsTrying (task_of attempt.now) (view_of start.now.value) pool.now pins.now.items (view_of seat.old) deciding.old }
     requires few { length pins.now.items ≤ 512 }
     requires past { IsPastKeys deciding.old.stage }
+    requires uncounted { deciding.old.counts ≡ [] }
     ensures table { IsOf seat.new shared.now }
     ensures known { known_of seat.new ≡ with_view (known_of seat.old) (view_of seat.new) }
+    ensures loaded { CountsAreLoaded (nodes_of shared.now) (view_of seat.new) deciding.new }
     ensures trying { IsTrying (task_of attempt.now) (view_of start.now.value) pool.now pins.now.items (view_of seat.new) deciding.new }
     ensures misses { (view_of seat.new).misses ≡ (view_of seat.old).misses }
     ensures ended { HasEnded deciding.new.stage }

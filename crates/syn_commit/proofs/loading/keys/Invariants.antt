@@ -1,4 +1,4 @@
-use Rattle.std.proofs.Common.{◌≡◌}
+use Rattle.std.proofs.Common.{◌≡◌, []}
 use Rattle.syn_decide.specs.Tasks.{task_of}
 use Rattle.syn_table.specs.Seating.{IsOf, known_of, view_of}
 use Rattle.syn_table.specs.Steps.{with_view}
@@ -13,6 +13,7 @@ invariant-loop-node l = record {
   misses : (view_of l.seat).misses ≡ (view_of l.fn.seat).misses;
   trying : IsTrying (task_of l.attempt) (view_of l.start.value) l.pool l.pins.items (view_of l.seat) l.deciding;
   keying : IsKeying l.pins.items l.deciding;
+  uncounted : l.deciding.counts ≡ [];
 }
 
 abbrev pub decreases-loop-node : goal.decreases-loop-node
