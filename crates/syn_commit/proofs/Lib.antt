@@ -19,3 +19,4 @@ mod Leaning
 mod Returning
 mod Ending
 mod Joining
+mod Keyings

@@ -186,7 +186,7 @@ module _ (t : Task) (start v : View) (pool pins : List ℕ) (s : State) (h : IsT
       let inner : has_node (nodes_of s.inner) n ≡ true = subst (λ k. has_node (nodes_of s.inner) k ≡ true) (sym same) here.root in
       h.held n ∙ or_right (has_node pool n) (has_node (nodes_of s.inner) n || has_node (nodes_of s.hits) n) (or_left (has_node (nodes_of s.inner) n) (has_node (nodes_of s.hits) n) inner)
 
-  key_read : (key : ℕ) → read_one t s (seen.Key n key) ≡ key_read_on s key left
+  pub key_read : (key : ℕ) → read_one t s (seen.Key n key) ≡ key_read_on s key left
   key_read key = ap (λ g. read_at t s g (seen.Key n key)) stage ∙ ap (λ b. if b then key_read_on s key left else failed s) (node_same n)
 
   inner_same : (key : ℕ) (ns : List ℕ) → (key_read_on s key ns).inner ≡ s.inner

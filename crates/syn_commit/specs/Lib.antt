@@ -5,4 +5,5 @@ pub mod Giving
 pub mod Hinted
 pub mod Storing
 pub mod Counts
+pub mod Keyed
 pub mod Finishing

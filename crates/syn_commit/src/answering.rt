@@ -11,6 +11,7 @@ ghost use Rattle.syn_table.specs.Steps.{with_view};
 ghost use Rattle.syn_commit.specs.Counts.{CountsAreLoaded};
 ghost use Rattle.syn_commit.specs.Pools.{KeepsPool};
 ghost use Rattle.syn_commit.specs.Stages.{HasEnded, IsPastWalk, IsTrying};
+ghost use Rattle.syn_commit.specs.Walks.{KeysWait};
 
 use crate::hinting::try_hints;
 use crate::loading::{MOST_PINS, counts, keys};
@@ -56,6 +57,8 @@ fn walked(
     ensures trying { IsTrying (task_of attempt.now) (view_of start.now.value) pool.now [] (view_of seat.new) deciding.new }
     ensures sole { length (known_of seat.old).numbers ≡ 64 → (view_of seat.new).misses ≡ (view_of seat.old).misses }
     ensures past { IsPastWalk deciding.new.stage }
+    ensures waits { KeysWait (task_of attempt.now) deciding.new.stage }
+    ensures no_hits { deciding.new.hits ≡ [] }
     ensures uncounted { deciding.new.counts ≡ [] }
 {
     let _ = start;

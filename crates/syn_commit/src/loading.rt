@@ -13,6 +13,8 @@ ghost use Rattle.syn_decide.specs.Walk.{enters};
 ghost use Rattle.syn_table.specs.Seating.{IsOf, known_of, nodes_of, view_of};
 ghost use Rattle.syn_table.specs.Steps.{with_view};
 ghost use Rattle.syn_commit.specs.Counts.{CountsAreLoaded};
+ghost use Rattle.syn_commit.specs.Keyed.{IsKeyedSoFar};
+ghost use Rattle.syn_commit.specs.Walks.{KeysWait};
 ghost use Rattle.syn_commit.specs.Stages.{HasEnded, IsCounted, IsKeyed, IsPastKeys, IsPastWalk, IsTrying, leaf_pinned, with_leaf};
 
 use crate::Pool;
@@ -98,12 +100,15 @@ pub(crate) fn keys(
     requires trying { IsTrying (task_of attempt.now) (view_of start.now.value) pool.now pins.old.items (view_of seat.old) deciding.old }
     requires none { pins.old.items ≡ [] }
     requires past { IsPastWalk deciding.old.stage }
+    requires waits { KeysWait (task_of attempt.now) deciding.old.stage }
+    requires no_hits { deciding.old.hits ≡ [] }
     requires uncounted { deciding.old.counts ≡ [] }
     ensures table { IsOf seat.new shared.now }
     ensures known { known_of seat.new ≡ with_view (known_of seat.old) (view_of seat.new) }
     ensures trying { IsTrying (task_of attempt.now) (view_of start.now.value) pool.now pins.new.items (view_of seat.new) deciding.new }
     ensures misses { (view_of seat.new).misses ≡ (view_of seat.old).misses }
     ensures few { length pins.new.items ≤ 9 }
+    ensures keyed { IsKeyedSoFar (task_of attempt.now) pins.new.items (view_of seat.new) deciding.new }
     ensures uncounted { deciding.new.counts ≡ [] }
     ensures past { IsPastKeys deciding.new.stage }
 {

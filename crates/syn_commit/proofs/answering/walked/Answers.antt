@@ -16,3 +16,9 @@ returns-clause-trying c =
 
 pub returns-clause-uncounted : goal.returns-clause-uncounted
 returns-clause-uncounted c = c.walk.ensures.walked.counts
+
+pub returns-clause-waits : goal.returns-clause-waits
+returns-clause-waits c = c.walk.ensures.walked.keys
+
+pub returns-clause-no_hits : goal.returns-clause-no_hits
+returns-clause-no_hits c = c.walk.ensures.walked.hits
