@@ -44,7 +44,7 @@ inside_at : (t : Task) (rows : List NodeRow) (m : ℕ) → AreInside t rows → 
 inside_at t [] m a h = absurd (cc)
 inside_at t (q ∷ rows) m a h = elim (here_or_there q.node m (nodes_of rows) h) [ inl same ↦ subst (IsInside t) (sym same) a.0 | inr there ↦ inside_at t rows m a.1 there ]
 
-hit_below : (t : Task) (rows : List NodeRow) (m : ℕ) → HitsAreInside t rows → has_node (nodes_of rows) m ≡ true → m < first_new
+pub hit_below : (t : Task) (rows : List NodeRow) (m : ℕ) → HitsAreInside t rows → has_node (nodes_of rows) m ≡ true → m < first_new
 hit_below t [] m a h = absurd (cc)
 hit_below t (q ∷ rows) m a h = elim (here_or_there q.node m (nodes_of rows) h) [ inl same ↦ subst (λ k. k < first_new) (sym same) a.0.1 | inr there ↦ hit_below t rows m a.1 there ]
 

@@ -20,3 +20,4 @@ mod Returning
 mod Ending
 mod Joining
 mod Keyings
+mod Readying

@@ -7,7 +7,11 @@ use Rattle.syn_decide.specs.Tasks.{Task}
 use Rattle.syn_decide.specs.Functions.{used_leaves}
 use Rattle.syn_decide.specs.Walk.{nodes_of}
 use Rattle.syn_decide.specs.Decided.{Answer, Done, Busy, Reach, Wide, Differs, NoGain, NoGap, NoRoom}
-use Rattle.syn_decide.specs.Fold.{State, Stage, Walking, Keying, Hinting, Counting, Ended, Failed}
+use Rattle.syn_decide.specs.Hints.{rows_needed}
+use Rattle.syn_commit_laws.specs.Redefining.{IsInOrder}
+use Rattle.syn_commit.specs.Stages.{IsTrying}
+use Rattle.syn_commit.specs.Storing.{AreNewRows}
+use Rattle.syn_decide.specs.Fold.{placed_now, State, Stage, Walking, Keying, Hinting, Counting, Ended, Failed}
 
 -- the node's key is known, and at most this one
 abbrev pub KeyAtMost : View → ℕ → ℕ → Type 0
@@ -56,3 +60,9 @@ pub record IsKeyedSoFar (t : Task) (pins : List ℕ) (v : View) (s : State) : Ty
   pub only : (n : ℕ) → has_node pins n ≡ true → (has_node (used_leaves t) n ≡ true) ⊎ (has_node (nodes_of s.hits) n ≡ true)
   pub hits : (n : ℕ) → has_node (nodes_of s.hits) n ≡ true → has_node pins n ≡ true
   pub stage : KeyedAt t pins v s s.stage
+
+-- Behind the keys rows may be made for the new gates, as far as they refer to what was there before.
+abbrev pub RowsAreReady : Type 0
+RowsAreReady =
+    (t : Task) (start v : View) (pool pins : List ℕ) (s : State) → IsInOrder t → IsTrying t start pool pins v s → IsKeyedSoFar t pins v s → AreAllKeyed t pins v s
+    → AreNewRows v s.low (rows_needed t (placed_now t s)) (placed_now t s).extra

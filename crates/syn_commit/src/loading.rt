@@ -13,7 +13,7 @@ ghost use Rattle.syn_decide.specs.Walk.{enters};
 ghost use Rattle.syn_table.specs.Seating.{IsOf, known_of, nodes_of, view_of};
 ghost use Rattle.syn_table.specs.Steps.{with_view};
 ghost use Rattle.syn_commit.specs.Counts.{CountsAreLoaded};
-ghost use Rattle.syn_commit.specs.Keyed.{IsKeyedSoFar};
+ghost use Rattle.syn_commit.specs.Keyed.{IsKeyedSoFar, RowsAreReady};
 ghost use Rattle.syn_commit.specs.Walks.{KeysWait};
 ghost use Rattle.syn_commit.specs.Stages.{HasEnded, IsCounted, IsKeyed, IsPastKeys, IsPastWalk, IsTrying, leaf_pinned, with_leaf};
 
@@ -118,6 +118,11 @@ pub(crate) fn keys(
         load_key(shared, seat, attempt, deciding, pins, node);
     }
 }
+
+/// Behind the keys the rows of new gates may be made.
+pub(crate) fn rows_ready()
+    ensures { RowsAreReady }
+{}
 
 // How often the node stands among the pins.
 fn times_in(pins: &[u32], node: u32) -> u32
