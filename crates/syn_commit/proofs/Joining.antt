@@ -1,5 +1,5 @@
 -- From the counts over the stores to the end of a commit.
-use Rattle.std.proofs.Common.{◌≡◌, ◌≢◌, ◌⊎◌, ℕ, zero, suc, ◌+◌, ◌<◌, ◌≤◌, ◌&&◌, nat_lt, Bool, true, false, if◌then◌else◌, List, [], ◌∷◌, ◌++◌, length, get_or, Some, refl, sym, ap, ◌∙◌, subst, arith, inl, inr}
+use Rattle.std.proofs.Common.{◌≡◌, ℕ, zero, suc, ◌<◌, Bool, true, false, if◌then◌else◌, List, [], ◌∷◌, length, get_or, Some, refl, sym, ap, ◌∙◌, subst, arith, inl, inr}
 use Rattle.std.specs.List.{AllByRecursion}
 use Rattle.arrayvec.specs.ArrayVec.{ArrayVec}
 use Rattle.syn_rows.specs.declared.Row.{Row}
@@ -9,19 +9,16 @@ use Rattle.syn_rows.specs.Nodes.{has_node}
 use Rattle.syn_rows.proofs.Nodes.{here_or_there}
 use Rattle.syn_fanout_free.specs.Freed.{is_free}
 use Rattle.syn_core_laws.specs.declared.View.{View}
-use Rattle.syn_core_laws.specs.declared.Change.{Change}
 use Rattle.syn_core_laws.specs.Shown.{IsShown}
 use Rattle.syn_core_laws.specs.Views.{is_derived_known, known_row}
 use Rattle.syn_decide.specs.declared.decisions.NodeRow.{NodeRow}
 use Rattle.syn_decide.specs.Tasks.{Task}
 use Rattle.syn_decide.specs.Decided.{Done}
-use Rattle.syn_decide.specs.Functions.{used_leaves}
 use Rattle.syn_decide.specs.Fitting.{HitsAreInside, IsInside}
-use Rattle.syn_decide.specs.Fold.{Ended, State, concluded, placed_now}
-use Rattle.syn_decide.specs.Hints.{first_new, rows_needed}
+use Rattle.syn_decide.specs.Fold.{Ended, State, placed_now}
+use Rattle.syn_decide.specs.Hints.{first_new}
 use Rattle.syn_decide.specs.Walk.{enters, nodes_of}
 use Rattle.syn_decide.proofs.Fitting.{hits_always_inside}
-use Rattle.syn_commit_laws.specs.Freeing.{redefines}
 use Rattle.syn_commit_laws.specs.Gains.{IsApart, StoreNothingOf}
 use Rattle.syn_commit_laws.specs.Redefining.{IsInOrder, row_made}
 use Rattle.syn_commit_laws.specs.Turning.{Spares}
@@ -29,7 +26,7 @@ use Rattle.syn_commit_laws.proofs.Deaths.{free_nodes_live, new_rows_spare}
 use Rattle.syn_commit_laws.proofs.Gains.{done_tells_gain, new_gates_are_stored, stored_rows_spare}
 use Rattle.syn_commit_laws.proofs.Goings.{freeing_begins}
 use Rattle.syn_commit_laws.proofs.Keeping.{leaf_below}
-use Rattle.syn_commit.specs.Counts.{CountsAreLoaded, dying_by}
+use Rattle.syn_commit.specs.Counts.{dying_by}
 use Rattle.syn_commit.specs.Finishing.{AreStoredBy, HasStored, StoresFinish, new_row, root_change}
 use Rattle.syn_commit.specs.Stages.{IsTrying}
 use Rattle.syn_commit.specs.Storing.{SparesAll, node_at}
@@ -37,7 +34,7 @@ use Rattle.syn_commit.proofs.Insides.{AreInside, inner_inside}
 use Rattle.syn_commit.proofs.Loads.{staged}
 use Rattle.syn_commit.proofs.Returning.{used_is_leaf}
 use Rattle.syn_commit.proofs.Sparing.{stores_free}
-use Rattle.syn_commit.proofs.Staging.{IsAnswered, IsConcluded, IsStaged}
+use Rattle.syn_commit.proofs.Staging.{IsConcluded, IsStaged}
 use Rattle.syn_commit.proofs.Tallying.{AreTallied, all_tallied}
 
 inside_at : (t : Task) (rows : List NodeRow) (m : ℕ) → AreInside t rows → has_node (nodes_of rows) m ≡ true → IsInside t m

@@ -1,12 +1,10 @@
 -- The loads of keys: what is pinned has a known key at most low, and at the end the root's is known.
-use Rattle.std.proofs.Common.{◌≡◌, ◌≢◌, ◌⊎◌, ℕ, suc, ◌+◌, ◌<◌, ◌≤◌, ◌==◌, ◌&&◌, ◌||◌, not, max, Bool, true, false, if◌then◌else◌, List, [], ◌∷◌, ◌++◌, length, Some, refl, sym, ap, ◌∙◌, subst, arith, inl, inr, eq-eqb}
+use Rattle.std.proofs.Common.{◌≡◌, ◌≢◌, ◌⊎◌, ℕ, ◌≤◌, ◌==◌, ◌&&◌, not, max, Bool, true, false, if◌then◌else◌, List, [], ◌∷◌, ◌++◌, length, Some, refl, sym, ap, ◌∙◌, subst, arith, inl, inr, eq-eqb}
 use Rattle.std.proofs.Math.Nat.{le-max_left, le-max_right}
-use Rattle.std.proofs.lemmas.Bool.{and_parts, cases_eq, eqb-true, ne_eqb, or_left, or_right}
+use Rattle.std.proofs.lemmas.Bool.{and_parts, cases_eq, eqb-true, ne_eqb, or_right}
 use Rattle.syn_rows.specs.Nodes.{has_node}
-use Rattle.syn_rows.specs.References.{times}
 use Rattle.syn_rows.proofs.Nodes.{has_cases, has_here, has_left, has_one, has_right, here_or_there}
 use Rattle.syn_core_laws.specs.declared.View.{View}
-use Rattle.syn_core_laws.specs.declared.Seen.TheVariants as seen
 use Rattle.syn_core_laws.specs.Lists.{look}
 use Rattle.syn_core_laws.specs.Views.{key_loaded, known_key, pinned}
 use Rattle.syn_core_laws.proofs.Counting.{times_has}
@@ -15,8 +13,8 @@ use Rattle.syn_decide.specs.Tasks.{Task}
 use Rattle.syn_decide.specs.Functions.{used_leaves}
 use Rattle.syn_decide.specs.Walk.{enters, nodes_of}
 use Rattle.syn_decide.specs.Decided.{Answer, Done, Busy, Reach, Wide, Differs, NoGain, NoGap, NoRoom}
-use Rattle.syn_decide.specs.Fold.{State, Stage, Walking, Keying, Hinting, Counting, Ended, Failed, key_loaded as key_read_on, read_one}
-use Rattle.syn_commit.specs.Keyed.{AreAllKeyed, AreWaiting, EndsAt, IsKeyedSoFar, KeyAtMost, KeyedAfter, KeyedAt}
+use Rattle.syn_decide.specs.Fold.{State, Stage, Walking, Keying, Hinting, Counting, Ended, Failed, key_loaded as key_read_on}
+use Rattle.syn_commit.specs.Keyed.{AreWaiting, EndsAt, IsKeyedSoFar, KeyAtMost, KeyedAfter, KeyedAt}
 use Rattle.syn_commit.specs.Stages.{IsKeyed, IsTrying}
 use Rattle.syn_commit.specs.Walks.{IsOfReads, KeysWait}
 use Rattle.syn_commit.proofs.Loads.{key_read, staged}

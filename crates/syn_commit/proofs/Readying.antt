@@ -1,16 +1,14 @@
 -- Behind the keys, what new rows refer to is pinned with keys that are low enough.
-use Rattle.std.proofs.Common.{◌≡◌, ◌⊎◌, ℕ, suc, ◌+◌, ◌<◌, ◌≤◌, true, false, List, length, Some, sym, ap, ◌∙◌, subst, arith, inl, inr}
+use Rattle.std.proofs.Common.{◌≡◌, ℕ, suc, ◌<◌, true, List, sym, subst, arith, inl, inr}
 use Rattle.syn_rows.specs.declared.Lit.{Lit}
 use Rattle.syn_rows.specs.Rows.{node_of}
 use Rattle.syn_rows.specs.Nodes.{has_node}
-use Rattle.syn_rows.specs.References.{times}
 use Rattle.syn_core_laws.specs.declared.View.{View}
 use Rattle.syn_core_laws.proofs.Counting.{has_times, times_has}
 use Rattle.syn_decide.specs.Tasks.{Task}
 use Rattle.syn_decide.specs.Fitting.{HitsAreInside}
-use Rattle.syn_decide.specs.Fold.{State, placed_now}
-use Rattle.syn_decide.specs.Functions.{used_leaves}
-use Rattle.syn_decide.specs.Hints.{first_new, is_new_gate, rows_needed}
+use Rattle.syn_decide.specs.Fold.{State}
+use Rattle.syn_decide.specs.Hints.{first_new}
 use Rattle.syn_decide.specs.Walk.{nodes_of}
 use Rattle.syn_decide.proofs.Fitting.{hits_always_inside}
 use Rattle.syn_commit_laws.specs.Origins.{IsFanIn, IsFrom}

@@ -1,30 +1,28 @@
 -- A commit that gives up behind its counts: no row that they counted as dying is freed.
-use Rattle.std.proofs.Common.{eq-zero-or-pos, ◌≡◌, ◌≢◌, ◌⊎◌, ℕ, ◌+◌, ◌<◌, ◌≤◌, ◌==◌, ◌&&◌, ◌||◌, not, Bool, true, false, if◌then◌else◌, List, [], ◌∷◌, ◌++◌, length, Option, Some, None, refl, sym, ap, ◌∙◌, subst, arith, inl, inr, append-nil, pos, ◌+ℤ◌}
+use Rattle.std.proofs.Common.{eq-zero-or-pos, ◌≡◌, ◌≢◌, ◌⊎◌, ℕ, ◌+◌, ◌<◌, ◌≤◌, ◌==◌, ◌&&◌, ◌||◌, not, Bool, true, false, if◌then◌else◌, List, [], ◌∷◌, ◌++◌, length, Option, Some, None, refl, sym, ap, ◌∙◌, subst, arith, inl, inr, pos, ◌+ℤ◌}
 use Rattle.std.proofs.lemmas.Bool.{and_parts, or_cases, or_left, or_right}
 use Rattle.syn_rows.specs.declared.Row.{Row}
-use Rattle.syn_rows.specs.declared.Row.TheVariants.{Free}
-use Rattle.syn_rows.specs.Rows.{AllRefs, is_derived, refs_of}
+use Rattle.syn_rows.specs.Rows.{AllRefs, refs_of}
 use Rattle.syn_rows.specs.Nodes.{has_node}
-use Rattle.syn_rows.specs.References.{refs, times}
 use Rattle.syn_rows.proofs.Nodes.{has_here, here_or_there}
 use Rattle.syn_core_laws.specs.declared.View.{View}
 use Rattle.syn_core_laws.specs.declared.Change.{Change}
 use Rattle.syn_core_laws.specs.declared.EventKind.{EventKind}
 use Rattle.syn_core_laws.specs.declared.EventKind.TheVariants as Kind
 use Rattle.syn_core_laws.specs.Shown.{IsShown}
-use Rattle.syn_core_laws.specs.Views.{is_derived_known, known_row, own_pins, own_refs, refs_known}
+use Rattle.syn_core_laws.specs.Views.{is_derived_known, known_row, own_refs, refs_known}
 use Rattle.syn_core_laws.proofs.Counting.{has_times, times_has}
 use Rattle.syn_decide.specs.declared.decisions.NodeRow.{NodeRow}
 use Rattle.syn_decide.specs.Tasks.{Task}
 use Rattle.syn_decide.specs.Functions.{used_from, used_leaves, uses}
 use Rattle.syn_decide.specs.Walk.{enters, is_met, nodes_of}
 use Rattle.syn_decide.specs.Walked.{FirstIs, IsLinked}
-use Rattle.syn_decide.specs.Fold.{State, Stage, Ended}
+use Rattle.syn_decide.specs.Fold.{State, Ended}
 use Rattle.syn_decide.specs.Dying.{counted_of, dying_of}
 use Rattle.syn_commit_laws.specs.Counted.{dead_of}
 use Rattle.syn_decide.proofs.Linking.{always_linked}
 use Rattle.syn_commit_laws.specs.Dying.{AreDoomed}
-use Rattle.syn_commit_laws.specs.Freeing.{IsGivenUp, IsOut, ands_freed, late, redefines}
+use Rattle.syn_commit_laws.specs.Freeing.{IsGivenUp, IsOut, late}
 use Rattle.syn_commit_laws.specs.Turning.{stored_by}
 use Rattle.syn_commit_laws.proofs.Giving.{given_up_tells, giving_up_begins, giving_up_goes_on, roots_are_out}
 use Rattle.syn_commit_laws.proofs.Sums.{sum_some}

@@ -1,4 +1,3 @@
-use Rattle.syn_decide.specs.Fold.{State}
 use Rattle.syn_table.specs.Seating.{nodes_of, view_of}
 use Rattle.syn_commit.specs.Counts.{dying_by}
 use Rattle.std.proofs.Common.{length}
