@@ -28,7 +28,7 @@ use Rattle.syn_decide.specs.Walked.{IsLinked, IsWalked}
 use Rattle.syn_decide.proofs.Walking.{always_walked, entered_new, node_row, nodes_more}
 use Rattle.syn_decide.proofs.Linking.{always_linked}
 use Rattle.syn_commit.specs.Pools.{KeepsPool, found_claimed}
-use Rattle.syn_commit.specs.Walks.{AreKnown, IsEntered, IsOfReads, IsWalking}
+use Rattle.syn_commit.specs.Walks.{KeysWait, AreKnown, IsEntered, IsOfReads, IsWalking}
 use Rattle.syn_commit.proofs.Ranking.{row_fits}
 use Rattle.syn_commit.proofs.Trying.{claimed_append, held_stays, missed_keeps, or_none, other, rest_on, row_stays, used_keeps}
 
@@ -101,6 +101,39 @@ hits_after t s n waiting r = pick (is_derived r) (walk_on t (s.inner ++ node_row
     pick true stage = refl
     pick false stage = refl
 
+-- nor a count
+counts_after : (t : Task) (s : State) (n : ℕ) (waiting : List ℕ) (r : Row) → (row_loaded t s n r waiting).counts ≡ s.counts
+counts_after t s n waiting r = pick (is_derived r) (walk_on t (s.inner ++ node_row n r ∷ []) (from_entered t.proposal.leaves (s.inner ++ node_row n r ∷ []) (refs_of r ++ waiting)))
+  where
+    pick : (b : Bool) (stage : Stage) → (if b then at (with_inner s n r) stage else answered s (Reach n)).counts ≡ s.counts
+    pick true stage = refl
+    pick false stage = refl
+
+-- the keys wait
+over_waits : (t : Task) (inner : List NodeRow) (o : Option ℕ) → KeysWait t (after_walk t inner o)
+over_waits t inner (Some leaf) = tt
+over_waits t inner None = go (in_circle t inner) (is_same_function t inner)
+  where
+    go : (b c : Bool) → KeysWait t (if b then Failed else (if c then Keying (used_leaves t ++ t.proposal.root ∷ []) else Ended (Differs (was_table t) (now_table t inner))))
+    go true c = tt
+    go false true = refl
+    go false false = tt
+
+on_waits : (t : Task) (inner : List NodeRow) (ns : List ℕ) → KeysWait t (walk_on t inner ns)
+on_waits t inner [] = over_waits t inner (first_unmet t inner)
+on_waits t inner (n ∷ ns) = go (nat_lt (length inner) MOST_INNER)
+  where
+    go : (b : Bool) → KeysWait t (if b then Walking (n ∷ ns) else Ended (Wide n))
+    go true = tt
+    go false = tt
+
+keys_after : (t : Task) (s : State) (n : ℕ) (waiting : List ℕ) (r : Row) → KeysWait t (row_loaded t s n r waiting).stage
+keys_after t s n waiting r = pick (is_derived r) (walk_on t (s.inner ++ node_row n r ∷ []) (from_entered t.proposal.leaves (s.inner ++ node_row n r ∷ []) (refs_of r ++ waiting))) (on_waits t (s.inner ++ node_row n r ∷ []) (from_entered t.proposal.leaves (s.inner ++ node_row n r ∷ []) (refs_of r ++ waiting)))
+  where
+    pick : (b : Bool) (stage : Stage) → KeysWait t stage → KeysWait t (if b then at (with_inner s n r) stage else answered s (Reach n)).stage
+    pick true stage w = w
+    pick false stage w = tt
+
 -- ---- known rows
 pub known_stays : (v w : View) (n : ℕ) (rows : List NodeRow) → ((m : ℕ) → m ≢ n → known_row w m ≡ known_row v m) → ((m : ℕ) → has_node (nodes_of rows) m ≡ true → m ≢ n) → AreKnown v rows → AreKnown w rows
 known_stays v w n [] same apart k = tt
@@ -126,6 +159,8 @@ walk_begins t v pool s keeps alone e = subst (IsWalking t v pool v) (sym e) reco
   held = λ n. alone n ∙ sym (or_none (has_node pool n));
   known = tt;
   hits = refl;
+  counts = refl;
+  keys = tt;
   rest = record { number = refl; pins = refl; idle = refl; changes = refl; difference = refl };
 }
 
@@ -180,6 +215,8 @@ module _ (t : Task) (start v : View) (pool : List ℕ) (s : State) (h : IsWalkin
           held = λ m. h.held m ∙ ap (λ rows. has_node pool m || has_node (nodes_of rows) m) (sym inner);
           known = subst (AreKnown (views.missed v n)) (sym inner) (known_stays v (views.missed v n) n s.inner (λ m ne. refl) inner_apart h.known);
           hits = ap (λ (y : State). y.hits) (e ∙ miss_read t s n waiting stage) ∙ h.hits;
+          counts = ap (λ (y : State). y.counts) (e ∙ miss_read t s n waiting stage) ∙ h.counts;
+          keys = subst (λ (y : State). KeysWait t y.stage) (sym (e ∙ miss_read t s n waiting stage)) tt;
           rest = rest_on start v (views.missed v n) h.rest (record { number = refl; pins = refl; idle = refl; changes = refl; difference = refl });
         }
 
@@ -205,6 +242,8 @@ module _ (t : Task) (start v : View) (pool : List ℕ) (s : State) (h : IsWalkin
           (known_more (views.row_loaded (views.claimed v n) n r) s.inner (node_row n r)
           (known_stays v (views.row_loaded (views.claimed v n) n r) n s.inner (λ m ne. look_there m n r v.rows ne) inner_apart h.known) (look_here n r v.rows));
       hits = ap (λ (y : State). y.hits) (e ∙ row_read t s n waiting r stage) ∙ (hits_after t s n waiting r ∙ h.hits);
+      counts = ap (λ (y : State). y.counts) (e ∙ row_read t s n waiting r stage) ∙ (counts_after t s n waiting r ∙ h.counts);
+      keys = subst (λ (y : State). KeysWait t y.stage) (sym (e ∙ row_read t s n waiting r stage)) (keys_after t s n waiting r);
       rest = rest_on start v (views.row_loaded (views.claimed v n) n r) h.rest (record { number = refl; pins = refl; idle = refl; changes = refl; difference = refl });
     }
 
@@ -216,6 +255,8 @@ module _ (t : Task) (start v : View) (pool : List ℕ) (s : State) (h : IsWalkin
       known = subst (AreKnown (views.released (views.row_loaded (views.claimed v n) n r) n)) (sym inner)
           (known_stays v (views.released (views.row_loaded (views.claimed v n) n r) n) n s.inner (λ m ne. row_stays v n pool none h.spare r m ne) inner_apart h.known);
       hits = ap (λ (y : State). y.hits) (e ∙ row_read t s n waiting r stage) ∙ (hits_after t s n waiting r ∙ h.hits);
+      counts = ap (λ (y : State). y.counts) (e ∙ row_read t s n waiting r stage) ∙ (counts_after t s n waiting r ∙ h.counts);
+      keys = subst (λ (y : State). KeysWait t y.stage) (sym (e ∙ row_read t s n waiting r stage)) (keys_after t s n waiting r);
       rest = rest_on start v (views.released (views.row_loaded (views.claimed v n) n r) n) h.rest (record { number = refl; pins = refl; idle = refl; changes = refl; difference = refl });
     }
 

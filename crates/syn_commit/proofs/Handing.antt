@@ -18,11 +18,11 @@ use Rattle.syn_decide.specs.Walk.{enters, nodes_of}
 use Rattle.syn_decide.specs.Walked.{IsWalked}
 use Rattle.syn_decide.specs.Fold.{State}
 use Rattle.syn_decide.proofs.Walking.{always_walked, nodes_more}
-use Rattle.syn_commit_laws.specs.Freeing.{IsTold, ands_freed, redefines}
+use Rattle.syn_commit_laws.specs.Freeing.{IsTold, late, redefines}
 use Rattle.syn_commit_laws.specs.Turning.{stored_by}
 use Rattle.syn_commit_laws.proofs.Giving.{early_tells}
 use Rattle.syn_commit_laws.proofs.Goings.{frees_add_none, telling_begins, telling_goes_on}
-use Rattle.syn_commit.specs.Giving.{FellByLate, GivesBackAll, HasGivenUp, HoldsAlone, IsGiving, with_gate, with_gates}
+use Rattle.syn_commit.specs.Giving.{GivesBackAll, HasGivenUp, HoldsAlone, IsGiving, with_gate, with_gates}
 use Rattle.syn_commit.specs.Stages.{IsTrying}
 use Rattle.syn_commit.specs.Walks.{IsOfReads}
 use Rattle.syn_commit.specs.Pools.{KeepsPool}
@@ -112,12 +112,26 @@ trying_gives t start v pool pins s gates root h is few = record {
     ]
 
 -- ---- at the end
+pub giving_no_pins : (pool : List ℕ) (gates : List NodeRow) (v : View) → IsGiving pool [] gates [] v → v.pins ≡ []
+giving_no_pins pool gates v g = go v.pins g.pinned
+  where
+    go : (ps : List ℕ) → ((m : ℕ) → times m ps ≡ times m []) → ps ≡ []
+    go [] p = refl
+    go (x ∷ ps) p = let one = hits_same x in let none = p x in absurd (omega (arith, one, none))
+
+pub giving_no_idle : (pool : List ℕ) (gates : List NodeRow) (v : View) → IsGiving pool [] gates [] v → v.idle ≡ []
+giving_no_idle pool gates v g = go v.idle (λ n h. let l = g.idle_there n h in omega (arith, l))
+  where
+    go : (ns : List ℕ) → ((n : ℕ) → has_node ns n ≡ true → ⊥) → ns ≡ []
+    go [] f = refl
+    go (x ∷ ns) f = absurd (f x (has_here x ns))
+
 pub holds_alone : (pool : List ℕ) (v : View) → IsGiving pool [] [] [] v → HoldsAlone pool v
 holds_alone pool v g = record {
   spare = g.spare;
   held = λ n. go n (has_node v.held n) (has_node pool n) refl refl;
-  pins = no_pins v.pins g.pinned;
-  idle = no_idle v.idle (λ n h. let l = g.idle_there n h in omega (arith, l));
+  pins = giving_no_pins pool [] v g;
+  idle = giving_no_idle pool [] v g;
 }
   where
     go : (n : ℕ) (a b : Bool) → has_node v.held n ≡ a → has_node pool n ≡ b → a ≡ b
@@ -125,14 +139,6 @@ holds_alone pool v g = record {
     go n true false p q = elim (g.held n p) [ inl spare ↦ (let yes : has_node pool n ≡ true = spare in absurd (cc)) | inr l ↦ absurd (omega (arith, l)) ]
     go n false true p q = let yes = g.spare.held n q in absurd (cc)
     go n false false p q = refl
-
-    no_pins : (ps : List ℕ) → ((m : ℕ) → times m ps ≡ times m []) → ps ≡ []
-    no_pins [] p = refl
-    no_pins (x ∷ ps) p = let one = hits_same x in let none = p x in absurd (omega (arith, one, none))
-
-    no_idle : (ns : List ℕ) → ((n : ℕ) → has_node ns n ≡ true → ⊥) → ns ≡ []
-    no_idle [] f = refl
-    no_idle (x ∷ ns) f = absurd (f x (has_here x ns))
 
 -- ---- what is given back tells nothing new, and stores frees alone
 record IsQuiet (v w : View) : Type 0 where
@@ -195,13 +201,15 @@ reads_stay t start v w nodes pool grown s o g =
     let q = quiet_all nodes v g.0 g.1.0 g.1.1 in
     record { met = o.met; reads = g.2.reads ∙ (q.reads ∙ o.reads); misses = g.2.misses ∙ (q.misses ∙ o.misses); state = o.state }
 
-pub fell_by_late : (t : Task) (start v w : View) (nodes : ℕ) (pool grown pins : List ℕ) (s : State) → IsTrying t start pool pins v s → HasGivenUp nodes v pool w grown → FellByLate start w
-fell_by_late t start v w nodes pool grown pins s h g =
+-- nothing was counted as dying: each AND that was freed is late
+pub fell_by_all : (start v w : View) (nodes : ℕ) (pool grown : List ℕ) → v.changes ≡ start.changes → v.difference ≡ start.difference → HasGivenUp nodes v pool w grown
+    → (changes : List Change) × (w.changes ≡ start.changes ++ changes) × (redefines changes ≡ []) × (w.difference +ℤ pos (late (λ n. false) changes) ≡ start.difference)
+fell_by_all start v w nodes pool grown stored fell g =
     let told = told_all nodes v v g.0 [] g.1.0 (telling_begins v) refl g.1.1 in (
       told.changes,
-      g.2.changes ∙ (told.told.stored ∙ ap (λ cs. cs ++ told.changes) h.changes),
+      g.2.changes ∙ (told.told.stored ∙ ap (λ cs. cs ++ told.changes) stored),
       told.alone,
-      ap (λ d. d +ℤ pos (ands_freed (λ n. true) told.changes)) g.2.difference ∙ (early_tells v g.0 told.changes told.told told.alone ∙ h.difference),
+      ap (λ d. d +ℤ pos (late (λ n. false) told.changes)) g.2.difference ∙ (early_tells v g.0 told.changes told.told told.alone ∙ fell),
     )
 
 -- a seat that holds its pool alone has nothing on its zero list

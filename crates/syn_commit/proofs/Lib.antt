@@ -13,3 +13,11 @@ mod Stepping
 mod Following
 mod Replacing
 mod Sparing
+mod Insides
+mod Tallying
+mod Leaning
+mod Returning
+mod Ending
+mod Joining
+mod Keyings
+mod Readying

@@ -1,6 +1,7 @@
 -- The loads behind the walk keep what holds on the way.
 use Rattle.std.proofs.Common.{◌≡◌, ◌≢◌, ◌⊎◌, ℕ, zero, suc, ◌+◌, ◌-◌, ◌<◌, ◌≤◌, ◌==◌, ◌||◌, Bool, true, false, if◌then◌else◌, List, [], ◌∷◌, ◌++◌, length, drop, Option, refl, sym, ap, ◌∙◌, subst, arith, inl, inr, append-nil, length-append}
-use Rattle.std.proofs.lemmas.Bool.{or_left, or_right}
+use Rattle.std.specs.List.{AllByRecursion}
+use Rattle.std.proofs.lemmas.Bool.{eq-eqb, or_left, or_right}
 use Rattle.syn_rows.specs.Rows.{refs_of}
 use Rattle.syn_rows.specs.Nodes.{has_node}
 use Rattle.syn_rows.specs.References.{times}
@@ -10,16 +11,21 @@ use Rattle.syn_core_laws.specs.declared.Seen.TheVariants as seen
 use Rattle.syn_core_laws.specs.Events.{MayPin}
 use Rattle.syn_core_laws.specs.Lists.{look, only}
 use Rattle.syn_core_laws.specs.Views.{count_loaded, differs, key_loaded, own_pins, pinned}
-use Rattle.syn_core_laws.proofs.Counting.{times_append, times_has}
+use Rattle.syn_core_laws.proofs.Counting.{hits_other, times_append, times_has}
 use Rattle.syn_decide.specs.declared.decisions.NodeRow.{NodeRow}
 use Rattle.syn_decide.specs.declared.decisions.Want.TheVariants as want
 use Rattle.syn_decide.specs.Decided.{Next}
+use Rattle.syn_decide.specs.declared.decisions.Counted.{Counted}
+use Rattle.syn_decide.specs.Dying.{counted_of}
 use Rattle.syn_decide.specs.Tasks.{Task}
 use Rattle.syn_decide.specs.Walk.{enters, nodes_of}
-use Rattle.syn_decide.specs.Fold.{State, Stage, Walking, Keying, Hinting, Counting, Ended, Failed, count_on, failed, key_loaded as key_read_on, read_at, read_count, read_one, uncounted, wanted_at, wanted_count, wants, with_count}
+use Rattle.syn_decide.specs.Fold.{State, Stage, Walking, Keying, Hinting, Counting, Ended, Failed, count_on, failed, is_hinting, key_loaded as key_read_on, read_at, read_count, read_one, uncounted, wanted_at, wanted_count, wants, with_count}
 use Rattle.syn_decide.specs.Walked.{AreGates, IsLinked, IsWalked}
 use Rattle.syn_decide.proofs.Walking.{always_walked}
 use Rattle.syn_decide.proofs.Linking.{always_linked}
+use Rattle.syn_commit_laws.specs.Dying.{IsLoaded}
+use Rattle.syn_commit_laws.proofs.Deaths.{loaded_here, loaded_more}
+use Rattle.syn_commit.specs.Counts.{CountsAreLoaded}
 use Rattle.syn_commit.specs.Walks.{AreKnown, IsOfReads, IsWalking}
 use Rattle.syn_commit.specs.Stages.{HasEnded, IsCounted, IsKeyed, IsPastKeys, IsPastWalk, IsTrying}
 use Rattle.syn_commit.proofs.Entering.{reads_more, referring}
@@ -39,8 +45,8 @@ known_same v w [] e k = tt
 known_same v w (r ∷ rows) e k = (ap (λ rs. look r.node rs) e ∙ k.0, known_same v w rows e k.1)
 
 trying_on : (t : Task) (start v w : View) (pool pins more : List ℕ) (s z : State) → IsTrying t start pool pins v s → IsOfReads t start w z → IsBeside v w → z.inner ≡ s.inner → z.hits ≡ s.hits
-    → ((n : ℕ) → own_pins w n ≡ times n more) → length w.pins ≡ length more → IsTrying t start pool more w z
-trying_on t start v w pool pins more s z h reads b inner hits pinned count = record {
+    → ((n : ℕ) → own_pins w n ≡ times n more) → length w.pins ≡ length more → times t.proposal.root more ≡ 0 → IsTrying t start pool more w z
+trying_on t start v w pool pins more s z h reads b inner hits pinned count root_out = record {
   reads = reads;
   spare = record {
     distinct = h.spare.distinct;
@@ -53,6 +59,8 @@ trying_on t start v w pool pins more s z h reads b inner hits pinned count = rec
   inner = subst (AreKnown w) (sym inner) (known_same v w s.inner b.rows h.inner);
   hits = subst (AreKnown w) (sym hits) (known_same v w s.hits b.rows h.hits);
   gates = subst AreGates (sym hits) h.gates;
+  apart = ap (λ rows. has_node (nodes_of rows) t.proposal.root) hits ∙ h.apart;
+  root_out = root_out;
   pinned = pinned;
   count = count;
   number = b.number ∙ h.number;
@@ -70,6 +78,8 @@ walk_over t start v pool s h pins idle = record {
   inner = h.known;
   hits = subst (AreKnown v) (sym h.hits) tt;
   gates = subst AreGates (sym h.hits) tt;
+  apart = ap (λ rows. has_node (nodes_of rows) t.proposal.root) h.hits;
+  root_out = refl;
   pinned = λ n. ap (λ ns. times n ns) (h.rest.pins ∙ pins);
   count = ap length (h.rest.pins ∙ pins);
   number = h.rest.number;
@@ -154,6 +164,10 @@ keying_ends t start v s o past none = go s.stage (staged t start v s o) past non
 times_more : (m n : ℕ) (ps qs : List ℕ) → times m ps ≡ times m qs → times m (n ∷ ps) ≡ times m (qs ++ n ∷ [])
 times_more m n ps qs e = let a = times_append m qs (n ∷ []) in omega (arith, a, e)
 
+-- a pin of another node
+pub still_out : (m n : ℕ) (pins : List ℕ) → times m pins ≡ 0 → m ≢ n → times m (pins ++ n ∷ []) ≡ 0
+still_out m n pins none ne = let all = times_append m pins (n ∷ []) in let other = hits_other m n ne in omega (arith, all, none, other)
+
 module _ (t : Task) (start v : View) (pool pins : List ℕ) (s : State) (h : IsTrying t start pool pins v s) (n : ℕ) (left : List ℕ) (stage : s.stage ≡ Keying (n ∷ left)) where
   -- the node is the root, which is held, or an inner row refers to it
   pub key_may : n ≢ t.proposal.root → MayPin v n
@@ -172,7 +186,7 @@ module _ (t : Task) (start v : View) (pool pins : List ℕ) (s : State) (h : IsT
       let inner : has_node (nodes_of s.inner) n ≡ true = subst (λ k. has_node (nodes_of s.inner) k ≡ true) (sym same) here.root in
       h.held n ∙ or_right (has_node pool n) (has_node (nodes_of s.inner) n || has_node (nodes_of s.hits) n) (or_left (has_node (nodes_of s.inner) n) (has_node (nodes_of s.hits) n) inner)
 
-  key_read : (key : ℕ) → read_one t s (seen.Key n key) ≡ key_read_on s key left
+  pub key_read : (key : ℕ) → read_one t s (seen.Key n key) ≡ key_read_on s key left
   key_read key = ap (λ g. read_at t s g (seen.Key n key)) stage ∙ ap (λ b. if b then key_read_on s key left else failed s) (node_same n)
 
   inner_same : (key : ℕ) (ns : List ℕ) → (key_read_on s key ns).inner ≡ s.inner
@@ -184,7 +198,7 @@ module _ (t : Task) (start v : View) (pool pins : List ℕ) (s : State) (h : IsT
   hits_same key (m ∷ ns) = refl
 
   pub key_goes_on : (w : View) (more : List ℕ) (z : State) → IsKeyed t n v pins s w more z → IsTrying t start pool more w z
-  key_goes_on w more z k = go (n == t.proposal.root) k.1 k.2
+  key_goes_on w more z k = go (n == t.proposal.root) refl k.1 k.2
     where
       read : z ≡ read_one t s (seen.Key n k.0)
       read = k.3
@@ -195,18 +209,18 @@ module _ (t : Task) (start v : View) (pool pins : List ℕ) (s : State) (h : IsT
       hits : z.hits ≡ s.hits
       hits = ap (λ (y : State). y.hits) (read ∙ key_read k.0) ∙ hits_same k.0 left
 
-      go : (b : Bool) → w ≡ key_loaded (if b then v else pinned v n) n k.0 → more ≡ (if b then pins else pins ++ n ∷ []) → IsTrying t start pool more w z
-      go true view same =
+      go : (b : Bool) → (n == t.proposal.root) ≡ b → w ≡ key_loaded (if b then v else pinned v n) n k.0 → more ≡ (if b then pins else pins ++ n ∷ []) → IsTrying t start pool more w z
+      go true is view same =
           subst (λ ps. IsTrying t start pool ps w z) (sym same) (subst (λ y. IsTrying t start pool pins y z) (sym view)
           (trying_on t start v (key_loaded v n k.0) pool pins pins s z h
           (reads_more t start v (key_loaded v n k.0) s z (seen.Key n k.0) h.reads refl (sym (append-nil v.misses)) read)
-          (record { held = refl; rows = refl; number = refl; idle = λ e. e; changes = refl; difference = refl }) inner hits h.pinned h.count))
-      go false view same =
+          (record { held = refl; rows = refl; number = refl; idle = λ e. e; changes = refl; difference = refl }) inner hits h.pinned h.count h.root_out))
+      go false is view same =
           subst (λ ps. IsTrying t start pool ps w z) (sym same) (subst (λ y. IsTrying t start pool (pins ++ n ∷ []) y z) (sym view)
           (trying_on t start v (key_loaded (pinned v n) n k.0) pool pins (pins ++ n ∷ []) s z h
           (reads_more t start v (key_loaded (pinned v n) n k.0) s z (seen.Key n k.0) h.reads refl (sym (append-nil v.misses)) read)
           (record { held = refl; rows = refl; number = refl; idle = λ e. ap (only (differs n)) e; changes = refl; difference = refl }) inner hits
-          (λ m. times_more m n v.pins pins (h.pinned m)) (ap suc h.count ∙ sym (length-append pins (n ∷ []) ∙ one (length pins)))))
+          (λ m. times_more m n v.pins pins (h.pinned m)) (ap suc h.count ∙ sym (length-append pins (n ∷ []) ∙ one (length pins))) (still_out t.proposal.root n pins h.root_out (λ e. let yes : (n == t.proposal.root) ≡ true = eq-eqb n t.proposal.root (sym e) in cc))))
         where
           one : (k : ℕ) → k + 1 ≡ suc k
           one k = omega arith
@@ -238,6 +252,27 @@ module _ (t : Task) (start v : View) (pool pins : List ℕ) (s : State) (h : IsT
 
       grows : length more ≤ length pins + 1
       grows = subst (λ ps. length ps ≤ length pins + 1) (sym i.2) (pins_most (n == t.proposal.root))
+
+-- no count comes with a key
+pub key_uncounted : (t : Task) (v : View) (pins : List ℕ) (s : State) (n : ℕ) (left : List ℕ) → s.stage ≡ Keying (n ∷ left) → (w : View) (more : List ℕ) (z : State) → IsKeyed t n v pins s w more z → z.counts ≡ s.counts
+key_uncounted t v pins s n left stage w more z k =
+    ap (λ (y : State). y.counts) (k.3 ∙ (ap (λ g. read_at t s g (seen.Key n k.0)) stage ∙ ap (λ b. if b then key_read_on s k.0 left else failed s) (node_same n))) ∙ same left
+  where
+    same : (ns : List ℕ) → (key_read_on s k.0 ns).counts ≡ s.counts
+    same [] = refl
+    same (m ∷ ns) = refl
+
+-- none is there while hints may stand
+pub hinting_uncounted : (t : Task) (start v : View) (s : State) → IsOfReads t start v s → is_hinting s.stage ≡ true → s.counts ≡ []
+hinting_uncounted t start v s o hinting = go s.stage (staged t start v s o) hinting
+  where
+    go : (stage : Stage) → IsStaged t s stage → is_hinting stage ≡ true → s.counts ≡ []
+    go (Walking waiting) g e = absurd (cc)
+    go (Keying left) g e = absurd (cc)
+    go (Hinting last) g e = g.0
+    go Counting g e = absurd (cc)
+    go (Ended answer) g e = absurd (cc)
+    go Failed g e = absurd (cc)
 
 -- ---- counts
 -- the first inner row that has no count, which is asked for
@@ -299,6 +334,22 @@ dropped_less k [] left r e = absurd (none k e)
 dropped_less zero (q ∷ rows) left r e = omega arith
 dropped_less (suc k) (q ∷ rows) left r e = let less = dropped_less k rows left r e in omega (arith, less)
 
+-- no count, no counted row
+pub none_counted : (inner : List NodeRow) → counted_of inner [] ≡ []
+none_counted [] = refl
+none_counted (r ∷ inner) = refl
+
+-- one count more is one counted row more
+counted_more : (inner : List NodeRow) (counts : List ℕ) (r : NodeRow) (left : List NodeRow) (c : ℕ) → drop (length counts) inner ≡ r ∷ left
+    → counted_of inner (counts ++ c ∷ []) ≡ counted_of inner counts ++ (record { node = r.node; row = r.row; others = c }) ∷ []
+counted_more [] [] r left c e = absurd (cc)
+counted_more [] (x ∷ counts) r left c e = absurd (cc)
+counted_more (q ∷ inner) [] r left c e = let same : q ≡ r = cc in subst (λ (y : NodeRow). counted_of (q ∷ inner) (c ∷ []) ≡ (record { node = y.node; row = y.row; others = c }) ∷ []) same (ap (λ rows. (record { node = q.node; row = q.row; others = c }) ∷ rows) (none_counted inner))
+counted_more (q ∷ inner) (x ∷ counts) r left c e = ap (λ rows. (record { node = q.node; row = q.row; others = x }) ∷ rows) (counted_more inner counts r left c e)
+
+pub none_loaded : (nodes : ℕ) (v : View) (s : State) → s.counts ≡ [] → CountsAreLoaded nodes v s
+none_loaded nodes v s none = subst (λ (rows : List Counted). AllByRecursion (λ r. IsLoaded nodes v r.node (r.others + own_pins v r.node)) rows) (sym (ap (counted_of s.inner) none ∙ none_counted s.inner)) tt
+
 module _ (t : Task) (start v : View) (pool pins : List ℕ) (s : State) (h : IsTrying t start pool pins v s) (n : ℕ) (a : IsCountAsked s n) where
   pub count_held : has_node v.held n ≡ true
   count_held =
@@ -328,7 +379,47 @@ module _ (t : Task) (start v : View) (pool pins : List ℕ) (s : State) (h : IsT
       (reads_more t start v (count_loaded nodes v n k.0) s z (seen.Count n k.0 (own_pins v n)) h.reads refl (sym (append-nil v.misses)) k.2)
       (record { held = refl; rows = refl; number = refl; idle = λ e. e; changes = refl; difference = refl })
       (ap (λ (y : State). y.inner) (k.2 ∙ count_read k.0 (own_pins v n)) ∙ inner_counted (with_count s k.0 (own_pins v n)) a.first.1)
-      (ap (λ (y : State). y.hits) (k.2 ∙ count_read k.0 (own_pins v n)) ∙ hits_counted (with_count s k.0 (own_pins v n)) a.first.1) h.pinned h.count)
+      (ap (λ (y : State). y.hits) (k.2 ∙ count_read k.0 (own_pins v n)) ∙ hits_counted (with_count s k.0 (own_pins v n)) a.first.1) h.pinned h.count h.root_out)
+
+  -- the counts stay loaded, with one more
+  pub count_loads : (nodes : ℕ) (w : View) (z : State) → CountsAreLoaded nodes v s → IsCounted t nodes n v s w z → CountsAreLoaded nodes w z
+  count_loads nodes w z old k = subst (λ y. CountsAreLoaded nodes y z) (sym k.1) (subst (λ (rows : List Counted). AllByRecursion at_count rows) (sym rows_now) (all_more (counted_of s.inner s.counts) kept here))
+    where
+      at_count : Counted → Type 0
+      at_count r = IsLoaded nodes (count_loaded nodes v n k.0) r.node (r.others + own_pins v r.node)
+
+      last : Counted
+      last = record { node = a.first.0.node; row = a.first.0.row; others = k.0 - own_pins v n }
+
+      here : at_count last
+      here =
+          let whole : k.0 ≡ k.0 - own_pins v n + own_pins v n = omega (arith, k.3) in
+          let at_n : IsLoaded nodes (count_loaded nodes v n k.0) n (k.0 - own_pins v n + own_pins v n) = subst (IsLoaded nodes (count_loaded nodes v n k.0) n) whole (loaded_here nodes v n k.0 k.3) in
+          subst (λ m. IsLoaded nodes (count_loaded nodes v n k.0) m (k.0 - own_pins v n + own_pins v m)) (sym a.first.3) at_n
+
+      all_more : (rows : List Counted) → AllByRecursion at_count rows → at_count last → AllByRecursion at_count (rows ++ last ∷ [])
+      all_more [] h p = (p, tt)
+      all_more (q ∷ rows) h p = (h.0, all_more rows h.1 p)
+
+      keep : (rows : List Counted) → AllByRecursion (λ r. IsLoaded nodes v r.node (r.others + own_pins v r.node)) rows → AllByRecursion at_count rows
+      keep [] h = tt
+      keep (q ∷ rows) h = (loaded_more nodes v q.node (q.others + own_pins v q.node) n k.0 h.0, keep rows h.1)
+
+      kept : AllByRecursion at_count (counted_of s.inner s.counts)
+      kept = keep (counted_of s.inner s.counts) old
+
+      counts_on : (y : State) (rows : List NodeRow) → (count_on t y rows).counts ≡ y.counts
+      counts_on y [] = refl
+      counts_on y (r ∷ rows) = refl
+
+      is : z ≡ count_on t (with_count s k.0 (own_pins v n)) a.first.1
+      is = k.2 ∙ count_read k.0 (own_pins v n)
+
+      rows_now : counted_of z.inner z.counts ≡ counted_of s.inner s.counts ++ last ∷ []
+      rows_now =
+          ap (λ rows. counted_of rows z.counts) (ap (λ (y : State). y.inner) is ∙ inner_counted (with_count s k.0 (own_pins v n)) a.first.1)
+          ∙ (ap (λ cs. counted_of s.inner cs) (ap (λ (y : State). y.counts) is ∙ counts_on (with_count s k.0 (own_pins v n)) a.first.1)
+          ∙ counted_more s.inner s.counts a.first.0 a.first.1 (k.0 - own_pins v n) a.first.2)
 
   -- one count less is left
   pub count_falls : (nodes : ℕ) (w : View) (z : State) → IsCounted t nodes n v s w z → (counts_left z < counts_left s) × IsPastKeys z.stage
@@ -359,7 +450,7 @@ counting_ends t start v s o past none = go s.stage (staged t start v s o) past n
     go : (stage : Stage) → IsStaged t s stage → IsPastKeys stage → ((n : ℕ) → wanted_at s stage ≡ Next (want.Count n) → ⊥) → HasEnded stage
     go (Walking waiting) g p f = absurd p
     go (Keying left) g p f = absurd p
-    go (Hinting last) g p f = absurd (asked (length s.counts) s.inner g f)
+    go (Hinting last) g p f = absurd (asked (length s.counts) s.inner g.1 f)
     go Counting g p f = absurd (asked (length s.counts) s.inner g f)
     go (Ended answer) g p f = (answer, refl)
     go Failed g p f = absurd p

@@ -28,10 +28,11 @@ use Rattle.syn_commit.specs.Stages.{IsPastKeys, IsTrying}
 use Rattle.syn_commit.specs.Hinted.{IsHint, IsHinting, IsOpen, hits_after}
 use Rattle.syn_commit.proofs.Trying.{claimed_append, held_stays}
 use Rattle.syn_commit.proofs.Entering.{known_more, reads_more}
+use Rattle.syn_commit.proofs.Loads.{still_out}
 use Rattle.syn_commit.proofs.Meeting.{hinting_at}
 
 -- ---- reads, one part behind the other
-after_append : (t : Task) (s : State) (met more : List Seen) → after_reads t s (met ++ more) ≡ after_reads t (after_reads t s met) more
+pub after_append : (t : Task) (s : State) (met more : List Seen) → after_reads t s (met ++ more) ≡ after_reads t (after_reads t s met) more
 after_append t s [] more = refl
 after_append t s (x ∷ met) more = after_append t (read_one t s x) met more
 
@@ -85,9 +86,9 @@ module _ (t : Task) (start v : View) (pool pins : List ℕ) (s : State) (h : IsT
       → ((m : ℕ) → has_node v.held m ≡ true → has_node w.held m ≡ true)
       → ((m : ℕ) (r : Row) → has_node v.held m ≡ true → known_row v m ≡ Some r → known_row w m ≡ Some r)
       → ((m : ℕ) → has_node w.held m ≡ (has_node pool m || (has_node (nodes_of s.inner) m || (has_node (nodes_of s.hits) m || ((n == m) || false)))))
-      → w.pins ≡ v.pins → w.idle ≡ v.idle → w.number ≡ v.number → w.changes ≡ v.changes → w.difference ≡ v.difference
+      → w.pins ≡ v.pins → w.idle ≡ v.idle → w.number ≡ v.number → w.changes ≡ v.changes → w.difference ≡ v.difference → n ≢ t.proposal.root
       → IsHinting t start pool (pins ++ n ∷ []) (pinned w n) z
-  hit_on w z reads inner hits stage own holds up held pins_same idle number changes difference = record {
+  hit_on w z reads inner hits stage own holds up held pins_same idle number changes difference no_root = record {
     stage = stage;
     trying = record {
       reads = record { met = reads.met; reads = reads.reads; misses = reads.misses; state = reads.state };
@@ -101,6 +102,9 @@ module _ (t : Task) (start v : View) (pool pins : List ℕ) (s : State) (h : IsT
       inner = subst (AreKnown (pinned w n)) (sym inner) (known_up v (pinned w n) s.inner (λ m r there k. up m r (inner_held m there) k) h.inner);
       hits = subst (AreKnown (pinned w n)) (sym hits) (known_more (pinned w n) s.hits (node_row n pair) (known_up v (pinned w n) s.hits (λ m r there k. up m r (hits_held m there) k) h.hits) own);
       gates = subst AreGates (sym hits) (gates_more s.hits (node_row n pair) h.gates (asked_and (placed_now t s).extra pair open_now.asked));
+      apart = ap (λ rows. has_node (nodes_of rows) t.proposal.root) hits ∙ (has_more s.hits n pair t.proposal.root
+          ∙ (ap (λ b. has_node (nodes_of s.hits) t.proposal.root || (b || false)) (ne_eqb n t.proposal.root no_root) ∙ ap (λ b. b || false) h.apart));
+      root_out = still_out t.proposal.root n pins h.root_out (λ e. no_root (sym e));
       pinned = λ m. times_one_more m n w.pins pins (ap (λ ps. times m ps) pins_same ∙ h.pinned m);
       count = ap (λ ps. suc (length ps)) pins_same ∙ (ap suc h.count ∙ sym (length-append pins (n ∷ []) ∙ one (length pins)));
       number = number ∙ h.number;
@@ -138,6 +142,8 @@ module _ (t : Task) (start v : View) (pool pins : List ℕ) (s : State) (h : IsT
       inner = subst (AreKnown w) (sym inner) (known_up v w s.inner (λ m r there k. up m r (inner_held m there) k) h.inner);
       hits = subst (AreKnown w) (sym hits) (known_up v w s.hits (λ m r there k. up m r (hits_held m there) k) h.hits);
       gates = subst AreGates (sym hits) h.gates;
+      apart = ap (λ rows. has_node (nodes_of rows) t.proposal.root) hits ∙ h.apart;
+      root_out = h.root_out;
       pinned = λ m. ap (λ ps. times m ps) pins_same ∙ h.pinned m;
       count = ap length pins_same ∙ h.count;
       number = number ∙ h.number;
@@ -165,11 +171,11 @@ module _ (t : Task) (start v : View) (pool pins : List ℕ) (s : State) (h : IsT
       miss_on w z (reads_on t start v w s z i.met h.reads i.reads i.misses i.claims i.state) i.inner (i.hits ∙ ap (hits_after s.hits n pair) is) i.stage (λ m r there k. held_up w z hit i m r k)
       (λ m. ap (λ ns. has_node ns m) i.held) i.pins i.idle i.number i.changes i.difference
 
-  pub held_hits : (w : View) (z : State) (hit : Bool) → hit ≡ true → has_node (nodes_of s.inner) n ≡ true → IsHint t n pair v s w z hit → IsHinting t start pool (pins ++ n ∷ []) (pinned w n) z
-  held_hits w z hit is inner i =
+  pub held_hits : (w : View) (z : State) (hit : Bool) → hit ≡ true → n ≢ t.proposal.root → has_node (nodes_of s.inner) n ≡ true → IsHint t n pair v s w z hit → IsHinting t start pool (pins ++ n ∷ []) (pinned w n) z
+  held_hits w z hit is no_root inner i =
       hit_on w z (reads_on t start v w s z i.met h.reads i.reads i.misses i.claims i.state) i.inner (i.hits ∙ ap (hits_after s.hits n pair) is) i.stage (i.own is)
       (λ m there. ap (λ ns. has_node ns m) i.held ∙ there) (λ m r there k. held_up w z hit i m r k)
-      (λ m. ap (λ ns. has_node ns m) i.held ∙ (h.held m ∙ ap (λ b. has_node pool m || b) (absorbs m (n == m) refl))) i.pins i.idle i.number i.changes i.difference
+      (λ m. ap (λ ns. has_node ns m) i.held ∙ (h.held m ∙ ap (λ b. has_node pool m || b) (absorbs m (n == m) refl))) i.pins i.idle i.number i.changes i.difference no_root
     where
       absorbs : (m : ℕ) (b : Bool) → (n == m) ≡ b → (has_node (nodes_of s.inner) m || has_node (nodes_of s.hits) m) ≡ (has_node (nodes_of s.inner) m || (has_node (nodes_of s.hits) m || (b || false)))
       absorbs m true e = go (has_node (nodes_of s.inner) m) (has_node (nodes_of s.hits) m) (subst (λ k. has_node (nodes_of s.inner) k ≡ true) (same_node n m e) inner)
@@ -202,11 +208,11 @@ module _ (t : Task) (start v : View) (pool pins : List ℕ) (s : State) (h : IsT
         (λ m r there k. look_kept (differs n) m w.rows (ap not (ne_eqb m n (not_it m there))) ∙ (i.others m (not_it m there) ∙ k))
         (λ m. ap (λ ns. has_node (only (differs n) ns) m) i.held ∙ held_stays v n pool none h.spare m) i.pins i.idle i.number i.changes i.difference
 
-    pub other_hits : (w : View) (z : State) (hit : Bool) → hit ≡ true → IsHint t n pair (claimed v n) s w z hit → IsHinting t start pool (pins ++ n ∷ []) (pinned w n) z
-    other_hits w z hit is i =
+    pub other_hits : (w : View) (z : State) (hit : Bool) → hit ≡ true → n ≢ t.proposal.root → IsHint t n pair (claimed v n) s w z hit → IsHinting t start pool (pins ++ n ∷ []) (pinned w n) z
+    other_hits w z hit is no_root i =
         hit_on w z (reads_on t start v w s z i.met h.reads i.reads i.misses i.claims i.state) i.inner (i.hits ∙ ap (hits_after s.hits n pair) is) i.stage (i.own is)
         (λ m there. ap (λ ns. has_node ns m) i.held ∙ or_right (n == m) (has_node v.held m) there) (λ m r there k. i.others m (not_it m there) ∙ k)
-        (λ m. ap (λ ns. has_node ns m) i.held ∙ (ap (λ b. (n == m) || b) (h.held m) ∙ swap (n == m) (has_node pool m) (has_node (nodes_of s.inner) m) (has_node (nodes_of s.hits) m))) i.pins i.idle i.number i.changes i.difference
+        (λ m. ap (λ ns. has_node ns m) i.held ∙ (ap (λ b. (n == m) || b) (h.held m) ∙ swap (n == m) (has_node pool m) (has_node (nodes_of s.inner) m) (has_node (nodes_of s.hits) m))) i.pins i.idle i.number i.changes i.difference no_root
       where
         swap : (a p i h : Bool) → (a || (p || (i || h))) ≡ (p || (i || (h || (a || false))))
         swap true true i h = refl

@@ -1,5 +1,5 @@
--- What each stage of a decision has: before the hints no hit and no count, and behind the walk an inner row that has no count.
-use Rattle.std.proofs.Common.{◌≡◌, ℕ, zero, suc, ◌+◌, ◌-◌, ◌<◌, ◌≤◌, ◌==◌, ◌&&◌, nat_lt, Bool, true, false, if◌then◌else◌, List, [], ◌∷◌, ◌++◌, length, drop, Option, Some, None, refl, ap, arith, length-append}
+-- What each stage of a decision has: before the hints no hit, before the counts no count, behind the walk an inner row that has no count, and behind the counts the answer that they conclude.
+use Rattle.std.proofs.Common.{◌≡◌, ◌⊎◌, ℕ, zero, suc, ◌+◌, ◌-◌, ◌<◌, ◌≤◌, ◌==◌, ◌&&◌, nat_lt, Bool, true, false, if◌then◌else◌, List, [], ◌∷◌, ◌++◌, length, drop, Option, Some, None, refl, ap, arith, inl, inr, length-append}
 use Rattle.syn_rows.specs.declared.Row.{Row}
 use Rattle.syn_rows.specs.Rows.{is_derived, refs_of}
 use Rattle.syn_core_laws.specs.declared.Seen.{Seen}
@@ -7,19 +7,40 @@ use Rattle.syn_core_laws.specs.declared.Seen.TheVariants as seen
 use Rattle.syn_decide.specs.declared.decisions.NodeRow.{NodeRow}
 use Rattle.syn_decide.specs.declared.decisions.TheConstants.{MOST_INNER}
 use Rattle.syn_decide.specs.Tasks.{Task}
-use Rattle.syn_decide.specs.Decided.{Reach, Busy, Differs, Unfit, Wide}
+use Rattle.syn_decide.specs.Decided.{Answer, Done, Reach, Busy, Differs, NoGain, NoGap, NoRoom, Unfit, Wide}
 use Rattle.syn_decide.specs.Walk.{from_entered}
 use Rattle.syn_decide.specs.Functions.{in_circle, is_same_function, now_table, used_from, used_leaves, uses, was_table}
 use Rattle.syn_decide.specs.Hints.{is_asked, may_hit, most_hits}
-use Rattle.syn_decide.specs.Fold.{State, Stage, Walking, Keying, Hinting, Counting, Ended, Failed, after_reads, after_walk, answered, at, begin, count_on, failed, first_unmet, key_loaded, placed_now, read_at, read_count, read_one, row_loaded, uncounted, walk_on, wanted_at, wanted_count, with_count, with_hit, with_inner}
+use Rattle.syn_decide.specs.Fold.{State, Stage, Walking, Keying, Hinting, Counting, Ended, Failed, after_reads, after_walk, answered, at, begin, concluded, count_on, failed, first_unmet, key_loaded, placed_now, read_at, read_count, read_one, row_loaded, uncounted, walk_on, wanted_at, wanted_count, with_count, with_hit, with_inner}
 use Rattle.syn_decide.proofs.Walking.{node_row}
+
+-- an answer that comes before the counts
+abbrev pub is_early : Answer → Bool
+is_early (Done gain) = false
+is_early (Busy node) = true
+is_early (Reach node) = true
+is_early (Wide node) = true
+is_early (Differs was now) = true
+is_early (NoGain freed added) = false
+is_early (NoGap node low need high) = false
+is_early (NoRoom need have) = false
+
+-- all counts are there, and conclude this answer
+pub record IsConcluded (t : Task) (s : State) (answer : Answer) : Type 0 where
+  pub all : length s.counts ≡ length s.inner
+  pub some : 1 ≤ length s.inner
+  pub is : answer ≡ concluded t s
+
+-- an answer before the counts, with none, or behind them, with all
+abbrev pub IsAnswered : Task → State → Answer → Type 0
+IsAnswered t s answer = ((s.counts ≡ []) × (is_early answer ≡ true)) ⊎ IsConcluded t s answer
 
 abbrev pub IsStaged : Task → State → Stage → Type 0
 IsStaged t s (Walking waiting) = (s.hits ≡ []) × (s.counts ≡ []) × (1 ≤ length waiting)
 IsStaged t s (Keying left) = (s.hits ≡ []) × (s.counts ≡ []) × (1 ≤ length left) × (length left ≤ 1 + length t.proposal.leaves) × (1 ≤ length s.inner)
-IsStaged t s (Hinting last) = length s.counts < length s.inner
+IsStaged t s (Hinting last) = (s.counts ≡ []) × (length s.counts < length s.inner)
 IsStaged t s Counting = length s.counts < length s.inner
-IsStaged t s (Ended answer) = Unit {0}
+IsStaged t s (Ended answer) = IsAnswered t s answer
 IsStaged t s Failed = Unit {0}
 
 abbrev Staged : Task → State → Type 0
@@ -43,13 +64,13 @@ module _ (t : Task) (s : State) (hits : s.hits ≡ []) (counts : s.counts ≡ []
   keys_staged used few = let size : length (used ++ t.proposal.root ∷ []) ≡ length used + 1 = length-append used (t.proposal.root ∷ []) in (hits, counts, omega (arith, size), omega (arith, size, few), some)
 
   over_staged : (inner : List NodeRow) (o : Option ℕ) → IsStaged t s (after_walk t inner o)
-  over_staged inner (Some leaf) = tt
+  over_staged inner (Some leaf) = inl (counts, refl)
   over_staged inner None = go (in_circle t inner) (is_same_function t inner)
     where
       go : (b c : Bool) → IsStaged t s (if b then Failed else (if c then Keying (used_leaves t ++ t.proposal.root ∷ []) else Ended (Differs (was_table t) (now_table t inner))))
       go true c = tt
       go false true = keys_staged (used_leaves t) (few_used t 0 t.proposal.leaves)
-      go false false = tt
+      go false false = inl (counts, refl)
 
   on_staged : (inner : List NodeRow) (ns : List ℕ) → IsStaged t s (walk_on t inner ns)
   on_staged inner [] = over_staged inner (first_unmet t inner)
@@ -57,7 +78,17 @@ module _ (t : Task) (s : State) (hits : s.hits ≡ []) (counts : s.counts ≡ []
     where
       go : (b : Bool) → IsStaged t s (if b then Walking (n ∷ ns) else Ended (Wide n))
       go true = (hits, counts, omega arith)
-      go false = tt
+      go false = inl (counts, refl)
+
+-- the stage that a state is put at
+at_staged : (t : Task) (s : State) (stage : Stage) → IsStaged t s stage → IsStaged t (at s stage) stage
+at_staged t s (Walking waiting) g = g
+at_staged t s (Keying left) g = g
+at_staged t s (Hinting last) g = g
+at_staged t s Counting g = g
+at_staged t s (Ended answer) (inl before) = inl before
+at_staged t s (Ended answer) (inr all) = inr (record { all = all.all; some = all.some; is = all.is })
+at_staged t s Failed g = g
 
 row_staged : (t : Task) (s : State) (n : ℕ) (r : Row) (waiting : List ℕ) → s.hits ≡ [] → s.counts ≡ [] → Staged t (row_loaded t s n r waiting)
 row_staged t s n r waiting hits counts = go (is_derived r)
@@ -66,14 +97,15 @@ row_staged t s n r waiting hits counts = go (is_derived r)
     more = let size : length (s.inner ++ node_row n r ∷ []) ≡ length s.inner + 1 = length-append s.inner (node_row n r ∷ []) in omega arith
 
     go : (b : Bool) → Staged t (if b then at (with_inner s n r) (walk_on t (with_inner s n r).inner (from_entered t.proposal.leaves (with_inner s n r).inner (refs_of r ++ waiting))) else answered s (Reach n))
-    go true = on_staged t (with_inner s n r) hits counts more (s.inner ++ node_row n r ∷ []) (from_entered t.proposal.leaves (s.inner ++ node_row n r ∷ []) (refs_of r ++ waiting))
-    go false = tt
+    go true = at_staged t (with_inner s n r) (walk_on t (with_inner s n r).inner (from_entered t.proposal.leaves (with_inner s n r).inner (refs_of r ++ waiting)))
+        (on_staged t (with_inner s n r) hits counts more (s.inner ++ node_row n r ∷ []) (from_entered t.proposal.leaves (s.inner ++ node_row n r ∷ []) (refs_of r ++ waiting)))
+    go false = inl (counts, refl)
 
 key_staged : (t : Task) (n : ℕ) (s : State) (key : ℕ) (left : List ℕ) → s.hits ≡ [] → s.counts ≡ [] → length (n ∷ left) ≤ 1 + length t.proposal.leaves → 1 ≤ length s.inner → Staged t (key_loaded s key left)
-key_staged t n s key [] hits counts few some = let none : length s.counts ≡ 0 = ap length counts in omega (arith, none, some)
+key_staged t n s key [] hits counts few some = let none : length s.counts ≡ 0 = ap length counts in (counts, omega (arith, none, some))
 key_staged t n s key (m ∷ left) hits counts few some = (hits, counts, omega arith, omega (arith, few), some)
 
-hint_staged : (t : Task) (s : State) (b c : Bool) (last : NodeRow) (key : ℕ) → length s.counts < length s.inner
+hint_staged : (t : Task) (s : State) (b c : Bool) (last : NodeRow) (key : ℕ) → (s.counts ≡ []) × (length s.counts < length s.inner)
     → Staged t (if b then (if c then at (with_hit s last.node last.row key) (Hinting None) else at s (Hinting None)) else failed s)
 hint_staged t s true true last key l = l
 hint_staged t s true false last key l = l
@@ -89,12 +121,25 @@ two_left k [] r q left e = absurd (none k e)
 two_left zero (p ∷ rows) r q left e = let size : suc (length rows) ≡ suc (suc (length left)) = ap length e in omega arith
 two_left (suc k) (p ∷ rows) r q left e = let more = two_left k rows r q left e in omega arith
 
+-- where one is left, there is room for one count alone
+one_left : (k : ℕ) (rows : List NodeRow) (r : NodeRow) → drop k rows ≡ r ∷ [] → k + 1 ≡ length rows
+one_left k [] r e = absurd (none k e)
+  where
+    none : (k : ℕ) → drop k [] ≡ r ∷ [] → ⊥
+    none zero e = cc
+    none (suc k) e = cc
+one_left zero (p ∷ rows) r e = let size : suc (length rows) ≡ 1 = ap length e in omega arith
+one_left (suc k) (p ∷ rows) r e = let more = one_left k rows r e in omega arith
+
 count_staged : (t : Task) (s : State) (left : List NodeRow) (node count own : ℕ) → uncounted s ≡ left → Staged t (read_count t s left node count own)
 count_staged t s [] node count own e = tt
 count_staged t s (r ∷ left) node count own e = go (node == r.node) left e
   where
     go : (b : Bool) (left : List NodeRow) → uncounted s ≡ r ∷ left → Staged t (if b then count_on t (with_count s count own) left else failed s)
-    go true [] e = tt
+    go true [] e =
+        let size : length (s.counts ++ (count - own) ∷ []) ≡ length s.counts + 1 = length-append s.counts ((count - own) ∷ []) in
+        let last = one_left (length s.counts) s.inner r e in
+        inr (record { all = omega (arith, size, last); some = omega (arith, last); is = refl })
     go true (q ∷ left) e =
         let size : length (s.counts ++ (count - own) ∷ []) ≡ length s.counts + 1 = length-append s.counts ((count - own) ∷ []) in
         let more = two_left (length s.counts) s.inner r q left e in
@@ -104,7 +149,7 @@ count_staged t s (r ∷ left) node count own e = go (node == r.node) left e
 step_staged : (t : Task) (s : State) (stage : Stage) (read : Seen) → IsStaged t s stage → Staged t (read_at t s stage read)
 step_staged t s (Walking []) read h = tt
 step_staged t s (Walking (n ∷ waiting)) (seen.Row node r) h = either_staged t (node == n) (row_loaded t s n r waiting) (failed s) (row_staged t s n r waiting h.0 h.1) tt
-step_staged t s (Walking (n ∷ waiting)) (seen.Miss node) h = either_staged t (node == n) (answered s (Busy n)) (failed s) tt tt
+step_staged t s (Walking (n ∷ waiting)) (seen.Miss node) h = either_staged t (node == n) (answered s (Busy n)) (failed s) (inl (h.1, refl)) tt
 step_staged t s (Walking (n ∷ waiting)) (seen.Key node key) h = tt
 step_staged t s (Walking (n ∷ waiting)) (seen.Count node count own) h = tt
 step_staged t s (Keying []) read h = tt
@@ -144,7 +189,7 @@ unfit_failed t s (Walking []) h e = absurd (omega (arith, h.2))
 unfit_failed t s (Walking (n ∷ waiting)) h e = absurd (cc)
 unfit_failed t s (Keying []) h e = absurd (omega (arith, h.2))
 unfit_failed t s (Keying (n ∷ left)) h e = absurd (cc)
-unfit_failed t s (Hinting last) h e = absurd (count_wanted (length s.counts) s.inner h e)
+unfit_failed t s (Hinting last) h e = absurd (count_wanted (length s.counts) s.inner h.1 e)
 unfit_failed t s Counting h e = absurd (count_wanted (length s.counts) s.inner h e)
 unfit_failed t s (Ended answer) h e = absurd (cc)
 unfit_failed t s Failed h e = refl

@@ -11,8 +11,10 @@ use Rattle.syn_core_laws.specs.Views.{known_row, own_pins}
 use Rattle.syn_decide.specs.declared.decisions.NodeRow.{NodeRow}
 use Rattle.syn_decide.specs.Walk.{nodes_of}
 use Rattle.syn_decide.specs.Walked.{AreGates}
-use Rattle.syn_commit_laws.specs.Freeing.{ands_freed, redefines}
+use Rattle.syn_commit_laws.specs.Freeing.{late, redefines}
 use Rattle.syn_commit_laws.specs.Turning.{Turns}
+use Rattle.syn_decide.specs.Fold.{State}
+use Rattle.syn_commit.specs.Counts.{dying_by}
 use Rattle.syn_commit.specs.Pools.{KeepsPool}
 use Rattle.syn_commit.specs.Walks.{AreKnown}
 
@@ -106,6 +108,6 @@ pub record HoldsAlone (pool : List ℕ) (v : View) : Type 0 where
 abbrev pub HasGivenUp : ℕ → View → List ℕ → View → List ℕ → Type 0
 HasGivenUp nodes v pool w grown = (u : View) × Gives nodes v pool u grown × IsLetGo u w
 
--- Since the start nothing was stored but free rows, and the difference fell by exactly the ANDs that were freed.
-abbrev pub FellByLate : View → View → Type 0
-FellByLate start v = (changes : List Change) × (v.changes ≡ start.changes ++ changes) × (redefines changes ≡ []) × (v.difference +ℤ pos (ands_freed (λ n. true) changes) ≡ start.difference)
+-- Since the start nothing was stored but free rows, and the difference fell by exactly the late ANDs: those that were freed and that the decision didn't count as dying.
+abbrev pub FellByLate : View → View → State → Type 0
+FellByLate start v s = (changes : List Change) × (v.changes ≡ start.changes ++ changes) × (redefines changes ≡ []) × (v.difference +ℤ pos (late (dying_by s) changes) ≡ start.difference)

@@ -4,3 +4,6 @@ pub mod Stages
 pub mod Giving
 pub mod Hinted
 pub mod Storing
+pub mod Counts
+pub mod Keyed
+pub mod Finishing

@@ -1,10 +1,10 @@
 -- The stages of a commit behind its walk: keys, hints and counts are loaded, and each load is a read of the decision.
-use Rattle.std.specs.Prelude.{◌≡◌, ℕ, ◌==◌, ◌||◌, if◌then◌else◌, List, [], ◌∷◌, ◌++◌, length}
+use Rattle.std.specs.Prelude.{◌≡◌, ℕ, ◌+◌, ◌≤◌, ◌==◌, ◌||◌, if◌then◌else◌, false, List, [], ◌∷◌, ◌++◌, length}
 use Rattle.syn_rows.specs.Nodes.{has_node}
 use Rattle.syn_rows.specs.References.{times}
 use Rattle.syn_core_laws.specs.declared.View.{View}
 use Rattle.syn_core_laws.specs.declared.Seen.TheVariants as seen
-use Rattle.syn_core_laws.specs.Views.{count_loaded, key_loaded, own_pins, pinned}
+use Rattle.syn_core_laws.specs.Views.{count_loaded, key_loaded, own_pins, own_refs, pinned}
 use Rattle.syn_decide.specs.Tasks.{Task}
 use Rattle.syn_decide.specs.Walk.{nodes_of}
 use Rattle.syn_decide.specs.Walked.{AreGates}
@@ -14,7 +14,7 @@ use Rattle.syn_commit.specs.Pools.{KeepsPool}
 use Rattle.syn_commit.specs.Walks.{AreKnown, IsOfReads}
 
 -- A commit on the way: the seat holds the nodes of the pool, of the inner rows and of the hits alone and knows their rows; it has these pins alone, nothing is on its zero list, and it
--- has stored nothing since the start.
+-- has stored nothing since the start. The root is no hit and isn't pinned.
 pub record IsTrying (t : Task) (start : View) (pool pins : List ℕ) (v : View) (s : State) : Type 0 where
   pub reads : IsOfReads t start v s
   pub spare : KeepsPool v pool
@@ -22,6 +22,8 @@ pub record IsTrying (t : Task) (start : View) (pool pins : List ℕ) (v : View) 
   pub inner : AreKnown v s.inner
   pub hits : AreKnown v s.hits
   pub gates : AreGates s.hits
+  pub apart : has_node (nodes_of s.hits) t.proposal.root ≡ false
+  pub root_out : times t.proposal.root pins ≡ 0
   pub pinned : (n : ℕ) → own_pins v n ≡ times n pins
   pub count : length v.pins ≡ length pins
   pub number : v.number ≡ start.number
@@ -42,9 +44,9 @@ abbrev pub IsKeyed : Task → ℕ → View → List ℕ → State → View → L
 IsKeyed t n v pins s w more z =
     (key : ℕ) × (w ≡ key_loaded (leaf_pinned t.proposal.root n v) n key) × (more ≡ with_leaf t.proposal.root n pins) × (z ≡ read_one t s (seen.Key n key))
 
--- a count was loaded, and is read with the number of the seat's own pins
+-- a count was loaded, at least the seat's references and pins, and is read with the number of the seat's own pins
 abbrev pub IsCounted : Task → ℕ → ℕ → View → State → View → State → Type 0
-IsCounted t nodes n v s w z = (count : ℕ) × (w ≡ count_loaded nodes v n count) × (z ≡ read_one t s (seen.Count n count (own_pins v n)))
+IsCounted t nodes n v s w z = (count : ℕ) × (w ≡ count_loaded nodes v n count) × (z ≡ read_one t s (seen.Count n count (own_pins v n))) × (own_refs nodes v n + own_pins v n ≤ count)
 
 -- ---- how far the decision has come
 -- the walk is over, and the reads fit

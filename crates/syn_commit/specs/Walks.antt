@@ -1,5 +1,5 @@
 -- The walk of a commit: rows are loaded under claims, and each is a read of the decision.
-use Rattle.std.specs.Prelude.{◌≡◌, ◌≢◌, ◌⊎◌, ℕ, ◌||◌, if◌then◌else◌, List, [], ◌++◌, Some}
+use Rattle.std.specs.Prelude.{◌≡◌, ◌≢◌, ◌⊎◌, ℕ, ◌||◌, if◌then◌else◌, List, [], ◌∷◌, ◌++◌, Some}
 use Rattle.std.specs.List.{AllByRecursion}
 use Rattle.syn_rows.specs.declared.Row.{Row}
 use Rattle.syn_rows.specs.Rows.{is_derived}
@@ -12,7 +12,8 @@ use Rattle.syn_core_laws.specs.Views.{claimed, known_row, missed, released, row_
 use Rattle.syn_decide.specs.declared.decisions.NodeRow.{NodeRow}
 use Rattle.syn_decide.specs.Tasks.{Task}
 use Rattle.syn_decide.specs.Walk.{nodes_of}
-use Rattle.syn_decide.specs.Fold.{State, after_reads, begin, read_one}
+use Rattle.syn_decide.specs.Functions.{used_leaves}
+use Rattle.syn_decide.specs.Fold.{State, Stage, Walking, Keying, Hinting, Counting, Ended, Failed, after_reads, begin, read_one}
 use Rattle.syn_commit.specs.Pools.{KeepsPool, LeavesRest, found_claimed}
 
 -- The state of the decision is that of what the seat met since the start, and its misses grew by the failed claims.
@@ -26,6 +27,15 @@ pub record IsOfReads (t : Task) (start v : View) (s : State) : Type 0 where
 abbrev pub AreKnown : View → List NodeRow → Type 0
 AreKnown v rows = AllByRecursion (λ r. known_row v r.node ≡ Some r.row) rows
 
+-- At the end of the walk all keys are still to be loaded: the used leaves', and then the root's.
+abbrev pub KeysWait : Task → Stage → Type 0
+KeysWait t (Walking waiting) = Unit {0}
+KeysWait t (Keying left) = left ≡ used_leaves t ++ t.proposal.root ∷ []
+KeysWait t (Hinting last) = ⊥
+KeysWait t Counting = ⊥
+KeysWait t (Ended answer) = Unit {0}
+KeysWait t Failed = Unit {0}
+
 -- A walk on the way: the seat holds the pool and the inner rows' nodes alone and knows their rows, and all else is as at the start.
 pub record IsWalking (t : Task) (start : View) (pool : List ℕ) (v : View) (s : State) : Type 0 where
   pub reads : IsOfReads t start v s
@@ -33,6 +43,8 @@ pub record IsWalking (t : Task) (start : View) (pool : List ℕ) (v : View) (s :
   pub held : (n : ℕ) → has_node v.held n ≡ (has_node pool n || has_node (nodes_of s.inner) n)
   pub known : AreKnown v s.inner
   pub hits : s.hits ≡ []
+  pub counts : s.counts ≡ []
+  pub keys : KeysWait t s.stage
   pub rest : LeavesRest start v
 
 -- the view once a node's row was loaded under a claim: a node that is no gate is let go again

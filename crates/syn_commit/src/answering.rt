@@ -8,8 +8,10 @@ ghost use Rattle.syn_decide.specs.Tasks.{task_of};
 ghost use Rattle.syn_decide.specs.Walk.{enters};
 ghost use Rattle.syn_table.specs.Seating.{IsOf, known_of, nodes_of, view_of};
 ghost use Rattle.syn_table.specs.Steps.{with_view};
+ghost use Rattle.syn_commit.specs.Counts.{CountsAreLoaded};
 ghost use Rattle.syn_commit.specs.Pools.{KeepsPool};
 ghost use Rattle.syn_commit.specs.Stages.{HasEnded, IsPastWalk, IsTrying};
+ghost use Rattle.syn_commit.specs.Walks.{KeysWait};
 
 use crate::hinting::try_hints;
 use crate::loading::{MOST_PINS, counts, keys};
@@ -55,6 +57,9 @@ fn walked(
     ensures trying { IsTrying (task_of attempt.now) (view_of start.now.value) pool.now [] (view_of seat.new) deciding.new }
     ensures sole { length (known_of seat.old).numbers ≡ 64 → (view_of seat.new).misses ≡ (view_of seat.old).misses }
     ensures past { IsPastWalk deciding.new.stage }
+    ensures waits { KeysWait (task_of attempt.now) deciding.new.stage }
+    ensures no_hits { deciding.new.hits ≡ [] }
+    ensures uncounted { deciding.new.counts ≡ [] }
 {
     let _ = start;
     shared.seats_reach_nodes(seat);
@@ -86,6 +91,7 @@ pub(crate) fn answer<G: Gate>(
     ensures trying { IsTrying (task_of attempt.now) (view_of start.now.value) pool.now pins.new.items (view_of seat.new) deciding.new }
     ensures free { length (known_of seat.old).numbers ≡ 64 → (n : ℕ) → fold.wants deciding.new ≡ Answered (Busy n) → ⊥ }
     ensures ended { HasEnded deciding.new.stage }
+    ensures loaded { CountsAreLoaded (nodes_of tools.now.shared.now) (view_of seat.new) deciding.new }
 {
     walked(tools.shared, seat, pool, attempt, deciding, start);
     if is_claimed(attempt, deciding) {

@@ -1,6 +1,6 @@
 //! The hints of a commit: nodes that may have the row of a pair already.
 
-ghost use Rattle.std.specs.Prelude.{◌≡◌, ℕ, ◌+◌, ◌<◌, ◌≤◌, false, length, true};
+ghost use Rattle.std.specs.Prelude.{◌≡◌, ◌≢◌, ℕ, ◌+◌, ◌<◌, ◌≤◌, [], false, length, true};
 ghost use Rattle.syn_rows.specs.Nodes.{has_node};
 ghost use Rattle.syn_decide.specs.Fold as fold;
 ghost use Rattle.syn_decide.specs.Fold.{placed_now};
@@ -73,6 +73,7 @@ fn try_held(
     requires trying { IsTrying (task_of attempt.now) (view_of start.now.value) pool.now pins.old.items (view_of seat.old) deciding.old }
     requires open { IsOpen (task_of attempt.now) deciding.old pair }
     requires inner { has_node (nodes_of_rows deciding.old.inner) node ≡ true }
+    requires other_root { node ≢ attempt.now.candidate.root }
     requires room { length pins.old.items < 512 }
     ensures table { IsOf seat.new shared.now }
     ensures known { known_of seat.new ≡ with_view (known_of seat.old) (view_of seat.new) }
@@ -108,6 +109,7 @@ fn try_other(
     requires open { IsOpen (task_of attempt.now) deciding.old pair }
     requires node { node < nodes_of shared.now }
     requires other { has_node (view_of seat.old).held node ≡ false }
+    requires other_root { node ≢ attempt.now.candidate.root }
     requires room { length pins.old.items < 512 }
     ensures table { IsOf seat.new shared.now }
     ensures known { known_of seat.new ≡ with_view (known_of seat.old) (view_of seat.new) }
@@ -131,7 +133,8 @@ fn try_other(
     true
 }
 
-// Whether a hint may be tried at the node: a node of the table that is neither node 0 nor a leaf, no spare one and no hit.
+// Whether a hint may be tried at the node: a node of the table that is neither node 0 nor a leaf nor the root, no spare one
+// and no hit.
 fn may_try(
     shared: &Shared,
     pool: &Pool,
@@ -142,8 +145,10 @@ fn may_try(
     ensures node { result ≡ true → node < nodes_of shared.now }
     ensures spare { result ≡ true → has_node pool.now node ≡ false }
     ensures hit { result ≡ true → has_node (nodes_of_rows deciding.now.hits) node ≡ false }
+    ensures root { result ≡ true → node ≢ attempt.now.candidate.root }
 {
     node != 0
+        && node != attempt.candidate.root
         && node < shared.nodes()
         && !attempt.candidate.leaves.contains(&node)
         && !pool.has(node)
@@ -236,11 +241,13 @@ pub(crate) fn try_hints(
     requires trying { IsTrying (task_of attempt.now) (view_of start.now.value) pool.now pins.old.items (view_of seat.old) deciding.old }
     requires few { length pins.old.items ≤ 9 }
     requires past { IsPastKeys deciding.old.stage }
+    requires uncounted { deciding.old.counts ≡ [] }
     ensures table { IsOf seat.new shared.now }
     ensures known { known_of seat.new ≡ with_view (known_of seat.old) (view_of seat.new) }
     ensures trying { IsTrying (task_of attempt.now) (view_of start.now.value) pool.now pins.new.items (view_of seat.new) deciding.new }
     ensures sole { length (known_of seat.old).numbers ≡ 64 → (view_of seat.new).misses ≡ (view_of seat.old).misses }
     ensures few { length pins.new.items ≤ 390 }
+    ensures uncounted { deciding.new.counts ≡ [] }
     ensures past { IsPastKeys deciding.new.stage }
 {
     if !deciding.takes_hints() {

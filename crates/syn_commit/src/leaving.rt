@@ -11,7 +11,8 @@ ghost use Rattle.syn_decide.specs.Walk.{enters, nodes_of as nodes_of_rows};
 ghost use Rattle.syn_table.specs.Seating.{IsOf, known_of, nodes_of, view_of};
 ghost use Rattle.syn_table.specs.Steps.{with_view};
 ghost use Rattle.syn_commit_laws.specs.Turning.{Turns};
-ghost use Rattle.syn_commit.specs.Stages.{IsTrying};
+ghost use Rattle.syn_commit.specs.Counts.{CountsAreLoaded};
+ghost use Rattle.syn_commit.specs.Stages.{HasEnded, IsTrying};
 ghost use Rattle.syn_commit.specs.Walks.{IsOfReads};
 ghost use Rattle.syn_commit.specs.Giving.{FellByLate, Gives, HasGivenUp, HoldsAlone, IsGiving, IsLetGo, with_gate, with_gates, work_left};
 
@@ -231,15 +232,18 @@ pub(crate) fn give_up(
     requires table { IsOf seat.old shared.now }
     requires enters { enters attempt.now.candidate.leaves.now [] attempt.now.candidate.root ≡ true }
     requires trying { IsTrying (task_of attempt.now) (view_of start.now.value) pool.old pins.items (view_of seat.old) deciding.now }
+    requires loaded { CountsAreLoaded (nodes_of shared.now) (view_of seat.old) deciding.now }
+    requires ended { HasEnded deciding.now.stage }
     ensures table { IsOf seat.new shared.now }
     ensures known { known_of seat.new ≡ with_view (known_of seat.old) (view_of seat.new) }
     ensures alone { HoldsAlone pool.new (view_of seat.new) }
     ensures reads { IsOfReads (task_of attempt.now) (view_of start.now.value) (view_of seat.new) deciding.now }
     ensures given { HasGivenUp (nodes_of shared.now) (view_of seat.old) pool.old (view_of seat.new) pool.new }
-    ensures late { FellByLate (view_of start.now.value) (view_of seat.new) }
+    ensures late { FellByLate (view_of start.now.value) (view_of seat.new) deciding.now }
 {
     let _ = attempt;
     let _ = start;
+    shared.seats_reach_nodes(seat);
     let mut holding = hold(deciding, pins);
     drain(shared, seat, pool, &mut holding);
     let_go(shared, seat, pool, &mut holding);

@@ -2,6 +2,7 @@
 #![tactic(auto)]
 
 mod answering;
+mod finishing;
 mod gates;
 mod hinting;
 mod hints;

@@ -12,6 +12,9 @@ ghost use Rattle.syn_decide.specs.Tasks.{task_of};
 ghost use Rattle.syn_decide.specs.Walk.{enters};
 ghost use Rattle.syn_table.specs.Seating.{IsOf, known_of, nodes_of, view_of};
 ghost use Rattle.syn_table.specs.Steps.{with_view};
+ghost use Rattle.syn_commit.specs.Counts.{CountsAreLoaded};
+ghost use Rattle.syn_commit.specs.Keyed.{IsKeyedSoFar, RowsAreReady};
+ghost use Rattle.syn_commit.specs.Walks.{KeysWait};
 ghost use Rattle.syn_commit.specs.Stages.{HasEnded, IsCounted, IsKeyed, IsPastKeys, IsPastWalk, IsTrying, leaf_pinned, with_leaf};
 
 use crate::Pool;
@@ -97,11 +100,16 @@ pub(crate) fn keys(
     requires trying { IsTrying (task_of attempt.now) (view_of start.now.value) pool.now pins.old.items (view_of seat.old) deciding.old }
     requires none { pins.old.items ≡ [] }
     requires past { IsPastWalk deciding.old.stage }
+    requires waits { KeysWait (task_of attempt.now) deciding.old.stage }
+    requires no_hits { deciding.old.hits ≡ [] }
+    requires uncounted { deciding.old.counts ≡ [] }
     ensures table { IsOf seat.new shared.now }
     ensures known { known_of seat.new ≡ with_view (known_of seat.old) (view_of seat.new) }
     ensures trying { IsTrying (task_of attempt.now) (view_of start.now.value) pool.now pins.new.items (view_of seat.new) deciding.new }
     ensures misses { (view_of seat.new).misses ≡ (view_of seat.old).misses }
     ensures few { length pins.new.items ≤ 9 }
+    ensures keyed { IsKeyedSoFar (task_of attempt.now) pins.new.items (view_of seat.new) deciding.new }
+    ensures uncounted { deciding.new.counts ≡ [] }
     ensures past { IsPastKeys deciding.new.stage }
 {
     let _ = pool;
@@ -110,6 +118,11 @@ pub(crate) fn keys(
         load_key(shared, seat, attempt, deciding, pins, node);
     }
 }
+
+/// Behind the keys the rows of new gates may be made.
+pub(crate) fn rows_ready()
+    ensures { RowsAreReady }
+{}
 
 // How often the node stands among the pins.
 fn times_in(pins: &[u32], node: u32) -> u32
@@ -170,8 +183,10 @@ pub(crate) fn counts(
     requires trying { IsTrying (task_of attempt.now) (view_of start.now.value) pool.now pins.now.items (view_of seat.old) deciding.old }
     requires few { length pins.now.items ≤ 512 }
     requires past { IsPastKeys deciding.old.stage }
+    requires uncounted { deciding.old.counts ≡ [] }
     ensures table { IsOf seat.new shared.now }
     ensures known { known_of seat.new ≡ with_view (known_of seat.old) (view_of seat.new) }
+    ensures loaded { CountsAreLoaded (nodes_of shared.now) (view_of seat.new) deciding.new }
     ensures trying { IsTrying (task_of attempt.now) (view_of start.now.value) pool.now pins.now.items (view_of seat.new) deciding.new }
     ensures misses { (view_of seat.new).misses ≡ (view_of seat.old).misses }
     ensures ended { HasEnded deciding.new.stage }

@@ -11,7 +11,7 @@ use Rattle.syn_rows.specs.declared.Row.{Row}
 use Rattle.syn_rows.specs.Rows.{row_at}
 use Rattle.syn_rows.specs.Joining.{constant, lit_of}
 use Rattle.syn_rows.specs.Nodes.{has_node}
-use Rattle.syn_rows.proofs.Nodes.{has_at}
+use Rattle.syn_rows.proofs.Nodes.{has_at, here_or_there}
 use Rattle.syn_rows.proofs.Nodes.{has_none as lacks_all}
 use Rattle.syn_truth.proofs.Each.{each_at, same_from_test}
 use Rattle.syn_plan.specs.declared.PLit.{PLit}
@@ -45,6 +45,13 @@ lacks_low low n (m ∷ ns) h le =
 
 lacks_high : (high : ℕ) (ns : List ℕ) → are_below high ns ≡ true → has_node ns high ≡ false
 lacks_high high ns h = lacks_all ns high (λ i lt e. let low = below_each high ns h i lt in omega (arith, low, e))
+
+-- a leaf is below what all leaves are below
+pub leaf_below : (high : ℕ) (leaves : List ℕ) (m : ℕ) → are_below high leaves ≡ true → has_node leaves m ≡ true → m < high
+leaf_below high [] m b h = absurd (cc)
+leaf_below high (n ∷ leaves) m b h =
+    let parts = and_parts (nat_lt n high) (are_below high leaves) b in
+    elim (here_or_there n m leaves h) [ inl same ↦ (let lt = ltb-true n high parts.0 in omega (arith, lt, same)) | inr there ↦ leaf_below high leaves m parts.1 there ]
 
 pub length_each : {A : Type 0} (n : ℕ) (f : ℕ → A) → length (each_below n f) ≡ n
 length_each zero f = refl

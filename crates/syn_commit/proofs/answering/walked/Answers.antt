@@ -13,3 +13,12 @@ returns-clause-trying c =
     let idle = nothing_idle (nodes_of c.args.shared.now) v c.args.pool.now c.seats_reach_nodes.ensures.shown c.requires.pool c.requires.alone in
     subst (λ (s : View). IsTrying (task_of c.args.attempt.now) s c.args.pool.now [] (view_of c.walk.new.seat) c.walk.new.deciding) (sym c.requires.start)
     (walk_over (task_of c.args.attempt.now) v (view_of c.walk.new.seat) c.args.pool.now c.walk.new.deciding c.walk.ensures.walked c.requires.pins idle)
+
+pub returns-clause-uncounted : goal.returns-clause-uncounted
+returns-clause-uncounted c = c.walk.ensures.walked.counts
+
+pub returns-clause-waits : goal.returns-clause-waits
+returns-clause-waits c = c.walk.ensures.walked.keys
+
+pub returns-clause-no_hits : goal.returns-clause-no_hits
+returns-clause-no_hits c = c.walk.ensures.walked.hits

@@ -3,8 +3,13 @@ use Rattle.syn_decide.specs.Tasks.{task_of}
 use Rattle.syn_table.specs.declared.Known.{Known}
 use Rattle.syn_table.specs.Seating.{view_of}
 use Rattle.syn_commit.specs.Hinted.{IsHinting}
-use Rattle.syn_commit.proofs.Meshing.{held_hits, held_misses}
+use Rattle.syn_commit.proofs.Meshing.{hit_may, held_hits, held_misses}
 use Rattle.syn_commit.proofs.hinting.try_held.Goals as goal
+
+pub pin-requires-clause-may : goal.pin-requires-clause-may
+pin-requires-clause-may c =
+    let is : c.load_hint.result ≡ true = search rules in
+    hit_may (task_of c.args.attempt.now) c.args.deciding.now c.args.node c.args.pair (view_of c.load_hint.new.seat) c.requires.open (c.load_hint.ensures.hint.own is)
 
 pub returns-then-not-load_hint-clause-hinting : goal.returns-then-not-load_hint-clause-hinting
 returns-then-not-load_hint-clause-hinting c =
@@ -19,4 +24,4 @@ returns-clause-hinting c =
     subst (λ ps. IsHinting t (view_of c.args.start.now.value) c.args.pool.now ps (view_of c.pin.new.seat) c.load_hint.new.deciding) (sym c.push.ensures.items)
     (subst (λ w. IsHinting t (view_of c.args.start.now.value) c.args.pool.now (c.args.pins.now.items ++ c.args.node ∷ []) w c.load_hint.new.deciding) (sym (ap (λ (k : Known). k.core) c.pin.ensures.known))
     (held_hits t (view_of c.args.start.now.value) (view_of c.args.seat.now) c.args.pool.now c.args.pins.now.items c.args.deciding.now c.requires.trying c.args.node c.args.pair c.requires.open
-    (view_of c.load_hint.new.seat) c.load_hint.new.deciding c.load_hint.result is c.requires.inner c.load_hint.ensures.hint))
+    (view_of c.load_hint.new.seat) c.load_hint.new.deciding c.load_hint.result is c.requires.other_root c.requires.inner c.load_hint.ensures.hint))

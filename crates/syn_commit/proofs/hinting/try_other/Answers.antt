@@ -5,8 +5,13 @@ use Rattle.syn_decide.specs.Tasks.{task_of}
 use Rattle.syn_table.specs.declared.Known.{Known}
 use Rattle.syn_table.specs.Seating.{view_of}
 use Rattle.syn_commit.specs.Hinted.{IsHint, IsHinting}
-use Rattle.syn_commit.proofs.Meshing.{other_hits, other_missed, other_misses}
+use Rattle.syn_commit.proofs.Meshing.{hit_may, other_hits, other_missed, other_misses}
 use Rattle.syn_commit.proofs.hinting.try_other.Goals as goal
+
+pub pin-requires-clause-may : goal.pin-requires-clause-may
+pin-requires-clause-may c =
+    let is : c.load_hint.result ≡ true = search rules in
+    hit_may (task_of c.args.attempt.now) c.args.deciding.now c.args.node c.args.pair (view_of c.load_hint.new.seat) c.requires.open (c.load_hint.ensures.hint.own is)
 
 pub returns-then-not-claim-clause-hinting : goal.returns-then-not-claim-clause-hinting
 returns-then-not-claim-clause-hinting c =
@@ -34,5 +39,5 @@ returns-clause-hinting c =
     subst (λ ps. IsHinting t (view_of c.args.start.now.value) c.args.pool.now ps (view_of c.pin.new.seat) c.load_hint.new.deciding) (sym c.push.ensures.items)
     (subst (λ w. IsHinting t (view_of c.args.start.now.value) c.args.pool.now (c.args.pins.now.items ++ c.args.node ∷ []) w c.load_hint.new.deciding) (sym (ap (λ (k : Known). k.core) c.pin.ensures.known))
     (other_hits t (view_of c.args.start.now.value) (view_of c.args.seat.now) c.args.pool.now c.args.pins.now.items c.args.deciding.now c.requires.trying c.args.node c.args.pair c.requires.open c.requires.other
-    (view_of c.load_hint.new.seat) c.load_hint.new.deciding c.load_hint.result is
+    (view_of c.load_hint.new.seat) c.load_hint.new.deciding c.load_hint.result is c.requires.other_root
     (subst (λ (v : View). IsHint t c.args.node c.args.pair v c.args.deciding.now (view_of c.load_hint.new.seat) c.load_hint.new.deciding c.load_hint.result) held c.load_hint.ensures.hint)))

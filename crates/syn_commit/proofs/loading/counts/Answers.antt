@@ -1,10 +1,20 @@
-use Rattle.std.proofs.Common.{ap, ◌∙◌}
+use Rattle.std.proofs.Common.{refl, ap, ◌∙◌}
 use Rattle.syn_core_laws.specs.declared.View.{View}
 use Rattle.syn_decide.specs.Tasks.{task_of}
 use Rattle.syn_table.specs.Seating.{nodes_of, view_of}
 use Rattle.syn_table.specs.Steps.{with_view}
-use Rattle.syn_commit.proofs.Loads.{count_asked, count_falls, count_goes_on, counting_ends}
+use Rattle.syn_commit.proofs.Loads.{count_asked, count_falls, count_goes_on, count_loads, counting_ends, none_loaded}
 use Rattle.syn_commit.proofs.loading.counts.Goals as goal
+
+pub loop-node-init : goal.loop-node-init
+loop-node-init c = record {
+  table = c.requires.table;
+  known = refl;
+  misses = refl;
+  trying = c.requires.trying;
+  past = c.requires.past;
+  loaded = none_loaded (nodes_of c.args.shared.now) (view_of c.args.seat.now) c.args.deciding.now c.requires.uncounted;
+}
 
 pub loop-node-preserved : goal.loop-node-preserved
 loop-node-preserved c =
@@ -19,6 +29,8 @@ loop-node-preserved c =
           (nodes_of c.args.shared.now) (view_of c.load_count.new.seat) c.load_count.new.deciding c.load_count.ensures.counted;
       past = (count_falls t (view_of c.args.start.now.value) (view_of c.loop-node.seat) c.args.pool.now c.args.pins.now.items c.loop-node.deciding c.loop-node.invariant.trying n asked
           (nodes_of c.args.shared.now) (view_of c.load_count.new.seat) c.load_count.new.deciding c.load_count.ensures.counted).1;
+      loaded = count_loads t (view_of c.args.start.now.value) (view_of c.loop-node.seat) c.args.pool.now c.args.pins.now.items c.loop-node.deciding c.loop-node.invariant.trying n asked
+          (nodes_of c.args.shared.now) (view_of c.load_count.new.seat) c.load_count.new.deciding c.loop-node.invariant.loaded c.load_count.ensures.counted;
     }
 
 pub returns-clause-ended : goal.returns-clause-ended

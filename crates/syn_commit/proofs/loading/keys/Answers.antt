@@ -1,8 +1,10 @@
-use Rattle.std.proofs.Common.{◌≤◌, length, refl, ap, ◌∙◌}
+use Rattle.std.proofs.Common.{◌≤◌, length, refl, sym, ap, ◌∙◌, subst}
 use Rattle.syn_decide.specs.Tasks.{task_of}
 use Rattle.syn_table.specs.Seating.{view_of}
 use Rattle.syn_table.specs.Steps.{with_view}
-use Rattle.syn_commit.proofs.Loads.{key_asked, key_falls, key_goes_on, key_held, key_may, keying_begins, keying_ends}
+use Rattle.syn_commit.proofs.Loads.{key_asked, key_falls, key_goes_on, key_held, key_may, key_uncounted, keying_begins, keying_ends}
+use Rattle.syn_commit.specs.Keyed.{IsKeyedSoFar}
+use Rattle.syn_commit.proofs.Keyings.{key_keeps, keys_begin}
 use Rattle.syn_commit.proofs.Sole.{keyed_misses}
 use Rattle.syn_commit.proofs.loading.keys.Goals as goal
 
@@ -15,6 +17,9 @@ loop-node-init c =
       misses = refl;
       trying = c.requires.trying;
       keying = keying_begins (task_of c.args.attempt.now) _ _ _ _ _ c.requires.trying c.requires.none few c.requires.past;
+      uncounted = c.requires.uncounted;
+      keyed = subst (λ ps. IsKeyedSoFar (task_of c.args.attempt.now) ps (view_of c.args.seat.now) c.args.deciding.now) (sym c.requires.none)
+          (keys_begin (task_of c.args.attempt.now) (view_of c.args.start.now.value) (view_of c.args.seat.now) c.args.deciding.now c.requires.trying.reads c.requires.waits c.requires.no_hits c.requires.uncounted);
     }
 
 pub load_key-requires-clause-may : goal.load_key-requires-clause-may
@@ -40,6 +45,10 @@ loop-node-preserved c =
           (view_of c.load_key.new.seat) c.load_key.new.pins.items c.load_key.new.deciding c.load_key.ensures.keyed;
       keying = (key_falls t (view_of c.args.start.now.value) (view_of c.loop-node.seat) c.args.pool.now c.loop-node.pins.items c.loop-node.deciding c.loop-node.invariant.trying n asked.0 asked.1
           (view_of c.load_key.new.seat) c.load_key.new.pins.items c.load_key.new.deciding c.loop-node.invariant.keying c.load_key.ensures.keyed).1;
+      uncounted = key_uncounted t (view_of c.loop-node.seat) c.loop-node.pins.items c.loop-node.deciding n asked.0 asked.1 (view_of c.load_key.new.seat) c.load_key.new.pins.items c.load_key.new.deciding c.load_key.ensures.keyed
+          ∙ c.loop-node.invariant.uncounted;
+      keyed = key_keeps t (view_of c.args.start.now.value) (view_of c.loop-node.seat) c.args.pool.now c.loop-node.pins.items c.loop-node.deciding c.requires.enters c.loop-node.invariant.trying c.loop-node.invariant.keyed n asked.0 asked.1
+          (view_of c.load_key.new.seat) c.load_key.new.pins.items c.load_key.new.deciding c.load_key.ensures.keyed;
     }
 
 pub returns-clause-past : goal.returns-clause-past

@@ -1,0 +1,5 @@
+use Rattle.syn_commit.proofs.Readying.{rows_are_ready}
+use Rattle.syn_commit.proofs.loading.rows_ready.Goals as goal
+
+pub returns : goal.returns
+returns c = rows_are_ready

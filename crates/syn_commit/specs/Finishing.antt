@@ -1,0 +1,65 @@
+-- A commit behind its stores: it gives back, and what its counts found dying is freed.
+use Rattle.std.specs.Prelude.{◌≡◌, ℕ, ◌+◌, ◌<◌, Bool, true, List, [], ◌∷◌, ◌++◌, length, slice_index_or, Some, pos, ◌+ℤ◌}
+use Rattle.syn_rows.specs.declared.Row.{Row}
+use Rattle.syn_rows.specs.declared.Row.TheVariants.{Free}
+use Rattle.syn_rows.specs.Rows.{is_derived, row_at}
+use Rattle.syn_rows.specs.References.{and_count}
+use Rattle.syn_core_laws.specs.declared.View.{View}
+use Rattle.syn_core_laws.specs.declared.Change.{Change}
+use Rattle.syn_core_laws.specs.Views.{known_row}
+use Rattle.syn_commit_laws.specs.Dying.{AreDoomed, ands_in}
+use Rattle.syn_commit_laws.specs.Freeing.{IsFreeing, late, redefines}
+use Rattle.syn_commit_laws.specs.Turning.{Spares, TurnsAll}
+use Rattle.syn_core_laws.specs.Shown.{IsShown}
+use Rattle.syn_decide.specs.declared.decisions.NodeRow.{NodeRow}
+use Rattle.syn_decide.specs.Decided.{Done}
+use Rattle.syn_decide.specs.Fold.{Ended, State, placed_now}
+use Rattle.syn_decide.specs.Hints.{new_root_row, rows_needed}
+use Rattle.syn_decide.specs.Tasks.{Task}
+use Rattle.syn_decide.specs.Walk.{enters, nodes_of}
+use Rattle.syn_commit_laws.specs.Redefining.{IsInOrder, row_made}
+use Rattle.syn_commit.specs.Counts.{CountsAreLoaded, dying_by}
+use Rattle.syn_commit.specs.Stages.{IsTrying}
+use Rattle.syn_commit.specs.Storing.{RedefinesRow, makes_rows, node_at}
+
+-- the change that gives the root its new row
+abbrev pub root_change : ℕ → Row → Row → Change
+root_change root old new = record { node = root; old = old; new = new }
+
+-- the root's new row as it is stored, where new gates have these nodes
+abbrev pub new_row : Task → State → List NodeRow → Row
+new_row t s made = row_made (nodes_of made) (new_root_row t (placed_now t s))
+
+-- Since the counts so many rows were made and the root was redefined, and nothing was freed. The dying rows are doomed, the root's new row refers to none of them, and the ANDs that die,
+-- with the old row, are as many as those that came, with the new row, and the gain.
+pub record HasStored (nodes root : ℕ) (dying : ℕ → Bool) (counted : View) (old new : Row) (made gain : ℕ) (v : View) : Type 0 where
+  pub doomed : AreDoomed nodes root dying counted
+  pub freeing : IsFreeing nodes root dying counted made (root_change root old new ∷ []) v
+  pub root_row : known_row v root ≡ Some new
+  pub spared : Spares dying new
+  pub first : redefines (root_change root old new ∷ []) ≡ root_change root old new ∷ []
+  pub ands : and_count old + ands_in nodes counted dying ≡ made + and_count new + gain
+
+-- Since the counts exactly one row was redefined, the root's, and the difference fell by exactly the gain and the late ANDs.
+abbrev pub FellByGain : ℕ → (ℕ → Bool) → View → Row → Row → ℕ → View → Type 0
+FellByGain root dying counted old new gain v =
+    (changes : List Change) × (v.changes ≡ counted.changes ++ changes) × (redefines changes ≡ root_change root old new ∷ []) × (v.difference +ℤ pos (gain + late dying changes) ≡ counted.difference)
+
+-- Between the counts and the end rows were made for the new gates that need one, in nodes that were spare, and the root was redefined.
+pub record AreStoredBy (nodes : ℕ) (t : Task) (s : State) (low step : ℕ) (made : List NodeRow) (counted w v : View) : Type 0 where
+  pub count : length made ≡ rows_needed t (placed_now t s)
+  pub spare : (i : ℕ) → i < length made → known_row counted (node_at made i) ≡ Some Free
+  pub rows : (i : ℕ) (d : NodeRow) → i < length made → (slice_index_or made i d).row ≡ row_made (nodes_of made) (row_at (placed_now t s).extra i)
+  pub makes : TurnsAll nodes counted (makes_rows low step 0 made) w
+  pub kept : (r : Row) → known_row counted t.proposal.root ≡ Some r → known_row w t.proposal.root ≡ Some r
+  pub redefined : RedefinesRow nodes w t.proposal.root (new_row t s made) v
+  pub root_row : known_row v t.proposal.root ≡ Some (new_row t s made)
+  pub root_gate : is_derived (new_row t s made) ≡ true
+
+-- After the answer `Done` such stores leave what the end of a commit needs.
+abbrev pub StoresFinish : Type 0
+StoresFinish =
+    (nodes : ℕ) (t : Task) (start counted w v : View) (pool pins : List ℕ) (s : State) (low step gain : ℕ) (made : List NodeRow)
+    → IsInOrder t → enters t.proposal.leaves [] t.proposal.root ≡ true → IsTrying t start pool pins counted s → IsShown nodes counted → CountsAreLoaded nodes counted s → s.stage ≡ Ended (Done gain)
+    → AreStoredBy nodes t s low step made counted w v
+    → (old : Row) × (known_row counted t.proposal.root ≡ Some old) × HasStored nodes t.proposal.root (dying_by s) counted old (new_row t s made) (length made) gain v
