@@ -6,7 +6,6 @@ ghost use Rattle.syn_rows.specs.Reach.{is_and};
 ghost use Rattle.syn_fanout_free.specs.Bounding.{IsLostBut, IsMostLost};
 ghost use Rattle.syn_fanout_free.specs.Saved.{count_in};
 ghost use Rattle.syn_gain.specs.Leaves.{rise_above};
-ghost use Rattle.syn_gain.specs.declared.bounding.TheConstants.{MOST_COUNTED};
 ghost use Rattle.syn_gain.specs.Proposals.{replacement_of};
 ghost use Rattle.syn_gain.specs.Replacements.{SavedBy};
 ghost use Rattle.syn_gain.specs.Uses.{IsUsesOf};
@@ -38,24 +37,22 @@ impl Room {
     }
 }
 
-/// How many ANDs that go with a row are counted before a plan is looked at; few plans add as many.
-pub const MOST_COUNTED: u32 = 64;
-
 /// How many ANDs go with the row of an AND where these leaves stay: its own, and those that are freed then. All plans over
-/// the leaves share the number. Where there are more than `MOST_COUNTED`, it is a greater number. The only error is want of
-/// memory, which a small cone doesn't take.
+/// the leaves share the number. Above `limit` the cone that goes isn't followed further, and the answer is a greater number;
+/// with `u32::MAX` it is always the number. The only error is want of memory, which a small cone doesn't take.
 pub fn lost_but(
     alloc: Global,
     graph: &Graph,
     uses: &Uses,
     root: u32,
     leaves: &[u32],
+    limit: u32,
 ) -> Result<u32, AllocError>
     requires uses { IsUsesOf uses.now graph.now }
     requires root { is_and (row_at graph.now.rows root) ≡ true }
     requires rise { rise_above 0 leaves.now ≡ true }
     ensures most { IfOk result (λ k. IsMostLost graph.now.rows (count_in uses.now.counts.items) root leaves.now k) }
-    ensures exact { IfOk result (λ k. k ≤ MOST_COUNTED → IsLostBut graph.now.rows (count_in uses.now.counts.items) root leaves.now k) }
+    ensures exact { IfOk result (λ k. k ≤ limit → IsLostBut graph.now.rows (count_in uses.now.counts.items) root leaves.now k) }
 {
     syn_fanout_free::lost_but(
         alloc,
@@ -63,7 +60,7 @@ pub fn lost_but(
         uses.counts.as_slice(),
         root,
         leaves,
-        MOST_COUNTED,
+        limit,
     )
 }
 

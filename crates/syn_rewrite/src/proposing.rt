@@ -25,6 +25,9 @@ use syn_library::Prepared as Classes;
 use syn_plan::Plan;
 use syn_pool::{Proposer, saves_bounded};
 
+// How many ANDs that go with a row are counted before its plans are looked at; hardly a plan of four leaves adds as many.
+const MOST_COUNTED: u32 = 64;
+
 /// Proposes for each AND, cut by cut, the plans of its function over the cut.
 #[derive(Drop)]
 pub struct CutPlans {
@@ -107,7 +110,7 @@ fn some_saves(
     requires plans { ArePlansOf function plans.now }
     ensures none { IfOk result (λ some. some ≡ false → All (SavesNothing graph.now.rows graph.now.observed) (cut_proposals graph.now.rows node leaves.now)) }
 {
-    let bound = lost_but(alloc, graph, uses, node, leaves)?;
+    let bound = lost_but(alloc, graph, uses, node, leaves, MOST_COUNTED)?;
     for plan in plans {
         let candidate = candidate(graph, node, leaves, function, plan);
         if saves_bounded(alloc, graph, uses, candidate, bound, room)? {
@@ -172,7 +175,7 @@ fn first_over(
     ensures sound { IfOk result (λ found. IfSome found (IsSound graph.now.rows)) }
     ensures none { IfOk result (λ found. IfNone found (All (SavesNothing graph.now.rows graph.now.observed) (cut_proposals graph.now.rows node leaves.now))) }
 {
-    let most = lost_but(alloc, graph, uses, node, leaves)?;
+    let most = lost_but(alloc, graph, uses, node, leaves, MOST_COUNTED)?;
     for plan in plans {
         let candidate = candidate(graph, node, leaves, function, plan);
         if saves_bounded(alloc, graph, uses, candidate, most, room)? {

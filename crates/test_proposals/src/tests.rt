@@ -192,7 +192,14 @@ fn bounded(
         return Ok(None);
     }
     let uses = Uses::new(alloc, graph)?;
-    let most = lost_but(alloc, graph, &uses, candidate.root, candidate.leaves)?;
+    let most = lost_but(
+        alloc,
+        graph,
+        &uses,
+        candidate.root,
+        candidate.leaves,
+        u32::MAX,
+    )?;
     let mut room = Room::new(alloc);
     let some = syn_gain::saves(alloc, graph, &uses, candidate, most, &mut room)?;
     Ok(Some((most, some)))
