@@ -1,4 +1,4 @@
--- The netlist of a LUT net is ordered, has_word LUT shape, and spells the net.
+-- The netlist of a LUT net is ordered, has LUT shape, and spells the net.
 use Rattle.std.proofs.Common.{◌≡◌, ℕ, zero, suc, ◌+◌, ◌-◌, ◌*◌, ◌<◌, ◌≤◌, nat_le, not, Bool, true, false, All, List, [], ◌∷◌, ◌++◌, map, length, filter, find, bytes_eq, refl, sym, ap, ap₂, ◌∙◌, subst, inl, inr, append-nil, arith}
 use Rattle.std.specs.Prelude.{flat_map}
 use Rattle.std.specs.List.{AllByRecursion}
@@ -33,7 +33,7 @@ distinct_append (x ∷ xs) ys d e away =
     (not_from_false (has_word (xs ++ ys) x) (has_word-append xs ys x ∙ or_from (has_word xs x) (has_word ys x) (not-true (has_word xs x) parts.0) (away x (has_head x xs))))
     (distinct_append xs ys parts.1 e (λ w h. away w (has_tail x w xs h)))
 
--- a table of an observed signal has_word at most one input
+-- a table of an observed signal has at most one input
 end_not_more : (names inputs rows : List (List ℕ)) (on : Bool) → is_end_cover names inputs rows on ≡ true → nat_le 2 (length inputs) ≡ false
 end_not_more names [] rows on h = refl
 end_not_more names (a ∷ []) rows on h = refl

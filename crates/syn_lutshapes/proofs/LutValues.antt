@@ -60,7 +60,7 @@ matches_minterm (c ∷ cs) (b ∷ bits) s e =
     let parts = and_parts (is_sign c) (list_all is_sign cs) s in
     ap₂ (λ (x y : Bool). x && y) (fits_sign c b parts.0) (matches_minterm cs bits parts.1 (omega (arith, e))) ∙ step_same (nat_eq c 49) b (row_minterm cs) (minterm_of bits)
 
--- a cover that lists minterms has_word the value of their table
+-- a cover that lists minterms has the value of their table
 pub cover_lists : (rows : List (List ℕ)) (n : ℕ) (bits : List Bool) → list_all (is_minterm_row n) rows ≡ true → length bits ≡ n → cover_value rows true bits ≡ ones_value (map row_minterm rows) bits
 cover_lists [] n bits h e = refl
 cover_lists (row ∷ rows) n bits h e =

@@ -11,7 +11,7 @@ use Rattle.syn_truth.specs.Truth.{minterm_of}
 use Rattle.syn_shapes.specs.GraphShape.{place, shown, lit_of_table, is_end_table}
 use Rattle.syn_lutshapes.specs.Luts.{Lut, rising, luts_function, net_depth, net_gates, Reached}
 
--- the table has_word two or more inputs
+-- the table has two or more inputs
 abbrev pub has_more : Table → Bool
 has_more t = nat_le 2 (length t.inputs)
 
@@ -81,6 +81,6 @@ pub record LutShape (n : Netlist) (k : ℕ) : Type 0 where
   pub ends : All (λ t. is_end_table (signal_names n) t ≡ true) (end_tables n)
   pub each : map output_of (end_tables n) ≡ without (sources n.frame) (observed n.frame)
 
--- A netlist of LUT shape that is ordered has_word the function of the LUTs that its tables spell.
+-- A netlist of LUT shape that is ordered has the function of the LUTs that its tables spell.
 abbrev pub LutsHaveFunction : Type 0
 LutsHaveFunction = (n : Netlist) (k : ℕ) → LutShape n k → Ordered n → HasFunction n (luts_function (luts_of n) (observed_of n))

@@ -104,15 +104,15 @@ no_lut = record { inputs = []; ones = [] }
 abbrev pub lut_at : List Lut → ℕ → Lut
 lut_at luts j = slice_index_or luts j no_lut
 
--- the set has_word with the signal of each LUT, the first of which is `first`, the signals that it reads
+-- the set has with the signal of each LUT, the first of which is `first`, the signals that it reads
 abbrev pub IsClosed : ℕ → List Lut → (ℕ → Bool) → Type 0
 IsClosed first luts set = (j : ℕ) → j < length luts → set (first + j) ≡ true → All (λ m. set m ≡ true) (lut_at luts j).inputs
 
--- a signal is reached: every closed set that has_word the observed signals has_word it
+-- a signal is reached: every closed set that has the observed signals has it
 abbrev pub Reached : ℕ → List Lut → List Lit → ℕ → Type 0
 Reached first luts lits n = (set : ℕ → Bool) → IsClosed first luts set → HasObserved lits set → set n ≡ true
 
--- A LUT net of a frame: each LUT is one of its signal; one literal for each observed signal, in their order, of a signal that is there; an observed source has_word its own plain literal; every LUT is reached.
+-- A LUT net of a frame: each LUT is one of its signal; one literal for each observed signal, in their order, of a signal that is there; an observed source has its own plain literal; every LUT is reached.
 pub record IsLutNet (frame : Frame) (luts : List Lut) (lits : List Lit) : Type 0 where
   pub luts_fit : (j : ℕ) → j < length luts → is_lut (length (sources frame) + 1 + j) (lut_at luts j) ≡ true
   pub count : length lits ≡ length (observed frame)
@@ -120,7 +120,7 @@ pub record IsLutNet (frame : Frame) (luts : List Lut) (lits : List Lit) : Type 0
   pub own : (i : ℕ) → i < length lits → has_word (sources frame) (word_at (observed frame) i) ≡ true → lit_at lits i ≡ source_lit (place (word_at (observed frame) i) (sources frame))
   pub reached : (j : ℕ) → j < length luts → Reached (length (sources frame) + 1) luts lits (length (sources frame) + 1 + j)
 
--- no LUT has_word more than k inputs
+-- no LUT has more than k inputs
 abbrev pub none_exceeds : ℕ → List Lut → Bool
 none_exceeds k luts = list_all (λ l. nat_le (length l.inputs) k) luts
 

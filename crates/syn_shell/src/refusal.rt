@@ -25,7 +25,7 @@ pub enum Refusal {
     TooManyLines,
     /// So many gates make the network a graph, more than 4,194,304.
     TooManyGates(u64),
-    /// The command needs a network, and none was read.
+    /// The command needs a network, and there is none.
     NoNetwork,
     /// The file that the command names could not be read.
     GetFailed,
