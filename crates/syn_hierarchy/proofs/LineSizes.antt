@@ -1,12 +1,16 @@
--- No line of a file has more letters than the file has bytes.
+-- No line of a file has more letters than the file has bytes, and all lines together have no more words.
 use Rattle.std.proofs.Common.{arith, ◌≡◌, ℕ, suc, ◌+◌, ◌≤◌, ◌==◌, Bool, true, false, if◌then◌else◌, List, [], ◌∷◌, ◌++◌, length, map, filter, refl}
 use Rattle.std.specs.List.{onto_first}
+use Rattle.std.proofs.lemmas.Bool.{and_parts, both_ways}
 use Rattle.syn_lex.specs.Words.{Word, text_of, is_word_byte, begins_word, grown, words_at}
 use Rattle.syn_lex.specs.Lines.{LogicalLine, physical_lines, without_comment, joins, joined, joined_lines, has_words, logical_lines}
+use Rattle.syn_netlist.specs.Words.{is_word}
 use Rattle.syn_reader.specs.declared.Kind.{Kind}
 use Rattle.syn_reader.specs.declared.Kind.TheVariants as kinds
-use Rattle.syn_reader.specs.Statements.{Statement, begins_model, begins_with_dot, keywords_with, kind_in, line_by, model_statements, statement_by}
-use Rattle.syn_model_lines.specs.Parted.{by_model, parted}
+use Rattle.syn_reader.specs.Heard.{all_words, lines_words}
+use Rattle.syn_reader.specs.Statements.{Statement, begins_model, begins_with_dot, is_end, is_row, keywords, keywords_with, kind_in, line_by, model_statements, statement_by, statements}
+use Rattle.syn_reader.proofs.LineWords.{logical_words}
+use Rattle.syn_model_lines.specs.Parted.{by_model, parted, words_in, words_of}
 
 -- the letters of words
 abbrev size_words : List Word → ℕ
@@ -141,3 +145,52 @@ parts_short most ss h = go (begins_model ss)
 -- the statements of a file, model by model
 pub file_short : (bytes : List ℕ) → AllShort (length bytes) (by_model (model_statements bytes))
 file_short bytes = parts_short (length bytes) (model_statements bytes) (lines_short (keywords_with true) (length bytes) (logical_lines bytes) (logical_size bytes))
+
+-- a word of the format has a letter or more, so there are no more words than letters
+one_letter : (text : List ℕ) → is_word text ≡ true → 1 ≤ length text
+one_letter [] h = absurd (both_ways false refl h)
+one_letter (b ∷ bs) h = omega arith
+
+no_more_than_letters : (ws : List Word) → all_words ws ≡ true → length (map text_of ws) ≤ size_words ws
+no_more_than_letters [] h = omega arith
+no_more_than_letters (w ∷ ws) h =
+    let both = and_parts (is_word w.text) (all_words ws) h in
+    let here = one_letter w.text both.0 in
+    let rest = no_more_than_letters ws both.1 in
+    omega (arith, here, rest)
+
+-- a statement counts no more words than its line has
+keyword_few : (kind : Kind) (words : List (List ℕ)) → words_in (record { line = 0; kind = kind; words = words }) ≤ suc (length words)
+keyword_few kind words = go (is_row kind) (is_end kind)
+  where
+    go : (r e : Bool) → (if r then length words else if e then 0 else suc (length words)) ≤ suc (length words)
+    go true e = omega arith
+    go false true = omega arith
+    go false false = omega arith
+
+line_few : (table : List (List ℕ × Kind)) (line : ℕ) (words : List (List ℕ)) → words_in (statement_by table line words) ≤ length words
+line_few table line [] = omega arith
+line_few table line (w ∷ ws) = go (begins_with_dot w)
+  where
+    go : (t : Bool) → words_in (let s : Statement = if t then record { line = line; kind = kind_in table w; words = ws } else record { line = line; kind = kinds.Row; words = w ∷ ws } in s) ≤ suc (length ws)
+    go true = keyword_few (kind_in table w) ws
+    go false = omega arith
+
+lines_few : (table : List (List ℕ × Kind)) (lines : List LogicalLine) → lines_words lines ≡ true → words_of (map (line_by table) lines) ≤ size_lines lines
+lines_few table [] h = omega arith
+lines_few table (l ∷ ls) h =
+    let both = and_parts (all_words l.words) (lines_words ls) h in
+    let here = line_few table l.number (map text_of l.words) in
+    let letters = no_more_than_letters l.words both.0 in
+    let rest = lines_few table ls both.1 in
+    omega (arith, here, letters, rest)
+
+-- the statements of a text count no more words than it has bytes
+few_words_by : (table : List (List ℕ × Kind)) (bytes : List ℕ) → words_of (map (line_by table) (logical_lines bytes)) ≤ length bytes
+few_words_by table bytes =
+    let a = lines_few table (logical_lines bytes) (logical_words bytes) in
+    let b = logical_size bytes in
+    omega (arith, a, b)
+
+pub few_words : (bytes : List ℕ) → words_of (statements bytes) ≤ length bytes
+few_words bytes = few_words_by keywords bytes

@@ -1,12 +1,12 @@
--- What reads as a file of one model reads as the same netlist where a file may have more.
-use Rattle.std.proofs.Common.{◌≡◌, ℕ, not, ◌&&◌, Bool, true, false, if◌then◌else◌, List, [], ◌∷◌, ◌++◌, map, flat_map, find, bytes_eq, codes, refl, sym, ap, ap₂, ◌∙◌, subst, inl, inr, Option, Some, None, option_map, append-nil}
+-- What reads as a file of one model reads as the same netlist where a file may have more, and within the same limits.
+use Rattle.std.proofs.Common.{arith, ◌≡◌, ◌≤◌, ℕ, not, ◌&&◌, Bool, true, false, if◌then◌else◌, List, [], ◌∷◌, ◌++◌, map, flat_map, find, bytes_eq, codes, refl, sym, ap, ap₂, ◌∙◌, subst, inl, inr, Option, Some, None, option_map, length, append-nil}
 use Rattle.std.specs.List.{list_all, list_any, onto_first}
 use Rattle.std.specs.Option.{option_or}
 use Rattle.std.proofs.lemmas.Bool.{and_parts, both_ways, cases_Bool, cond-false, not-true}
 use Rattle.syn_lex.specs.Words.{text_of}
 use Rattle.syn_lex.specs.Lines.{LogicalLine, bad_byte, logical_lines}
 use Rattle.syn_netlist.specs.Faults.{ReachesCircle}
-use Rattle.syn_netlist.specs.Lists.{Table}
+use Rattle.syn_netlist.specs.Lists.{Netlist, Table}
 use Rattle.syn_netlist.specs.Words.{has_word}
 use Rattle.syn_netlist.proofs.CyclicSets.{to_in}
 use Rattle.syn_netlist.proofs.Sets.{same_word}
@@ -15,25 +15,30 @@ use Rattle.syn_models.proofs.Slashes.{slashes_are_there}
 use Rattle.syn_models.specs.declared.flat_fault.FlatFault.{FlatFault}
 use Rattle.syn_models.specs.declared.flat_fault.FlatFault.TheVariants.{Undriven as UndrivenName}
 use Rattle.syn_models.specs.FlatFaults as flat
-use Rattle.syn_models.specs.FlatFaults.{Flattens, NoRecursion, contents, defined_inside, first_of_models, first_of_statements, first_fault_of_models, model_of as contained, statement_fault, undriven_in}
+use Rattle.syn_models.specs.FlatFaults.{Flattens, NoRecursion, contents, defined_inside, first_of_models, first_of_statements, first_fault_of_models, model_of as contained, most_words, statement_fault, undriven_in}
 use Rattle.syn_models.specs.Flattening.{IsFlattening, flattened}
 use Rattle.syn_models.specs.Models as models
 use Rattle.syn_models.specs.Models.{Inputs, Outputs, Clock, OneLatch, OneTable, OneSubcircuit, Model, Models, StatementKind, Subcircuit, all_of, alone, subcircuits_in, subcircuits_of}
-use Rattle.syn_models.specs.Opening.{End, Opened, Opens, Plain as PlainOne, is_subcircuit}
+use Rattle.syn_models.specs.Opening.{End, Opened, Opens, Plain as PlainOne, is_subcircuit, words_inside}
 use Rattle.syn_reader.specs.declared.Kind.{Kind}
 use Rattle.syn_reader.specs.declared.Kind.TheVariants as kinds
 use Rattle.syn_reader.specs.Definitions.{definitions, first_undriven, name_of, reads}
 use Rattle.syn_reader.specs.Faults.{BadByte, ModelTwice, PortTwice, SubcktShape, Undriven}
+use Rattle.syn_reader.specs.Limits as netlists
 use Rattle.syn_reader.specs.LineFaults.{checks, first_fault_of_lines, first_found}
+use Rattle.syn_reader.specs.Reading as reader
 use Rattle.syn_reader.specs.Statements.{Statement, begins_with_dot, is_model, is_subckt, is_unknown, keywords, keywords_with, kind_in, line_by, model_statements, statement_by, statement_of, statements}
 use Rattle.syn_reader.proofs.Fine.{no_name_found, none_from, or_none, parts_of}
 use Rattle.syn_model_lines.specs.Faults as files
 use Rattle.syn_model_lines.specs.Faults.{first_line_fault, model_checks, model_twice, port_twice, subckt_shape}
-use Rattle.syn_model_lines.specs.Parted.{by_model, parted}
+use Rattle.syn_model_lines.specs.Parted.{by_model, parted, words_of}
 use Rattle.syn_model_lines.specs.Reading.{SpellAll}
 use Rattle.syn_model_lines.proofs.Faultless.{faultless_say, found_append, more_checks}
 use Rattle.syn_hierarchy.specs.Laws.{OneModelReads}
+use Rattle.syn_hierarchy.specs.Limits.{Within}
+use Rattle.syn_hierarchy.specs.Reading.{Spells}
 use Rattle.syn_hierarchy.proofs.Built.{model_of, spelled}
+use Rattle.syn_hierarchy.proofs.LineSizes.{few_words}
 use Rattle.syn_hierarchy.proofs.OneLists.{NoModels, NoMoreModels, NoSubckts, Plain, SaysAll, defined_all, is_alone, says_all}
 
 -- no keyword of a file of one model is that of subcircuits
@@ -209,8 +214,16 @@ only_flat m p =
     let f : IsFlattening (only m) (flattened m tree count) = record { tree = tree; opens = plain_opens (m ∷ []) m.statements p; count = count; slashes = slashes; is = refl } in
     subst (IsFlattening (only m)) (alone_is_flat (only m) (flattened m tree count) (no_subcircuits m.statements p) f) f
 
-pub one_model_reads : OneModelReads
-one_model_reads bytes n r =
+-- What a text that reads as a file of one model spells where it may have more: one model of plain statements, flattened to the same netlist.
+record SpellsOne (bytes : List ℕ) (n : Netlist) : Type 0 where
+  main : Model
+  spelled : Spells bytes (only main)
+  flattened : Flattens (only main) n
+  plain : Plain main.statements
+  words : main.words ≡ words_of (statements bytes)
+
+spells_one : (bytes : List ℕ) (n : Netlist) → reader.Reads bytes n → SpellsOne bytes n
+spells_one bytes n r =
     let ss : List Statement = statements bytes in
     let first = or_none (option_map BadByte (bad_byte bytes)) (option_or (first_fault_of_lines checks [] ss) (option_map Undriven (first_undriven ss))) r.faultless in
     let second = or_none (first_fault_of_lines checks [] ss) (option_map Undriven (first_undriven ss)) first.1 in
@@ -223,7 +236,7 @@ one_model_reads bytes n r =
     let h : SaysAll (m ∷ []) ss said = says_all (m ∷ []) ss said plain say in
     let same : n ≡ alone m = is_alone ss n m none r.spelled refl say in
     record {
-      models = only m;
+      main = m;
       spelled = record {
         faultless = none_from _ _ first.0 (ap (files.first_fault_of_models []) parts ∙ none_from _ _ fine refl);
         spelled = subst (λ (l : List (List Statement)). SpellAll l (m ∷ [])) (sym parts) (spelled ss said say, tt);
@@ -233,5 +246,29 @@ one_model_reads bytes n r =
         acyclic = only_acyclic m h.plain;
         flattening = subst (IsFlattening (only m)) (sym same) (only_flat m h.plain);
       };
-      acyclic = r.acyclic;
+      plain = h.plain;
+      words = refl;
+    }
+
+pub one_model_reads : OneModelReads
+one_model_reads bytes n r =
+    let one = spells_one bytes n r in
+    record { models = only one.main; spelled = one.spelled; flattened = one.flattened; acyclic = r.acyclic }
+
+-- plain statements have no instance, and so no words inside
+none_within : (said : List models.Statement) → words_inside (plain_tree said) ≡ 0
+none_within [] = refl
+none_within (s ∷ ss) = none_within ss
+
+-- a text of one model has no more words than bytes, so one that isn't too long is within all limits
+pub one_model_within : (bytes : List ℕ) (n : Netlist) → reader.Reads bytes n → netlists.Within n → length bytes ≤ most_words → Within bytes n
+one_model_within bytes n r within short =
+    let one = spells_one bytes n r in
+    let m : Model = one.main in
+    let few = few_words bytes in
+    let words = one.words in
+    let inside = none_within m.statements in
+    record {
+      words = (only m, one.spelled, (plain_tree m.statements, plain_opens (m ∷ []) m.statements one.plain, omega (arith, few, words, inside, short)));
+      netlist = within;
     }

@@ -2,7 +2,8 @@
 //!
 //! The lines of a file spell models, and the models are flattened to a netlist. `specs/` says which netlist a file
 //! spells, which faults can stand in it, and which of them is its first. `read` reads the netlist, or names the first
-//! fault. The laws hold of the definitions alone.
+//! fault. A file that one model without subcircuits fills is read as such, with no models in between. The laws hold of the
+//! definitions alone.
 #![tactic(auto)]
 
 mod checking;
