@@ -103,4 +103,4 @@ look_allowed opening slots id me s (c, t) homes at small = (
 )
 
 pub joined_active : (k o : Known) → IsActive k → IsActive (with_joined k o)
-joined_active k o a = record { number = a.number; own = own_from (with_joined k o) (drop 1 k.numbers ++ o.numbers) (ap (λ (ns : List ℕ). ns ++ o.numbers) a.own); within = a.within; shown = record { no_circle = a.shown.no_circle; used = a.shown.used; pinned = a.shown.pinned; rows = a.shown.rows; keys = a.shown.keys; idles = a.shown.idles; few = a.shown.few } }
+joined_active k o a = record { number = a.number; own = own_from (with_joined k o) (drop 1 k.numbers ++ o.numbers) (ap (λ (ns : List ℕ). ns ++ o.numbers) a.own); within = a.within; shown = record { no_circle = a.shown.no_circle; used = a.shown.used; pinned = a.shown.pinned; rows = a.shown.rows; keys = a.shown.keys; idles = a.shown.idles; few = a.shown.few }; constant = a.constant }

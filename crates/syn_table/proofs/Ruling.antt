@@ -3,6 +3,8 @@ use Rattle.std.proofs.Common.{◌≡◌, ℕ, zero, suc, ◌<◌, List, [], ◌�
 use mathlib.Core.Option.{some, some-injective, some-ne-none}
 use lib.ListN.{get_elem?}
 use Rattle.atomic_table.proofs.Lists.{at_map, at_set, set_here}
+use Rattle.syn_rows.specs.declared.Row.TheVariants.{Free, Source}
+use Rattle.syn_rows.specs.Rows.{row_at}
 use Rattle.syn_rows.specs.References.{times}
 use Rattle.syn_core_laws.specs.declared.View.{View}
 use Rattle.syn_core_laws.specs.declared.EventKind.{EventKind}
@@ -118,4 +120,8 @@ is_active o words seats c id k t at small = record {
   own = (t.tied id k at).own small;
   within = λ n h. let lt : n < length c.rows = nodes_are_there c id k.core n t.sound (view_at o words seats c id k t at) h in omega (arith, nodes_known o words seats c id k t at small);
   shown = subst (λ m. IsShown m k.core) (sym (nodes_known o words seats c id k t at small)) (seats_are_shown c id k.core t.sound (view_at o words seats c id k t at));
+  constant = λ free.
+      let is : row_at c.rows 0 ≡ Free = ((t.sound.seats id k.core (view_at o words seats c id k t at)).knows_rows 0 Free free).1 in
+      let source : row_at c.rows 0 ≡ Source = t.sound.constant in
+      cc;
 }

@@ -140,7 +140,7 @@ last_small x [] h = h 0 0 (omega arith)
 last_small x (y ∷ more) h = last_small y more (λ k d lt. h (suc k) d (omega arith))
 
 pub left_active : (k : Known) → IsActive k → 2 ≤ length k.numbers → IsActive (without_last k)
-left_active k a two = let more = own_and_more k a.own two in record { number = a.number; own = own_from (without_last k) (all_but_last (more.0 ∷ more.1)) (ap all_but_last more.2); within = a.within; shown = a.shown }
+left_active k a two = let more = own_and_more k a.own two in record { number = a.number; own = own_from (without_last k) (all_but_last (more.0 ∷ more.1)) (ap all_but_last more.2); within = a.within; shown = a.shown; constant = a.constant }
 
 pub new_active : (k : Known) → IsActive k → AreNumbers k.numbers → IsActive (split_from k)
 new_active k a numbers = record {
@@ -148,6 +148,7 @@ new_active k a numbers = record {
   own = refl;
   within = λ n h. absurd (nothing n h);
   shown = empty_shown (length k.opening) (last_of k.numbers);
+  constant = λ free. absurd (cc);
 }
   where
     nothing : (n : ℕ) → (has_node [] n ≡ true) ⊎ MayPin (empty_view (last_of k.numbers)) n → ⊥

@@ -1,9 +1,10 @@
 -- What is true of a table between any two steps: its words and its seats' views are a core state that is sound.
-use Rattle.std.specs.Prelude.{◌≡◌, ◌⊎◌, ℕ, ◌<◌, ◌≤◌, true, List, [], ◌∷◌, drop, length, map}
+use Rattle.std.specs.Prelude.{◌≡◌, ◌≢◌, ◌⊎◌, ℕ, ◌<◌, ◌≤◌, true, List, [], ◌∷◌, drop, length, map, Some}
 use mathlib.Core.Option.{some}
 use lib.ListN.{get_elem?}
 use Rattle.atomic_table.specs.Table.{State}
 use Rattle.syn_rows.specs.declared.Row.{Row}
+use Rattle.syn_rows.specs.declared.Row.TheVariants.{Free}
 use Rattle.syn_rows.specs.declared.Lit.{Lit}
 use Rattle.syn_rows.specs.References.{times}
 use Rattle.syn_core_laws.specs.declared.View.{View}
@@ -14,6 +15,7 @@ use Rattle.syn_core_laws.specs.Openings.{empty_view}
 use Rattle.syn_core_laws.specs.Bounds.{IsSmall}
 use Rattle.syn_core_laws.specs.Sound.{IsSound}
 use Rattle.syn_core_laws.specs.Shown.{IsShown}
+use Rattle.syn_core_laws.specs.Views.{known_row}
 use Rattle.syn_table.specs.declared.Known.{Known}
 use Rattle.syn_table.specs.declared.Opening.{Opening}
 use Rattle.syn_table.specs.Openings.{opened_rows, opened_literals}
@@ -71,3 +73,5 @@ pub record IsActive (k : Known) : Type 0 where
   pub own : HasOwnNumber k
   pub within : (n : ℕ) → (has_node k.core.held n ≡ true) ⊎ MayPin k.core n → n < length k.opening
   pub shown : IsShown (length k.opening) k.core
+  -- node 0 isn't free
+  pub constant : known_row k.core 0 ≢ Some Free

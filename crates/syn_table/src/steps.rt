@@ -1,12 +1,13 @@
 //! The steps of a seat, each one event on one word. No lock is taken and nobody waits.
 
-ghost use Rattle.std.specs.Prelude.{◌≡◌, ◌≢◌, ◌⊎◌, ℕ, suc, ◌+◌, ◌*◌, ◌==◌, ◌^◌, ◌<◌, ◌≤◌, true, false, if◌then◌else◌, IsTrue, ◌↔◌, length};
+ghost use Rattle.std.specs.Prelude.{◌≡◌, ◌≢◌, ◌⊎◌, ℕ, suc, ◌+◌, ◌*◌, ◌==◌, ◌^◌, ◌<◌, ◌≤◌, true, false, if◌then◌else◌, IsTrue, ◌↔◌, length, Some};
 ghost use Rattle.syn_rows.specs.declared.Row.{Row};
+ghost use Rattle.syn_rows.specs.declared.Row.TheVariants.{Free};
 ghost use Rattle.syn_rows.specs.declared.TheConstants.{NODE_LIMIT};
 ghost use Rattle.syn_rows.specs.Packing.{word_of, Packs};
 ghost use Rattle.syn_core_laws.specs.Events.{MayPin};
 ghost use Rattle.syn_rows.specs.Nodes.{has_node};
-ghost use Rattle.syn_core_laws.specs.Views.{is_mine, own_refs, own_pins, claimed, missed, released, row_loaded, pinned, count_loaded, key_loaded};
+ghost use Rattle.syn_core_laws.specs.Views.{is_mine, known_row, own_refs, own_pins, claimed, missed, released, row_loaded, pinned, count_loaded, key_loaded};
 ghost use Rattle.syn_core_laws.specs.Shown.{IsShown};
 ghost use Rattle.syn_table.specs.Seating.{IsOf, known_of, nodes_of, view_of};
 ghost use Rattle.syn_table.specs.Steps.{with_view, IsAgain, IsAlone, Unpins};
@@ -36,7 +37,8 @@ impl Shared {
     }
 
     /// What a seat shows by itself: it has a number, what it holds or may pin is a node of its table, which has fewer than
-    /// 2^29, and its known rows, keys, pins and zero list are those of a seat of a sound core. A law: it makes no step.
+    /// 2^29, its known rows, keys, pins and zero list are those of a seat of a sound core, and node 0 isn't free. A law: it makes no
+    /// step.
     #[inline]
     pub fn seats_reach_nodes(&self, seat: &Seat)
         requires { IsOf seat.now self.now }
@@ -44,6 +46,7 @@ impl Shared {
         ensures opening { length (known_of seat.now).opening ≡ nodes_of self.now }
         ensures number { (view_of seat.now).number < 64 }
         ensures shown { IsShown (nodes_of self.now) (view_of seat.now) }
+        ensures constant { known_row (view_of seat.now) 0 ≢ Some Free }
         ensures few { nodes_of self.now < NODE_LIMIT }
     {
         let _nodes = self.nodes;

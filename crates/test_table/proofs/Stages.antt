@@ -3,7 +3,7 @@ use Rattle.std.proofs.Common.{◌≡◌, ℕ, ◌&&◌, not, Bool, true, false, 
 use Rattle.syn_rows.specs.declared.Row.TheVariants.{Alias}
 use Rattle.syn_core_laws.specs.declared.View.{View}
 use Rattle.syn_core_laws.specs.Views.{pinned, key_loaded}
-use Rattle.syn_core_laws.specs.Events.{MayPin}
+use Rattle.syn_core_laws.specs.Events.{MayPin, MayRest}
 use Rattle.syn_core_laws.specs.SameValue.{SameValue}
 use Rattle.syn_table.specs.Steps.{KnowsRedefine}
 use Rattle.test_table.specs.Rewriting.{lit, and, keyed, all_taken, neither_made, product_made}
@@ -16,6 +16,10 @@ may_pin_three v e = subst (λ (w : View). MayPin w 3) (sym e) (inl (inr (5, and 
 
 pub may_pin_one : (v : View) → v ≡ neither_made → MayPin v 1
 may_pin_one v e = subst (λ (w : View). MayPin w 1) (sym e) (inl (inr (4, and 2 4, refl, inr (omega arith))))
+
+-- the row of node 8 may rest on what is pinned by then
+pub product_rests : (v : View) → v ≡ pinned (keyed neither_made 1 0) 7 → MayRest v 2 (and 2 15)
+product_rests v e = subst (λ (w : View). MayRest w 2 (and 2 15)) (sym e) ((λ m. omega arith), ((0, refl, omega arith), (1, refl, omega arith)))
 
 -- what the seat knows when it redefines the root
 abbrev pub root_keyed : View
