@@ -6,6 +6,7 @@ ghost use Rattle.syn_plan.specs.declared.TheConstants.{MOST_GATES};
 ghost use Rattle.syn_decide.specs.declared.decisions.TheConstants.{MOST_INNER};
 ghost use Rattle.syn_decide.specs.Decided.{told};
 ghost use Rattle.syn_decide.specs.Tasks.{asked, task_of};
+ghost use Rattle.syn_decide.specs.Walk.{is_met};
 ghost use Rattle.syn_decide.specs.Fold as fold;
 ghost use Rattle.syn_decide.specs.Hints as hints;
 
@@ -13,7 +14,7 @@ use crate::answers::{self, place, read_counting, read_hinting, read_keying};
 use crate::place::Placing;
 use crate::stages::read_walking;
 use crate::waiting::Waiting;
-use crate::{Attempt, Decision, MOST_INNER, NewRows, NodeRow, Phase, Want};
+use crate::{Attempt, Decision, MOST_INNER, NewRows, NodeRow, Phase, Want, walk};
 use arrayvec::ArrayVec;
 use std::marker::Model;
 use syn_core_laws::Seen;
@@ -123,6 +124,29 @@ impl Deciding {
         ensures few { length result.now ≤ MOST_GATES }
     {
         self.hits.as_slice()
+    }
+
+    /// The greatest key among the used leaves and the hits so far; 0 where there is none.
+    #[inline]
+    pub fn low(&self) -> u64
+        ensures { result ≡ self.now.low }
+    {
+        self.low
+    }
+
+    /// The root's key, once it is loaded.
+    #[inline]
+    pub fn high(&self) -> u64
+        ensures { result ≡ self.now.high }
+    {
+        self.high
+    }
+
+    /// Whether the walk met the node: an inner row refers to it.
+    pub fn has_met(&self, node: u32) -> bool
+        ensures { result ≡ is_met self.now.inner node }
+    {
+        walk::is_met(self.inner.as_slice(), node)
     }
 
     /// Whether hints may stand now: behind the root's key, and before the first count.
