@@ -25,6 +25,7 @@ use Rattle.syn_table.specs.declared.Known.{Known}
 use Rattle.syn_table.specs.Steps.{IsAlone, Unpins}
 use Rattle.syn_commit_laws.specs.Turning.{IsUnpin, Turns}
 use Rattle.syn_commit_laws.proofs.Giving.{frees_turn}
+use Rattle.syn_commit.specs.declared.leaving.TheConstants.{MOST_HELD}
 use Rattle.syn_commit.specs.Pools.{KeepsPool}
 use Rattle.syn_commit.specs.Walks.{AreKnown}
 use Rattle.syn_commit.specs.Giving.{Gives, GivesBackAll, IsGiving, IsLetGo, pool_after, pool_after_all}
@@ -282,7 +283,7 @@ module _ (nodes : ℕ) (pool : List ℕ) (gates idle : List NodeRow) (e : NodeRo
   fewer_once : (m : ℕ) → times m (nodes_of gates) + times m (nodes_of idle) ≤ 1
   fewer_once m = let more = times_more m idle e in let o = g.once m in omega (arith, more, o)
 
-  fewer_room : length gates + length idle ≤ 512
+  fewer_room : length gates + length idle ≤ MOST_HELD
   fewer_room = let more : length (idle ++ e ∷ []) ≡ length idle + 1 = length-append idle (e ∷ []) in let r = g.room in omega (arith, more, r)
 
   -- the node joins the pool

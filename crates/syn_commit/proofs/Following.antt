@@ -43,7 +43,7 @@ pub key_within : (low step i need most : ℕ) → i < need → low + need * step
 key_within low step i need most l h = let m = mul-le (i + 1) step need step (omega (arith, l)) (omega arith) in omega (arith, m, h)
 
 -- ---- what a row may refer to
-lift : (v : View) (key more m : ℕ) → key ≤ more → MayReferTo v key m → MayReferTo v more m
+pub lift : (v : View) (key more m : ℕ) → key ≤ more → MayReferTo v key m → MayReferTo v more m
 lift v key more m le r = record { pin = r.pin; below = (r.below.0, r.below.1, let l = r.below.2 in omega (arith, l, le)) }
 
 pub keeps_on : (v u w : View) → KeepsKnown v u → KeepsKnown u w → KeepsKnown v w
@@ -110,12 +110,12 @@ row_more : (v : View) (low i : ℕ) (ns : List ℕ) (n : ℕ) (row : Row) → i 
 row_more v low i ns n row le is = subst (λ (r : Row). row_made (ns ++ n ∷ []) r ≡ row_made ns r) (sym is.2)
     (ap₂ (λ x y. ordered_and x y) (literal_more v low i ns n is.0 le is.3) (literal_more v low i ns n is.1 le is.4))
 
-length_nodes : (rows : List NodeRow) → length (nodes_of rows) ≡ length rows
+pub length_nodes : (rows : List NodeRow) → length (nodes_of rows) ≡ length rows
 length_nodes [] = refl
 length_nodes (r ∷ rows) = ap suc (length_nodes rows)
 
 -- ---- one row more
-gates_stay : (v w : View) (new : List NodeRow) → KeepsKnown v w → AreGates new → AreKnown v new → AreKnown w new
+pub gates_stay : (v w : View) (new : List NodeRow) → KeepsKnown v w → AreGates new → AreKnown v new → AreKnown w new
 gates_stay v w [] keeps g k = tt
 gates_stay v w (r ∷ new) keeps g k = (keeps.rows r.node r.row k.0 (λ same. let no : is_derived r.row ≡ false = ap is_derived same in let yes = g.0 in cc), gates_stay v w new keeps g.1 k.1)
 

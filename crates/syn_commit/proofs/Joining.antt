@@ -49,12 +49,12 @@ each_at : (P : NodeRow → Type 0) (rows : List NodeRow) → ((i : ℕ) (d : Nod
 each_at P [] f = tt
 each_at P (q ∷ rows) f = (f 0 q (omega arith), each_at P rows (λ i d lt. f (suc i) d (omega (arith, lt))))
 
-node_there : (rows : List NodeRow) (i : ℕ) (d : NodeRow) → i < length rows → (get_or rows i d).node ≡ node_at rows i
+pub node_there : (rows : List NodeRow) (i : ℕ) (d : NodeRow) → i < length rows → (get_or rows i d).node ≡ node_at rows i
 node_there [] i d lt = absurd (omega arith)
 node_there (q ∷ rows) zero d lt = refl
 node_there (q ∷ rows) (suc i) d lt = node_there rows i d (omega arith)
 
-gate_no_free : (r : Row) → is_derived r ≡ true → is_free r ≡ false
+pub gate_no_free : (r : Row) → is_derived r ≡ true → is_free r ≡ false
 gate_no_free Free h = absurd (cc)
 gate_no_free Source h = refl
 gate_no_free (And a b) h = refl

@@ -18,15 +18,9 @@ use Rattle.syn_commit.specs.Keyed.{AreWaiting, EndsAt, IsKeyedSoFar, KeyAtMost, 
 use Rattle.syn_commit.specs.Stages.{IsKeyed, IsTrying}
 use Rattle.syn_commit.specs.Walks.{IsOfReads, KeysWait}
 use Rattle.syn_commit.proofs.Loads.{key_read, staged}
+use Rattle.syn_commit.proofs.Meeting.{key_here}
 use Rattle.syn_commit.proofs.Returning.{used_is_leaf}
 use Rattle.syn_commit.proofs.Staging.{IsAnswered, IsStaged}
-
-key_here : (v : View) (n key high : ℕ) → key ≤ high → KeyAtMost (key_loaded v n key) high n
-key_here v n key high le = go (n == 0)
-  where
-    go : (b : Bool) → (k : ℕ) × ((if b then Some 0 else look n ((n, key) ∷ v.keys)) ≡ Some k) × (k ≤ high)
-    go true = (0, refl, omega arith)
-    go false = (key, look_here n key v.keys, le)
 
 key_there : (v : View) (n key low high m : ℕ) → m ≢ n → low ≤ high → KeyAtMost v low m → KeyAtMost (key_loaded v n key) high m
 key_there v n key low high m ne le k = (k.0, go (m == 0) k.1, omega (arith, le, k.2))

@@ -20,4 +20,11 @@ mod Returning
 mod Ending
 mod Joining
 mod Keyings
-mod Readying
+mod Keeping
+mod Joined
+mod Telling
+mod Pinning
+mod Doing
+mod Closing
+mod Rooting
+mod Booking

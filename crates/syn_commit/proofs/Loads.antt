@@ -356,7 +356,7 @@ module _ (t : Task) (start v : View) (pool pins : List ℕ) (s : State) (h : IsT
       let there : has_node (nodes_of s.inner) n ≡ true = subst (λ k. has_node (nodes_of s.inner) k ≡ true) a.first.3 (dropped_there (length s.counts) s.inner a.first.1 a.first.0 a.first.2) in
       h.held n ∙ or_right (has_node pool n) (has_node (nodes_of s.inner) n || has_node (nodes_of s.hits) n) (or_left (has_node (nodes_of s.inner) n) (has_node (nodes_of s.hits) n) there)
 
-  count_read : (count own : ℕ) → read_one t s (seen.Count n count own) ≡ count_on t (with_count s count own) a.first.1
+  pub count_read : (count own : ℕ) → read_one t s (seen.Count n count own) ≡ count_on t (with_count s count own) a.first.1
   count_read count own =
       elim a.stage [
         | inl e ↦ ap (λ g. read_at t s g (seen.Count n count own)) e

@@ -1,5 +1,6 @@
 -- A decision answers that a node is another seat's only after a failed claim.
-use Rattle.std.proofs.Common.{◌≡◌, ℕ, ◌+◌, ◌-◌, ◌==◌, ◌&&◌, nat_lt, nat_le, Bool, true, false, if◌then◌else◌, List, [], ◌∷◌, ◌++◌, length, Option, Some, None, refl, sym, ap, ◌∙◌, subst, arith, inl, inr, length-append}
+use Rattle.std.proofs.Common.{◌≡◌, ◌⊎◌, ℕ, ◌+◌, ◌-◌, ◌==◌, ◌&&◌, nat_lt, nat_le, Bool, true, false, if◌then◌else◌, List, [], ◌∷◌, ◌++◌, length, Option, Some, None, refl, sym, ap, ◌∙◌, subst, arith, inl, inr, length-append}
+use Rattle.std.proofs.lemmas.Bool.{eqb-true}
 use Rattle.syn_rows.specs.declared.Row.{Row}
 use Rattle.syn_rows.specs.Rows.{is_derived, refs_of}
 use Rattle.syn_core_laws.specs.declared.View.{View}
@@ -13,8 +14,9 @@ use Rattle.syn_decide.specs.Decided.{Answer, Answered, Busy, Differs, Done, NoGa
 use Rattle.syn_decide.specs.Walk.{from_entered}
 use Rattle.syn_decide.specs.Functions.{in_circle, is_same_function, now_table, used_leaves, was_table}
 use Rattle.syn_decide.specs.Hints.{is_asked, may_hit, most_hits, rows_needed}
-use Rattle.syn_decide.specs.Fold.{State, Stage, Walking, Keying, Hinting, Counting, Ended, Failed, after_reads, after_walk, answered, at, begin, by_gain, by_gap, by_room, count_on, failed, first_unmet, freed_by, key_loaded as key_read_on, least_gain, placed_now, read_at, read_count, read_one, row_loaded, uncounted, walk_on, wanted_at, wanted_count, wants, with_count, with_hit, with_inner}
+use Rattle.syn_decide.specs.Fold.{State, Stage, Walking, Keying, Hinting, Counting, Ended, Failed, after_reads, after_walk, answered, at, begin, by_gain, by_gap, by_room, count_on, decided, failed, first_unmet, freed_by, key_loaded as key_read_on, least_gain, placed_now, read_at, read_count, read_one, row_loaded, uncounted, walk_on, wanted_at, wanted_count, wants, with_count, with_hit, with_inner}
 use Rattle.syn_decide.proofs.Walking.{node_row}
+use Rattle.syn_commit.specs.Committed.{EndsInMiss}
 use Rattle.syn_commit.specs.Pools.{found_claimed}
 use Rattle.syn_commit.specs.Walks.{IsEntered, IsOfReads}
 use Rattle.syn_commit.specs.Stages.{IsKeyed}
@@ -157,6 +159,71 @@ never_busy t start v s o same n e = busy_not s s.stage (subst (λ (y : State). I
     none : (ns : List ℕ) → start.misses ++ ns ≡ start.misses → ns ≡ []
     none [] h = refl
     none (x ∷ ns) h = let a = length-append start.misses (x ∷ ns) in let b = ap length h in absurd (omega (arith, a, b))
+
+-- ---- the cause of the answer
+-- behind an answer nothing fits
+fails_on : (t : Task) (s : State) (reads : List Seen) → s.stage ≡ Failed → (after_reads t s reads).stage ≡ Failed
+fails_on t s [] e = e
+fails_on t s (read ∷ reads) e = fails_on t (read_one t s read) reads (ap (λ stage. (read_at t s stage read).stage) e)
+
+-- a failed claim that ends the walk
+miss_read : (t : Task) (s : State) (stage : Stage) (node : ℕ) → IsFree (read_at t s stage (seen.Miss node)).stage ⊎ ((read_at t s stage (seen.Miss node)).stage ≡ Ended (Busy node))
+miss_read t s (Walking []) node = inl tt
+miss_read t s (Walking (n ∷ waiting)) node = go (node == n) refl
+  where
+    go : (b : Bool) → (node == n) ≡ b → IsFree (if b then answered s (Busy n) else failed s).stage ⊎ ((if b then answered s (Busy n) else failed s).stage ≡ Ended (Busy node))
+    go true e = inr (ap (λ k. Ended (Busy k)) (sym (eqb-true node n e)))
+    go false e = inl tt
+miss_read t s (Keying []) node = inl tt
+miss_read t s (Keying (n ∷ left)) node = inl tt
+miss_read t s (Hinting last) node = inl tt
+miss_read t s Counting node = inl tt
+miss_read t s (Ended answer) node = inl tt
+miss_read t s Failed node = inl tt
+
+-- only a failed claim leads to the answer, at its node
+one_read : (t : Task) (s : State) (read : Seen) → IsFree (read_one t s read).stage ⊎ ((node : ℕ) × (read ≡ seen.Miss node) × ((read_one t s read).stage ≡ Ended (Busy node)))
+one_read t s (seen.Row node r) = inl (step_free t s s.stage (seen.Row node r) refl)
+one_read t s (seen.Miss node) = elim (miss_read t s s.stage node) [ inl free ↦ inl free | inr busy ↦ inr (node, refl, busy) ]
+one_read t s (seen.Key node key) = inl (step_free t s s.stage (seen.Key node key) refl)
+one_read t s (seen.Count node count own) = inl (step_free t s s.stage (seen.Count node count own) refl)
+
+-- nothing is read behind it
+last_miss : (t : Task) (s : State) (read : Seen) (node : ℕ) (reads : List Seen) (n : ℕ) → read ≡ seen.Miss node → s.stage ≡ Ended (Busy node) → (after_reads t s reads).stage ≡ Ended (Busy n) → EndsInMiss (read ∷ reads) n
+last_miss t s read node [] n is ended e =
+    let both : Ended (Busy node) ≡ Ended (Busy n) = sym ended ∙ e in
+    let same : node ≡ n = cc in
+    ([], ap (λ (r : Seen). r ∷ []) (is ∙ ap (λ k. seen.Miss k) same))
+last_miss t s read node (next ∷ reads) n is ended e =
+    let fails = fails_on t (read_one t s next) reads (ap (λ stage. (read_at t s stage next).stage) ended) in
+    let contra : Failed ≡ Ended (Busy n) = sym fails ∙ e in
+    absurd (cc)
+
+ends_in_miss : (t : Task) (s : State) (reads : List Seen) (n : ℕ) → IsFree s.stage → (after_reads t s reads).stage ≡ Ended (Busy n) → EndsInMiss reads n
+ends_in_miss t s [] n free e = let none : NotBusy (Busy n) = subst IsFree e free in absurd (none n refl)
+ends_in_miss t s (read ∷ reads) n free e = elim (one_read t s read) [
+  | inl on ↦ (let rest = ends_in_miss t (read_one t s read) reads n on e in (read ∷ rest.0, ap (λ (rs : List Seen). read ∷ rs) rest.1))
+  | inr miss ↦ last_miss t (read_one t s read) read miss.0 reads n miss.1 miss.2 e
+]
+
+no_count : (rows : List NodeRow) (answer : Answer) → wanted_count rows ≡ Answered answer → ⊥
+no_count [] answer e = cc
+no_count (r ∷ rows) answer e = cc
+
+-- an answer stands at the stage
+answer_stands : (s : State) (stage : Stage) (answer : Answer) → wanted_at s stage ≡ Answered answer → stage ≡ Ended answer
+answer_stands s (Walking []) answer e = absurd (cc)
+answer_stands s (Walking (m ∷ waiting)) answer e = absurd (cc)
+answer_stands s (Keying []) answer e = absurd (cc)
+answer_stands s (Keying (m ∷ left)) answer e = absurd (cc)
+answer_stands s (Hinting last) answer e = absurd (no_count (uncounted s) answer e)
+answer_stands s Counting answer e = absurd (no_count (uncounted s) answer e)
+answer_stands s (Ended other) answer e = let same : other ≡ answer = cc in ap Ended same
+answer_stands s Failed answer e = absurd (cc)
+
+-- a node is answered to be another seat's where the last that was met is a failed claim of it
+pub busy_cause : (t : Task) (met : List Seen) (n : ℕ) → decided t met ≡ Answered (Busy n) → EndsInMiss met n
+busy_cause t met n e = let s = after_reads t (begin t) met in ends_in_miss t (begin t) met n tt (answer_stands s s.stage (Busy n) e)
 
 -- ---- a seat that has all numbers finds no claim taken
 pub entered_sole : (t : Task) (nodes numbers n : ℕ) (v : View) (s : State) (w : View) (z : State) → numbers ≡ 64 → IsEntered t nodes numbers n v s w z → w.misses ≡ v.misses

@@ -125,7 +125,7 @@ taken_view k k1 k2 b n r got claim load =
     ap (λ (x : Known). x.core) load ∙ ap (λ (v : View). row_loaded v n r) (ap (λ (x : Known). x.core) claim ∙ ap (λ t. if t then claimed k.core n else missed k.core n) got)
 
 -- ---- lists of held nodes without one
-has_other : (xs : List ℕ) (n m : ℕ) → m ≢ n → has_node (only (differs n) xs) m ≡ has_node xs m
+pub has_other : (xs : List ℕ) (n m : ℕ) → m ≢ n → has_node (only (differs n) xs) m ≡ has_node xs m
 has_other xs n m ne = go (has_node xs m) refl
   where
     go : (b : Bool) → has_node xs m ≡ b → has_node (only (differs n) xs) m ≡ has_node xs m

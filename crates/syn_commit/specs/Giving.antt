@@ -14,6 +14,7 @@ use Rattle.syn_decide.specs.Walked.{AreGates}
 use Rattle.syn_commit_laws.specs.Freeing.{late, redefines}
 use Rattle.syn_commit_laws.specs.Turning.{Turns}
 use Rattle.syn_decide.specs.Fold.{State}
+use Rattle.syn_commit.specs.declared.leaving.TheConstants.{MOST_HELD}
 use Rattle.syn_commit.specs.Counts.{dying_by}
 use Rattle.syn_commit.specs.Pools.{KeepsPool}
 use Rattle.syn_commit.specs.Walks.{AreKnown}
@@ -74,7 +75,7 @@ pub record IsGiving (pool pins : List ℕ) (gates idle : List NodeRow) (v : View
   pub idle_there : (n : ℕ) → has_node v.idle n ≡ true → 1 ≤ times n (nodes_of idle)
   pub idle_all : (n : ℕ) → 1 ≤ times n (nodes_of idle) → has_node v.idle n ≡ true
   pub pinned : (n : ℕ) → own_pins v n ≡ times n pins
-  pub room : length gates + length idle ≤ 512
+  pub room : length gates + length idle ≤ MOST_HELD
 
 -- how much is left to give back: each gate that is freed leaves at most two pins more
 abbrev pub work_left : List ℕ → List NodeRow → List NodeRow → ℕ

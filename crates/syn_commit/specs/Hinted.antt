@@ -1,13 +1,14 @@
 -- The hints of a commit, one at a time: a node's row is loaded, and its key where the row is the pair of a gate.
-use Rattle.std.specs.Prelude.{◌≡◌, ◌≢◌, ℕ, ◌<◌, if◌then◌else◌, Bool, true, List, [], ◌∷◌, ◌++◌, length, Some}
+use Rattle.std.specs.Prelude.{◌≡◌, ◌≢◌, ℕ, ◌<◌, ◌≤◌, if◌then◌else◌, Bool, true, List, [], ◌∷◌, ◌++◌, length, Some}
 use Rattle.syn_rows.specs.declared.Row.{Row}
 use Rattle.syn_core_laws.specs.declared.View.{View}
 use Rattle.syn_core_laws.specs.declared.Seen.{Seen}
-use Rattle.syn_core_laws.specs.Views.{known_row}
+use Rattle.syn_core_laws.specs.Views.{known_key, known_row}
 use Rattle.syn_decide.specs.declared.decisions.NodeRow.{NodeRow}
 use Rattle.syn_decide.specs.Tasks.{Task}
 use Rattle.syn_decide.specs.Fold.{State, after_reads, is_hinting, placed_now}
 use Rattle.syn_decide.specs.Hints.{is_asked, most_hits}
+use Rattle.syn_commit.specs.Keyed.{KeyAtMost}
 use Rattle.syn_commit.specs.Pools.{found_claimed}
 use Rattle.syn_commit.specs.Stages.{IsTrying}
 
@@ -38,6 +39,12 @@ pub record IsHint (t : Task) (n : ℕ) (pair : Row) (v : View) (s : State) (w : 
   pub others : (m : ℕ) → m ≢ n → known_row w m ≡ known_row v m
   pub again : (r : Row) → known_row v n ≡ Some r → known_row w n ≡ Some r
   pub own : hit ≡ true → known_row w n ≡ Some pair
+  -- so are other keys, and a hit's own is known and at most low
+  pub keys : (m : ℕ) → m ≢ n → known_key w m ≡ known_key v m
+  pub key : hit ≡ true → KeyAtMost w z.low n
+  -- low doesn't fall, and the root's key stays
+  pub low : s.low ≤ z.low
+  pub high : z.high ≡ s.high
   pub inner : z.inner ≡ s.inner
   pub hits : z.hits ≡ hits_after s.hits n pair hit
   pub stage : is_hinting z.stage ≡ true

@@ -7,3 +7,6 @@ pub mod Storing
 pub mod Counts
 pub mod Keyed
 pub mod Finishing
+pub mod Readying
+pub mod Making
+pub mod Committed

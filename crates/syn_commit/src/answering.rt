@@ -1,6 +1,6 @@
 //! A commit up to its answer.
 
-ghost use Rattle.std.specs.Prelude.{◌≡◌, ◌<◌, ℕ, [], false, length, true};
+ghost use Rattle.std.specs.Prelude.{◌≡◌, ◌<◌, ◌≤◌, ℕ, [], false, length, true};
 ghost use Rattle.syn_rows.specs.Nodes.{has_node};
 ghost use Rattle.syn_decide.specs.Decided.{Answered, Busy, told_answer};
 ghost use Rattle.syn_decide.specs.Fold as fold;
@@ -9,6 +9,7 @@ ghost use Rattle.syn_decide.specs.Walk.{enters};
 ghost use Rattle.syn_table.specs.Seating.{IsOf, known_of, nodes_of, view_of};
 ghost use Rattle.syn_table.specs.Steps.{with_view};
 ghost use Rattle.syn_commit.specs.Counts.{CountsAreLoaded};
+ghost use Rattle.syn_commit.specs.Keyed.{IsKeyedSoFar};
 ghost use Rattle.syn_commit.specs.Pools.{KeepsPool};
 ghost use Rattle.syn_commit.specs.Stages.{HasEnded, IsPastWalk, IsTrying};
 ghost use Rattle.syn_commit.specs.Walks.{KeysWait};
@@ -92,6 +93,8 @@ pub(crate) fn answer<G: Gate>(
     ensures free { length (known_of seat.old).numbers ≡ 64 → (n : ℕ) → fold.wants deciding.new ≡ Answered (Busy n) → ⊥ }
     ensures ended { HasEnded deciding.new.stage }
     ensures loaded { CountsAreLoaded (nodes_of tools.now.shared.now) (view_of seat.new) deciding.new }
+    ensures keyed { IsKeyedSoFar (task_of attempt.now) pins.new.items (view_of seat.new) deciding.new }
+    ensures few { length pins.new.items ≤ 390 }
 {
     walked(tools.shared, seat, pool, attempt, deciding, start);
     if is_claimed(attempt, deciding) {

@@ -10,6 +10,7 @@ ghost use Rattle.syn_decide.specs.Walk.{nodes_of as nodes_of_rows};
 ghost use Rattle.syn_table.specs.Seating.{IsOf, known_of, nodes_of, view_of};
 ghost use Rattle.syn_table.specs.Steps.{with_view};
 ghost use Rattle.syn_commit.specs.Hinted.{IsHint, IsHinting, IsOpen};
+ghost use Rattle.syn_commit.specs.Keyed.{IsKeyedSoFar};
 ghost use Rattle.syn_commit.specs.Stages.{IsPastKeys, IsTrying};
 
 use crate::leaving::has_gate;
@@ -71,13 +72,16 @@ fn try_held(
 ) -> bool
     requires table { IsOf seat.old shared.now }
     requires trying { IsTrying (task_of attempt.now) (view_of start.now.value) pool.now pins.old.items (view_of seat.old) deciding.old }
+    requires keyed { IsKeyedSoFar (task_of attempt.now) pins.old.items (view_of seat.old) deciding.old }
     requires open { IsOpen (task_of attempt.now) deciding.old pair }
     requires inner { has_node (nodes_of_rows deciding.old.inner) node ≡ true }
+    requires unpinned { has_node pins.old.items node ≡ false }
     requires other_root { node ≢ attempt.now.candidate.root }
     requires room { length pins.old.items < 512 }
     ensures table { IsOf seat.new shared.now }
     ensures known { known_of seat.new ≡ with_view (known_of seat.old) (view_of seat.new) }
     ensures hinting { IsHinting (task_of attempt.now) (view_of start.now.value) pool.now pins.new.items (view_of seat.new) deciding.new }
+    ensures keyed { IsKeyedSoFar (task_of attempt.now) pins.new.items (view_of seat.new) deciding.new }
     ensures misses { (view_of seat.new).misses ≡ (view_of seat.old).misses }
     ensures hits { length deciding.new.hits ≤ length deciding.old.hits + 1 }
     ensures pins { length pins.new.items ≤ length pins.old.items + 1 }
@@ -106,20 +110,24 @@ fn try_other(
 ) -> bool
     requires table { IsOf seat.old shared.now }
     requires trying { IsTrying (task_of attempt.now) (view_of start.now.value) pool.now pins.old.items (view_of seat.old) deciding.old }
+    requires keyed { IsKeyedSoFar (task_of attempt.now) pins.old.items (view_of seat.old) deciding.old }
     requires open { IsOpen (task_of attempt.now) deciding.old pair }
     requires node { node < nodes_of shared.now }
     requires other { has_node (view_of seat.old).held node ≡ false }
+    requires unpinned { has_node pins.old.items node ≡ false }
     requires other_root { node ≢ attempt.now.candidate.root }
     requires room { length pins.old.items < 512 }
     ensures table { IsOf seat.new shared.now }
     ensures known { known_of seat.new ≡ with_view (known_of seat.old) (view_of seat.new) }
     ensures hinting { IsHinting (task_of attempt.now) (view_of start.now.value) pool.now pins.new.items (view_of seat.new) deciding.new }
+    ensures keyed { IsKeyedSoFar (task_of attempt.now) pins.new.items (view_of seat.new) deciding.new }
     ensures sole { length (known_of seat.old).numbers ≡ 64 → (view_of seat.new).misses ≡ (view_of seat.old).misses }
     ensures hits { length deciding.new.hits ≤ length deciding.old.hits + 1 }
     ensures pins { length pins.new.items ≤ length pins.old.items + 1 }
 {
     let _ = pool;
     let _ = start;
+    shared.seats_reach_nodes(seat);
     if !shared.claim(seat, node) {
         deciding.read(attempt, Seen::Miss(node));
         return false;
@@ -143,6 +151,7 @@ fn may_try(
     node: u32,
 ) -> bool
     ensures node { result ≡ true → node < nodes_of shared.now }
+    ensures leaf { result ≡ true → has_node attempt.now.candidate.leaves.now node ≡ false }
     ensures spare { result ≡ true → has_node pool.now node ≡ false }
     ensures hit { result ≡ true → has_node (nodes_of_rows deciding.now.hits) node ≡ false }
     ensures root { result ≡ true → node ≢ attempt.now.candidate.root }
@@ -169,11 +178,13 @@ fn try_hint(
 ) -> bool
     requires table { IsOf seat.old shared.now }
     requires trying { IsTrying (task_of attempt.now) (view_of start.now.value) pool.now pins.old.items (view_of seat.old) deciding.old }
+    requires keyed { IsKeyedSoFar (task_of attempt.now) pins.old.items (view_of seat.old) deciding.old }
     requires open { IsOpen (task_of attempt.now) deciding.old pair }
     requires room { length pins.old.items < 512 }
     ensures table { IsOf seat.new shared.now }
     ensures known { known_of seat.new ≡ with_view (known_of seat.old) (view_of seat.new) }
     ensures hinting { IsHinting (task_of attempt.now) (view_of start.now.value) pool.now pins.new.items (view_of seat.new) deciding.new }
+    ensures keyed { IsKeyedSoFar (task_of attempt.now) pins.new.items (view_of seat.new) deciding.new }
     ensures sole { length (known_of seat.old).numbers ≡ 64 → (view_of seat.new).misses ≡ (view_of seat.old).misses }
     ensures pins { length pins.new.items ≤ length pins.old.items + 1 }
 {
@@ -208,10 +219,12 @@ fn try_place(
 ) -> Option<bool>
     requires table { IsOf seat.old shared.now }
     requires hinting { IsHinting (task_of attempt.now) (view_of start.now.value) pool.now pins.old.items (view_of seat.old) deciding.old }
+    requires keyed { IsKeyedSoFar (task_of attempt.now) pins.old.items (view_of seat.old) deciding.old }
     requires room { length pins.old.items < 512 }
     ensures table { IsOf seat.new shared.now }
     ensures known { known_of seat.new ≡ with_view (known_of seat.old) (view_of seat.new) }
     ensures hinting { IsHinting (task_of attempt.now) (view_of start.now.value) pool.now pins.new.items (view_of seat.new) deciding.new }
+    ensures keyed { IsKeyedSoFar (task_of attempt.now) pins.new.items (view_of seat.new) deciding.new }
     ensures sole { length (known_of seat.old).numbers ≡ 64 → (view_of seat.new).misses ≡ (view_of seat.old).misses }
     ensures pins { length pins.new.items ≤ length pins.old.items + 1 }
 {
@@ -240,6 +253,7 @@ pub(crate) fn try_hints(
     requires table { IsOf seat.old shared.now }
     requires trying { IsTrying (task_of attempt.now) (view_of start.now.value) pool.now pins.old.items (view_of seat.old) deciding.old }
     requires few { length pins.old.items ≤ 9 }
+    requires keyed { IsKeyedSoFar (task_of attempt.now) pins.old.items (view_of seat.old) deciding.old }
     requires past { IsPastKeys deciding.old.stage }
     requires uncounted { deciding.old.counts ≡ [] }
     ensures table { IsOf seat.new shared.now }
@@ -247,6 +261,7 @@ pub(crate) fn try_hints(
     ensures trying { IsTrying (task_of attempt.now) (view_of start.now.value) pool.now pins.new.items (view_of seat.new) deciding.new }
     ensures sole { length (known_of seat.old).numbers ≡ 64 → (view_of seat.new).misses ≡ (view_of seat.old).misses }
     ensures few { length pins.new.items ≤ 390 }
+    ensures keyed { IsKeyedSoFar (task_of attempt.now) pins.new.items (view_of seat.new) deciding.new }
     ensures uncounted { deciding.new.counts ≡ [] }
     ensures past { IsPastKeys deciding.new.stage }
 {

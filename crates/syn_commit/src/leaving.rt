@@ -5,12 +5,15 @@ ghost use Rattle.std.specs.List.{remove};
 ghost use Rattle.syn_rows.specs.Rows.{refs_of};
 ghost use Rattle.syn_rows.specs.Nodes.{has_node};
 ghost use Rattle.syn_core_laws.specs.declared.EventKind.TheVariants as Kind;
+ghost use Rattle.syn_plan.specs.declared.TheConstants.{MOST_GATES};
+ghost use Rattle.syn_decide.specs.declared.decisions.TheConstants.{MOST_INNER};
 ghost use Rattle.syn_decide.specs.declared.decisions.NodeRow.{NodeRow};
 ghost use Rattle.syn_decide.specs.Tasks.{task_of};
 ghost use Rattle.syn_decide.specs.Walk.{enters, nodes_of as nodes_of_rows};
 ghost use Rattle.syn_table.specs.Seating.{IsOf, known_of, nodes_of, view_of};
 ghost use Rattle.syn_table.specs.Steps.{with_view};
 ghost use Rattle.syn_commit_laws.specs.Turning.{Turns};
+ghost use Rattle.syn_commit.specs.Committed.{HasStoredNone};
 ghost use Rattle.syn_commit.specs.Counts.{CountsAreLoaded};
 ghost use Rattle.syn_commit.specs.Stages.{HasEnded, IsTrying};
 ghost use Rattle.syn_commit.specs.Walks.{IsOfReads};
@@ -26,7 +29,7 @@ use syn_rows::Row;
 use syn_table::{Seat, Shared};
 
 /// The most gates that a commit holds.
-pub(crate) const MOST_HELD: usize = 512;
+pub(crate) const MOST_HELD: usize = 1024;
 
 /// What a seat has beside its pool while it gives back.
 #[derive(Drop)]
@@ -64,7 +67,7 @@ pub(crate) fn has_gate(rows: &[NodeRow], node: u32) -> bool
 // A gate joins those on the zero list.
 fn set_idle(holding: &mut Holding, place: usize)
     requires within { place < length holding.old.gates.items }
-    requires room { length holding.old.gates.items + length holding.old.idle.items ≤ 512 }
+    requires room { length holding.old.gates.items + length holding.old.idle.items ≤ MOST_HELD }
     ensures gates { holding.new.gates.items ≡ remove holding.old.gates.items place }
     ensures idle { (e : NodeRow) × (e ≡ slice_index_or holding.old.gates.items place e) × (holding.new.idle.items ≡ holding.old.idle.items ++ e ∷ []) }
     ensures size { length holding.new.gates.items + 1 ≡ length holding.old.gates.items }
@@ -206,7 +209,7 @@ pub(crate) fn hold(deciding: &Deciding, pins: ArrayVec<u32, MOST_PINS>) -> Holdi
     ensures pins { result.pins.items ≡ pins.items }
     ensures gates { result.gates.items ≡ with_gates (with_gates [] deciding.now.inner) deciding.now.hits }
     ensures idle { result.idle.items ≡ [] }
-    ensures few { length result.gates.items ≤ 512 }
+    ensures few { length result.gates.items ≤ MOST_INNER + MOST_GATES }
 {
     let mut gates = ArrayVec::new();
     add_gates(&mut gates, deciding.inner());
@@ -240,6 +243,7 @@ pub(crate) fn give_up(
     ensures reads { IsOfReads (task_of attempt.now) (view_of start.now.value) (view_of seat.new) deciding.now }
     ensures given { HasGivenUp (nodes_of shared.now) (view_of seat.old) pool.old (view_of seat.new) pool.new }
     ensures late { FellByLate (view_of start.now.value) (view_of seat.new) deciding.now }
+    ensures none { HasStoredNone deciding.now (view_of start.now.value) pool.old (view_of seat.new) pool.new }
 {
     let _ = attempt;
     let _ = start;

@@ -2,6 +2,8 @@
 #![tactic(auto)]
 
 mod answering;
+mod committing;
+mod done;
 mod finishing;
 mod gates;
 mod hinting;
@@ -9,9 +11,11 @@ mod hints;
 mod leaving;
 mod loading;
 mod pools;
+mod readying;
 mod storing;
 mod walking;
 
+pub use committing::try_commit;
 pub use gates::{Gate, Moment, OpenGate};
 pub use hints::Hints;
 pub use pools::Pool;

@@ -182,6 +182,7 @@ pub(crate) fn counts(
     requires table { IsOf seat.old shared.now }
     requires trying { IsTrying (task_of attempt.now) (view_of start.now.value) pool.now pins.now.items (view_of seat.old) deciding.old }
     requires few { length pins.now.items ≤ 512 }
+    requires keyed { IsKeyedSoFar (task_of attempt.now) pins.now.items (view_of seat.old) deciding.old }
     requires past { IsPastKeys deciding.old.stage }
     requires uncounted { deciding.old.counts ≡ [] }
     ensures table { IsOf seat.new shared.now }
@@ -189,6 +190,7 @@ pub(crate) fn counts(
     ensures loaded { CountsAreLoaded (nodes_of shared.now) (view_of seat.new) deciding.new }
     ensures trying { IsTrying (task_of attempt.now) (view_of start.now.value) pool.now pins.now.items (view_of seat.new) deciding.new }
     ensures misses { (view_of seat.new).misses ≡ (view_of seat.old).misses }
+    ensures keyed { IsKeyedSoFar (task_of attempt.now) pins.now.items (view_of seat.new) deciding.new }
     ensures ended { HasEnded deciding.new.stage }
 {
     let _ = pool;

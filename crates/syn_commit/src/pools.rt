@@ -53,6 +53,13 @@ impl Pool {
         false
     }
 
+    /// How many nodes the pool has.
+    pub(crate) fn len(&self) -> u32
+        ensures { result ≡ length self.now }
+    {
+        self.nodes.len() as u32
+    }
+
     /// Tries the nodes `from`, `from + 1`, .., `count` of them, until the pool has 512: each that the seat gets and finds
     /// free joins the pool, and any other that it gets is let go again.
     pub fn fill(&mut self, shared: &Shared, seat: &mut Seat, from: u32, count: u32)

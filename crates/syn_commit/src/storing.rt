@@ -29,7 +29,7 @@ use syn_table::{Seat, Shared};
 // A gate of the zero list is referred to again.
 fn set_busy(holding: &mut Holding, place: usize)
     requires within { place < length holding.old.idle.items }
-    requires room { length holding.old.gates.items + length holding.old.idle.items ≤ 512 }
+    requires room { length holding.old.gates.items + length holding.old.idle.items ≤ MOST_HELD }
     ensures idle { holding.new.idle.items ≡ remove holding.old.idle.items place }
     ensures gates { (e : NodeRow) × (e ≡ slice_index_or holding.old.idle.items place e) × (holding.new.gates.items ≡ holding.old.gates.items ++ e ∷ []) }
     ensures size { length holding.new.idle.items + 1 ≡ length holding.old.idle.items }
@@ -97,7 +97,7 @@ fn make_one(
     requires may { AllRefs (MayReferTo (view_of seat.old) key) row }
     requires some { 1 ≤ length pool.old }
     requires few { length holding.old.pins.items + 2 ≤ 512 }
-    requires room { length holding.old.gates.items + length holding.old.idle.items < 512 }
+    requires room { length holding.old.gates.items + length holding.old.idle.items < MOST_HELD }
     ensures table { IsOf seat.new shared.now }
     ensures known { known_of seat.new ≡ with_view (known_of seat.old) (view_of seat.new) }
     ensures turns { TurnsAll (nodes_of shared.now) (view_of seat.old) (makes_row result row key) (view_of seat.new) }
@@ -145,8 +145,8 @@ fn literal_made(made: &[NodeRow], l: Lit) -> Lit
     Lit::of(node, l.complemented())
 }
 
-// A new row as it is stored.
-fn row_made(made: &[NodeRow], row: Row) -> Row
+/// A new row as it is stored.
+pub(crate) fn row_made(made: &[NodeRow], row: Row) -> Row
     requires { (i : ℕ) → spec.node_at made.now i < 2 ^ 31 }
     ensures { result ≡ redefining.row_made (nodes_of_rows made.now) row }
 {
@@ -180,7 +180,7 @@ pub(crate) fn make_rows(
     requires keys { low + need * step < 2 ^ 64 }
     requires none { made.old.items ≡ [] }
     requires few { length holding.old.pins.items + 2 ≤ 512 }
-    requires room { length holding.old.gates.items + length holding.old.idle.items + need ≤ 512 }
+    requires room { length holding.old.gates.items + length holding.old.idle.items + need ≤ MOST_HELD }
     ensures table { IsOf seat.new shared.now }
     ensures known { known_of seat.new ≡ with_view (known_of seat.old) (view_of seat.new) }
     ensures turns { TurnsAll (nodes_of shared.now) (view_of seat.old) (makes_rows low step 0 made.new.items) (view_of seat.new) }

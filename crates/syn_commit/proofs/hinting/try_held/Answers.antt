@@ -3,6 +3,8 @@ use Rattle.syn_decide.specs.Tasks.{task_of}
 use Rattle.syn_table.specs.declared.Known.{Known}
 use Rattle.syn_table.specs.Seating.{view_of}
 use Rattle.syn_commit.specs.Hinted.{IsHinting}
+use Rattle.syn_commit.specs.Keyed.{IsKeyedSoFar}
+use Rattle.syn_commit.proofs.Keeping.{held_hits_keyed, held_misses_keyed}
 use Rattle.syn_commit.proofs.Meshing.{hit_may, held_hits, held_misses}
 use Rattle.syn_commit.proofs.hinting.try_held.Goals as goal
 
@@ -25,3 +27,18 @@ returns-clause-hinting c =
     (subst (λ w. IsHinting t (view_of c.args.start.now.value) c.args.pool.now (c.args.pins.now.items ++ c.args.node ∷ []) w c.load_hint.new.deciding) (sym (ap (λ (k : Known). k.core) c.pin.ensures.known))
     (held_hits t (view_of c.args.start.now.value) (view_of c.args.seat.now) c.args.pool.now c.args.pins.now.items c.args.deciding.now c.requires.trying c.args.node c.args.pair c.requires.open
     (view_of c.load_hint.new.seat) c.load_hint.new.deciding c.load_hint.result is c.requires.other_root c.requires.inner c.load_hint.ensures.hint))
+
+pub returns-then-not-load_hint-clause-keyed : goal.returns-then-not-load_hint-clause-keyed
+returns-then-not-load_hint-clause-keyed c =
+    let is : c.load_hint.result ≡ false = search rules in
+    held_misses_keyed (task_of c.args.attempt.now) c.args.pins.now.items (view_of c.args.seat.now) c.args.deciding.now c.requires.keyed c.requires.open.stage c.args.node c.requires.unpinned c.requires.other_root c.args.pair
+    (view_of c.load_hint.new.seat) c.load_hint.new.deciding c.load_hint.result is c.load_hint.ensures.hint
+
+pub returns-clause-keyed : goal.returns-clause-keyed
+returns-clause-keyed c =
+    let is : c.load_hint.result ≡ true = search rules in
+    let t = task_of c.args.attempt.now in
+    subst (λ ps. IsKeyedSoFar t ps (view_of c.pin.new.seat) c.load_hint.new.deciding) (sym c.push.ensures.items)
+    (subst (λ w. IsKeyedSoFar t (c.args.pins.now.items ++ c.args.node ∷ []) w c.load_hint.new.deciding) (sym (ap (λ (k : Known). k.core) c.pin.ensures.known))
+    (held_hits_keyed t c.args.pins.now.items (view_of c.args.seat.now) c.args.deciding.now c.requires.keyed c.requires.open.stage c.args.node c.requires.unpinned c.requires.other_root c.args.pair
+    (view_of c.load_hint.new.seat) c.load_hint.new.deciding c.load_hint.result is c.load_hint.ensures.hint))

@@ -3,8 +3,10 @@ use Rattle.syn_core_laws.specs.declared.View.{View}
 use Rattle.syn_core_laws.specs.Views.{claimed, missed}
 use Rattle.syn_decide.specs.Tasks.{task_of}
 use Rattle.syn_table.specs.declared.Known.{Known}
-use Rattle.syn_table.specs.Seating.{view_of}
+use Rattle.syn_table.specs.Seating.{nodes_of, view_of}
 use Rattle.syn_commit.specs.Hinted.{IsHint, IsHinting}
+use Rattle.syn_commit.specs.Keyed.{IsKeyedSoFar}
+use Rattle.syn_commit.proofs.Keeping.{claim_misses, other_hits_keyed, other_misses_keyed}
 use Rattle.syn_commit.proofs.Meshing.{hit_may, other_hits, other_missed, other_misses}
 use Rattle.syn_commit.proofs.hinting.try_other.Goals as goal
 
@@ -40,4 +42,32 @@ returns-clause-hinting c =
     (subst (λ w. IsHinting t (view_of c.args.start.now.value) c.args.pool.now (c.args.pins.now.items ++ c.args.node ∷ []) w c.load_hint.new.deciding) (sym (ap (λ (k : Known). k.core) c.pin.ensures.known))
     (other_hits t (view_of c.args.start.now.value) (view_of c.args.seat.now) c.args.pool.now c.args.pins.now.items c.args.deciding.now c.requires.trying c.args.node c.args.pair c.requires.open c.requires.other
     (view_of c.load_hint.new.seat) c.load_hint.new.deciding c.load_hint.result is c.requires.other_root
+    (subst (λ (v : View). IsHint t c.args.node c.args.pair v c.args.deciding.now (view_of c.load_hint.new.seat) c.load_hint.new.deciding c.load_hint.result) held c.load_hint.ensures.hint)))
+
+pub returns-then-not-claim-clause-keyed : goal.returns-then-not-claim-clause-keyed
+returns-then-not-claim-clause-keyed c =
+    let t = task_of c.args.attempt.now in
+    let miss : view_of c.claim.new.seat ≡ missed (view_of c.args.seat.now) c.args.node = search rules in
+    subst (λ w. IsKeyedSoFar t c.args.pins.now.items w c.read.new.self) (sym miss)
+    (claim_misses t c.args.pins.now.items (view_of c.args.seat.now) c.args.deciding.now c.requires.keyed c.requires.open.stage c.args.node c.requires.unpinned c.requires.other_root c.read.new.self c.read.ensures)
+
+pub returns-then-not-load_hint-clause-keyed : goal.returns-then-not-load_hint-clause-keyed
+returns-then-not-load_hint-clause-keyed c =
+    let t = task_of c.args.attempt.now in
+    let is : c.load_hint.result ≡ false = search rules in
+    let held : view_of c.claim.new.seat ≡ claimed (view_of c.args.seat.now) c.args.node = search rules in
+    subst (λ w. IsKeyedSoFar t c.args.pins.now.items w c.load_hint.new.deciding) (sym (ap (λ (k : Known). k.core) c.release.ensures.known))
+    (other_misses_keyed t c.args.pins.now.items (view_of c.args.seat.now) c.args.deciding.now c.requires.keyed c.requires.open.stage c.args.node c.requires.unpinned c.requires.other_root c.args.pair
+    (view_of c.load_hint.new.seat) c.load_hint.new.deciding c.load_hint.result (nodes_of c.args.shared.now) c.seats_reach_nodes.ensures.shown is
+    (subst (λ (v : View). IsHint t c.args.node c.args.pair v c.args.deciding.now (view_of c.load_hint.new.seat) c.load_hint.new.deciding c.load_hint.result) held c.load_hint.ensures.hint))
+
+pub returns-clause-keyed : goal.returns-clause-keyed
+returns-clause-keyed c =
+    let t = task_of c.args.attempt.now in
+    let is : c.load_hint.result ≡ true = search rules in
+    let held : view_of c.claim.new.seat ≡ claimed (view_of c.args.seat.now) c.args.node = search rules in
+    subst (λ ps. IsKeyedSoFar t ps (view_of c.pin.new.seat) c.load_hint.new.deciding) (sym c.push.ensures.items)
+    (subst (λ w. IsKeyedSoFar t (c.args.pins.now.items ++ c.args.node ∷ []) w c.load_hint.new.deciding) (sym (ap (λ (k : Known). k.core) c.pin.ensures.known))
+    (other_hits_keyed t c.args.pins.now.items (view_of c.args.seat.now) c.args.deciding.now c.requires.keyed c.requires.open.stage c.args.node c.requires.unpinned c.requires.other_root c.args.pair
+    (view_of c.load_hint.new.seat) c.load_hint.new.deciding c.load_hint.result is
     (subst (λ (v : View). IsHint t c.args.node c.args.pair v c.args.deciding.now (view_of c.load_hint.new.seat) c.load_hint.new.deciding c.load_hint.result) held c.load_hint.ensures.hint)))

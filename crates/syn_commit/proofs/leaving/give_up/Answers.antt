@@ -1,7 +1,8 @@
 use Rattle.std.proofs.Common.{sym, subst}
 use Rattle.syn_decide.specs.Tasks.{task_of}
 use Rattle.syn_table.specs.Seating.{nodes_of, view_of}
-use Rattle.syn_commit.specs.Giving.{IsGiving}
+use Rattle.syn_commit.specs.Giving.{HasGivenUp, IsGiving}
+use Rattle.syn_commit.proofs.Joined.{stored_none}
 use Rattle.syn_commit.proofs.Handing.{holds_alone, reads_stay, trying_gives}
 use Rattle.syn_commit.proofs.Returning.{fell_by_late}
 use Rattle.syn_commit.proofs.leaving.give_up.Goals as goal
@@ -28,3 +29,10 @@ returns-clause-late c =
     fell_by_late (task_of c.args.attempt.now) (view_of c.args.start.now.value) (view_of c.args.seat.now) (view_of c.let_go.new.seat) (nodes_of c.args.shared.now) c.args.pool.now c.drain.new.pool c.args.pins.items c.args.deciding.now
     c.requires.enters c.requires.trying c.seats_reach_nodes.ensures.shown c.requires.loaded c.requires.ended
     (view_of c.drain.new.seat, c.drain.ensures.gives, c.let_go.ensures.let_go)
+
+pub returns-clause-none : goal.returns-clause-none
+returns-clause-none c =
+    let given : HasGivenUp (nodes_of c.args.shared.now) (view_of c.args.seat.now) c.args.pool.now (view_of c.let_go.new.seat) c.drain.new.pool = (view_of c.drain.new.seat, c.drain.ensures.gives, c.let_go.ensures.let_go) in
+    stored_none (nodes_of c.args.shared.now) (view_of c.args.start.now.value) (view_of c.args.seat.now) (view_of c.let_go.new.seat) c.args.pool.now c.drain.new.pool c.args.deciding.now c.requires.trying.changes given
+    (fell_by_late (task_of c.args.attempt.now) (view_of c.args.start.now.value) (view_of c.args.seat.now) (view_of c.let_go.new.seat) (nodes_of c.args.shared.now) c.args.pool.now c.drain.new.pool c.args.pins.items c.args.deciding.now
+    c.requires.enters c.requires.trying c.seats_reach_nodes.ensures.shown c.requires.loaded c.requires.ended given)

@@ -1,4 +1,4 @@
-use Rattle.syn_commit.proofs.Readying.{rows_are_ready}
+use Rattle.syn_commit.proofs.Pinning.{rows_are_ready}
 use Rattle.syn_commit.proofs.loading.rows_ready.Goals as goal
 
 pub returns : goal.returns

@@ -10,9 +10,10 @@ use Rattle.syn_core_laws.specs.Views.{key_set, known_row, made, own_pins}
 use Rattle.syn_table.specs.declared.Known.{Known}
 use Rattle.syn_table.specs.Seating.{nodes_of, view_of}
 use Rattle.syn_commit_laws.specs.Turning.{IsServed, TurnsAll}
+use Rattle.syn_commit.specs.declared.leaving.TheConstants.{MOST_HELD}
 use Rattle.syn_commit.specs.Giving.{IsGiving}
 use Rattle.syn_commit.specs.Storing.{KeepsKnown, MayReferTo, makes_row, row_stored, with_pins}
-use Rattle.syn_commit.proofs.Making.{made_free, made_gives, made_pinned, may_rest}
+use Rattle.syn_commit.proofs.Making.{all_pins_may, made_free, made_gives, made_pinned, may_rest}
 use Rattle.syn_commit.proofs.Stepping.{row_keeps, row_keyed, row_turns}
 use Rattle.syn_commit.proofs.storing.make_one.Goals as goal
 
@@ -59,7 +60,7 @@ make-requires-clause-rests c =
 pub returns-clause-giving : goal.returns-clause-giving
 returns-clause-giving c =
     let pins : c.truncate.new.self.items ≡ c.args.holding.now.pins.items = c.truncate.ensures.items ∙ (ap (take c.len-before.result) c.pin_places.ensures.pins ∙ take_at c.args.holding.now.pins.items (refs_of c.args.row) c.len-before.result (sym c.len-before.ensures.value)) in
-    let room : length c.pin_places.new.holding.gates.items + length c.pin_places.new.holding.idle.items < 512 = omega (arith, c.pin_places.ensures.size, c.requires.room) in
+    let room : length c.pin_places.new.holding.gates.items + length c.pin_places.new.holding.idle.items < MOST_HELD = omega (arith, c.pin_places.ensures.size, c.requires.room) in
     let stands = made_gives c.take-node.new.self c.args.holding.now.pins.items c.pin_places.new.holding.gates.items c.pin_places.new.holding.idle.items (view_of c.pin_places.new.seat) c.take-node.result c.args.key c.args.row (pinned_gives c) (derived c) room in
     subst (IsGiving c.take-node.new.self c.truncate.new.self.items c.pin_places.new.holding.gates.items c.push.new.self.items) (sym (ap (λ (k : Known). k.core) c.make.ensures.known))
     (subst (λ is. IsGiving c.take-node.new.self c.truncate.new.self.items c.pin_places.new.holding.gates.items is (made (key_set (view_of c.pin_places.new.seat) c.take-node.result c.args.key) c.take-node.result c.args.row)) (sym c.push.ensures.items)
@@ -87,3 +88,6 @@ returns-clause-keyed c =
     let held = c.requires.giving.spare.held c.take-node.result (spare c) in
     subst (λ (w : View). MayReferTo w (suc c.args.key) c.take-node.result) (sym (made_view c))
     (row_keyed (nodes_of c.args.shared.now) (view_of c.args.seat.now) c.take-node.result c.args.row c.args.key c.seats_reach_nodes.ensures.shown free (derived c) held (pins_same c))
+
+pub pin_places-requires-clause-may : goal.pin_places-requires-clause-may
+pin_places-requires-clause-may c = all_pins_may (view_of c.args.seat.now) c.args.key c.args.row c.requires.may

@@ -1,15 +1,16 @@
-use Rattle.std.proofs.Common.{◌≡◌, ◌++◌, take, sym, ap, ◌∙◌, subst}
+use Rattle.std.proofs.Common.{◌≡◌, ◌<◌, ◌++◌, take, sym, ap, ◌∙◌, subst}
 use Rattle.std.proofs.lemmas.List.{take_at}
 use Rattle.syn_rows.specs.Rows.{refs_of}
 use Rattle.syn_core_laws.specs.declared.View.{View}
 use Rattle.syn_core_laws.specs.Views.{redefined}
 use Rattle.syn_table.specs.declared.Known.{Known}
-use Rattle.syn_table.specs.Seating.{view_of}
+use Rattle.syn_table.specs.Seating.{nodes_of, view_of}
 use Rattle.syn_table.specs.Steps.{KnowsRedefine}
+use Rattle.syn_commit_laws.specs.Turning.{TurnsAll}
 use Rattle.syn_commit.specs.Giving.{IsGiving}
-use Rattle.syn_commit.specs.Storing.{with_pins, with_row}
+use Rattle.syn_commit.specs.Storing.{redefines_row, with_pins, with_row}
 use Rattle.syn_commit.proofs.Making.{all_pins_may}
-use Rattle.syn_commit.proofs.Replacing.{knows_redefine, redefined_is, root_gives}
+use Rattle.syn_commit.proofs.Replacing.{knows_redefine, redefined_is, root_gives, root_served, root_turns}
 use Rattle.syn_commit.proofs.storing.redefine_root.Goals as goal
 
 pub pin_places-requires-clause-may : goal.pin_places-requires-clause-may
@@ -41,3 +42,19 @@ returns-clause-giving c =
     (subst (λ ps. IsGiving c.args.pool.now ps c.set_row.new.gates.items c.set_row-2.new.gates.items (redefined (with_pins (refs_of c.args.row) (view_of c.args.seat.now)) c.args.root.node c.args.root.row c.args.row)) (sym pins)
     (subst (λ gs. IsGiving c.args.pool.now (c.args.holding.now.pins.items ++ refs_of c.args.root.row) gs c.set_row-2.new.gates.items (redefined (with_pins (refs_of c.args.row) (view_of c.args.seat.now)) c.args.root.node c.args.root.row c.args.row)) (sym c.set_row.ensures.gates)
     (subst (λ gs. IsGiving c.args.pool.now (c.args.holding.now.pins.items ++ refs_of c.args.root.row) (with_row c.args.root.node c.args.row c.pin_places.new.holding.gates.items) gs (redefined (with_pins (refs_of c.args.row) (view_of c.args.seat.now)) c.args.root.node c.args.root.row c.args.row)) (sym c.set_row-2.ensures.gates) stands)))
+
+pub returns-clause-turns : goal.returns-clause-turns
+returns-clause-turns c over =
+    let is : view_of c.pin_places.new.seat ≡ with_pins (refs_of c.args.row) (view_of c.args.seat.now) = ap (λ (k : Known). k.core) c.pin_places.ensures.known in
+    let given = subst (IsGiving c.args.pool.now (c.args.holding.now.pins.items ++ refs_of c.args.row) c.pin_places.new.holding.gates.items c.pin_places.new.holding.idle.items) is
+    (subst (λ ps. IsGiving c.args.pool.now ps c.pin_places.new.holding.gates.items c.pin_places.new.holding.idle.items (view_of c.pin_places.new.seat)) c.pin_places.ensures.pins c.pin_places.ensures.giving) in
+    let r = c.redefine.ensures.known in
+    let view : view_of c.redefine.new.seat ≡ redefined (with_pins (refs_of c.args.row) (view_of c.args.seat.now)) c.args.root.node c.args.root.row c.args.row =
+    redefined_is c.args.pool.now c.args.holding.now.pins.items c.pin_places.new.holding.gates.items c.pin_places.new.holding.idle.items (view_of c.args.seat.now) c.args.root.node c.args.key c.args.root.row c.args.row given
+    c.requires.root c.requires.was c.requires.gate (view_of c.pin_places.new.seat) (view_of c.redefine.new.seat) r.0 is r.1 (ap (λ (k : Known). k.core) r.2) in
+    let there : c.args.root.node < nodes_of c.args.shared.now = (c.seats_reach_nodes.ensures.shown.rows c.args.root.node c.args.root.row c.requires.root).0 in
+    let served = root_served c.args.pool.now c.args.holding.now.pins.items c.pin_places.new.holding.gates.items c.pin_places.new.holding.idle.items (view_of c.args.seat.now) c.args.root.node c.args.key c.args.root.row c.args.row given
+    c.requires.root c.requires.was c.requires.gate c.requires.may in
+    subst (TurnsAll (nodes_of c.args.shared.now) (view_of c.args.seat.now) (redefines_row c.args.root.node c.args.row over)) (sym view)
+    (root_turns c.args.pool.now c.args.holding.now.pins.items c.pin_places.new.holding.gates.items c.pin_places.new.holding.idle.items (view_of c.args.seat.now) c.args.root.node c.args.key c.args.root.row c.args.row given
+    c.requires.root c.requires.was c.requires.gate (nodes_of c.args.shared.now) over there served)

@@ -1,0 +1,47 @@
+-- A commit that gave up has stored what each answer but `Done` stores.
+use Rattle.std.proofs.Common.{◌≡◌, ℕ, ◌+◌, List, refl, subst, arith, pos, ◌+ℤ◌}
+use Rattle.syn_core_laws.specs.declared.View.{View}
+use Rattle.syn_decide.specs.declared.decisions.Outcome.{Outcome}
+use Rattle.syn_decide.specs.declared.decisions.Outcome.TheVariants as outcome
+use Rattle.syn_decide.specs.declared.decisions.StaleCause.TheVariants as cause
+use Rattle.syn_decide.specs.Decided.{Answer, Done, Busy, Reach, Wide, Differs, NoGain, NoGap, NoRoom, told_answer}
+use Rattle.syn_decide.specs.Fold.{State}
+use Rattle.syn_decide.specs.Tasks.{Task}
+use Rattle.syn_commit_laws.specs.Freeing.{late}
+use Rattle.syn_commit.specs.Committed.{HasStoredNone, IsBooked, Stores, gain_of}
+use Rattle.syn_commit.specs.Counts.{dying_by}
+
+-- no other answer of the program is told as `Done`
+pub no_gain_told : (told : Outcome) → ((gain : ℕ) → told ≡ outcome.Done gain → ⊥) → (gain : ℕ) → told_answer told ≡ Done gain → ⊥
+no_gain_told (outcome.Done won) other gain e = other won refl
+no_gain_told (outcome.Busy node) other gain e = cc
+no_gain_told (outcome.Stale (cause.Reach node)) other gain e = cc
+no_gain_told (outcome.Stale (cause.Wide node)) other gain e = cc
+no_gain_told (outcome.Stale (cause.Differs was now)) other gain e = cc
+no_gain_told (outcome.NoGain freed added) other gain e = cc
+no_gain_told (outcome.NoGap node low need high) other gain e = cc
+no_gain_told (outcome.NoRoom need have) other gain e = cc
+
+-- it stored nothing
+unstored : (nodes : ℕ) (t : Task) (s : State) (answer : Answer) (start : View) (pool : List ℕ) (v : View) (grown : List ℕ) (h : HasStoredNone s start pool v grown) → Stores nodes t s answer pool pool h.changes → 0 ≡ gain_of answer
+    → IsBooked nodes t s answer start pool v grown
+unstored nodes t s answer start pool v grown h stored gain = record {
+  changes = h.changes;
+  kept = pool;
+  since = h.since;
+  stored = stored;
+  joined = h.joined;
+  fell = let same : late (dying_by s) h.changes ≡ gain_of answer + late (dying_by s) h.changes = omega (arith, gain) in subst (λ (k : ℕ). v.difference +ℤ pos k ≡ start.difference) same h.fell;
+}
+
+-- a commit that gave up has stored what each answer but `Done` stores
+pub none_booked : (nodes : ℕ) (t : Task) (s : State) (answer : Answer) (start : View) (pool : List ℕ) (v : View) (grown : List ℕ) → ((gain : ℕ) → answer ≡ Done gain → ⊥) → HasStoredNone s start pool v grown
+    → IsBooked nodes t s answer start pool v grown
+none_booked nodes t s (Done gain) start pool v grown other h = absurd (other gain refl)
+none_booked nodes t s (Busy node) start pool v grown other h = unstored nodes t s (Busy node) start pool v grown h (record { taken = refl; none = h.none }) refl
+none_booked nodes t s (Reach node) start pool v grown other h = unstored nodes t s (Reach node) start pool v grown h (record { taken = refl; none = h.none }) refl
+none_booked nodes t s (Wide node) start pool v grown other h = unstored nodes t s (Wide node) start pool v grown h (record { taken = refl; none = h.none }) refl
+none_booked nodes t s (Differs was now) start pool v grown other h = unstored nodes t s (Differs was now) start pool v grown h (record { taken = refl; none = h.none }) refl
+none_booked nodes t s (NoGain freed added) start pool v grown other h = unstored nodes t s (NoGain freed added) start pool v grown h (record { taken = refl; none = h.none }) refl
+none_booked nodes t s (NoGap node low need high) start pool v grown other h = unstored nodes t s (NoGap node low need high) start pool v grown h (record { taken = refl; none = h.none }) refl
+none_booked nodes t s (NoRoom need have) start pool v grown other h = unstored nodes t s (NoRoom need have) start pool v grown h (record { taken = refl; none = h.none }) refl

@@ -1,0 +1,23 @@
+use Rattle.std.proofs.Common.{length, ap, ◌∙◌}
+use Rattle.syn_decide.specs.Decided.{told_answer}
+use Rattle.syn_decide.specs.Tasks.{asked, task_of}
+use Rattle.syn_table.specs.Seating.{nodes_of, view_of}
+use Rattle.syn_commit.proofs.Telling.{below_enters, busy_caused, fell_since}
+use Rattle.syn_commit.proofs.committing.try_commit.Goals as goal
+
+pub answer-requires-clause-enters : goal.answer-requires-clause-enters
+answer-requires-clause-enters g c = λ κs within. let p = c.of-attempt.result.candidate in below_enters p.root p.leaves.now p.root_is_no_constant p.below_root
+
+pub settle-requires-clause-enters : goal.settle-requires-clause-enters
+settle-requires-clause-enters g c = λ κs within. let p = c.of-attempt.result.candidate in below_enters p.root p.leaves.now p.root_is_no_constant p.below_root
+
+pub returns-clause-busy : goal.returns-clause-busy
+returns-clause-busy g c = λ n busy.
+    busy_caused (task_of c.of-attempt.result) (asked c.args.proposal.now c.args.zero_gain (length c.args.pool.now)) (view_of c.of-start.result.value) (view_of c.args.seat.now) (view_of c.settle.new.seat) c.answer.new.deciding
+    (told_answer c.outcome-outcome.result) n (c.of-attempt.ensures ∙ ap (asked c.args.proposal.now c.args.zero_gain) c.len.ensures) (ap view_of c.of-start.ensures) c.settle.ensures.reads c.outcome-outcome.ensures busy
+
+pub returns-clause-fell : goal.returns-clause-fell
+returns-clause-fell g c =
+    fell_since (nodes_of c.args.tools.now.shared.now) (task_of c.of-attempt.result) (asked c.args.proposal.now c.args.zero_gain (length c.args.pool.now)) c.answer.new.deciding (told_answer c.outcome-outcome.result)
+    (view_of c.of-start.result.value) (view_of c.args.seat.now) c.args.pool.now (view_of c.settle.new.seat) c.settle.new.pool (c.of-attempt.ensures ∙ ap (asked c.args.proposal.now c.args.zero_gain) c.len.ensures)
+    (ap view_of c.of-start.ensures) c.settle.ensures.reads c.settle.ensures.booked

@@ -1,0 +1,117 @@
+//! One commit.
+
+ghost use Rattle.std.specs.Prelude.{◌≡◌, ◌<◌, ◌≤◌, ℕ, [], ◌++◌, false, length, true};
+ghost use Rattle.syn_rows.specs.Nodes.{has_node};
+ghost use Rattle.syn_decide.specs.Decided.{Answered, Busy, told_answer};
+ghost use Rattle.syn_decide.specs.Fold as fold;
+ghost use Rattle.syn_decide.specs.Tasks.{asked, task_of};
+ghost use Rattle.syn_decide.specs.Walk.{enters};
+ghost use Rattle.syn_commit_laws.specs.Redefining.{IsInOrder};
+ghost use Rattle.syn_table.specs.Seating.{IsOf, known_of, nodes_of, view_of};
+ghost use Rattle.syn_table.specs.Steps.{with_view};
+ghost use Rattle.syn_commit.specs.Committed.{EndsInMiss, FellSince, IsBooked, StoredSince, changes_since, met_since};
+ghost use Rattle.syn_commit.specs.Counts.{CountsAreLoaded};
+ghost use Rattle.syn_commit.specs.Giving.{HoldsAlone};
+ghost use Rattle.syn_commit.specs.Keyed.{IsKeyedSoFar};
+ghost use Rattle.syn_commit.specs.Pools.{KeepsPool, found_claimed};
+ghost use Rattle.syn_commit.specs.Stages.{HasEnded, IsTrying};
+ghost use Rattle.syn_commit.specs.Walks.{IsOfReads};
+
+use crate::answering::{answer, outcome};
+use crate::done::store;
+use crate::leaving::give_up;
+use crate::loading::MOST_PINS;
+use crate::{Gate, Moment, Pool, Tools};
+use arrayvec::ArrayVec;
+use std::snapshot::Snapshot;
+use syn_decide::{Attempt, Deciding, Outcome};
+use syn_gain::Proposal;
+use syn_table::Seat;
+
+// What follows the answer: `Done` is stored, and at any other one the commit gives up.
+fn settle<G: Gate>(
+    tools: &Tools<'_, G>,
+    seat: &mut Seat,
+    pool: &mut Pool,
+    attempt: &Attempt<'_>,
+    deciding: &Deciding,
+    pins: ArrayVec<u32, MOST_PINS>,
+    start: &Snapshot<Seat>,
+    outcome: Outcome,
+)
+    requires table { IsOf seat.old tools.now.shared.now }
+    requires in_order { IsInOrder (task_of attempt.now) }
+    requires enters { enters attempt.now.candidate.leaves.now [] attempt.now.candidate.root ≡ true }
+    requires size { (task_of attempt.now).pool ≡ length pool.old }
+    requires trying { IsTrying (task_of attempt.now) (view_of start.now.value) pool.old pins.items (view_of seat.old) deciding.now }
+    requires keyed { IsKeyedSoFar (task_of attempt.now) pins.items (view_of seat.old) deciding.now }
+    requires loaded { CountsAreLoaded (nodes_of tools.now.shared.now) (view_of seat.old) deciding.now }
+    requires few { length pins.items ≤ 390 }
+    requires ended { HasEnded deciding.now.stage }
+    requires answer { Answered (told_answer outcome) ≡ fold.wants deciding.now }
+    ensures table { IsOf seat.new tools.now.shared.now }
+    ensures known { known_of seat.new ≡ with_view (known_of seat.old) (view_of seat.new) }
+    ensures alone { HoldsAlone pool.new (view_of seat.new) }
+    ensures reads { IsOfReads (task_of attempt.now) (view_of start.now.value) (view_of seat.new) deciding.now }
+    ensures booked { IsBooked (nodes_of tools.now.shared.now) (task_of attempt.now) deciding.now (told_answer outcome) (view_of start.now.value) pool.old (view_of seat.new) pool.new }
+{
+    match outcome {
+        Outcome::Done(gain) => store(tools, seat, pool, attempt, deciding, pins, start, gain),
+        _ => give_up(tools.shared, seat, pool, attempt, deciding, pins, start),
+    }
+}
+
+/// Tries to replace the root's row by the proposal's plan, under claims, and answers what its own reads decide: the rows
+/// between the leaves and the root are loaded again, so that it doesn't matter what changed since the proposal was made. At
+/// `Done` the root has a new row; at any other answer no row changed but those to which nobody refers any more. It answers
+/// `Busy` only of a node that another seat held, and so never to a seat that has all numbers. The seat holds its pool alone
+/// before and after. It takes no memory and waits for nobody.
+pub fn try_commit<G: Gate>(
+    tools: &Tools<'_, G>,
+    seat: &mut Seat,
+    pool: &mut Pool,
+    proposal: &Proposal,
+    zero_gain: bool,
+) -> Outcome
+    requires table { IsOf seat.old tools.now.shared.now }
+    requires spare { KeepsPool (view_of seat.old) pool.old }
+    requires held { (n : ℕ) → has_node (view_of seat.old).held n ≡ has_node pool.old n }
+    requires pins { (view_of seat.old).pins ≡ [] }
+    requires root { proposal.now.root < nodes_of tools.now.shared.now }
+    requires not_spare { has_node pool.old proposal.now.root ≡ false }
+    ensures table { IsOf seat.new tools.now.shared.now }
+    ensures known { known_of seat.new ≡ with_view (known_of seat.old) (view_of seat.new) }
+    ensures alone { HoldsAlone pool.new (view_of seat.new) }
+    ensures reads { (view_of seat.new).reads ≡ (view_of seat.old).reads ++ met_since (view_of seat.old) (view_of seat.new) }
+    ensures misses { (view_of seat.new).misses ≡ (view_of seat.old).misses ++ found_claimed (met_since (view_of seat.old) (view_of seat.new)) }
+    ensures answer { fold.decided (asked proposal.now zero_gain (length pool.old)) (met_since (view_of seat.old) (view_of seat.new)) ≡ Answered (told_answer result) }
+    ensures busy { (n : ℕ) → told_answer result ≡ Busy n → EndsInMiss (met_since (view_of seat.old) (view_of seat.new)) n }
+    ensures free { length (known_of seat.old).numbers ≡ 64 → (n : ℕ) → told_answer result ≡ Busy n → ⊥ }
+    ensures changes { (view_of seat.new).changes ≡ (view_of seat.old).changes ++ changes_since (view_of seat.old) (view_of seat.new) }
+    ensures stored { StoredSince (nodes_of tools.now.shared.now) (asked proposal.now zero_gain (length pool.old)) (view_of seat.old) pool.old (told_answer result) (view_of seat.new) pool.new }
+    ensures fell { FellSince (asked proposal.now zero_gain (length pool.old)) (view_of seat.old) (told_answer result) (view_of seat.new) }
+{
+    tools.shared.seats_reach_nodes(seat);
+    let start = Snapshot::of(seat);
+    let attempt = Attempt::of(proposal, zero_gain, pool.len());
+    let mut deciding = Deciding::begin(&attempt);
+    let mut pins = ArrayVec::new();
+    answer(
+        tools,
+        seat,
+        pool,
+        &attempt,
+        &mut deciding,
+        &mut pins,
+        &start,
+    );
+    let outcome = outcome(&deciding);
+    settle(
+        tools, seat, pool, &attempt, &deciding, pins, &start, outcome,
+    );
+    tools.gate.at(
+        tools.worker,
+        Moment::Answered(matches!(outcome, Outcome::Done(_))),
+    );
+    outcome
+}
