@@ -1,1 +1,5 @@
 pub mod Filling
+pub mod Emptied
+pub mod Keyed
+pub mod Pinned
+pub mod Sources

@@ -5,8 +5,24 @@
 #![tactic(auto)]
 
 #[cfg(test)]
+mod commits;
+#[cfg(test)]
+mod contending;
+#[cfg(test)]
+mod fresh;
+#[cfg(test)]
 mod hints;
+#[cfg(test)]
+mod keying;
+#[cfg(test)]
+mod meeting;
 #[cfg(test)]
 mod opened;
 #[cfg(test)]
+mod pinning;
+#[cfg(test)]
 mod pools;
+#[cfg(test)]
+mod repeating;
+#[cfg(test)]
+mod tables;

@@ -4,8 +4,14 @@
 #![tactic(auto)]
 
 #[cfg(test)]
+mod commits;
+#[cfg(test)]
 mod events;
 #[cfg(test)]
+mod starts;
+#[cfg(test)]
 mod stores;
+#[cfg(test)]
+mod told;
 #[cfg(test)]
 mod worked;
