@@ -1,5 +1,5 @@
 -- Before the root is redefined: its new row has the value of its old one, and refers to nodes with keys below its own.
-use Rattle.std.proofs.Common.{◌≡◌, ◌≢◌, ℕ, suc, ◌+◌, ◌*◌, ◌<◌, ◌≤◌, ◌==◌, ◌||◌, not, Bool, true, false, List, [], ◌∷◌, length, get_or, Option, Some, refl, sym, ap, ◌∙◌, subst, arith, inl, inr}
+use Rattle.std.proofs.Common.{◌≡◌, ◌≢◌, ℕ, suc, ◌+◌, ◌*◌, ◌<◌, ◌≤◌, ◌==◌, ◌||◌, not, Bool, true, false, List, [], ◌∷◌, length, Option, Some, refl, sym, ap, ◌∙◌, subst, arith, inl, inr}
 use Rattle.std.proofs.lemmas.Bool.{and_parts, eqb-true, false_from_ne_true, false≢true, not-false, or_cases, or_left, or_right}
 use Rattle.std.proofs.lemmas.Option.{none-some}
 use Rattle.syn_rows.specs.declared.Row.{Row}
@@ -20,7 +20,7 @@ use Rattle.syn_decide.specs.Decided.{Done}
 use Rattle.syn_decide.specs.Fitting.{FitsAt, HitsAreInside, IsFitting}
 use Rattle.syn_decide.specs.Fold.{Ended, State, placed_now}
 use Rattle.syn_decide.specs.Functions.{used_leaves}
-use Rattle.syn_decide.specs.Hints.{first_new, rows_needed}
+use Rattle.syn_decide.specs.Hints.{rows_needed}
 use Rattle.syn_decide.specs.Walk.{enters, is_met, nodes_of}
 use Rattle.syn_decide.specs.Walked.{AreGates, FirstIs, IsLinked, IsWalked}
 use Rattle.syn_decide.proofs.Fitting.{always_fitting, hits_always_inside}

@@ -16,8 +16,9 @@ ghost use Rattle.syn_commit.specs.Walks.{KeysWait};
 
 use crate::hinting::try_hints;
 use crate::loading::{MOST_PINS, counts, keys};
+use crate::spare::Spare;
 use crate::walking::walk;
-use crate::{Gate, Moment, Pool, Tools};
+use crate::{Gate, Moment, Tools};
 use arrayvec::ArrayVec;
 use std::snapshot::Snapshot;
 use syn_decide::{Attempt, Deciding, Decision, Outcome, StaleCause};
@@ -39,7 +40,7 @@ fn is_claimed(attempt: &Attempt<'_>, deciding: &Deciding) -> bool {
 fn walked(
     shared: &Shared,
     seat: &mut Seat,
-    pool: &Pool,
+    pool: &Spare,
     attempt: &Attempt<'_>,
     deciding: &mut Deciding,
     start: &Snapshot<Seat>,
@@ -71,7 +72,7 @@ fn walked(
 pub(crate) fn answer<G: Gate>(
     tools: &Tools<'_, G>,
     seat: &mut Seat,
-    pool: &Pool,
+    pool: &Spare,
     attempt: &Attempt<'_>,
     deciding: &mut Deciding,
     pins: &mut ArrayVec<u32, MOST_PINS>,

@@ -19,23 +19,26 @@ ghost use Rattle.syn_commit.specs.Walks.{IsOfReads};
 
 use crate::answering::{answer, outcome};
 use crate::done::store;
-use crate::leaving::give_up;
-use crate::loading::MOST_PINS;
+use crate::leaving::{Holding, give_up};
+use crate::spare::Spare;
 use crate::{Gate, Moment, Pool, Tools};
 use arrayvec::ArrayVec;
 use std::snapshot::Snapshot;
-use syn_decide::{Attempt, Deciding, Outcome};
+use syn_decide::{Attempt, Deciding, NewRows, NodeRow, Outcome};
 use syn_gain::Proposal;
+use syn_plan::MOST_GATES;
 use syn_table::Seat;
 
 // What follows the answer: `Done` is stored, and at any other one the commit gives up.
 fn settle<G: Gate>(
     tools: &Tools<'_, G>,
     seat: &mut Seat,
-    pool: &mut Pool,
+    pool: &mut Spare,
     attempt: &Attempt<'_>,
     deciding: &Deciding,
-    pins: ArrayVec<u32, MOST_PINS>,
+    holding: &mut Holding,
+    rows: &mut NewRows,
+    made: &mut ArrayVec<NodeRow, MOST_GATES>,
     start: &Snapshot<Seat>,
     outcome: Outcome,
 )
@@ -43,10 +46,10 @@ fn settle<G: Gate>(
     requires in_order { IsInOrder (task_of attempt.now) }
     requires enters { enters attempt.now.candidate.leaves.now [] attempt.now.candidate.root ≡ true }
     requires size { (task_of attempt.now).pool ≡ length pool.old }
-    requires trying { IsTrying (task_of attempt.now) (view_of start.now.value) pool.old pins.items (view_of seat.old) deciding.now }
-    requires keyed { IsKeyedSoFar (task_of attempt.now) pins.items (view_of seat.old) deciding.now }
+    requires trying { IsTrying (task_of attempt.now) (view_of start.now.value) pool.old holding.old.pins.items (view_of seat.old) deciding.now }
+    requires keyed { IsKeyedSoFar (task_of attempt.now) holding.old.pins.items (view_of seat.old) deciding.now }
     requires loaded { CountsAreLoaded (nodes_of tools.now.shared.now) (view_of seat.old) deciding.now }
-    requires few { length pins.items ≤ 390 }
+    requires few { length holding.old.pins.items ≤ 390 }
     requires ended { HasEnded deciding.now.stage }
     requires answer { Answered (told_answer outcome) ≡ fold.wants deciding.now }
     ensures table { IsOf seat.new tools.now.shared.now }
@@ -56,8 +59,10 @@ fn settle<G: Gate>(
     ensures booked { IsBooked (nodes_of tools.now.shared.now) (task_of attempt.now) deciding.now (told_answer outcome) (view_of start.now.value) pool.old (view_of seat.new) pool.new }
 {
     match outcome {
-        Outcome::Done(gain) => store(tools, seat, pool, attempt, deciding, pins, start, gain),
-        _ => give_up(tools.shared, seat, pool, attempt, deciding, pins, start),
+        Outcome::Done(gain) => store(
+            tools, seat, pool, attempt, deciding, holding, rows, made, start, gain,
+        ),
+        _ => give_up(tools.shared, seat, pool, attempt, deciding, holding, start),
     }
 }
 
@@ -93,21 +98,30 @@ pub fn try_commit<G: Gate>(
 {
     tools.shared.seats_reach_nodes(seat);
     let start = Snapshot::of(seat);
-    let attempt = Attempt::of(proposal, zero_gain, pool.len());
-    let mut deciding = Deciding::begin(&attempt);
-    let mut pins = ArrayVec::new();
+    let attempt = Attempt::of(proposal, zero_gain, pool.spare.len());
+    pool.room.deciding.restart(&attempt);
+    pool.room.holding.pins.clear();
     answer(
         tools,
         seat,
-        pool,
+        &pool.spare,
         &attempt,
-        &mut deciding,
-        &mut pins,
+        &mut pool.room.deciding,
+        &mut pool.room.holding.pins,
         &start,
     );
-    let outcome = outcome(&deciding);
+    let outcome = outcome(&pool.room.deciding);
     settle(
-        tools, seat, pool, &attempt, &deciding, pins, &start, outcome,
+        tools,
+        seat,
+        &mut pool.spare,
+        &attempt,
+        &pool.room.deciding,
+        &mut pool.room.holding,
+        &mut pool.room.rows,
+        &mut pool.room.made,
+        &start,
+        outcome,
     );
     tools.gate.at(
         tools.worker,

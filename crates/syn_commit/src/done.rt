@@ -22,13 +22,13 @@ ghost use Rattle.syn_commit.specs.Walks.{IsOfReads};
 
 use crate::finishing::finish;
 use crate::leaving::{Holding, hold};
-use crate::loading::MOST_PINS;
 use crate::readying::{met_leaves, root_ready};
+use crate::spare::Spare;
 use crate::storing::{make_rows, redefine_root, row_made};
-use crate::{Gate, Hints, Pool, Tools};
+use crate::{Gate, Hints, Tools};
 use arrayvec::ArrayVec;
 use std::snapshot::Snapshot;
-use syn_decide::{Attempt, Deciding, NodeRow};
+use syn_decide::{Attempt, Deciding, NewRows, NodeRow};
 use syn_keys::between;
 use syn_plan::MOST_GATES;
 use syn_rows::Row;
@@ -50,10 +50,11 @@ fn step_between(low: u64, need: u32, high: u64) -> u64
 fn make_new(
     shared: &Shared,
     seat: &mut Seat,
-    pool: &mut Pool,
+    pool: &mut Spare,
     attempt: &Attempt<'_>,
     deciding: &Deciding,
     holding: &mut Holding,
+    rows: &mut NewRows,
     made: &mut ArrayVec<NodeRow, MOST_GATES>,
     start: &Snapshot<Seat>,
     gain: u32,
@@ -68,7 +69,6 @@ fn make_new(
     requires giving { IsGiving pool.old holding.old.pins.items holding.old.gates.items holding.old.idle.items (view_of seat.old) }
     requires few { length holding.old.pins.items ≤ 390 }
     requires room { length holding.old.gates.items + length holding.old.idle.items ≤ MOST_INNER + MOST_GATES }
-    requires none { made.old.items ≡ [] }
     ensures table { IsOf seat.new shared.now }
     ensures known { known_of seat.new ≡ with_view (known_of seat.old) (view_of seat.new) }
     ensures giving { IsGiving pool.new holding.new.pins.items holding.new.gates.items holding.new.idle.items (view_of seat.new) }
@@ -82,22 +82,23 @@ fn make_new(
     let _ = gain;
     shared.seats_reach_nodes(seat);
     root_ready();
-    let new = deciding.new_rows(attempt);
+    deciding.new_rows(attempt, rows);
     let low = deciding.low();
-    let step = step_between(low, new.needed, deciding.high());
+    let step = step_between(low, rows.needed, deciding.high());
+    made.clear();
     make_rows(
         shared,
         seat,
         pool,
         holding,
-        new.rows.as_slice(),
-        new.needed,
+        rows.rows.as_slice(),
+        rows.needed,
         low,
         step,
         made,
     );
     shared.seats_reach_nodes(seat);
-    row_made(made.as_slice(), new.root)
+    row_made(made.as_slice(), rows.root)
 }
 
 // The root with its row: the first that the walk entered.
@@ -122,10 +123,12 @@ fn note_rows(hints: &Hints, made: &[NodeRow]) {
 pub(crate) fn store<G: Gate>(
     tools: &Tools<'_, G>,
     seat: &mut Seat,
-    pool: &mut Pool,
+    pool: &mut Spare,
     attempt: &Attempt<'_>,
     deciding: &Deciding,
-    pins: ArrayVec<u32, MOST_PINS>,
+    holding: &mut Holding,
+    rows: &mut NewRows,
+    made: &mut ArrayVec<NodeRow, MOST_GATES>,
     start: &Snapshot<Seat>,
     gain: u32,
 )
@@ -133,10 +136,10 @@ pub(crate) fn store<G: Gate>(
     requires in_order { IsInOrder (task_of attempt.now) }
     requires enters { enters attempt.now.candidate.leaves.now [] attempt.now.candidate.root ≡ true }
     requires size { (task_of attempt.now).pool ≡ length pool.old }
-    requires trying { IsTrying (task_of attempt.now) (view_of start.now.value) pool.old pins.items (view_of seat.old) deciding.now }
-    requires keyed { IsKeyedSoFar (task_of attempt.now) pins.items (view_of seat.old) deciding.now }
+    requires trying { IsTrying (task_of attempt.now) (view_of start.now.value) pool.old holding.old.pins.items (view_of seat.old) deciding.now }
+    requires keyed { IsKeyedSoFar (task_of attempt.now) holding.old.pins.items (view_of seat.old) deciding.now }
     requires loaded { CountsAreLoaded (nodes_of tools.now.shared.now) (view_of seat.old) deciding.now }
-    requires few { length pins.items ≤ 390 }
+    requires few { length holding.old.pins.items ≤ 390 }
     requires done { deciding.now.stage ≡ Ended (Done gain) }
     ensures table { IsOf seat.new tools.now.shared.now }
     ensures known { known_of seat.new ≡ with_view (known_of seat.old) (view_of seat.new) }
@@ -146,16 +149,16 @@ pub(crate) fn store<G: Gate>(
 {
     let counted = Snapshot::of(seat);
     tools.shared.seats_reach_nodes(seat);
-    let mut holding = hold(deciding, pins);
-    let mut made = ArrayVec::new();
+    hold(deciding, holding);
     let row = make_new(
         tools.shared,
         seat,
         pool,
         attempt,
         deciding,
-        &mut holding,
-        &mut made,
+        holding,
+        rows,
+        made,
         start,
         gain,
     );
@@ -165,7 +168,7 @@ pub(crate) fn store<G: Gate>(
         tools.shared,
         seat,
         pool,
-        &mut holding,
+        holding,
         root,
         row,
         deciding.high(),
@@ -176,7 +179,7 @@ pub(crate) fn store<G: Gate>(
         seat,
         pool,
         deciding,
-        &mut holding,
+        holding,
         root,
         row,
         made.as_slice(),

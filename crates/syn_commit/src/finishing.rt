@@ -7,8 +7,8 @@ ghost use Rattle.syn_commit.specs.Counts.{dying_by};
 ghost use Rattle.syn_commit.specs.Finishing.{FellByGain, HasStored, StoresFinish};
 ghost use Rattle.syn_commit.specs.Giving.{HasGivenUp, HoldsAlone, IsGiving};
 
-use crate::Pool;
 use crate::leaving::{Holding, drain, let_go};
+use crate::spare::Spare;
 use std::snapshot::Snapshot;
 use syn_decide::{Deciding, NodeRow};
 use syn_rows::Row;
@@ -19,7 +19,7 @@ use syn_table::{Seat, Shared};
 pub(crate) fn finish(
     shared: &Shared,
     seat: &mut Seat,
-    pool: &mut Pool,
+    pool: &mut Spare,
     deciding: &Deciding,
     holding: &mut Holding,
     root: NodeRow,

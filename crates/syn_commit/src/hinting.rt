@@ -13,9 +13,10 @@ ghost use Rattle.syn_commit.specs.Hinted.{IsHint, IsHinting, IsOpen};
 ghost use Rattle.syn_commit.specs.Keyed.{IsKeyedSoFar};
 ghost use Rattle.syn_commit.specs.Stages.{IsPastKeys, IsTrying};
 
+use crate::Hints;
 use crate::leaving::has_gate;
 use crate::loading::MOST_PINS;
-use crate::{Hints, Pool};
+use crate::spare::Spare;
 use arrayvec::ArrayVec;
 use std::snapshot::Snapshot;
 use syn_core_laws::Seen;
@@ -62,7 +63,7 @@ fn load_hint(
 fn try_held(
     shared: &Shared,
     seat: &mut Seat,
-    pool: &Pool,
+    pool: &Spare,
     attempt: &Attempt<'_>,
     deciding: &mut Deciding,
     pins: &mut ArrayVec<u32, MOST_PINS>,
@@ -100,7 +101,7 @@ fn try_held(
 fn try_other(
     shared: &Shared,
     seat: &mut Seat,
-    pool: &Pool,
+    pool: &Spare,
     attempt: &Attempt<'_>,
     deciding: &mut Deciding,
     pins: &mut ArrayVec<u32, MOST_PINS>,
@@ -145,7 +146,7 @@ fn try_other(
 // and no hit.
 fn may_try(
     shared: &Shared,
-    pool: &Pool,
+    pool: &Spare,
     attempt: &Attempt<'_>,
     deciding: &Deciding,
     node: u32,
@@ -169,7 +170,7 @@ fn try_hint(
     shared: &Shared,
     hints: &Hints,
     seat: &mut Seat,
-    pool: &Pool,
+    pool: &Spare,
     attempt: &Attempt<'_>,
     deciding: &mut Deciding,
     pins: &mut ArrayVec<u32, MOST_PINS>,
@@ -210,7 +211,7 @@ fn try_place(
     shared: &Shared,
     hints: &Hints,
     seat: &mut Seat,
-    pool: &Pool,
+    pool: &Spare,
     attempt: &Attempt<'_>,
     deciding: &mut Deciding,
     pins: &mut ArrayVec<u32, MOST_PINS>,
@@ -244,7 +245,7 @@ pub(crate) fn try_hints(
     shared: &Shared,
     hints: &Hints,
     seat: &mut Seat,
-    pool: &Pool,
+    pool: &Spare,
     attempt: &Attempt<'_>,
     deciding: &mut Deciding,
     pins: &mut ArrayVec<u32, MOST_PINS>,

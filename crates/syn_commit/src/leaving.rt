@@ -19,9 +19,8 @@ ghost use Rattle.syn_commit.specs.Stages.{HasEnded, IsTrying};
 ghost use Rattle.syn_commit.specs.Walks.{IsOfReads};
 ghost use Rattle.syn_commit.specs.Giving.{FellByLate, Gives, HasGivenUp, HoldsAlone, IsGiving, IsLetGo, with_gate, with_gates, work_left};
 
-use crate::Pool;
 use crate::loading::MOST_PINS;
-use crate::pools::MOST_SPARE;
+use crate::spare::Spare;
 use arrayvec::ArrayVec;
 use std::snapshot::Snapshot;
 use syn_decide::{Attempt, Deciding, NodeRow};
@@ -32,7 +31,7 @@ use syn_table::{Seat, Shared};
 pub(crate) const MOST_HELD: usize = 1024;
 
 /// What a seat has beside its pool while it gives back.
-#[derive(Drop)]
+#[derive(Debug, Drop)]
 pub(crate) struct Holding {
     /// Its pins.
     pub(crate) pins: ArrayVec<u32, MOST_PINS>,
@@ -40,6 +39,17 @@ pub(crate) struct Holding {
     pub(crate) gates: ArrayVec<NodeRow, MOST_HELD>,
     /// The gates on its zero list.
     pub(crate) idle: ArrayVec<NodeRow, MOST_HELD>,
+}
+
+impl Holding {
+    /// Nothing is held.
+    pub(crate) fn new() -> Holding {
+        Holding {
+            pins: ArrayVec::new(),
+            gates: ArrayVec::new(),
+            idle: ArrayVec::new(),
+        }
+    }
 }
 
 /// Where the node stands among the rows.
@@ -78,7 +88,7 @@ fn set_idle(holding: &mut Holding, place: usize)
 }
 
 // Takes a pin back. A gate to which nothing refers any more is then on the zero list.
-fn unpin(shared: &Shared, seat: &mut Seat, pool: &Pool, holding: &mut Holding, pin: u32)
+fn unpin(shared: &Shared, seat: &mut Seat, pool: &Spare, holding: &mut Holding, pin: u32)
     requires table { IsOf seat.old shared.now }
     requires giving { IsGiving pool.now (holding.old.pins.items ++ pin ∷ []) holding.old.gates.items holding.old.idle.items (view_of seat.old) }
     ensures table { IsOf seat.new shared.now }
@@ -116,7 +126,7 @@ fn push_refs(pins: &mut ArrayVec<u32, MOST_PINS>, row: Row)
 
 // Frees a gate of the zero list: its node joins the pool, or is let go where the pool is full. What its row referred to
 // is pinned.
-fn free(shared: &Shared, seat: &mut Seat, pool: &mut Pool, holding: &mut Holding, gate: NodeRow)
+fn free(shared: &Shared, seat: &mut Seat, pool: &mut Spare, holding: &mut Holding, gate: NodeRow)
     requires table { IsOf seat.old shared.now }
     requires giving { IsGiving pool.old [] holding.old.gates.items (holding.old.idle.items ++ gate ∷ []) (view_of seat.old) }
     requires none { holding.old.pins.items ≡ [] }
@@ -134,7 +144,7 @@ fn free(shared: &Shared, seat: &mut Seat, pool: &mut Pool, holding: &mut Holding
 }
 
 // Takes a pin back, or frees a gate of the zero list where no pin is left. False where neither is left.
-fn give_one(shared: &Shared, seat: &mut Seat, pool: &mut Pool, holding: &mut Holding) -> bool
+fn give_one(shared: &Shared, seat: &mut Seat, pool: &mut Spare, holding: &mut Holding) -> bool
     requires table { IsOf seat.old shared.now }
     requires giving { IsGiving pool.old holding.old.pins.items holding.old.gates.items holding.old.idle.items (view_of seat.old) }
     ensures table { IsOf seat.new shared.now }
@@ -156,7 +166,7 @@ fn give_one(shared: &Shared, seat: &mut Seat, pool: &mut Pool, holding: &mut Hol
 }
 
 /// Takes all pins back, and frees what nobody refers to any more, until no pin is left and nothing is on the zero list.
-pub(crate) fn drain(shared: &Shared, seat: &mut Seat, pool: &mut Pool, holding: &mut Holding)
+pub(crate) fn drain(shared: &Shared, seat: &mut Seat, pool: &mut Spare, holding: &mut Holding)
     requires table { IsOf seat.old shared.now }
     requires giving { IsGiving pool.old holding.old.pins.items holding.old.gates.items holding.old.idle.items (view_of seat.old) }
     ensures table { IsOf seat.new shared.now }
@@ -168,7 +178,7 @@ pub(crate) fn drain(shared: &Shared, seat: &mut Seat, pool: &mut Pool, holding: 
 }
 
 /// Lets the gates go that are left, when there is no pin and nothing on the zero list.
-pub(crate) fn let_go(shared: &Shared, seat: &mut Seat, pool: &Pool, holding: &mut Holding)
+pub(crate) fn let_go(shared: &Shared, seat: &mut Seat, pool: &Spare, holding: &mut Holding)
     requires table { IsOf seat.old shared.now }
     requires giving { IsGiving pool.now [] holding.old.gates.items [] (view_of seat.old) }
     ensures table { IsOf seat.new shared.now }
@@ -204,21 +214,17 @@ fn add_gates(gates: &mut ArrayVec<NodeRow, MOST_HELD>, rows: &[NodeRow])
     }
 }
 
-/// What a commit has, by its decision and its pins: nothing is on the zero list.
-pub(crate) fn hold(deciding: &Deciding, pins: ArrayVec<u32, MOST_PINS>) -> Holding
-    ensures pins { result.pins.items ≡ pins.items }
-    ensures gates { result.gates.items ≡ with_gates (with_gates [] deciding.now.inner) deciding.now.hits }
-    ensures idle { result.idle.items ≡ [] }
-    ensures few { length result.gates.items ≤ MOST_INNER + MOST_GATES }
+/// What a commit has beside its pins, by its decision: nothing is on the zero list.
+pub(crate) fn hold(deciding: &Deciding, holding: &mut Holding)
+    ensures pins { holding.new.pins.items ≡ holding.old.pins.items }
+    ensures gates { holding.new.gates.items ≡ with_gates (with_gates [] deciding.now.inner) deciding.now.hits }
+    ensures idle { holding.new.idle.items ≡ [] }
+    ensures few { length holding.new.gates.items ≤ MOST_INNER + MOST_GATES }
 {
-    let mut gates = ArrayVec::new();
-    add_gates(&mut gates, deciding.inner());
-    add_gates(&mut gates, deciding.hits());
-    Holding {
-        pins,
-        gates,
-        idle: ArrayVec::new(),
-    }
+    holding.idle.clear();
+    holding.gates.clear();
+    add_gates(&mut holding.gates, deciding.inner());
+    add_gates(&mut holding.gates, deciding.hits());
 }
 
 /// A commit gives up: it takes its pins back, frees what nobody refers to any more, and lets the other nodes go that it
@@ -226,15 +232,15 @@ pub(crate) fn hold(deciding: &Deciding, pins: ArrayVec<u32, MOST_PINS>) -> Holdi
 pub(crate) fn give_up(
     shared: &Shared,
     seat: &mut Seat,
-    pool: &mut Pool,
+    pool: &mut Spare,
     attempt: &Attempt<'_>,
     deciding: &Deciding,
-    pins: ArrayVec<u32, MOST_PINS>,
+    holding: &mut Holding,
     start: &Snapshot<Seat>,
 )
     requires table { IsOf seat.old shared.now }
     requires enters { enters attempt.now.candidate.leaves.now [] attempt.now.candidate.root ≡ true }
-    requires trying { IsTrying (task_of attempt.now) (view_of start.now.value) pool.old pins.items (view_of seat.old) deciding.now }
+    requires trying { IsTrying (task_of attempt.now) (view_of start.now.value) pool.old holding.old.pins.items (view_of seat.old) deciding.now }
     requires loaded { CountsAreLoaded (nodes_of shared.now) (view_of seat.old) deciding.now }
     requires ended { HasEnded deciding.now.stage }
     ensures table { IsOf seat.new shared.now }
@@ -248,7 +254,7 @@ pub(crate) fn give_up(
     let _ = attempt;
     let _ = start;
     shared.seats_reach_nodes(seat);
-    let mut holding = hold(deciding, pins);
-    drain(shared, seat, pool, &mut holding);
-    let_go(shared, seat, pool, &mut holding);
+    hold(deciding, holding);
+    drain(shared, seat, pool, holding);
+    let_go(shared, seat, pool, holding);
 }

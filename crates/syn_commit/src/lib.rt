@@ -12,6 +12,7 @@ mod leaving;
 mod loading;
 mod pools;
 mod readying;
+mod spare;
 mod storing;
 mod walking;
 

@@ -17,7 +17,7 @@ ghost use Rattle.syn_commit.specs.Keyed.{IsKeyedSoFar, RowsAreReady};
 ghost use Rattle.syn_commit.specs.Walks.{KeysWait};
 ghost use Rattle.syn_commit.specs.Stages.{HasEnded, IsCounted, IsKeyed, IsPastKeys, IsPastWalk, IsTrying, leaf_pinned, with_leaf};
 
-use crate::Pool;
+use crate::spare::Spare;
 use arrayvec::ArrayVec;
 use std::snapshot::Snapshot;
 use syn_core_laws::Seen;
@@ -89,7 +89,7 @@ fn next_key(deciding: &Deciding) -> Option<u32>
 pub(crate) fn keys(
     shared: &Shared,
     seat: &mut Seat,
-    pool: &Pool,
+    pool: &Spare,
     attempt: &Attempt<'_>,
     deciding: &mut Deciding,
     pins: &mut ArrayVec<u32, MOST_PINS>,
@@ -173,7 +173,7 @@ fn next_count(deciding: &Deciding) -> Option<u32>
 pub(crate) fn counts(
     shared: &Shared,
     seat: &mut Seat,
-    pool: &Pool,
+    pool: &Spare,
     attempt: &Attempt<'_>,
     deciding: &mut Deciding,
     pins: &ArrayVec<u32, MOST_PINS>,

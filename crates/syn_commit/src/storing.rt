@@ -17,9 +17,9 @@ ghost use Rattle.syn_commit.specs.Giving.{IsGiving};
 ghost use Rattle.syn_commit.specs.Storing as spec;
 ghost use Rattle.syn_commit.specs.Storing.{AreMade, AreNewRows, KeepsKnown, MayReferTo, RedefinesRow, StoresFree, makes_row, makes_rows, with_pins, with_row};
 
-use crate::Pool;
 use crate::leaving::{Holding, MOST_HELD, place_of};
 use crate::loading::MOST_PINS;
+use crate::spare::Spare;
 use arrayvec::ArrayVec;
 use syn_decide::NodeRow;
 use syn_plan::MOST_GATES;
@@ -40,7 +40,7 @@ fn set_busy(holding: &mut Holding, place: usize)
 }
 
 // Pins a node for one place of a row to come.
-fn pin_place(shared: &Shared, seat: &mut Seat, pool: &Pool, holding: &mut Holding, node: u32)
+fn pin_place(shared: &Shared, seat: &mut Seat, pool: &Spare, holding: &mut Holding, node: u32)
     requires table { IsOf seat.old shared.now }
     requires giving { IsGiving pool.now holding.old.pins.items holding.old.gates.items holding.old.idle.items (view_of seat.old) }
     requires may { MayPin (view_of seat.old) node }
@@ -61,7 +61,7 @@ fn pin_place(shared: &Shared, seat: &mut Seat, pool: &Pool, holding: &mut Holdin
 }
 
 // Pins each node to which a row to come refers, once for each place.
-fn pin_places(shared: &Shared, seat: &mut Seat, pool: &Pool, holding: &mut Holding, row: Row)
+fn pin_places(shared: &Shared, seat: &mut Seat, pool: &Spare, holding: &mut Holding, row: Row)
     requires table { IsOf seat.old shared.now }
     requires giving { IsGiving pool.now holding.old.pins.items holding.old.gates.items holding.old.idle.items (view_of seat.old) }
     requires may { AllRefs (MayPin (view_of seat.old)) row }
@@ -86,7 +86,7 @@ fn pin_places(shared: &Shared, seat: &mut Seat, pool: &Pool, holding: &mut Holdi
 fn make_one(
     shared: &Shared,
     seat: &mut Seat,
-    pool: &mut Pool,
+    pool: &mut Spare,
     holding: &mut Holding,
     row: Row,
     key: u64,
@@ -162,7 +162,7 @@ pub(crate) fn row_made(made: &[NodeRow], row: Row) -> Row
 pub(crate) fn make_rows(
     shared: &Shared,
     seat: &mut Seat,
-    pool: &mut Pool,
+    pool: &mut Spare,
     holding: &mut Holding,
     rows: &[Row],
     need: u32,
@@ -234,7 +234,7 @@ fn add_refs(pins: &mut ArrayVec<u32, MOST_PINS>, row: Row)
 pub(crate) fn redefine_root(
     shared: &Shared,
     seat: &mut Seat,
-    pool: &Pool,
+    pool: &Spare,
     holding: &mut Holding,
     root: NodeRow,
     row: Row,

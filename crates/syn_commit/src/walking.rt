@@ -11,7 +11,7 @@ ghost use Rattle.syn_commit.specs.Pools.{KeepsPool};
 ghost use Rattle.syn_commit.specs.Stages.{IsPastWalk};
 ghost use Rattle.syn_commit.specs.Walks.{IsEntered, IsWalking};
 
-use crate::Pool;
+use crate::spare::Spare;
 use syn_core_laws::Seen;
 use syn_decide::{Attempt, Deciding, Decision, Want};
 use syn_table::{Seat, Shared};
@@ -48,7 +48,7 @@ fn enter(
 pub(crate) fn walk(
     shared: &Shared,
     seat: &mut Seat,
-    pool: &Pool,
+    pool: &Spare,
     attempt: &Attempt<'_>,
     deciding: &mut Deciding,
 )

@@ -78,12 +78,11 @@ pub(crate) fn place(attempt: &Attempt<'_>, hits: &[NodeRow], placing: &mut Placi
 }
 
 // Whether a hint is asked for the pair of a row.
-fn is_asked(attempt: &Attempt<'_>, hits: &[NodeRow], row: Row) -> bool
+fn is_asked(attempt: &Attempt<'_>, hits: &[NodeRow], placing: &mut Placing, row: Row) -> bool
     requires { All (λ h. h.node < NODE_LIMIT) hits.now }
     ensures { result ≡ hints.is_asked (hints.placed_by_hits (task_of attempt.now) hits.now).extra row }
 {
-    let mut placing = Placing::new();
-    place(attempt, hits, &mut placing);
+    place(attempt, hits, placing);
     placing.asks(row)
 }
 
@@ -96,12 +95,18 @@ fn is_behind(hits: &[NodeRow], last: NodeRow, node: u32) -> bool
 }
 
 // Whether the key of a node may be read behind this row load.
-fn is_hint(attempt: &Attempt<'_>, hits: &[NodeRow], last: NodeRow, node: u32) -> bool
+fn is_hint(
+    attempt: &Attempt<'_>,
+    hits: &[NodeRow],
+    placing: &mut Placing,
+    last: NodeRow,
+    node: u32,
+) -> bool
     requires { All (λ h. h.node < NODE_LIMIT) hits.now }
     ensures room { result ≡ true → length hits.now < MOST_GATES }
     ensures hint { result ≡ ((node == last.node && nat_lt (length hits.now) hints.most_hits) && hints.is_asked (hints.placed_by_hits (task_of attempt.now) hits.now).extra last.row) }
 {
-    is_behind(hits, last, node) && is_asked(attempt, hits, last.row)
+    is_behind(hits, last, node) && is_asked(attempt, hits, placing, last.row)
 }
 
 // The node, whose row was asked for, is a hit where it may be one.
@@ -134,6 +139,7 @@ fn hint_key(
     low: &mut u64,
     high: u64,
     hits: &mut ArrayVec<NodeRow, MOST_GATES>,
+    placing: &mut Placing,
     last: Option<NodeRow>,
     node: u32,
     key: u64,
@@ -148,7 +154,7 @@ fn hint_key(
     let Some(last) = last else {
         return Phase::Failed;
     };
-    if is_hint(attempt, hits.as_slice(), last, node) {
+    if is_hint(attempt, hits.as_slice(), placing, last, node) {
         hinted(attempt, low, high, hits, last, key)
     } else {
         Phase::Failed
@@ -203,6 +209,7 @@ fn conclude(
     high: u64,
     hits: &[NodeRow],
     counts: &[u32],
+    placing: &mut Placing,
 ) -> Outcome
     requires hits { All (λ h. h.node < NODE_LIMIT) hits.now }
     requires within { length counts.now ≤ length inner.now }
@@ -211,8 +218,7 @@ fn conclude(
         → told_answer result ≡ fold.concluded (task_of attempt.now) (state_with stage inner.now low high hits.now counts.now) }
 {
     let freed = freed_by(inner, hits, counts);
-    let mut placing = Placing::new();
-    place(attempt, hits, &mut placing);
+    place(attempt, hits, placing);
     let added = placing.added();
     if freed < added + least_gain(attempt.zero_gain) {
         return Outcome::NoGain { freed, added };
@@ -229,6 +235,7 @@ fn read_count(
     high: u64,
     hits: &[NodeRow],
     counts: &mut ArrayVec<u32, MOST_INNER>,
+    placing: &mut Placing,
     node: u32,
     count: u32,
     own: u32,
@@ -251,7 +258,7 @@ fn read_count(
     if at + 1 < inner.len() {
         return Phase::Counting;
     }
-    Phase::Ended(conclude(attempt, inner, low, high, hits, counts.as_slice()))
+    Phase::Ended(conclude(attempt, inner, low, high, hits, counts.as_slice(), placing))
 }
 
 /// One read of the counts.
@@ -262,6 +269,7 @@ pub(crate) fn read_counting(
     high: u64,
     hits: &[NodeRow],
     counts: &mut ArrayVec<u32, MOST_INNER>,
+    placing: &mut Placing,
     read: Seen,
 ) -> Phase
     requires hits { All (λ h. h.node < NODE_LIMIT) hits.now }
@@ -273,7 +281,7 @@ pub(crate) fn read_counting(
 {
     match read {
         Seen::Count { node, count, own } => read_count(
-            attempt, inner, low, high, hits, counts, node, count, own,
+            attempt, inner, low, high, hits, counts, placing, node, count, own,
         ),
         _ => Phase::Failed,
     }
@@ -287,6 +295,7 @@ pub(crate) fn read_hinting(
     high: u64,
     hits: &mut ArrayVec<NodeRow, MOST_GATES>,
     counts: &mut ArrayVec<u32, MOST_INNER>,
+    placing: &mut Placing,
     last: Option<NodeRow>,
     read: Seen,
 ) -> Phase
@@ -300,7 +309,7 @@ pub(crate) fn read_hinting(
 {
     match read {
         Seen::Row(node, row) => Phase::Hinting(Some(NodeRow { node, row })),
-        Seen::Key(node, key) => hint_key(attempt, low, high, hits, last, node, key),
+        Seen::Key(node, key) => { hint_key(attempt, low, high, hits, placing, last, node, key) }
         Seen::Miss(_) => Phase::Hinting(None),
         Seen::Count { node, count, own } => read_count(
             attempt,
@@ -309,6 +318,7 @@ pub(crate) fn read_hinting(
             high,
             hits.as_slice(),
             counts,
+            placing,
             node,
             count,
             own,

@@ -10,9 +10,10 @@ ghost use Rattle.syn_decide.specs.Walk.{is_met};
 ghost use Rattle.syn_decide.specs.Fold as fold;
 ghost use Rattle.syn_decide.specs.Hints as hints;
 
-use crate::answers::{self, place, read_counting, read_hinting, read_keying};
+use crate::answers::{place, read_counting, read_hinting, read_keying};
 use crate::place::Placing;
 use crate::stages::read_walking;
+use crate::tables::Rounds;
 use crate::waiting::Waiting;
 use crate::{Attempt, Decision, MOST_INNER, NewRows, NodeRow, Phase, Want, walk};
 use arrayvec::ArrayVec;
@@ -22,7 +23,8 @@ use syn_gain::Proposal;
 use syn_plan::MOST_GATES;
 use syn_rows::Row;
 
-/// What is kept of the reads of a commit, inline. Contracts see it as the definition's state.
+/// What is kept of the reads of a commit, inline, with room to reckon in: some thirty thousand bytes, so it is made once and
+/// begun anew for each commit. Contracts see it as the definition's state.
 #[derive(Debug, Drop)]
 pub struct Deciding {
     phase: Phase,
@@ -32,6 +34,8 @@ pub struct Deciding {
     high: u64,
     hits: ArrayVec<NodeRow, MOST_GATES>,
     counts: ArrayVec<u32, MOST_INNER>,
+    placing: Placing,
+    rounds: Rounds,
 }
 
 impl Model for Deciding {
@@ -48,21 +52,28 @@ impl Model for Deciding {
 }
 
 impl Deciding {
-    /// Before the first read.
-    pub fn begin(attempt: &Attempt<'_>) -> Deciding
-        ensures { result ≡ fold.begin (task_of attempt.now) }
-    {
-        let mut waiting = Waiting::new();
-        waiting.push(attempt.candidate.root);
+    /// Room for a decision, which `restart` begins.
+    pub fn new() -> Deciding {
         Deciding {
-            phase: Phase::Walking,
-            waiting,
+            phase: Phase::Failed,
+            waiting: Waiting::new(),
             inner: ArrayVec::new(),
             low: 0,
             high: 0,
             hits: ArrayVec::new(),
             counts: ArrayVec::new(),
+            placing: Placing::new(),
+            rounds: Rounds::new(),
         }
+    }
+
+    /// Before the first read.
+    pub fn begin(attempt: &Attempt<'_>) -> Deciding
+        ensures { result ≡ fold.begin (task_of attempt.now) }
+    {
+        let mut deciding = Deciding::new();
+        deciding.restart(attempt);
+        deciding
     }
 
     /// Begins anew in the same room, which costs less than to make it.
@@ -84,7 +95,13 @@ impl Deciding {
         ensures { self.new ≡ fold.read_one (task_of attempt.now) self.old read }
     {
         self.phase = match self.phase {
-            Phase::Walking => read_walking(attempt, &mut self.inner, &mut self.waiting, read),
+            Phase::Walking => read_walking(
+                attempt,
+                &mut self.inner,
+                &mut self.waiting,
+                &mut self.rounds,
+                read,
+            ),
             Phase::Keying => read_keying(&mut self.waiting, &mut self.low, &mut self.high, read),
             Phase::Hinting(last) => read_hinting(
                 attempt,
@@ -93,6 +110,7 @@ impl Deciding {
                 self.high,
                 &mut self.hits,
                 &mut self.counts,
+                &mut self.placing,
                 last,
                 read,
             ),
@@ -103,6 +121,7 @@ impl Deciding {
                 self.high,
                 self.hits.as_slice(),
                 &mut self.counts,
+                &mut self.placing,
                 read,
             ),
             Phase::Ended(_) => Phase::Failed,
@@ -161,25 +180,23 @@ impl Deciding {
     }
 
     /// The pair of the new gate at this place, with the hits so far, and whether a hint may be tried for it.
-    pub fn asked_pair(&self, attempt: &Attempt<'_>, place: usize) -> Option<(Row, bool)>
-        ensures none { IfNone result (length (fold.placed_now (task_of attempt.now) self.now).extra ≤ place) }
-        ensures pair { IfSome result (λ p. slice_get (fold.placed_now (task_of attempt.now) self.now).extra place ≡ Some p.0) }
-        ensures asked { IfSome result (λ p. p.1 ≡ hints.is_asked (fold.placed_now (task_of attempt.now) self.now).extra p.0) }
+    pub fn asked_pair(&mut self, attempt: &Attempt<'_>, at: usize) -> Option<(Row, bool)>
+        ensures none { IfNone result (length (fold.placed_now (task_of attempt.now) self.old).extra ≤ at) }
+        ensures pair { IfSome result (λ p. slice_get (fold.placed_now (task_of attempt.now) self.old).extra at ≡ Some p.0) }
+        ensures asked { IfSome result (λ p. p.1 ≡ hints.is_asked (fold.placed_now (task_of attempt.now) self.old).extra p.0) }
+        ensures same { self.new ≡ self.old }
     {
-        let mut placing = Placing::new();
-        answers::place(attempt, self.hits.as_slice(), &mut placing);
-        placing.asked_pair(place)
+        place(attempt, self.hits.as_slice(), &mut self.placing);
+        self.placing.asked_pair(at)
     }
 
     /// What is stored for the attempt with the hits so far.
-    pub fn new_rows(&self, attempt: &Attempt<'_>) -> NewRows
-        ensures rows { result.rows.items ≡ (fold.placed_now (task_of attempt.now) self.now).extra }
-        ensures needed { result.needed ≡ hints.rows_needed (task_of attempt.now) (fold.placed_now (task_of attempt.now) self.now) }
-        ensures root { result.root ≡ hints.new_root_row (task_of attempt.now) (fold.placed_now (task_of attempt.now) self.now) }
+    pub fn new_rows(&self, attempt: &Attempt<'_>, rows: &mut NewRows)
+        ensures rows { rows.new.rows.items ≡ (fold.placed_now (task_of attempt.now) self.now).extra }
+        ensures needed { rows.new.needed ≡ hints.rows_needed (task_of attempt.now) (fold.placed_now (task_of attempt.now) self.now) }
+        ensures root { rows.new.root ≡ hints.new_root_row (task_of attempt.now) (fold.placed_now (task_of attempt.now) self.now) }
     {
-        let mut placing = Placing::new();
-        place(attempt, self.hits.as_slice(), &mut placing);
-        placing.into_rows(attempt.candidate.plan.out)
+        rows.fill(attempt, self.hits.as_slice());
     }
 
     /// What is decided so far.

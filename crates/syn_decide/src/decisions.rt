@@ -4,9 +4,7 @@ ghost use Rattle.std.specs.Prelude.{◌<◌, ◌≤◌, length};
 ghost use Rattle.syn_rows.specs.declared.TheConstants.{NODE_LIMIT};
 ghost use Rattle.syn_plan.specs.declared.TheConstants.{MOST_LEAVES};
 
-use arrayvec::ArrayVec;
 use syn_gain::{Candidate, Proposal};
-use syn_plan::MOST_GATES;
 use syn_rows::{Lit, Row};
 use syn_truth::Truth;
 
@@ -126,17 +124,6 @@ impl Default for NodeRow {
             row: Row::Free,
         }
     }
-}
-
-/// What a commit is to store. New gates go by the numbers from 2^29 on.
-#[derive(Debug, Drop)]
-pub struct NewRows {
-    /// The rows of the new gates, in order.
-    pub rows: ArrayVec<Row, MOST_GATES>,
-    /// How many of them, the first ones, need a node of their own.
-    pub needed: u32,
-    /// The row that the root becomes.
-    pub root: Row,
 }
 
 /// An inner row whose count was loaded.

@@ -8,6 +8,7 @@ mod dying;
 mod laws;
 mod lists;
 mod place;
+mod rows;
 mod stages;
 mod tables;
 mod waiting;
@@ -15,10 +16,11 @@ mod walk;
 
 pub use deciding::{Deciding, Reads, decide};
 pub use decisions::{
-    Attempt, Comparison, Counted, Decision, MOST_INNER, MetPair, NewRows, NodeRow, NodeTable,
-    Outcome, Phase, StaleCause, Want,
+    Attempt, Comparison, Counted, Decision, MOST_INNER, MetPair, NodeRow, NodeTable, Outcome,
+    Phase, StaleCause, Want,
 };
 pub use laws::{
     always_fitting, always_linked, always_walked, counted_are_first, dying_are_least, empty_reads,
     hits_in_order, one_read_more, rows_always_fit, worked_reads,
 };
+pub use rows::NewRows;

@@ -12,7 +12,7 @@ ghost use Rattle.syn_decide.specs.declared.place.TheConstants.{MOST_INDEXES};
 ghost use Rattle.syn_decide.specs.Hints as spec;
 ghost use Rattle.syn_decide.specs.Told.{as_met};
 
-use crate::{MetPair, NewRows, NodeRow};
+use crate::{MetPair, NodeRow};
 use arrayvec::ArrayVec;
 use std::marker::Model;
 use syn_plan::{MOST_GATES, MOST_LEAVES, PLit, Plan};
@@ -324,8 +324,8 @@ impl Placing {
         self.extra.len() as u32
     }
 
-    // The row that the root becomes, where the plan's output is this.
-    fn root_row(&self, out: PLit) -> Row
+    /// The row that the root becomes, where the plan's output is this.
+    pub(crate) fn root_row(&self, out: PLit) -> Row
         ensures { result ≡ placing.root_row spec.first_new self.now.extra (placing.literal_for self.now.literals out) }
     {
         let literal = literal_for(self.literals.as_slice(), out);
@@ -348,27 +348,13 @@ impl Placing {
             count
         }
     }
-}
 
-impl Placing {
-    /// The rows of the new gates and the root's, where the plan's output is this.
-    pub(crate) fn into_rows(self, out: PLit) -> NewRows
-        ensures rows { result.rows.items ≡ self.extra }
-        ensures needed { result.needed ≡ length self.extra - (if spec.is_last_new self.extra (placing.literal_for self.literals out) then 1 else 0) }
-        ensures root { result.root ≡ placing.root_row spec.first_new self.extra (placing.literal_for self.literals out) }
+    /// Copies the rows of the new gates.
+    pub(crate) fn copy_rows(&self, rows: &mut ArrayVec<Row, MOST_GATES>)
+        ensures { rows.new.items ≡ self.now.extra }
     {
-        let needed = self.needed(out);
-        let root = self.root_row(out);
-        let Placing {
-            literals: _,
-            met: _,
-            extra,
-        } = self;
-        NewRows {
-            rows: extra,
-            needed,
-            root,
-        }
+        rows.clear();
+        let _ = rows.try_extend_from_slice(self.extra.as_slice());
     }
 }
 

@@ -10,7 +10,7 @@ ghost use Rattle.syn_decide.specs.Fold as fold;
 ghost use Rattle.syn_decide.specs.Fold.{Stage};
 ghost use Rattle.syn_decide.specs.Phases.{stage_of, most_at, state_with};
 
-use crate::tables::compare;
+use crate::tables::{Rounds, compare};
 use crate::waiting::Waiting;
 use crate::walk::{add_fan_ins, is_met, skip_known};
 use crate::{Attempt, Comparison, MOST_INNER, NodeRow, Outcome, Phase, StaleCause};
@@ -82,7 +82,12 @@ fn add_keys(attempt: &Attempt<'_>, waiting: &mut Waiting)
 }
 
 // After the walk: a used leaf is out of reach, or the functions are compared.
-fn after_walk(attempt: &Attempt<'_>, inner: &[NodeRow], waiting: &mut Waiting) -> Phase
+fn after_walk(
+    attempt: &Attempt<'_>,
+    inner: &[NodeRow],
+    waiting: &mut Waiting,
+    rounds: &mut Rounds,
+) -> Phase
     requires empty { waiting.old ≡ [] }
     requires inner { length inner.now ≤ MOST_INNER }
     ensures stage { stage_of result waiting.new ≡ fold.after_walk (task_of attempt.now) inner.now (fold.first_unmet (task_of attempt.now) inner.now) }
@@ -92,7 +97,7 @@ fn after_walk(attempt: &Attempt<'_>, inner: &[NodeRow], waiting: &mut Waiting) -
     if let Some(leaf) = first_unmet(attempt, inner) {
         return Phase::Ended(Outcome::Stale(StaleCause::Reach(leaf)));
     }
-    match compare(attempt, inner) {
+    match compare(attempt, inner, rounds) {
         Comparison::Circle => Phase::Failed,
         Comparison::Same => {
             add_keys(attempt, waiting);
@@ -105,7 +110,12 @@ fn after_walk(attempt: &Attempt<'_>, inner: &[NodeRow], waiting: &mut Waiting) -
 }
 
 // The walk goes on, or is over.
-fn walk_on(attempt: &Attempt<'_>, inner: &[NodeRow], waiting: &mut Waiting) -> Phase
+fn walk_on(
+    attempt: &Attempt<'_>,
+    inner: &[NodeRow],
+    waiting: &mut Waiting,
+    rounds: &mut Rounds,
+) -> Phase
     requires inner { length inner.now ≤ MOST_INNER }
     requires few { length waiting.old ≤ 9 + length inner.now }
     ensures stage { stage_of result waiting.new ≡ fold.walk_on (task_of attempt.now) inner.now waiting.old }
@@ -113,7 +123,7 @@ fn walk_on(attempt: &Attempt<'_>, inner: &[NodeRow], waiting: &mut Waiting) -> P
     ensures room { length inner.now ≤ most_at result }
 {
     let Some(node) = waiting.pop() else {
-        return after_walk(attempt, inner, waiting);
+        return after_walk(attempt, inner, waiting, rounds);
     };
     if inner.len() < MOST_INNER {
         waiting.push(node);
@@ -128,6 +138,7 @@ fn row_loaded(
     attempt: &Attempt<'_>,
     inner: &mut ArrayVec<NodeRow, MOST_INNER>,
     waiting: &mut Waiting,
+    rounds: &mut Rounds,
     node: u32,
     row: Row,
 ) -> Phase
@@ -145,7 +156,7 @@ fn row_loaded(
     inner.push(NodeRow { node, row });
     add_fan_ins(row, waiting);
     skip_known(attempt.candidate.leaves, inner.as_slice(), waiting);
-    walk_on(attempt, inner.as_slice(), waiting)
+    walk_on(attempt, inner.as_slice(), waiting, rounds)
 }
 
 /// One read of the walk.
@@ -153,6 +164,7 @@ pub(crate) fn read_walking(
     attempt: &Attempt<'_>,
     inner: &mut ArrayVec<NodeRow, MOST_INNER>,
     waiting: &mut Waiting,
+    rounds: &mut Rounds,
     read: Seen,
 ) -> Phase
     requires room { length inner.old.items < MOST_INNER }
@@ -167,7 +179,9 @@ pub(crate) fn read_walking(
         return Phase::Failed;
     };
     match read {
-        Seen::Row(node, row) if node == next => row_loaded(attempt, inner, waiting, next, row),
+        Seen::Row(node, row) if node == next => {
+            row_loaded(attempt, inner, waiting, rounds, next, row)
+        }
         Seen::Miss(node) if node == next => Phase::Ended(Outcome::Busy(next)),
         _ => Phase::Failed,
     }

@@ -118,21 +118,39 @@ fn row_table(vars: u8, leaves: &[u32], tables: &[NodeTable], row: Row) -> Option
     }
 }
 
+/// The tables of a round, and room for those of the next one. It is kept, since it costs more to make than to fill.
+#[derive(Debug, Drop)]
+pub(crate) struct Rounds {
+    last: ArrayVec<NodeTable, MOST_INNER>,
+    next: ArrayVec<NodeTable, MOST_INNER>,
+}
+
+impl Rounds {
+    /// No tables.
+    pub(crate) fn new() -> Rounds {
+        Rounds {
+            last: ArrayVec::new(),
+            next: ArrayVec::new(),
+        }
+    }
+}
+
 // The tables of the inner rows after one round more.
 fn round(
     vars: u8,
     leaves: &[u32],
     inner: &[NodeRow],
     tables: &[NodeTable],
-) -> ArrayVec<NodeTable, MOST_INNER>
+    next: &mut ArrayVec<NodeTable, MOST_INNER>,
+)
     requires few { vars ≤ MOST_VARS }
     requires within { length leaves.now ≤ vars }
     requires inner { length inner.now ≤ MOST_INNER }
     requires alike { spec.AllVars vars tables.now }
-    ensures vars { spec.AllVars vars result.items }
-    ensures entries { (rows : List NodeRow) (steps : ℕ) → spec.IsRound vars leaves.now rows steps tables.now → AllZip (spec.IsEntry vars leaves.now rows steps) inner.now result.items }
+    ensures vars { spec.AllVars vars next.new.items }
+    ensures entries { (rows : List NodeRow) (steps : ℕ) → spec.IsRound vars leaves.now rows steps tables.now → AllZip (spec.IsEntry vars leaves.now rows steps) inner.now next.new.items }
 {
-    let mut next = ArrayVec::new();
+    next.clear();
     for r in inner {
         let table = row_table(vars, leaves, tables, r.row);
         next.push(NodeTable {
@@ -140,27 +158,47 @@ fn round(
             table,
         });
     }
-    next
+}
+
+// One list becomes the other, whose entries alone are copied.
+fn copy_tables(to: &mut ArrayVec<NodeTable, MOST_INNER>, from: &ArrayVec<NodeTable, MOST_INNER>)
+    ensures { to.new.items ≡ from.now.items }
+{
+    to.clear();
+    let _ = to.try_extend_from_slice(from.as_slice());
 }
 
 // The table of the root by the inner rows: after at most as many rounds as there are rows it has one, or never.
-fn root_table(vars: u8, leaves: &[u32], inner: &[NodeRow], root: u32) -> Option<Truth>
+fn root_table(
+    vars: u8,
+    leaves: &[u32],
+    inner: &[NodeRow],
+    root: u32,
+    rounds: &mut Rounds,
+) -> Option<Truth>
     requires few { vars ≤ MOST_VARS }
     requires within { length leaves.now ≤ vars }
     requires inner { length inner.now ≤ MOST_INNER }
     ensures vars { spec.HasVars vars result }
     ensures values { spec.IsNodeTable vars leaves.now inner.now (length inner.now) root result }
 {
-    let mut tables = ArrayVec::new();
+    rounds.last.clear();
     let mut steps = 0;
     while steps < inner.len() {
-        if let Some(table) = node_table(vars, leaves, tables.as_slice(), root) {
+        if let Some(table) = node_table(vars, leaves, rounds.last.as_slice(), root) {
             return Some(table);
         }
-        tables = round(vars, leaves, inner, tables.as_slice());
+        round(
+            vars,
+            leaves,
+            inner,
+            rounds.last.as_slice(),
+            &mut rounds.next,
+        );
+        copy_tables(&mut rounds.last, &rounds.next);
         steps += 1;
     }
-    node_table(vars, leaves, tables.as_slice(), root)
+    node_table(vars, leaves, rounds.last.as_slice(), root)
 }
 
 fn greater(a: u8, b: u8) -> u8
@@ -180,13 +218,13 @@ fn was_table(plan: &Plan, vars: u8) -> Truth
 }
 
 /// The function of the root by the inner rows, against the plan's.
-pub(crate) fn compare(attempt: &Attempt<'_>, inner: &[NodeRow]) -> Comparison
+pub(crate) fn compare(attempt: &Attempt<'_>, inner: &[NodeRow], rounds: &mut Rounds) -> Comparison
     requires { length inner.now ≤ MOST_INNER }
     ensures { spec.IsCompared (task_of attempt.now) inner.now result }
 {
     let leaves = attempt.candidate.leaves;
     let vars = greater(leaves.len() as u8, attempt.candidate.plan.leaves);
-    let Some(now) = root_table(vars, leaves, inner, attempt.candidate.root) else {
+    let Some(now) = root_table(vars, leaves, inner, attempt.candidate.root, rounds) else {
         return Comparison::Circle;
     };
     let was = was_table(attempt.candidate.plan, vars);

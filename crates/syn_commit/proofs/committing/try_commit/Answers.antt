@@ -1,7 +1,8 @@
-use Rattle.std.proofs.Common.{length, ap, ◌∙◌}
+use Rattle.std.proofs.Common.{length, ap, subst, ◌∙◌}
 use Rattle.syn_decide.specs.Decided.{told_answer}
 use Rattle.syn_decide.specs.Tasks.{asked, task_of}
 use Rattle.syn_table.specs.Seating.{nodes_of, view_of}
+use Rattle.syn_commit.specs.Committed.{IsBooked}
 use Rattle.syn_commit.proofs.Telling.{below_enters, busy_caused, fell_since}
 use Rattle.syn_commit.proofs.committing.try_commit.Goals as goal
 
@@ -14,10 +15,13 @@ settle-requires-clause-enters g c = λ κs within. let p = c.of-attempt.result.c
 pub returns-clause-busy : goal.returns-clause-busy
 returns-clause-busy g c = λ n busy.
     busy_caused (task_of c.of-attempt.result) (asked c.args.proposal.now c.args.zero_gain (length c.args.pool.now)) (view_of c.of-start.result.value) (view_of c.args.seat.now) (view_of c.settle.new.seat) c.answer.new.deciding
-    (told_answer c.outcome-outcome.result) n (c.of-attempt.ensures ∙ ap (asked c.args.proposal.now c.args.zero_gain) c.len.ensures) (ap view_of c.of-start.ensures) c.settle.ensures.reads c.outcome-outcome.ensures busy
+    (told_answer c.outcome-outcome.result) n (c.of-attempt.ensures ∙ ap (asked c.args.proposal.now c.args.zero_gain) (c.len.ensures ∙ ap length c.pool.view_is)) (ap view_of c.of-start.ensures) c.settle.ensures.reads c.outcome-outcome.ensures busy
 
 pub returns-clause-fell : goal.returns-clause-fell
 returns-clause-fell g c =
     fell_since (nodes_of c.args.tools.now.shared.now) (task_of c.of-attempt.result) (asked c.args.proposal.now c.args.zero_gain (length c.args.pool.now)) c.answer.new.deciding (told_answer c.outcome-outcome.result)
-    (view_of c.of-start.result.value) (view_of c.args.seat.now) c.args.pool.now (view_of c.settle.new.seat) c.settle.new.pool (c.of-attempt.ensures ∙ ap (asked c.args.proposal.now c.args.zero_gain) c.len.ensures)
-    (ap view_of c.of-start.ensures) c.settle.ensures.reads c.settle.ensures.booked
+    (view_of c.of-start.result.value) (view_of c.args.seat.now) c.args.pool.now (view_of c.settle.new.seat) c.settle.new.pool (c.of-attempt.ensures ∙ ap (asked c.args.proposal.now c.args.zero_gain) (c.len.ensures ∙ ap length c.pool.view_is))
+    (ap view_of c.of-start.ensures) c.settle.ensures.reads
+    (subst
+    (λ spare. IsBooked (nodes_of c.args.tools.now.shared.now) (task_of c.of-attempt.result) c.answer.new.deciding (told_answer c.outcome-outcome.result) (view_of c.of-start.result.value) spare (view_of c.settle.new.seat) c.settle.new.pool)
+    c.pool.view_is c.settle.ensures.booked)

@@ -18,25 +18,25 @@ step_between-step-requires c =
     let g : IsGain (task_of c.args.attempt.now) c.args.deciding.now c.args.gain =
     gains (task_of c.args.attempt.now) (view_of c.args.start.now.value) (view_of c.args.seat.now) c.args.pool.now c.args.holding.now.pins.items c.args.deciding.now c.args.gain c.requires.trying c.requires.done in
     let gap = g.gap in
-    omega (arith, gap, c.low-low.ensures, c.high.ensures, c.new_rows-new.ensures.needed)
+    omega (arith, gap, c.low-low.ensures, c.high.ensures, c.new_rows.ensures.needed)
 
 pub make_rows-requires-clause-rows : goal.make_rows-requires-clause-rows
 make_rows-requires-clause-rows c =
     new_rows_ready (task_of c.args.attempt.now) (view_of c.args.start.now.value) (view_of c.args.seat.now) c.args.pool.now c.args.holding.now.pins.items c.args.deciding.now c.args.gain c.requires.trying c.requires.done
-    _ c.new_rows-new.result.needed c.low-low.result c.requires.in_order c.requires.keyed (c.as_slice.ensures.value ∙ c.new_rows-new.ensures.rows) c.new_rows-new.ensures.needed c.low-low.ensures
+    _ c.new_rows.new.rows.needed c.low-low.result c.requires.in_order c.requires.keyed (c.as_slice.ensures.value ∙ c.new_rows.ensures.rows) c.new_rows.ensures.needed c.low-low.ensures
 
 pub make_rows-requires-clause-there : goal.make_rows-requires-clause-there
 make_rows-requires-clause-there c =
     let few = needed_few (task_of c.args.attempt.now) (placed_now (task_of c.args.attempt.now) c.args.deciding.now) in
-    let size = ap length (c.as_slice.ensures.value ∙ c.new_rows-new.ensures.rows) in
-    omega (arith, few, size, c.new_rows-new.ensures.needed)
+    let size = ap length (c.as_slice.ensures.value ∙ c.new_rows.ensures.rows) in
+    omega (arith, few, size, c.new_rows.ensures.needed)
 
 pub make_rows-requires-clause-pool : goal.make_rows-requires-clause-pool
 make_rows-requires-clause-pool c =
     let g : IsGain (task_of c.args.attempt.now) c.args.deciding.now c.args.gain =
     gains (task_of c.args.attempt.now) (view_of c.args.start.now.value) (view_of c.args.seat.now) c.args.pool.now c.args.holding.now.pins.items c.args.deciding.now c.args.gain c.requires.trying c.requires.done in
     let room = g.room in
-    omega (arith, room, c.requires.size, c.new_rows-new.ensures.needed)
+    omega (arith, room, c.requires.size, c.new_rows.ensures.needed)
 
 pub row_made-requires : goal.row_made-requires
 row_made-requires c i =
@@ -44,15 +44,15 @@ row_made-requires c i =
     (nodes_few (nodes_of c.args.shared.now) (view_of c.make_rows.new.seat) c.make_rows.new.made.items c.seats_reach_nodes-2.ensures.shown c.seats_reach_nodes-2.ensures.few c.make_rows.ensures.made.known i)
 
 pub returns-clause-row : goal.returns-clause-row
-returns-clause-row c = c.row_made.ensures ∙ ap₂ (λ (rs : List NodeRow) (r : Row). row_made (nodes_of_rows rs) r) c.as_slice-2.ensures.value c.new_rows-new.ensures.root
+returns-clause-row c = c.row_made.ensures ∙ ap₂ (λ (rs : List NodeRow) (r : Row). row_made (nodes_of_rows rs) r) c.as_slice-2.ensures.value c.new_rows.ensures.root
 
 -- the rows that were made
 made_now : (c : goal.After-row_made) → HasMade (nodes_of c.args.shared.now) (task_of c.args.attempt.now) c.args.deciding.now c.make_rows.new.made.items (view_of c.args.seat.now) (view_of c.make_rows.new.seat)
 made_now c =
     let below = c.step_between-step.ensures.below in
     has_made (task_of c.args.attempt.now) (view_of c.args.start.now.value) (view_of c.args.seat.now) c.args.pool.now c.args.holding.now.pins.items c.args.deciding.now c.args.gain c.requires.trying c.requires.done
-    (nodes_of c.args.shared.now) _ c.new_rows-new.result.needed c.low-low.result c.step_between-step.result c.make_rows.new.made.items c.make_rows.new.pool (view_of c.make_rows.new.seat)
-    (c.as_slice.ensures.value ∙ c.new_rows-new.ensures.rows) c.new_rows-new.ensures.needed c.low-low.ensures c.step_between-step.ensures.some (omega (arith, below, c.high.ensures))
+    (nodes_of c.args.shared.now) _ c.new_rows.new.rows.needed c.low-low.result c.step_between-step.result c.make_rows.new.made.items c.make_rows.new.pool (view_of c.make_rows.new.seat)
+    (c.as_slice.ensures.value ∙ c.new_rows.ensures.rows) c.new_rows.ensures.needed c.low-low.ensures c.step_between-step.ensures.some (omega (arith, below, c.high.ensures))
     c.make_rows.ensures.pool c.make_rows.ensures.count c.make_rows.ensures.made c.make_rows.ensures.keeps c.make_rows.ensures.turns
 
 pub returns-clause-made : goal.returns-clause-made

@@ -22,32 +22,32 @@ use Rattle.syn_commit.proofs.done.store.Goals.{After-as_slice}
 
 pub make_new-row-requires-clause-trying : goal.make_new-row-requires-clause-trying
 make_new-row-requires-clause-trying g c =
-    subst (λ ps. IsTrying (task_of c.args.attempt.now) (view_of c.args.start.now.value) c.args.pool.now ps (view_of c.args.seat.now) c.args.deciding.now) (sym c.hold-holding.ensures.pins) c.requires.trying
+    subst (λ ps. IsTrying (task_of c.args.attempt.now) (view_of c.args.start.now.value) c.args.pool.now ps (view_of c.args.seat.now) c.args.deciding.now) (sym c.hold.ensures.pins) c.requires.trying
 
 pub make_new-row-requires-clause-keyed : goal.make_new-row-requires-clause-keyed
 make_new-row-requires-clause-keyed g c =
-    subst (λ ps. IsKeyedSoFar (task_of c.args.attempt.now) ps (view_of c.args.seat.now) c.args.deciding.now) (sym c.hold-holding.ensures.pins) c.requires.keyed
+    subst (λ ps. IsKeyedSoFar (task_of c.args.attempt.now) ps (view_of c.args.seat.now) c.args.deciding.now) (sym c.hold.ensures.pins) c.requires.keyed
 
 pub make_new-row-requires-clause-giving : goal.make_new-row-requires-clause-giving
 make_new-row-requires-clause-giving g c =
-    subst (λ ps. IsGiving c.args.pool.now ps c.hold-holding.result.gates.items c.hold-holding.result.idle.items (view_of c.args.seat.now)) (sym c.hold-holding.ensures.pins)
-    (subst (λ is. IsGiving c.args.pool.now c.args.pins.items c.hold-holding.result.gates.items is (view_of c.args.seat.now)) (sym c.hold-holding.ensures.idle)
-    (trying_gives (task_of c.args.attempt.now) (view_of c.args.start.now.value) (view_of c.args.seat.now) c.args.pool.now c.args.pins.items c.args.deciding.now c.hold-holding.result.gates.items c.requires.enters c.requires.trying c.hold-holding.ensures.gates c.hold-holding.ensures.few))
+    subst (λ ps. IsGiving c.args.pool.now ps c.hold.new.holding.gates.items c.hold.new.holding.idle.items (view_of c.args.seat.now)) (sym c.hold.ensures.pins)
+    (subst (λ is. IsGiving c.args.pool.now c.args.holding.now.pins.items c.hold.new.holding.gates.items is (view_of c.args.seat.now)) (sym c.hold.ensures.idle)
+    (trying_gives (task_of c.args.attempt.now) (view_of c.args.start.now.value) (view_of c.args.seat.now) c.args.pool.now c.args.holding.now.pins.items c.args.deciding.now c.hold.new.holding.gates.items c.requires.enters c.requires.trying c.hold.ensures.gates c.hold.ensures.few))
 
 pub root_of-root-requires : goal.root_of-root-requires
 root_of-root-requires g c =
-    some_inner (task_of c.args.attempt.now) (view_of c.args.start.now.value) (view_of c.args.seat.now) c.args.pool.now c.args.pins.items c.args.deciding.now c.args.gain c.requires.trying c.requires.done
+    some_inner (task_of c.args.attempt.now) (view_of c.args.start.now.value) (view_of c.args.seat.now) c.args.pool.now c.args.holding.now.pins.items c.args.deciding.now c.args.gain c.requires.trying c.requires.done
 
 -- the root is the first inner row's node
 root_here : (g : Over) (c : After-as_slice g) → c.root_of-root.result.node ≡ (task_of c.args.attempt.now).proposal.root
 root_here g c =
-    root_node (task_of c.args.attempt.now) (view_of c.args.start.now.value) (view_of c.args.seat.now) c.args.pool.now c.args.pins.items c.args.deciding.now c.args.gain c.requires.trying c.requires.done
+    root_node (task_of c.args.attempt.now) (view_of c.args.start.now.value) (view_of c.args.seat.now) c.args.pool.now c.args.holding.now.pins.items c.args.deciding.now c.args.gain c.requires.trying c.requires.done
     c.root_of-root.result (c.root_of-root.ensures c.root_of-root.result)
 
 -- it may get its new row
 ready : (g : Over) (c : After-as_slice g) → IsReadyFor (task_of c.args.attempt.now) c.args.deciding.now c.make_new-row.new.made.items c.root_of-root.result.row (view_of c.make_new-row.new.seat)
 ready g c =
-    ready_now (task_of c.args.attempt.now) (view_of c.args.start.now.value) (view_of c.args.seat.now) c.args.pool.now c.args.pins.items c.args.deciding.now c.args.gain c.requires.trying c.requires.done
+    ready_now (task_of c.args.attempt.now) (view_of c.args.start.now.value) (view_of c.args.seat.now) c.args.pool.now c.args.holding.now.pins.items c.args.deciding.now c.args.gain c.requires.trying c.requires.done
     c.root_of-root.result (c.root_of-root.ensures c.root_of-root.result) c.make_new-row.new.made.items (view_of c.make_new-row.new.seat) c.make_new-row.ensures.ready
 
 pub redefine_root-requires-clause-root : goal.redefine_root-requires-clause-root
@@ -77,7 +77,7 @@ redefine_root-requires-clause-same g c =
     (subst (λ row. SameValue (view_of c.make_new-row.new.seat) (met_leaves (task_of c.args.attempt.now) c.args.deciding.now.inner) c.root_of-root.result.row row) (sym c.make_new-row.ensures.row) r.same)
 
 pub redefine_root-requires-clause-few : goal.redefine_root-requires-clause-few
-redefine_root-requires-clause-few g c = let pins = ap length (c.make_new-row.ensures.pins ∙ c.hold-holding.ensures.pins) in omega (arith, pins, c.requires.few)
+redefine_root-requires-clause-few g c = let pins = ap length (c.make_new-row.ensures.pins ∙ c.hold.ensures.pins) in omega (arith, pins, c.requires.few)
 
 pub finish-requires-clause-stored : goal.finish-requires-clause-stored
 finish-requires-clause-stored g c =
@@ -85,7 +85,7 @@ finish-requires-clause-stored g c =
     let row = c.make_new-row.result in
     let made = c.make_new-row.new.made.items in
     let after = view_of c.redefine_root.new.seat in
-    let stored = stored_now (task_of c.args.attempt.now) (view_of c.args.start.now.value) (view_of c.args.seat.now) c.args.pool.now c.args.pins.items c.args.deciding.now c.args.gain c.requires.trying c.requires.done
+    let stored = stored_now (task_of c.args.attempt.now) (view_of c.args.start.now.value) (view_of c.args.seat.now) c.args.pool.now c.args.holding.now.pins.items c.args.deciding.now c.args.gain c.requires.trying c.requires.done
     root (c.root_of-root.ensures root) (nodes_of c.args.tools.now.shared.now) made row (view_of c.make_new-row.new.seat) after c.requires.in_order c.requires.enters c.seats_reach_nodes.ensures.shown c.requires.loaded
     c.make_new-row.ensures.made c.make_new-row.ensures.ready c.make_new-row.ensures.row c.redefine_root.ensures.turns c.redefine_root.ensures.row in
     subst (λ n. HasStored (nodes_of c.args.tools.now.shared.now) root.node (dying_by c.args.deciding.now) (view_of c.of-counted.result.value) root.row row n c.args.gain after) (sym (ap length c.as_slice-2.ensures.value))
@@ -103,11 +103,11 @@ returns-clause-booked g c =
     let made = c.make_new-row.new.made.items in
     let before = view_of c.make_new-row.new.seat in
     let after = view_of c.redefine_root.new.seat in
-    let at_root = root_node (task_of c.args.attempt.now) (view_of c.args.start.now.value) (view_of c.args.seat.now) c.args.pool.now c.args.pins.items c.args.deciding.now c.args.gain c.requires.trying c.requires.done
+    let at_root = root_node (task_of c.args.attempt.now) (view_of c.args.start.now.value) (view_of c.args.seat.now) c.args.pool.now c.args.holding.now.pins.items c.args.deciding.now c.args.gain c.requires.trying c.requires.done
     root (c.root_of-root.ensures root) in
-    let may = ready_now (task_of c.args.attempt.now) (view_of c.args.start.now.value) (view_of c.args.seat.now) c.args.pool.now c.args.pins.items c.args.deciding.now c.args.gain c.requires.trying c.requires.done
+    let may = ready_now (task_of c.args.attempt.now) (view_of c.args.start.now.value) (view_of c.args.seat.now) c.args.pool.now c.args.holding.now.pins.items c.args.deciding.now c.args.gain c.requires.trying c.requires.done
     root (c.root_of-root.ensures root) made before c.make_new-row.ensures.ready in
-    let stored = stored_now (task_of c.args.attempt.now) (view_of c.args.start.now.value) (view_of c.args.seat.now) c.args.pool.now c.args.pins.items c.args.deciding.now c.args.gain c.requires.trying c.requires.done
+    let stored = stored_now (task_of c.args.attempt.now) (view_of c.args.start.now.value) (view_of c.args.seat.now) c.args.pool.now c.args.holding.now.pins.items c.args.deciding.now c.args.gain c.requires.trying c.requires.done
     root (c.root_of-root.ensures root) (nodes_of c.args.tools.now.shared.now) made row before after c.requires.in_order c.requires.enters c.seats_reach_nodes.ensures.shown c.requires.loaded
     c.make_new-row.ensures.made c.make_new-row.ensures.ready c.make_new-row.ensures.row c.redefine_root.ensures.turns c.redefine_root.ensures.row in
     booked (nodes_of c.args.tools.now.shared.now) root.node (task_of c.args.attempt.now) c.args.deciding.now c.args.gain (view_of c.args.start.now.value) (view_of c.args.seat.now) before after (view_of c.finish.new.seat)

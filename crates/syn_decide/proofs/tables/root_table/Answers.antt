@@ -8,16 +8,17 @@ pub loop-steps-init : goal.loop-steps-init
 loop-steps-init c = record {
   within = search rules;
   vars = search rules;
-  round = subst (λ z. IsRound c.args.vars c.args.leaves.now c.args.inner.now 0 z) (sym c.new-tables.ensures) (no_round c.args.vars c.args.leaves.now c.args.inner.now);
+  round = subst (λ z. IsRound c.args.vars c.args.leaves.now c.args.inner.now 0 z) (sym c.clear.ensures) (no_round c.args.vars c.args.leaves.now c.args.inner.now);
 }
 
 pub loop-steps-preserved : goal.loop-steps-preserved
 loop-steps-preserved c = record {
   within = search rules;
   vars = search rules;
-  round = next_round c.args.vars c.args.leaves.now c.args.inner.now c.loop-steps.steps (c.loop-steps.steps + 1) c.round-tables.result.items
-      (c.round-tables.ensures.entries c.args.inner.now c.loop-steps.steps (subst (λ z. IsRound c.args.vars c.args.leaves.now c.args.inner.now c.loop-steps.steps z) (sym c.as_slice-in-loop-steps.ensures.value) c.loop-steps.invariant.round))
-      (omega arith);
+  round = subst (λ z. IsRound c.args.vars c.args.leaves.now c.args.inner.now (c.loop-steps.steps + 1) z) (sym c.copy_tables.ensures)
+      (next_round c.args.vars c.args.leaves.now c.args.inner.now c.loop-steps.steps (c.loop-steps.steps + 1) c.round.new.next.items
+      (c.round.ensures.entries c.args.inner.now c.loop-steps.steps (subst (λ z. IsRound c.args.vars c.args.leaves.now c.args.inner.now c.loop-steps.steps z) (sym c.as_slice-in-loop-steps.ensures.value) c.loop-steps.invariant.round))
+      (omega arith));
 }
 
 pub returns-in-Some-clause-values : goal.returns-in-Some-clause-values

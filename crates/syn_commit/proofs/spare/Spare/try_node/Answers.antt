@@ -2,7 +2,7 @@ use Rattle.std.proofs.Common.{[], ◌∷◌, ◌++◌, List, ℕ, ap, ◌∙◌,
 use Rattle.syn_table.specs.declared.Known.{Known}
 use Rattle.syn_table.specs.Seating.{known_of, view_of}
 use Rattle.syn_commit.proofs.Trying.{free_kept, let_go_kept, taken_view, used_rows}
-use Rattle.syn_commit.proofs.pools.Pool.try_node.Goals as goal
+use Rattle.syn_commit.proofs.spare.Spare.try_node.Goals as goal
 
 pub returns-in-Free-clause-pool : goal.returns-in-Free-clause-pool
 returns-in-Free-clause-pool c =

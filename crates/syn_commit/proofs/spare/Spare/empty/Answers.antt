@@ -3,7 +3,7 @@ use Rattle.syn_core_laws.specs.Views.{released}
 use Rattle.syn_table.specs.declared.Known.{Known}
 use Rattle.syn_table.specs.Seating.{view_of}
 use Rattle.syn_commit.proofs.Trying.{emptied_next}
-use Rattle.syn_commit.proofs.pools.Pool.empty.Goals as goal
+use Rattle.syn_commit.proofs.spare.Spare.empty.Goals as goal
 
 pub loop-node-preserved : goal.loop-node-preserved
 loop-node-preserved c =

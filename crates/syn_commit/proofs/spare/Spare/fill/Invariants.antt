@@ -3,7 +3,7 @@ use Rattle.syn_core_laws.specs.declared.Seen.{Seen}
 use Rattle.syn_table.specs.Seating.{IsOf, known_of, view_of}
 use Rattle.syn_table.specs.Steps.{with_view}
 use Rattle.syn_commit.specs.Pools.{AreTried, KeepsPool}
-use Rattle.syn_commit.proofs.pools.Pool.fill.Given as goal
+use Rattle.syn_commit.proofs.spare.Spare.fill.Given as goal
 
 abbrev pub invariant-loop-node : goal.invariant-loop-node
 invariant-loop-node l = record {

@@ -1,6 +1,6 @@
 use Rattle.std.proofs.Common.{[], refl, arith, rules}
 use Rattle.syn_commit.proofs.Trying.{none_ahead, tried_none, tried_one}
-use Rattle.syn_commit.proofs.pools.Pool.fill.Goals as goal
+use Rattle.syn_commit.proofs.spare.Spare.fill.Goals as goal
 
 pub loop-node-init : goal.loop-node-init
 loop-node-init c = record {

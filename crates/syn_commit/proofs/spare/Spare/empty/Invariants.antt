@@ -2,7 +2,7 @@ use Rattle.std.proofs.Common.{◌≡◌, drop, take}
 use Rattle.syn_table.specs.Seating.{IsOf, known_of, view_of}
 use Rattle.syn_table.specs.Steps.{with_view}
 use Rattle.syn_commit.specs.Pools.{IsEmptied, KeepsPool}
-use Rattle.syn_commit.proofs.pools.Pool.empty.Given as goal
+use Rattle.syn_commit.proofs.spare.Spare.empty.Given as goal
 
 abbrev pub invariant-loop-node : goal.invariant-loop-node
 invariant-loop-node l = record {

@@ -1,0 +1,50 @@
+//! The rows of a commit's new gates.
+
+ghost use Rattle.std.specs.Prelude.{◌≡◌, ◌<◌, All};
+ghost use Rattle.syn_rows.specs.declared.TheConstants.{NODE_LIMIT};
+ghost use Rattle.syn_decide.specs.Hints as spec;
+ghost use Rattle.syn_decide.specs.Tasks.{task_of};
+
+use crate::answers::place;
+use crate::place::Placing;
+use crate::{Attempt, NodeRow};
+use arrayvec::ArrayVec;
+use syn_plan::MOST_GATES;
+use syn_rows::Row;
+
+/// What a commit is to store. New gates go by the numbers from 2^29 on.
+#[derive(Debug, Drop)]
+pub struct NewRows {
+    /// The rows of the new gates, in order.
+    pub rows: ArrayVec<Row, MOST_GATES>,
+    /// How many of them, the first ones, need a node of their own.
+    pub needed: u32,
+    /// The row that the root becomes.
+    pub root: Row,
+    placing: Placing,
+}
+
+impl NewRows {
+    /// Room for rows, and none in it. It is some fifteen thousand bytes, so it is made once, filled in place and lent.
+    pub fn new() -> NewRows {
+        NewRows {
+            rows: ArrayVec::new(),
+            needed: 0,
+            root: Row::Free,
+            placing: Placing::new(),
+        }
+    }
+
+    /// What is to be stored for the attempt with these hits.
+    pub(crate) fn fill(&mut self, attempt: &Attempt<'_>, hits: &[NodeRow])
+        requires { All (λ h. h.node < NODE_LIMIT) hits.now }
+        ensures rows { self.new.rows.items ≡ (spec.placed_by_hits (task_of attempt.now) hits.now).extra }
+        ensures needed { self.new.needed ≡ spec.rows_needed (task_of attempt.now) (spec.placed_by_hits (task_of attempt.now) hits.now) }
+        ensures root { self.new.root ≡ spec.new_root_row (task_of attempt.now) (spec.placed_by_hits (task_of attempt.now) hits.now) }
+    {
+        place(attempt, hits, &mut self.placing);
+        self.placing.copy_rows(&mut self.rows);
+        self.needed = self.placing.needed(attempt.candidate.plan.out);
+        self.root = self.placing.root_row(attempt.candidate.plan.out);
+    }
+}

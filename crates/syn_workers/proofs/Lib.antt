@@ -1,0 +1,4 @@
+mod Gains
+mod Works
+mod Resting
+mod Leaving

@@ -1,0 +1,108 @@
+-- What a worker has done, moment by moment.
+use Rattle.std.proofs.Common.{◌≡◌, ℕ, ◌+◌, ◌<◌, ◌≤◌, Bool, true, false, if◌then◌else◌, List, [], ◌∷◌, ◌++◌, length, refl, sym, ap, ap₂, ◌∙◌, subst, arith, ℤ, pos, ◌+ℤ◌, ◌≤ℤ◌}
+use Rattle.std.proofs.lemmas.Int.{ints}
+use Rattle.syn_core_laws.specs.declared.Seen.{Seen}
+use Rattle.syn_decide.specs.declared.decisions.Outcome.{Outcome}
+use Rattle.syn_decide.specs.declared.decisions.Outcome.TheVariants as outcome
+use Rattle.syn_decide.specs.Decided.{Answered, told_answer}
+use Rattle.syn_decide.specs.Fold.{decided}
+use Rattle.syn_decide.specs.Tasks.{Task}
+use Rattle.syn_table.specs.declared.Known.{Known}
+use Rattle.syn_core_laws.specs.Splits.{view_after_join}
+use Rattle.syn_pool.specs.declared.improving.Report.{Report}
+use Rattle.syn_table.specs.declared.Seat.{Seat}
+use Rattle.syn_table.specs.declared.Shared.{Shared}
+use Rattle.syn_table.specs.Seating.{IsOf, known_of, view_of}
+use Rattle.syn_table.specs.Splitting.{all_but_last, last_of, split_from, with_joined, without_last}
+use Rattle.syn_table.specs.Steps.{with_view}
+use Rattle.syn_commit_laws.specs.Freeing.{late}
+use Rattle.syn_commit.specs.Counts.{dying_by}
+use Rattle.syn_commit.specs.Committed.{FellSince, changes_since, gain_of, state_since}
+use Rattle.syn_workers.specs.declared.Worker.{Worker}
+use Rattle.syn_workers.specs.Working.{HasSwept, HasWorked}
+use Rattle.syn_workers.proofs.Gains.{gain_enough}
+
+-- nothing was done
+pub has_not : (zero_gain : Bool) (w : Worker) → HasWorked zero_gain w w
+has_not zero_gain w = record { known = refl; fell = omega (arith, ints); gains = λ _ le. le }
+
+-- what was done first, and what was done then
+pub has_both : (zero_gain : Bool) (u v w : Worker) → HasWorked zero_gain u v → HasWorked zero_gain v w → HasWorked zero_gain u w
+has_both zero_gain u v w f s = record {
+  known = s.known ∙ ap (λ (k : Known). with_view k (view_of w.seat)) f.known;
+  fell = let a = f.fell in let b = s.fell in omega (arith, ints, a, b);
+  gains = λ strict le. s.gains strict (f.gains strict le);
+}
+
+fell_by : (d e : ℤ) (gain more was now : ℕ) → (d +ℤ pos (gain + more)) ≡ e → now ≤ was + gain → (d +ℤ pos now) ≤ℤ (e +ℤ pos was)
+fell_by d e gain more was now is le = omega (arith, ints, is, le)
+
+-- one commit was done
+pub has_done : (t : Task) (was now : Worker) (answer : Outcome) (gain : ℕ) → answer ≡ outcome.Done gain
+    → known_of now.seat ≡ with_view (known_of was.seat) (view_of now.seat)
+    → FellSince t (view_of was.seat) (told_answer answer) (view_of now.seat)
+    → (met : List Seen) → decided t met ≡ Answered (told_answer answer)
+    → now.report.gained ≤ was.report.gained + gain
+    → (was.report.done ≤ was.report.gained → 1 ≤ gain → now.report.done ≤ now.report.gained)
+    → HasWorked t.zero_gain was now
+has_done t was now answer gain is known fell met decision gained done = record {
+  known = known;
+  fell = fell_by (view_of now.seat).difference (view_of was.seat).difference gain (late (dying_by (state_since t (view_of was.seat) (view_of now.seat))) (changes_since (view_of was.seat) (view_of now.seat))) was.report.gained now.report.gained
+      (subst (λ (a : Outcome). FellSince t (view_of was.seat) (told_answer a) (view_of now.seat)) is fell) gained;
+  gains = λ strict le. done le (at_least t.zero_gain strict (gain_enough t met gain (subst (λ (a : Outcome). decided t met ≡ Answered (told_answer a)) is decision)));
+}
+  where
+    at_least : (b : Bool) → b ≡ false → (if b then 0 else 1) ≤ gain → 1 ≤ gain
+    at_least true e le = absurd (cc)
+    at_least false e le = le
+
+-- one commit was answered otherwise
+pub has_failed : (t : Task) (was now : Worker) (answer : Outcome)
+    → known_of now.seat ≡ with_view (known_of was.seat) (view_of now.seat)
+    → FellSince t (view_of was.seat) (told_answer answer) (view_of now.seat)
+    → now.report ≡ was.report
+    → HasWorked t.zero_gain was now
+has_failed t was now answer known fell same = record {
+  known = known;
+  fell = fell_by (view_of now.seat).difference (view_of was.seat).difference (gain_of (told_answer answer)) (late (dying_by (state_since t (view_of was.seat) (view_of now.seat))) (changes_since (view_of was.seat) (view_of now.seat))) was.report.gained now.report.gained
+      fell (let e = ap (λ r. r.gained) same in omega (arith, e));
+  gains = λ strict le. subst (λ r. r.done ≤ r.gained) (sym same) le;
+}
+
+-- ---- several workers
+-- the numbers but the last, and the last
+all_again : (ns : List ℕ) → 0 < length ns → (all_but_last ns ++ last_of ns ∷ []) ≡ ns
+all_again [] some = absurd (omega (arith, some))
+all_again (n ∷ []) some = refl
+all_again (n ∷ m ∷ more) some = ap (λ (ns : List ℕ). n ∷ ns) (all_again (m ∷ more) (omega arith))
+
+fell_both : (was mine theirs start : ℤ) (a b c : ℕ) → (mine +ℤ pos a) ≤ℤ was → (theirs +ℤ pos b) ≤ℤ start → start ≡ pos 0 → c ≤ a + b → ((mine +ℤ theirs) +ℤ pos c) ≤ℤ was
+fell_both was mine theirs start a b c f s none le = omega (arith, ints, f, s, none, le)
+
+-- what a seat and the seat that was split from it have done, when they are joined again
+pub swept_both : (shared : Shared) (zero_gain : Bool) (was left new first second now : Seat) (r s t : Report)
+    → 0 < length (known_of was).numbers
+    → known_of left ≡ without_last (known_of was) → known_of new ≡ split_from (known_of was)
+    → HasSwept shared zero_gain left first r → HasSwept shared zero_gain new second s
+    → IsOf now shared → known_of now ≡ with_joined (known_of first) (known_of second)
+    → t.gained ≤ r.gained + s.gained
+    → (r.done ≤ r.gained → s.done ≤ s.gained → t.done ≤ t.gained)
+    → HasSwept shared zero_gain was now t
+swept_both shared zero_gain was left new first second now r s t some is_left is_new f g table is_now gained done = record {
+  table = table;
+  rest = record { held = ap (λ (k : Known). k.core.held) is_now ∙ f.rest.held; pins = ap (λ (k : Known). k.core.pins) is_now ∙ f.rest.pins; idle = ap (λ (k : Known). k.core.idle) is_now ∙ f.rest.idle };
+  known = subst (λ (k : Known). k ≡ with_view (known_of was) k.core) (sym whole) (ap (λ (ns : List ℕ). record (known_of was) { core = view_after_join (view_of first) (view_of second); numbers = ns }) (all_again (known_of was).numbers some));
+  fell = subst (λ d. (d +ℤ pos t.gained) ≤ℤ (view_of was).difference) (sym (ap (λ (k : Known). k.core.difference) is_now))
+      (fell_both (view_of was).difference (view_of first).difference (view_of second).difference (view_of new).difference r.gained s.gained t.gained
+      (subst (λ (k : Known). ((view_of first).difference +ℤ pos r.gained) ≤ℤ k.core.difference) is_left f.fell) g.fell (ap (λ (k : Known). k.core.difference) is_new) gained);
+  gains = λ strict. done (f.gains strict) (g.gains strict);
+}
+  where
+    one : known_of first ≡ with_view (without_last (known_of was)) (view_of first)
+    one = f.known ∙ ap (λ (k : Known). with_view k (view_of first)) is_left
+
+    two : known_of second ≡ with_view (split_from (known_of was)) (view_of second)
+    two = g.known ∙ ap (λ (k : Known). with_view k (view_of second)) is_new
+
+    whole : known_of now ≡ record (known_of was) { core = view_after_join (view_of first) (view_of second); numbers = all_but_last (known_of was).numbers ++ last_of (known_of was).numbers ∷ [] }
+    whole = is_now ∙ ap₂ with_joined one two

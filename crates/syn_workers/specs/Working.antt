@@ -1,0 +1,35 @@
+-- Workers at a table, and what their commits leave.
+use Rattle.std.specs.Prelude.{◌≡◌, ◌≤◌, Bool, false, [], pos, ◌+ℤ◌, ◌≤ℤ◌}
+use Rattle.syn_core_laws.specs.declared.View.{View}
+use Rattle.syn_pool.specs.declared.improving.Report.{Report}
+use Rattle.syn_table.specs.declared.Seat.{Seat}
+use Rattle.syn_table.specs.declared.Shared.{Shared}
+use Rattle.syn_table.specs.Seating.{IsOf, known_of, view_of}
+use Rattle.syn_table.specs.Steps.{with_view}
+use Rattle.syn_commit.specs.Giving.{HoldsAlone}
+use Rattle.syn_workers.specs.declared.Worker.{Worker}
+
+-- the seat holds and pins nothing, and nothing is on its zero list
+pub record IsAtRest (v : View) : Type 0 where
+  pub held : v.held ≡ []
+  pub pins : v.pins ≡ []
+  pub idle : v.idle ≡ []
+
+-- the seat is one of this table, it holds its spare nodes alone, and nothing is pinned
+pub record IsAtWork (shared : Shared) (w : Worker) : Type 0 where
+  pub table : IsOf w.seat shared
+  pub alone : HoldsAlone w.pool (view_of w.seat)
+
+-- What a worker has since the earlier moment: the same seat with another view; the difference in ANDs fell by what the report gained, or more; and where gains of 0 are not enough, no more is done than gained, if it was so before.
+pub record HasWorked (zero_gain : Bool) (was now : Worker) : Type 0 where
+  pub known : known_of now.seat ≡ with_view (known_of was.seat) (view_of now.seat)
+  pub fell : ((view_of now.seat).difference +ℤ pos now.report.gained) ≤ℤ ((view_of was.seat).difference +ℤ pos was.report.gained)
+  pub gains : zero_gain ≡ false → was.report.done ≤ was.report.gained → now.report.done ≤ now.report.gained
+
+-- The same of a seat at rest, from its first commit to its last: it is at rest again, and the report is of these commits alone.
+pub record HasSwept (shared : Shared) (zero_gain : Bool) (was now : Seat) (report : Report) : Type 0 where
+  pub table : IsOf now shared
+  pub rest : IsAtRest (view_of now)
+  pub known : known_of now ≡ with_view (known_of was) (view_of now)
+  pub fell : ((view_of now).difference +ℤ pos report.gained) ≤ℤ (view_of was).difference
+  pub gains : zero_gain ≡ false → report.done ≤ report.gained

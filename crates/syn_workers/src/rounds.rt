@@ -1,0 +1,120 @@
+//! A round of several workers.
+
+ghost use Rattle.std.specs.Prelude.{◌≡◌, ◌+◌, ◌*◌, ◌<◌, ◌≤◌, ◌^◌, not, true, length, IfOk, IfSome};
+ghost use Rattle.syn_rows.specs.declared.TheConstants.{NODE_LIMIT};
+ghost use Rattle.syn_pool.specs.Following.{Follows};
+ghost use Rattle.syn_pool.specs.Gains.{IsGain};
+ghost use Rattle.syn_table.specs.Seating.{IsOf, known_of, nodes_of, view_of};
+ghost use Rattle.syn_workers.specs.Working.{HasSwept, IsAtRest};
+
+use crate::closing::close;
+use crate::opening::{SPARE, gates_of, noted, opened};
+use crate::sharing::swept_by_all;
+use std::alloc::{AllocError, Global};
+use std::thread::Threads;
+use syn_commit::Gate;
+use syn_graph::Graph;
+use syn_pool::{Improved, Proposer, Report};
+use syn_rows::NODE_LIMIT;
+use syn_table::{Seat, Shared};
+
+// The most workers of a round.
+const MOST_WORKERS: u8 = 16;
+
+// Whether a table of the graph can be opened, for so many workers.
+fn has_room(graph: &Graph, workers: u8) -> bool
+    ensures nodes { result ≡ true → length graph.now.rows + 512 * workers < NODE_LIMIT }
+    ensures literals { result ≡ true → length graph.now.observed < 2 ^ 30 }
+{
+    let nodes = graph.rows.as_slice().len() + SPARE as usize * workers as usize;
+    nodes < NODE_LIMIT && graph.observed.as_slice().len() < 1 << 30
+}
+
+// Sweeps the ANDs of the graph by so many workers: the seat is at rest again.
+fn swept<R: Threads + Sync, P: Proposer, G: Gate>(
+    rt: &R,
+    alloc: Global,
+    graph: &Graph,
+    proposer: &P,
+    lists: &P::Lists,
+    shared: &Shared,
+    gate: &G,
+    workers: u8,
+    seat: Seat,
+    zero_gain: bool,
+) -> Result<(Seat, Report), AllocError>
+    requires lists { P.is_lists_of proposer.now lists.now graph.now.rows }
+    requires workers { 1 ≤ workers }
+    requires nodes { length graph.now.rows + 512 * workers ≤ nodes_of shared.now }
+    requires table { IsOf seat shared.now }
+    requires numbers { workers ≤ length (known_of seat).numbers }
+    requires rest { IsAtRest (view_of seat) }
+    ensures { IfOk result (λ r. HasSwept shared.now zero_gain seat r.0 r.1) }
+{
+    let hints = noted(alloc, graph)?;
+    let gates = gates_of(alloc, graph)?;
+    let last = workers - 1;
+    let nodes = gates.as_slice();
+    let swept = swept_by_all(
+        rt, alloc, graph, proposer, lists, shared, &hints, gate, last, seat, nodes, zero_gain,
+    );
+    swept.memory?;
+    Ok((swept.seat, swept.report))
+}
+
+// The graph after one round on its table.
+fn improved<R: Threads + Sync, P: Proposer, G: Gate>(
+    rt: &R,
+    alloc: Global,
+    graph: &Graph,
+    proposer: &P,
+    lists: &P::Lists,
+    gate: &G,
+    workers: u8,
+    zero_gain: bool,
+) -> Result<Improved, AllocError>
+    requires lists { P.is_lists_of proposer.now lists.now graph.now.rows }
+    requires workers { (1 ≤ workers) × (workers ≤ 16) }
+    requires nodes { length graph.now.rows + 512 * workers < NODE_LIMIT }
+    requires literals { length graph.now.observed < 2 ^ 30 }
+    ensures follows { IfOk result (λ m. Follows graph.now m.report.gained m.graph) }
+    ensures gain { IfOk result (λ m. IsGain (not zero_gain) m.report) }
+{
+    let (shared, seat) = opened(alloc, graph, workers)?;
+    let (seat, report) = swept(
+        rt, alloc, graph, proposer, lists, &shared, gate, workers, seat, zero_gain,
+    )?;
+    let next = close(alloc, graph, shared, seat)?;
+    Ok(Improved {
+        graph: next,
+        report,
+    })
+}
+
+/// One round of 1 to 16 workers: commits proposals for all ANDs of a graph on its table, and closes the table. The graph
+/// that comes has the same frame and the same values of the observed signals, and fewer ANDs by at least what the report
+/// says. 0 workers count as 1, and more than 16 as 16. Each has a thread of its own and a part of the ANDs; the work of a
+/// thread that can't be made is done by the caller's. None comes, and the graph stays, where it has no room for the
+/// workers' spare nodes below the limit of nodes, or 2^30 observed signals or more. Commits of gain 0 are let through where
+/// `zero_gain` is true. The gate is told each commit. The only error is want of memory.
+pub fn round<R: Threads + Sync, P: Proposer, G: Gate>(
+    rt: &R,
+    alloc: Global,
+    graph: &Graph,
+    proposer: &P,
+    lists: &P::Lists,
+    gate: &G,
+    workers: u8,
+    zero_gain: bool,
+) -> Result<Option<Improved>, AllocError>
+    requires lists { P.is_lists_of proposer.now lists.now graph.now.rows }
+    ensures follows { IfOk result (λ made. IfSome made (λ m. Follows graph.now m.report.gained m.graph)) }
+    ensures gain { IfOk result (λ made. IfSome made (λ m. IsGain (not zero_gain) m.report)) }
+{
+    let workers = workers.max(1).min(MOST_WORKERS);
+    if !has_room(graph, workers) {
+        return Ok(None);
+    }
+    let made = improved(rt, alloc, graph, proposer, lists, gate, workers, zero_gain)?;
+    Ok(Some(made))
+}

@@ -1,0 +1,72 @@
+//! Commits of one worker, and what is told of them.
+
+ghost use Rattle.std.specs.Prelude.{◌≡◌, ◌+◌, ◌<◌, ◌≤◌, All};
+ghost use Rattle.syn_table.specs.Seating.{nodes_of};
+ghost use Rattle.syn_workers.specs.Working.{HasWorked, IsAtWork};
+
+use crate::Worker;
+use syn_commit::{Gate, Tools, try_commit};
+use syn_decide::Outcome;
+use syn_gain::Proposal;
+use syn_pool::Report;
+
+// The report with one commit more, of this gain.
+fn with_done(report: Report, gain: u32) -> Report
+    ensures gained { result.gained ≤ report.gained + gain }
+    ensures done { report.done ≤ report.gained → 1 ≤ gain → result.done ≤ result.gained }
+{
+    Report {
+        done: report.done.saturating_add(1),
+        gained: report.gained.saturating_add(u64::from(gain)),
+    }
+}
+
+// Commits one proposal, unless the root is one of the worker's spare nodes: whether it was done.
+fn is_done<G: Gate>(
+    tools: &Tools<'_, G>,
+    worker: &mut Worker,
+    proposal: &Proposal,
+    zero_gain: bool,
+) -> bool
+    requires at_work { IsAtWork tools.now.shared.now worker.old }
+    requires root { proposal.now.root < nodes_of tools.now.shared.now }
+    ensures at_work { IsAtWork tools.now.shared.now worker.new }
+    ensures worked { HasWorked zero_gain worker.old worker.new }
+{
+    if worker.pool.has(proposal.root) {
+        return false;
+    }
+    let outcome = try_commit(
+        tools,
+        &mut worker.seat,
+        &mut worker.pool,
+        proposal,
+        zero_gain,
+    );
+    match outcome {
+        Outcome::Done(gain) => {
+            worker.report = with_done(worker.report, gain);
+            true
+        }
+        _ => false,
+    }
+}
+
+/// Commits the proposals in order, until one is done.
+pub(crate) fn try_each<G: Gate>(
+    tools: &Tools<'_, G>,
+    worker: &mut Worker,
+    proposals: &[Proposal],
+    zero_gain: bool,
+)
+    requires at_work { IsAtWork tools.now.shared.now worker.old }
+    requires roots { All (λ p. p.root < nodes_of tools.now.shared.now) proposals.now }
+    ensures at_work { IsAtWork tools.now.shared.now worker.new }
+    ensures worked { HasWorked zero_gain worker.old worker.new }
+{
+    for proposal in proposals {
+        if is_done(tools, worker, proposal, zero_gain) {
+            return;
+        }
+    }
+}
