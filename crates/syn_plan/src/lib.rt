@@ -22,6 +22,9 @@ pub const MOST_GATES: usize = 381;
 /// The most indexes of a plan: the constant 0, the leaves and the gates.
 const MOST_INDEXES: usize = 390;
 
+/// The indexes of a small plan, whose tables stand in less room.
+const FEW_INDEXES: usize = 32;
+
 /// A literal of a plan: `2 * index + complement`. Index 0 is the constant 0, then come the leaves,
 /// then the gates.
 #[derive(Clone, Copy, Debug, PartialEq, Eq, PartialOrd, Ord, Hash, Default)]

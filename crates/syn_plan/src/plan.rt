@@ -2,11 +2,11 @@
 
 ghost use Rattle.std.specs.Prelude.{◌≡◌, ℕ, ◌+◌, ◌-◌, ◌*◌, ◌/◌, ◌<◌, ◌≤◌, ◌∷◌, [], ◌++◌, length, Bool, true, false};
 ghost use Rattle.arrayvec.specs.ArrayVec.{array_vec_len};
-ghost use Rattle.syn_plan.specs.declared.TheConstants.{MOST_LEAVES};
+ghost use Rattle.syn_plan.specs.declared.TheConstants.{MOST_INDEXES, MOST_LEAVES};
 ghost use Rattle.syn_plan.specs.Gates.{complement_of, in_order, index_of, literal_of};
 
 use crate::tables::Tables;
-use crate::{MOST_GATES, MOST_LEAVES, PLit};
+use crate::{FEW_INDEXES, MOST_GATES, MOST_INDEXES, MOST_LEAVES, PLit};
 use arrayvec::ArrayVec;
 use syn_truth::Truth;
 
@@ -55,17 +55,31 @@ impl Plan {
         PLit::of(index, false)
     }
 
-    /// The table that the plan computes.
-    pub fn truth(&self) -> Truth
+    // The table that the plan computes, in room for the tables of so many indexes.
+    fn truth_in<const INDEXES: usize>(&self) -> Truth
+        requires room { self.now.leaves + array_vec_len self.now.gates < INDEXES }
+        requires most { INDEXES ≤ MOST_INDEXES }
         ensures vars { result.vars ≡ self.now.leaves }
         ensures values { AtEach self.now.leaves (λ xs. value_of result xs ≡ plan_truth self.now xs) }
     {
-        let mut tables = Tables::of_leaves(self.leaves);
+        let mut tables = Tables::<INDEXES>::of_leaves(self.leaves);
         for (a, b) in self.gates.iter() {
             let gate = tables.table(*a).and(tables.table(*b));
             tables.push(gate);
         }
         tables.table(self.out)
+    }
+
+    /// The table that the plan computes.
+    pub fn truth(&self) -> Truth
+        ensures vars { result.vars ≡ self.now.leaves }
+        ensures values { AtEach self.now.leaves (λ xs. value_of result xs ≡ plan_truth self.now xs) }
+    {
+        if self.leaves as usize + self.gates.len() < FEW_INDEXES {
+            self.truth_in::<FEW_INDEXES>()
+        } else {
+            self.truth_in::<MOST_INDEXES>()
+        }
     }
 }
 

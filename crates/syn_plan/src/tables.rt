@@ -7,23 +7,25 @@ ghost use Rattle.syn_plan.specs.declared.TheConstants.{MOST_LEAVES};
 ghost use Rattle.syn_plan.specs.Gates.{index_of, literal_value};
 ghost use Rattle.syn_plan.specs.Tables.{values_in};
 
-use crate::{MOST_INDEXES, MOST_LEAVES, PLit};
+use crate::{MOST_LEAVES, PLit};
 use arrayvec::ArrayVec;
 use syn_truth::Truth;
 
-/// One table for each index: the constant 0, the leaves, and the gates so far.
+/// One table for each index, with room for so many: the constant 0, the leaves, and the gates so far.
 #[derive(Drop)]
-pub(crate) struct Tables {
+pub(crate) struct Tables<const INDEXES: usize> {
     pub(crate) vars: u8,
-    pub(crate) items: ArrayVec<Truth, MOST_INDEXES>,
+    pub(crate) items: ArrayVec<Truth, INDEXES>,
     ghost few: { vars ≤ MOST_LEAVES },
     ghost alike: { All (λ t. t.vars ≡ vars) items.items },
 }
 
-impl Tables {
+impl<const INDEXES: usize> Tables<INDEXES> {
     /// The tables of the constant 0 and of so many leaves.
-    pub(crate) fn of_leaves(vars: u8) -> Tables
-        requires { vars ≤ MOST_LEAVES }
+    #[inline]
+    pub(crate) fn of_leaves(vars: u8) -> Self
+        requires few { vars ≤ MOST_LEAVES }
+        requires room { vars < INDEXES }
         ensures vars { result.vars ≡ vars }
         ensures len { array_vec_len result.items ≡ 1 + vars }
         ensures values { AtEach vars (λ xs. values_in result.items.items xs ≡ false ∷ xs) }
@@ -39,7 +41,7 @@ impl Tables {
     /// Adds the table of the next index.
     #[inline]
     pub(crate) fn push(&mut self, table: Truth)
-        requires room { array_vec_len self.old.items < MOST_INDEXES }
+        requires room { array_vec_len self.old.items < INDEXES }
         requires vars { table.vars ≡ self.old.vars }
         ensures vars { self.new.vars ≡ self.old.vars }
         ensures items { self.new.items.items ≡ self.old.items.items ++ table ∷ [] }

@@ -2,7 +2,6 @@
 
 use std::alloc::{AllocError, Global};
 use std::sync::atomic::{AtomicU64, Ordering};
-use std::test::Fail;
 use std::thread::Threads;
 use syn_build::build_checked;
 use syn_commit::{Gate, Moment};
@@ -87,18 +86,27 @@ const OBSERVED: &str =
 // The numbers of workers that are tried: 0 counts as 1, and 200 as 16.
 const WORKERS: [u8; 5] = [0, 1, 2, 4, 200];
 
+// Whether a round on so many cones, of three ANDs each, saves one AND with each commit, and none otherwise. One worker
+// changes every cone. Several may meet in a cone, and one of them then leaves it as it is.
+fn saves_by_commits<R: Threads + Sync>(
+    rt: &R,
+    alloc: Global,
+    count: u32,
+    workers: u8,
+) -> Option<bool> {
+    let text = cones(alloc, count).ok()?;
+    let (made, left, told) = rounded(rt, alloc, text.as_str().as_bytes(), workers, false)?;
+    let all = u64::from(count);
+    let are_few = told <= all && (workers > 1 || told == all);
+    Some(are_few && made == report(told, told) && u64::from(left) + told == 3 * all)
+}
+
 #[test]
-fn each_cone_gains_one(rt: HostRuntime) -> Result<(), Fail> {
-    let alloc = rt.alloc();
-    let one = cones(alloc, 1)?;
-    let hundred = cones(alloc, 100)?;
+fn each_commit_saves_one(rt: HostRuntime) {
     for workers in WORKERS {
-        let found = rounded(&rt, alloc, one.as_str().as_bytes(), workers, false);
-        assert_eq!(rt; found, Some((report(1, 1), 2, 1)));
-        let found = rounded(&rt, alloc, hundred.as_str().as_bytes(), workers, false);
-        assert_eq!(rt; found, Some((report(100, 100), 200, 100)));
+        assert_eq!(rt; saves_by_commits(&rt, rt.alloc(), 1, workers), Some(true));
+        assert_eq!(rt; saves_by_commits(&rt, rt.alloc(), 100, workers), Some(true));
     }
-    Ok(())
 }
 
 #[test]

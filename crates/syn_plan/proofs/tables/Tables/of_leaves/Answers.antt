@@ -6,7 +6,7 @@ use Rattle.syn_plan.proofs.Chains.{leaf_step}
 use Rattle.syn_plan.proofs.tables.Tables.of_leaves.Goals as goal
 
 pub loop-i-preserved : goal.loop-i-preserved
-loop-i-preserved c = record {
+loop-i-preserved g c = record {
   count = omega arith;
   alike = subst (λ tables. All (λ t. t.vars ≡ c.args.vars) tables) (sym c.push-in-loop-i.ensures.items)
       (All-push (λ t. t.vars ≡ c.args.vars) c.loop-i.items.items c.var.result c.loop-i.invariant.alike c.var.ensures.vars);

@@ -6,7 +6,7 @@ use Rattle.syn_plan.specs.Tables.{values_in}
 use Rattle.syn_plan.proofs.tables.Tables.of_leaves.Given as goal
 
 abbrev pub invariant-loop-i : goal.invariant-loop-i
-invariant-loop-i l = record {
+invariant-loop-i g l = record {
   count : array_vec_len l.items ≡ 1 + l.i;
   alike : All (λ t. t.vars ≡ l.vars) l.items.items;
   values : AtEach l.vars (λ xs. values_in l.items.items xs ≡ false ∷ take l.i xs);

@@ -5,7 +5,7 @@ use Rattle.syn_plan.specs.Gates.{literal_value, values_after}
 use Rattle.syn_plan.specs.Plans.{plan_truth}
 use Rattle.syn_plan.specs.Tables.{values_in}
 use Rattle.syn_plan.proofs.Chains.{in_order-rest, values_after-rest}
-use Rattle.syn_plan.proofs.plan.Plan.truth.Goals as goal
+use Rattle.syn_plan.proofs.plan.Plan.truth_in.Goals as goal
 
 -- what the gate of index k computes
 abbrev gate_value : List Bool → List (PLit × PLit) → ℕ → Bool
@@ -14,7 +14,7 @@ gate_value values gates k =
     && literal_value values (get_or gates k (record { 0 = 0 }, record { 0 = 0 })).1
 
 pub loop-a-preserved : goal.loop-a-preserved
-loop-a-preserved c =
+loop-a-preserved g c =
     let gates : List (PLit × PLit) = c.args.self.now.gates.items in
     let same : c.deref-a-items.result.now ≡ c.args.self.now.gates.items = c.deref-a-items.ensures.0 in
     let within : c.loop-a.a-index < length c.args.self.now.gates.items = omega (arith, ap length same, c.loop-a-test.true) in
@@ -34,7 +34,7 @@ loop-a-preserved c =
 
 pub returns-clause-values : goal.returns-clause-values
 unfolding plan_truth
-returns-clause-values c = λ xs h.
+returns-clause-values g c = λ xs h.
     let same : c.deref-a-items.result.now ≡ c.args.self.now.gates.items = c.deref-a-items.ensures.0 in
     let past : length c.args.self.now.gates.items ≤ c.loop-a.a-index = omega (arith, ap length same, c.loop-a-test.false) in
     let width : length xs ≡ c.loop-a.tables.vars = omega arith in
