@@ -28,3 +28,4 @@ mod Doing
 mod Closing
 mod Rooting
 mod Booking
+pub mod Resting

@@ -98,6 +98,12 @@ abbrev pub with_gates : List NodeRow → List NodeRow → List NodeRow
 with_gates gates [] = gates
 with_gates gates (r ∷ rows) = with_gates (with_gate gates r) rows
 
+-- the seat holds and pins nothing, and nothing is on its zero list
+pub record IsAtRest (v : View) : Type 0 where
+  pub held : v.held ≡ []
+  pub pins : v.pins ≡ []
+  pub idle : v.idle ≡ []
+
 -- the seat holds the nodes of the pool alone, has no pins, and nothing is on its zero list
 pub record HoldsAlone (pool : List ℕ) (v : View) : Type 0 where
   pub spare : KeepsPool v pool

@@ -11,3 +11,4 @@ pub mod Counting
 pub mod LeafTables
 pub mod Steps
 pub mod Fitting
+pub mod Enough

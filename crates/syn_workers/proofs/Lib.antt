@@ -1,4 +1,3 @@
-mod Gains
 mod Works
 mod Resting
 mod Leaving

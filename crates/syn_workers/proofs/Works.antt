@@ -20,7 +20,7 @@ use Rattle.syn_commit.specs.Counts.{dying_by}
 use Rattle.syn_commit.specs.Committed.{FellSince, changes_since, gain_of, state_since}
 use Rattle.syn_workers.specs.declared.Worker.{Worker}
 use Rattle.syn_workers.specs.Working.{HasSwept, HasWorked}
-use Rattle.syn_workers.proofs.Gains.{gain_enough}
+use Rattle.syn_decide.proofs.Enough.{gain_enough}
 
 -- nothing was done
 pub has_not : (zero_gain : Bool) (w : Worker) → HasWorked zero_gain w w

@@ -1,4 +1,4 @@
--- A seat at rest fills a pool, commits, and lets the pool go: it is at rest again.
+-- A seat at rest fills a pool: it holds the pool alone.
 use Rattle.std.proofs.Common.{◌≡◌, ℕ, suc, ◌<◌, ◌==◌, ◌&&◌, ◌||◌, not, if◌then◌else◌, Bool, true, false, List, [], ◌∷◌, ◌++◌, refl, sym, ap, ap₂, ◌∙◌, arith}
 use Rattle.std.proofs.lemmas.Bool.{ne_eqb}
 use Rattle.syn_rows.specs.Nodes.{has_node}
@@ -6,12 +6,10 @@ use Rattle.syn_fanout_free.specs.Freed.{is_free}
 use Rattle.syn_core_laws.specs.declared.View.{View}
 use Rattle.syn_core_laws.specs.declared.Seen.{Seen}
 use Rattle.syn_core_laws.specs.declared.Seen.TheVariants as seen
-use Rattle.syn_commit.specs.Giving.{HoldsAlone}
-use Rattle.syn_commit.specs.Pools.{AreTries, HoldsNoneOf, IsEmptied, IsFilled, KeepsPool, found_free}
-use Rattle.test_commit.specs.Resting.{IsResting}
-use Rattle.test_commit.proofs.Filling.{empty_list}
+use Rattle.syn_commit.specs.Giving.{HoldsAlone, IsAtRest}
+use Rattle.syn_commit.specs.Pools.{AreTries, HoldsNoneOf, IsFilled, KeepsPool, found_free}
 
-pub none_there : (v : View) (from count : ℕ) → IsResting v → HoldsNoneOf v from count
+pub none_there : (v : View) (from count : ℕ) → IsAtRest v → HoldsNoneOf v from count
 none_there v from count rest n low high = ap (λ ns. has_node ns n) rest.held
 
 -- no node below the first that is tried joins the pool
@@ -34,22 +32,10 @@ below_pool from count v w pool grown n fresh filled below =
     ap (λ ns. has_node ns n) (filled.1.joined ∙ ap (λ ns. ns ++ found_free filled.0) fresh) ∙ found_above from filled.0 n filled.1.order below
 
 -- the pool's nodes are all that is held
-pub holds_pool : (from count : ℕ) (v w : View) (pool grown : List ℕ) → IsResting v → pool ≡ [] → IsFilled from count v pool w grown → KeepsPool w grown → HoldsAlone grown w
+pub holds_pool : (from count : ℕ) (v w : View) (pool grown : List ℕ) → IsAtRest v → pool ≡ [] → IsFilled from count v pool w grown → KeepsPool w grown → HoldsAlone grown w
 holds_pool from count v w pool grown rest fresh filled keeps = record {
   spare = keeps;
   held = λ n. filled.1.held n ∙ ap (λ ns. has_node ns n || has_node (found_free filled.0) n) rest.held ∙ ap (λ ns. has_node ns n) (sym (filled.1.joined ∙ ap (λ ns. ns ++ found_free filled.0) fresh));
   pins = filled.1.rest.pins ∙ rest.pins;
   idle = filled.1.rest.idle ∙ rest.idle;
 }
-
--- the pool is let go
-pub at_rest : (v w : View) (pool : List ℕ) → HoldsAlone pool v → IsEmptied v pool w → IsResting w
-at_rest v w pool alone gone = record {
-  held = empty_list w.held (λ n. gone.held n ∙ (ap (λ b. b && not (has_node pool n)) (alone.held n) ∙ never (has_node pool n)));
-  pins = gone.rest.pins ∙ alone.pins;
-  idle = gone.rest.idle ∙ alone.idle;
-}
-  where
-    never : (b : Bool) → (b && not b) ≡ false
-    never true = refl
-    never false = refl

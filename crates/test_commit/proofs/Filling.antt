@@ -5,6 +5,7 @@ use Rattle.syn_rows.proofs.Nodes.{has_here, has_node-append}
 use Rattle.syn_core_laws.specs.declared.View.{View}
 use Rattle.syn_core_laws.specs.Openings.{empty_view}
 use Rattle.syn_commit.specs.Pools.{HoldsNoneOf, IsEmptied, IsFilled, found_free}
+use Rattle.syn_commit.proofs.Resting.{empty_list}
 use Rattle.syn_commit.proofs.Trying.{found_below}
 
 pub none_held : (v : View) → v ≡ empty_view 0 → (n : ℕ) → has_node v.held n ≡ false
@@ -20,10 +21,6 @@ none_behind v w grown e filled n from within = filled.1.held n ∙ (ap (λ b. b 
     later : (b : Bool) → has_node (found_free filled.0) n ≡ b → b ≡ false
     later true h = let below : n < 0 + length filled.0 = found_below 0 filled.0 filled.1.order n h in absurd (omega (arith, few))
     later false h = refl
-
-pub empty_list : (ns : List ℕ) → ((n : ℕ) → has_node ns n ≡ false) → ns ≡ []
-empty_list [] h = refl
-empty_list (n ∷ ns) h = let here : has_node (n ∷ ns) n ≡ true = has_here n ns in let none : has_node (n ∷ ns) n ≡ false = h n in absurd (cc)
 
 -- the pool's nodes are all that is held, and they are let go
 pub all_let_go : (v w x y : View) (grown larger : List ℕ) → v ≡ empty_view 0 → IsFilled 0 10 v [] w grown → IsFilled 10 600 w grown x larger → IsEmptied x larger y → y.held ≡ []

@@ -9,7 +9,8 @@ use Rattle.syn_core_laws.specs.Shown.{IsShown}
 use Rattle.syn_core_laws.specs.Views.{is_derived_known, known_row}
 use Rattle.syn_table.specs.declared.Known.{Known}
 use Rattle.syn_table.specs.Steps.{Unpins}
-use Rattle.test_commit.specs.Resting.{HasPinned, IsResting}
+use Rattle.syn_commit.specs.Giving.{IsAtRest}
+use Rattle.test_commit.specs.Resting.{HasPinned}
 
 -- the seat holds nothing, so it knows no row
 no_row : (nodes n m : ℕ) (v : View) → HasPinned n v → IsShown nodes v → known_row v m ≡ None
@@ -22,7 +23,7 @@ no_row nodes n m v has shown = go (known_row v m) refl
         let none : has_node v.held m ≡ false = ap (λ ns. has_node ns m) has.held in
         let contra : true ≡ false = sym there ∙ none in absurd (cc)
 
-pub at_rest : (nodes n : ℕ) (k new : Known) (last : Bool) → HasPinned n k.core → IsShown nodes k.core → Unpins k n last new → IsResting new.core
+pub at_rest : (nodes n : ℕ) (k new : Known) (last : Bool) → HasPinned n k.core → IsShown nodes k.core → Unpins k n last new → IsAtRest new.core
 at_rest nodes n k new last has shown told = record {
   held = ap (λ (x : Known). x.core.held) told.2 ∙ has.held;
   pins = ap (λ (x : Known). x.core.pins) told.2 ∙ ap (without_one n) has.pins ∙ ap (λ b. if b then [] else n ∷ []) (eq-eqb n n refl);

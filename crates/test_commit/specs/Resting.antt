@@ -2,12 +2,6 @@
 use Rattle.std.specs.Prelude.{◌≡◌, ℕ, [], ◌∷◌}
 use Rattle.syn_core_laws.specs.declared.View.{View}
 
--- the seat holds and pins nothing, and nothing is on its zero list
-pub record IsResting (v : View) : Type 0 where
-  pub held : v.held ≡ []
-  pub pins : v.pins ≡ []
-  pub idle : v.idle ≡ []
-
 -- the seat holds nothing and has one pin, of this node, and nothing is on its zero list
 pub record HasPinned (n : ℕ) (v : View) : Type 0 where
   pub held : v.held ≡ []

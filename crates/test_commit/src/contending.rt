@@ -2,7 +2,7 @@
 
 ghost use Rattle.std.specs.Prelude.{◌≡◌};
 ghost use Rattle.syn_table.specs.Seating.{IsOf, known_of, nodes_of, view_of};
-ghost use Rattle.test_commit.specs.Resting.{IsResting};
+ghost use Rattle.syn_commit.specs.Giving.{IsAtRest};
 
 use crate::commits::{CONE, factored};
 use crate::fresh::committed;
@@ -36,14 +36,14 @@ fn holds_inner(
     requires other_table { IsOf second.old tools.now.shared.now }
     requires nodes { nodes_of tools.now.shared.now ≡ 1031 }
     requires root { proposal.now.root ≡ 6 }
-    requires resting { IsResting (view_of first.old) }
-    requires other_resting { IsResting (view_of second.old) }
+    requires resting { IsAtRest (view_of first.old) }
+    requires other_resting { IsAtRest (view_of second.old) }
     ensures table { IsOf first.new tools.now.shared.now }
     ensures other_table { IsOf second.new tools.now.shared.now }
     ensures numbers { (known_of first.new).numbers ≡ (known_of first.old).numbers }
     ensures other_numbers { (known_of second.new).numbers ≡ (known_of second.old).numbers }
-    ensures resting { IsResting (view_of first.new) }
-    ensures other_resting { IsResting (view_of second.new) }
+    ensures resting { IsAtRest (view_of first.new) }
+    ensures other_resting { IsAtRest (view_of second.new) }
 {
     if !tools.shared.claim(first, 4) {
         return false;
@@ -69,14 +69,14 @@ fn pins_inner(
     requires other_table { IsOf second.old tools.now.shared.now }
     requires nodes { nodes_of tools.now.shared.now ≡ 1031 }
     requires root { proposal.now.root ≡ 6 }
-    requires resting { IsResting (view_of first.old) }
-    requires other_resting { IsResting (view_of second.old) }
+    requires resting { IsAtRest (view_of first.old) }
+    requires other_resting { IsAtRest (view_of second.old) }
     ensures table { IsOf first.new tools.now.shared.now }
     ensures other_table { IsOf second.new tools.now.shared.now }
     ensures numbers { (known_of first.new).numbers ≡ (known_of first.old).numbers }
     ensures other_numbers { (known_of second.new).numbers ≡ (known_of second.old).numbers }
-    ensures resting { IsResting (view_of first.new) }
-    ensures other_resting { IsResting (view_of second.new) }
+    ensures resting { IsAtRest (view_of first.new) }
+    ensures other_resting { IsAtRest (view_of second.new) }
 {
     if !pin_inner(tools.shared, first) {
         return false;
@@ -99,14 +99,14 @@ fn pins_inner_without_gain(
     requires other_table { IsOf second.old tools.now.shared.now }
     requires nodes { nodes_of tools.now.shared.now ≡ 1031 }
     requires root { proposal.now.root ≡ 6 }
-    requires resting { IsResting (view_of first.old) }
-    requires other_resting { IsResting (view_of second.old) }
+    requires resting { IsAtRest (view_of first.old) }
+    requires other_resting { IsAtRest (view_of second.old) }
     ensures table { IsOf first.new tools.now.shared.now }
     ensures other_table { IsOf second.new tools.now.shared.now }
     ensures numbers { (known_of first.new).numbers ≡ (known_of first.old).numbers }
     ensures other_numbers { (known_of second.new).numbers ≡ (known_of second.old).numbers }
-    ensures resting { IsResting (view_of first.new) }
-    ensures other_resting { IsResting (view_of second.new) }
+    ensures resting { IsAtRest (view_of first.new) }
+    ensures other_resting { IsAtRest (view_of second.new) }
 {
     if !pin_inner(tools.shared, first) {
         return false;
@@ -126,14 +126,14 @@ fn both_try(
     requires table { IsOf first.old tools.now.shared.now }
     requires other_table { IsOf second.old tools.now.shared.now }
     requires nodes { nodes_of tools.now.shared.now ≡ 1031 }
-    requires resting { IsResting (view_of first.old) }
-    requires other_resting { IsResting (view_of second.old) }
+    requires resting { IsAtRest (view_of first.old) }
+    requires other_resting { IsAtRest (view_of second.old) }
     ensures table { IsOf first.new tools.now.shared.now }
     ensures other_table { IsOf second.new tools.now.shared.now }
     ensures numbers { (known_of first.new).numbers ≡ (known_of first.old).numbers }
     ensures other_numbers { (known_of second.new).numbers ≡ (known_of second.old).numbers }
-    ensures resting { IsResting (view_of first.new) }
-    ensures other_resting { IsResting (view_of second.new) }
+    ensures resting { IsAtRest (view_of first.new) }
+    ensures other_resting { IsAtRest (view_of second.new) }
 {
     let proposal = factored(true);
     match meanwhile {

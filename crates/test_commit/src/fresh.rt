@@ -3,7 +3,7 @@
 ghost use Rattle.std.specs.Prelude.{◌≡◌, ◌+◌, ◌<◌, ◌≤◌};
 ghost use Rattle.syn_table.specs.Seating.{IsOf, known_of, nodes_of, view_of};
 ghost use Rattle.syn_table.specs.Steps.{with_view};
-ghost use Rattle.test_commit.specs.Resting.{IsResting};
+ghost use Rattle.syn_commit.specs.Giving.{IsAtRest};
 
 use crate::tables::{ands_left, opened_as};
 use std::alloc::Global;
@@ -24,12 +24,12 @@ pub fn committed(
     zero_gain: bool,
 ) -> Outcome
     requires table { IsOf seat.old tools.now.shared.now }
-    requires resting { IsResting (view_of seat.old) }
+    requires resting { IsAtRest (view_of seat.old) }
     requires nodes { first + spare ≤ nodes_of tools.now.shared.now }
     requires root { proposal.now.root < first }
     ensures table { IsOf seat.new tools.now.shared.now }
     ensures known { known_of seat.new ≡ with_view (known_of seat.old) (view_of seat.new) }
-    ensures resting { IsResting (view_of seat.new) }
+    ensures resting { IsAtRest (view_of seat.new) }
 {
     let mut pool = Pool::new();
     pool.fill(tools.shared, seat, first, spare);

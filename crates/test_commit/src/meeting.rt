@@ -2,7 +2,7 @@
 
 ghost use Rattle.std.specs.Prelude.{◌≡◌, ◌<◌};
 ghost use Rattle.syn_table.specs.Seating.{IsOf, known_of, nodes_of, view_of};
-ghost use Rattle.test_commit.specs.Resting.{IsResting};
+ghost use Rattle.syn_commit.specs.Giving.{IsAtRest};
 
 use crate::commits::{CONE, factored};
 use crate::fresh::committed;
@@ -18,10 +18,10 @@ use syn_table::{Seat, Shared};
 fn is_alias(shared: &Shared, seat: &mut Seat) -> bool
     requires table { IsOf seat.old shared.now }
     requires node { 6 < nodes_of shared.now }
-    requires resting { IsResting (view_of seat.old) }
+    requires resting { IsAtRest (view_of seat.old) }
     ensures table { IsOf seat.new shared.now }
     ensures numbers { (known_of seat.new).numbers ≡ (known_of seat.old).numbers }
-    ensures resting { IsResting (view_of seat.new) }
+    ensures resting { IsAtRest (view_of seat.new) }
 {
     if !shared.claim(seat, 6) {
         return false;
@@ -42,14 +42,14 @@ fn turned_away(
     requires other_table { IsOf second.old tools.now.shared.now }
     requires nodes { nodes_of tools.now.shared.now ≡ 1031 }
     requires root { proposal.now.root ≡ 6 }
-    requires resting { IsResting (view_of first.old) }
-    requires other_resting { IsResting (view_of second.old) }
+    requires resting { IsAtRest (view_of first.old) }
+    requires other_resting { IsAtRest (view_of second.old) }
     ensures table { IsOf first.new tools.now.shared.now }
     ensures other_table { IsOf second.new tools.now.shared.now }
     ensures numbers { (known_of first.new).numbers ≡ (known_of first.old).numbers }
     ensures other_numbers { (known_of second.new).numbers ≡ (known_of second.old).numbers }
-    ensures resting { IsResting (view_of first.new) }
-    ensures other_resting { IsResting (view_of second.new) }
+    ensures resting { IsAtRest (view_of first.new) }
+    ensures other_resting { IsAtRest (view_of second.new) }
 {
     if !tools.shared.claim(first, 6) {
         return false;
@@ -70,14 +70,14 @@ fn both_try(
     requires other_table { IsOf second.old tools.now.shared.now }
     requires nodes { nodes_of tools.now.shared.now ≡ 1031 }
     requires root { proposal.now.root ≡ 6 }
-    requires resting { IsResting (view_of first.old) }
-    requires other_resting { IsResting (view_of second.old) }
+    requires resting { IsAtRest (view_of first.old) }
+    requires other_resting { IsAtRest (view_of second.old) }
     ensures table { IsOf first.new tools.now.shared.now }
     ensures other_table { IsOf second.new tools.now.shared.now }
     ensures numbers { (known_of first.new).numbers ≡ (known_of first.old).numbers }
     ensures other_numbers { (known_of second.new).numbers ≡ (known_of second.old).numbers }
-    ensures resting { IsResting (view_of first.new) }
-    ensures other_resting { IsResting (view_of second.new) }
+    ensures resting { IsAtRest (view_of first.new) }
+    ensures other_resting { IsAtRest (view_of second.new) }
 {
     let busy = turned_away(tools, first, second, proposal);
     let done = committed(tools, second, proposal, 519, 512, false) == Outcome::Done(1);
@@ -93,9 +93,9 @@ fn both_try(
 fn key_at(shared: &Shared, seat: &mut Seat, node: u32) -> Option<u64>
     requires table { IsOf seat.old shared.now }
     requires node { node < nodes_of shared.now }
-    requires resting { IsResting (view_of seat.old) }
+    requires resting { IsAtRest (view_of seat.old) }
     ensures table { IsOf seat.new shared.now }
-    ensures resting { IsResting (view_of seat.new) }
+    ensures resting { IsAtRest (view_of seat.new) }
 {
     if !shared.claim(seat, node) {
         return None;

@@ -2,7 +2,8 @@
 
 ghost use Rattle.std.specs.Prelude.{◌≡◌, ◌<◌, false, true};
 ghost use Rattle.syn_table.specs.Seating.{IsOf, known_of, nodes_of, view_of};
-ghost use Rattle.test_commit.specs.Resting.{HasPinned, IsResting};
+ghost use Rattle.syn_commit.specs.Giving.{IsAtRest};
+ghost use Rattle.test_commit.specs.Resting.{HasPinned};
 
 use syn_rows::{Lit, Row};
 use syn_table::{Seat, Shared};
@@ -12,11 +13,11 @@ use syn_table::{Seat, Shared};
 pub fn pin_inner(shared: &Shared, seat: &mut Seat) -> bool
     requires table { IsOf seat.old shared.now }
     requires nodes { 6 < nodes_of shared.now }
-    requires resting { IsResting (view_of seat.old) }
+    requires resting { IsAtRest (view_of seat.old) }
     ensures table { IsOf seat.new shared.now }
     ensures numbers { (known_of seat.new).numbers ≡ (known_of seat.old).numbers }
     ensures pinned { result ≡ true → HasPinned 4 (view_of seat.new) }
-    ensures resting { result ≡ false → IsResting (view_of seat.new) }
+    ensures resting { result ≡ false → IsAtRest (view_of seat.new) }
 {
     if !shared.claim(seat, 6) {
         return false;
@@ -36,7 +37,7 @@ pub fn unpin_inner(shared: &Shared, seat: &mut Seat)
     requires pinned { HasPinned 4 (view_of seat.old) }
     ensures table { IsOf seat.new shared.now }
     ensures numbers { (known_of seat.new).numbers ≡ (known_of seat.old).numbers }
-    ensures resting { IsResting (view_of seat.new) }
+    ensures resting { IsAtRest (view_of seat.new) }
 {
     shared.seats_reach_nodes(seat);
     let _last = shared.unpin(seat, 4);

@@ -4,7 +4,7 @@ ghost use Rattle.std.specs.Prelude.{◌≡◌, ◌+◌, ◌<◌, ◌≤◌};
 ghost use Rattle.syn_plan.specs.Gates.{index_of};
 ghost use Rattle.syn_commit.specs.Giving.{HoldsAlone};
 ghost use Rattle.syn_table.specs.Seating.{IsOf, known_of, nodes_of, view_of};
-ghost use Rattle.test_commit.specs.Resting.{IsResting};
+ghost use Rattle.syn_commit.specs.Giving.{IsAtRest};
 
 use crate::tables::{ands_left, opened_as};
 use arrayvec::ArrayVec;
@@ -104,12 +104,12 @@ fn there_and_back(
 // commits are done.
 fn done_in(tools: &Tools<'_, OpenGate>, seat: &mut Seat, first: u32, rounds: u32) -> u32
     requires table { IsOf seat.old tools.now.shared.now }
-    requires resting { IsResting (view_of seat.old) }
+    requires resting { IsAtRest (view_of seat.old) }
     requires nodes { first + 16 ≤ nodes_of tools.now.shared.now }
     requires root { 7 < first }
     ensures table { IsOf seat.new tools.now.shared.now }
     ensures numbers { (known_of seat.new).numbers ≡ (known_of seat.old).numbers }
-    ensures resting { IsResting (view_of seat.new) }
+    ensures resting { IsAtRest (view_of seat.new) }
 {
     let there = over_inputs(chained(PLit(8), PLit(6), PLit(4), PLit(2)));
     let back = over_inputs(chained(PLit(2), PLit(4), PLit(6), PLit(8)));

@@ -4,7 +4,7 @@ ghost use Rattle.std.specs.Prelude.{◌≡◌, ◌≢◌, ℕ, ◌+◌, ◌<◌,
 ghost use Rattle.syn_rows.specs.declared.Row.TheVariants.{Source};
 ghost use Rattle.syn_rows.specs.Rows.{row_at};
 ghost use Rattle.syn_table.specs.Seating.{IsOf, known_of, nodes_of, view_of};
-ghost use Rattle.test_commit.specs.Resting.{IsResting};
+ghost use Rattle.syn_commit.specs.Giving.{IsAtRest};
 
 use crate::keying::fits;
 use std::alloc::Global;
@@ -40,7 +40,7 @@ fn started(alloc: Global, graph: &Graph, keys: &[u64]) -> Option<(Shared, Seat, 
     ensures table { IfSome result (λ t. IsOf t.1 t.0) }
     ensures nodes { IfSome result (λ t. nodes_of t.0 ≡ t.2 + 1024) }
     ensures numbers { IfSome result (λ t. length (known_of t.1).numbers ≡ 64) }
-    ensures resting { IfSome result (λ t. IsResting (view_of t.1)) }
+    ensures resting { IfSome result (λ t. IsAtRest (view_of t.1)) }
 {
     if !fits(graph.rows.as_slice(), keys) {
         return None;
@@ -56,7 +56,7 @@ pub fn opened_as(alloc: Global, text: &[u8], keys: Option<&[u64]>) -> Option<(Sh
     ensures table { IfSome result (λ t. IsOf t.1 t.0) }
     ensures nodes { IfSome result (λ t. nodes_of t.0 ≡ t.2 + 1024) }
     ensures numbers { IfSome result (λ t. length (known_of t.1).numbers ≡ 64) }
-    ensures resting { IfSome result (λ t. IsResting (view_of t.1)) }
+    ensures resting { IfSome result (λ t. IsAtRest (view_of t.1)) }
 {
     let graph = graph_of(alloc, text)?;
     match keys {
@@ -83,7 +83,7 @@ fn ands_of(rows: &[Row]) -> u32 {
 pub fn ands_left(alloc: Global, shared: Shared, seat: Seat) -> Option<u32>
     requires table { IsOf seat shared }
     requires numbers { length (known_of seat).numbers ≡ 64 }
-    requires resting { IsResting (view_of seat) }
+    requires resting { IsAtRest (view_of seat) }
 {
     let closed = shared.close(alloc, seat).ok()?;
     Some(ands_of(closed.rows.as_slice()))
@@ -120,7 +120,7 @@ fn has_three_sources(rows: &[Row]) -> bool
 pub fn ands_compacted(alloc: Global, shared: Shared, seat: Seat) -> Option<(u32, u32)>
     requires table { IsOf seat shared }
     requires numbers { length (known_of seat).numbers ≡ 64 }
-    requires resting { IsResting (view_of seat) }
+    requires resting { IsAtRest (view_of seat) }
 {
     let closed = shared.close(alloc, seat).ok()?;
     let rows = closed.rows.as_slice();

@@ -1,5 +1,6 @@
 use Rattle.syn_table.specs.Seating.{view_of}
-use Rattle.test_commit.proofs.Emptied.{at_rest, below_pool, none_there}
+use Rattle.syn_commit.proofs.Resting.{at_rest}
+use Rattle.test_commit.proofs.Emptied.{below_pool, none_there}
 use Rattle.test_commit.proofs.fresh.committed.Goals as goal
 
 pub fill-requires-clause-none : goal.fill-requires-clause-none
