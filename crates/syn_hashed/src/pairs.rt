@@ -26,7 +26,7 @@ impl PairIndex {
         requires { length rows.now < 2 ^ 31 }
         ensures { IfOk result (λ x. IsIndexOf rows.now x) }
     {
-        let mut heads = no_nodes(alloc, rows.len() + 1)?;
+        let mut heads = no_nodes(alloc, bucket_count(rows.len()))?;
         let mut next = no_nodes(alloc, rows.len())?;
         index_rows(rows, &mut heads, &mut next);
         Ok(PairIndex { heads, next })
@@ -64,6 +64,15 @@ fn no_nodes(alloc: Global, count: usize) -> Result<Vec<u32>, AllocError>
     ensures none { IfOk result (λ v. (k : ℕ) → number_at v.items k ≡ 0) }
 {
     vec![in alloc; 0; count]
+}
+
+// How many buckets an index of so many rows has: twice as many, so that a pair that no row has mostly meets an empty one.
+fn bucket_count(rows: usize) -> usize
+    requires few { rows < 2 ^ 31 }
+    ensures some { 0 < result }
+    ensures few { result < 2 ^ 32 }
+{
+    2 * rows + 1
 }
 
 // The bucket of a pair, of so many.
