@@ -7,3 +7,5 @@ mod Fitted
 mod Listed
 mod Candidates
 mod Carried
+mod Deep
+mod Enough

@@ -5,3 +5,4 @@ pub mod Laws
 pub mod PlansOf
 pub mod Prepared
 pub mod Carried
+pub mod Adding

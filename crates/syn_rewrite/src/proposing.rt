@@ -1,11 +1,13 @@
 //! The proposer.
 
-ghost use Rattle.std.specs.Prelude.{◌≡◌, ◌<◌, ◌≤◌, ◌++◌, true, false, All, List, OnOk, IfNone, IfOk, IfSome, length, map};
+ghost use Rattle.std.specs.Prelude.{◌≡◌, ◌<◌, ◌≤◌, ◌++◌, [], true, false, All, List, OnOk, IfNone, IfOk, IfSome, length, map};
 ghost use Rattle.syn_rows.specs.declared.Row.{Row};
 ghost use Rattle.syn_rows.specs.Rows.{row_at};
 ghost use Rattle.syn_rows.specs.Reach.{is_and};
 ghost use Rattle.syn_plan.specs.Naming.{built_of};
 ghost use Rattle.syn_library.specs.Library.{NamesOwn};
+ghost use Rattle.syn_fanout_free.specs.Bounding.{IsMostLost};
+ghost use Rattle.syn_fanout_free.specs.Saved.{count_in};
 ghost use Rattle.syn_gain.specs.Proposals.{replacement, replacement_of};
 ghost use Rattle.syn_gain.specs.Uses.{IsUsesOf};
 ghost use Rattle.syn_pool.specs.Closing.{IsFirst, SavesNothing};
@@ -14,6 +16,7 @@ ghost use Rattle.syn_rewrite.specs.Functions.{IsFunctionOver};
 ghost use Rattle.syn_rewrite.specs.Prepared.{AreLeavesOf, ArePlansOf, IsPreparedFor};
 ghost use Rattle.syn_rewrite.specs.Rewriting.{cut_proposals, over, rewritings};
 
+use crate::adding::adds_enough;
 use crate::known_plans::KnownPlans;
 use crate::plans::plans_of;
 use crate::prepared::{Prepared, cuts_of, prepare};
@@ -92,7 +95,29 @@ fn push_plans(
     Ok(())
 }
 
-// Whether one of the plans of a node's function over leaves saves. An answer without a proposal is small: most cuts have none.
+// No fewer ANDs than go with a node's row where these leaves stay, counted where they weren't before.
+fn bound_over(
+    alloc: Global,
+    graph: &Graph,
+    uses: &Uses,
+    node: u32,
+    leaves: &[u32],
+    counted: Option<u32>,
+) -> Result<u32, AllocError>
+    requires uses { IsUsesOf uses.now graph.now }
+    requires node { is_and (row_at graph.now.rows node) ≡ true }
+    requires leaves { AreLeavesOf graph.now.rows node leaves.now }
+    requires counted { IfSome counted (IsMostLost graph.now.rows (count_in uses.now.counts.items) node leaves.now) }
+    ensures { IfOk result (IsMostLost graph.now.rows (count_in uses.now.counts.items) node leaves.now) }
+{
+    match counted {
+        Some(bound) => Ok(bound),
+        None => lost_but(alloc, graph, uses, node, leaves, MOST_COUNTED),
+    }
+}
+
+// Whether one of the plans of a node's function over leaves saves, where no more than `most` ANDs go with the node's row.
+// Most plans add so many new rows that they aren't placed. An answer without a proposal is small: most cuts have none.
 fn some_saves(
     alloc: Global,
     graph: &Graph,
@@ -101,6 +126,7 @@ fn some_saves(
     leaves: &[u32],
     function: u16,
     plans: &[Plan],
+    most: u32,
     room: &mut Room,
 ) -> Result<bool, AllocError>
     requires uses { IsUsesOf uses.now graph.now }
@@ -108,14 +134,20 @@ fn some_saves(
     requires leaves { AreLeavesOf graph.now.rows node leaves.now }
     requires function { IsFunctionOver graph.now.rows leaves.now node function }
     requires plans { ArePlansOf function plans.now }
+    requires most { IsMostLost graph.now.rows (count_in uses.now.counts.items) node [] most }
     ensures none { IfOk result (λ some. some ≡ false → All (SavesNothing graph.now.rows graph.now.observed) (cut_proposals graph.now.rows node leaves.now)) }
 {
-    let bound = lost_but(alloc, graph, uses, node, leaves, MOST_COUNTED)?;
+    let mut counted = None;
     for plan in plans {
         let candidate = candidate(graph, node, leaves, function, plan);
+        if adds_enough(graph, uses, candidate, most) {
+            continue;
+        }
+        let bound = bound_over(alloc, graph, uses, node, leaves, counted)?;
         if saves_bounded(alloc, graph, uses, candidate, bound, room)? {
             return Ok(true);
         }
+        counted = Some(bound);
     }
     Ok(false)
 }
@@ -130,16 +162,20 @@ fn some_of_function_saves(
     node: u32,
     leaves: &[u32],
     function: u16,
+    most: u32,
     room: &mut Room,
 ) -> Result<bool, AllocError>
     requires uses { IsUsesOf uses.now graph.now }
     requires node { is_and (row_at graph.now.rows node) ≡ true }
     requires leaves { AreLeavesOf graph.now.rows node leaves.now }
     requires function { IsFunctionOver graph.now.rows leaves.now node function }
+    requires most { IsMostLost graph.now.rows (count_in uses.now.counts.items) node [] most }
     ensures none { IfOk result (λ some. some ≡ false → All (SavesNothing graph.now.rows graph.now.observed) (cut_proposals graph.now.rows node leaves.now)) }
 {
     if let Some(plans) = known.plans(function) {
-        return some_saves(alloc, graph, uses, node, leaves, function, plans, room);
+        return some_saves(
+            alloc, graph, uses, node, leaves, function, plans, most, room,
+        );
     }
     let plans = plans_of(classes, function);
     some_saves(
@@ -150,6 +186,7 @@ fn some_of_function_saves(
         leaves,
         function,
         plans.as_slice(),
+        most,
         room,
     )
 }
@@ -275,6 +312,7 @@ impl Proposer for CutPlans {
     ) -> Result<Option<Proposal>, AllocError> {
         let cuts = cuts_of(&lists.cuts, node);
         let functions = &lists.functions[node as usize];
+        let most = lost_but(alloc, graph, uses, node, &[], MOST_COUNTED)?;
         let mut room = Room::new(alloc);
         for (i, cut) in cuts.iter().enumerate() {
             let function = functions[i];
@@ -288,6 +326,7 @@ impl Proposer for CutPlans {
                 node,
                 leaves,
                 function,
+                most,
                 &mut room,
             )? {
                 continue;
