@@ -1,6 +1,6 @@
 //! A round of several workers.
 
-ghost use Rattle.std.specs.Prelude.{◌≡◌, ◌+◌, ◌*◌, ◌<◌, ◌≤◌, ◌^◌, not, true, length, IfOk, IfSome};
+ghost use Rattle.std.specs.Prelude.{◌≡◌, ◌⊎◌, ◌+◌, ◌*◌, ◌<◌, ◌≤◌, ◌^◌, max, min, not, true, false, length, IfNone, IfOk, IfSome};
 ghost use Rattle.syn_rows.specs.declared.TheConstants.{NODE_LIMIT};
 ghost use Rattle.syn_pool.specs.Following.{Follows};
 ghost use Rattle.syn_pool.specs.Gains.{IsGain};
@@ -25,6 +25,7 @@ const MOST_WORKERS: u8 = 16;
 fn has_room(graph: &Graph, workers: u8) -> bool
     ensures nodes { result ≡ true → length graph.now.rows + 512 * workers < NODE_LIMIT }
     ensures literals { result ≡ true → length graph.now.observed < 2 ^ 30 }
+    ensures none { result ≡ false → (NODE_LIMIT ≤ length graph.now.rows + 512 * workers) ⊎ (2 ^ 30 ≤ length graph.now.observed) }
 {
     let nodes = graph.rows.as_slice().len() + SPARE as usize * workers as usize;
     nodes < NODE_LIMIT && graph.observed.as_slice().len() < 1 << 30
@@ -110,6 +111,7 @@ pub fn round<R: Threads + Sync, P: Proposer, G: Gate>(
     requires lists { P.is_lists_of proposer.now lists.now graph.now.rows }
     ensures follows { IfOk result (λ made. IfSome made (λ m. Follows graph.now m.report.gained m.graph)) }
     ensures gain { IfOk result (λ made. IfSome made (λ m. IsGain (not zero_gain) m.report)) }
+    ensures none { IfOk result (λ made. IfNone made ((NODE_LIMIT ≤ length graph.now.rows + 512 * min (max workers 1) 16) ⊎ (2 ^ 30 ≤ length graph.now.observed))) }
 {
     let workers = workers.max(1).min(MOST_WORKERS);
     if !has_room(graph, workers) {
