@@ -2,6 +2,7 @@
 #![tactic(auto)]
 
 mod closing;
+mod looking;
 mod opening;
 mod rounds;
 mod sharing;

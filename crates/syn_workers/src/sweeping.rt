@@ -57,7 +57,7 @@ pub fn visit<P: Proposer, G: Gate>(
         return Ok(());
     }
     let proposals = proposer.propose(alloc, graph, lists, node)?;
-    try_each(tools, worker, proposals.as_slice(), zero_gain);
+    try_each(graph, tools, worker, proposals.as_slice(), zero_gain);
     Ok(())
 }
 

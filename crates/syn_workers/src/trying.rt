@@ -5,9 +5,11 @@ ghost use Rattle.syn_table.specs.Seating.{nodes_of};
 ghost use Rattle.syn_workers.specs.Working.{HasWorked, IsAtWork};
 
 use crate::Worker;
+use crate::looking::is_narrow;
 use syn_commit::{Gate, Tools, try_commit};
 use syn_decide::Outcome;
 use syn_gain::Proposal;
+use syn_graph::Graph;
 use syn_pool::Report;
 
 // The report with one commit more, of this gain.
@@ -52,8 +54,10 @@ fn is_done<G: Gate>(
     }
 }
 
-/// Commits the proposals in order, until one is done.
+/// Commits the proposals in order, until one is done. One that has more rows between root and leaves than a commit takes, on
+/// the graph that the table was opened with, is passed over: claims on all of them would be for nothing.
 pub(crate) fn try_each<G: Gate>(
+    graph: &Graph,
     tools: &Tools<'_, G>,
     worker: &mut Worker,
     proposals: &[Proposal],
@@ -65,6 +69,9 @@ pub(crate) fn try_each<G: Gate>(
     ensures worked { HasWorked zero_gain worker.old worker.new }
 {
     for proposal in proposals {
+        if !is_narrow(graph, proposal) {
+            continue;
+        }
         if is_done(tools, worker, proposal, zero_gain) {
             return;
         }

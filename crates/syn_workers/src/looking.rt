@@ -1,0 +1,57 @@
+//! A look before a commit, at the graph that the table was opened with. It chooses what is tried, and nothing rests on it.
+
+use arrayvec::ArrayVec;
+use syn_decide::MOST_INNER;
+use syn_gain::Proposal;
+use syn_graph::Graph;
+use syn_rows::Row;
+
+// The rows between a root and leaves, each once.
+type Inner = ArrayVec<u32, MOST_INNER>;
+
+// Whether a node is one of some.
+fn is_among(nodes: &[u32], node: u32) -> bool {
+    for other in nodes {
+        if *other == node {
+            return true;
+        }
+    }
+    false
+}
+
+// Meets a node: one that is neither a leaf nor among the rows, none of which is below the least, joins them. False where
+// there is no room for it.
+fn meet(inner: &mut Inner, least: &mut u32, leaves: &[u32], node: u32) -> bool {
+    if is_among(leaves, node) || (node >= *least && is_among(inner.as_slice(), node)) {
+        return true;
+    }
+    if inner.is_full() {
+        return false;
+    }
+    inner.push(node);
+    *least = node.min(*least);
+    true
+}
+
+/// Whether there are no more rows between a proposal's root and its leaves than a commit takes.
+pub(crate) fn is_narrow(graph: &Graph, proposal: &Proposal) -> bool {
+    let rows = graph.rows.as_slice();
+    let leaves = proposal.leaves.as_slice();
+    let mut inner = Inner::new();
+    let mut least = proposal.root;
+    inner.push(least);
+    for place in 0..MOST_INNER {
+        let node = match inner.as_slice().get(place) {
+            Some(node) => *node,
+            None => return true,
+        };
+        if let Some(Row::And(a, b)) = rows.get(node as usize) {
+            if !meet(&mut inner, &mut least, leaves, a.node())
+                || !meet(&mut inner, &mut least, leaves, b.node())
+            {
+                return false;
+            }
+        }
+    }
+    true
+}
