@@ -1,5 +1,5 @@
--- One graph in place of another, one after the other.
-use Rattle.std.proofs.Common.{◌≡◌, ℕ, ℤ, pos, ◌+ℤ◌, ◌≤ℤ◌, ◌+◌, ◌≤◌, Bool, List, length, Result, Ok, Err, IfOk, ◌∙◌, arith}
+-- A graph in place of another, by a proposal that saves.
+use Rattle.std.proofs.Common.{◌≡◌, ℕ, ℤ, pos, ◌+ℤ◌, ◌≤ℤ◌, ◌+◌, ◌≤◌, Bool, List, length, Result, Ok, Err, IfOk, arith}
 use Rattle.std.proofs.lemmas.Int.{ints}
 use Rattle.syn_rows.specs.Values.{rows_function}
 use Rattle.syn_netlist.specs.Frames.{frame_in}
@@ -7,14 +7,6 @@ use Rattle.syn_graph.specs.declared.Graph.{Graph}
 use Rattle.syn_gain.specs.Replacements.{Replacement, SavedBy}
 use Rattle.syn_pool.specs.Closing.{SavesSome}
 use Rattle.syn_pool.specs.Following.{Follows}
-
-pub chained : (a b c : Graph) (j k l : ℕ) → l ≤ j + k → Follows a j b → Follows b k c → Follows a l c
-chained a b c j k l le first second = record {
-  frame = second.frame ∙ first.frame;
-  names = second.names ∙ first.names;
-  values = λ bits. second.values bits ∙ first.values bits;
-  count = let x = first.count in let y = second.count in omega arith;
-}
 
 -- a graph after a proposal that saves
 pub applied_follows : (was now : Graph) (r : Replacement) → frame_in now.frame ≡ frame_in was.frame → now.frame.names ≡ was.frame.names

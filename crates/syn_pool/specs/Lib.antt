@@ -3,5 +3,4 @@ pub mod Closing
 pub mod Leftovers
 pub mod Following
 pub mod Gains
-pub mod Rounds
 pub mod Laws

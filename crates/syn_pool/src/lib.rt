@@ -1,17 +1,16 @@
-//! A pass over a graph until no proposal of a proposer saves anything.
+//! Proposers, and the check of a graph: that no proposal saves anything, or what those that save make of it.
 #![tactic(auto)]
 
+mod applying;
 mod checking;
 mod choosing;
-mod improving;
+mod gains;
 mod laws;
-mod passing;
 mod proposing;
-mod rounds;
 
+pub use applying::checked;
 pub use checking::leftovers;
-pub use improving::{Improved, Improver, Report, Unimproved};
+pub use gains::{Improved, Report};
 pub use laws::{closed_saves_nothing, first_of_parts};
-pub use passing::pass;
 pub use proposing::{Proposer, saves, saves_bounded};
 pub use syn_gain::owned;

@@ -9,19 +9,22 @@ ghost use Rattle.syn_rewrite.specs.Rewriting.{rewritings};
 use crate::CutPlans;
 use std::alloc::{AllocError, Global};
 use std::thread::Threads;
+use syn_commit::Gate;
 use syn_graph::Graph;
-use syn_pool::{Unimproved, pass};
+use syn_pass::pass;
 
 /// Rewrites a graph until no proposal of rewriting for any of its ANDs saves: the same frame, the same values of the
-/// observed signals, and no more ANDs. Up to `workers` threads list cuts and look at proposals; the graph is the same
-/// for every number of them. With `zero` proposals that save nothing would be let through before the graph is checked;
-/// here all that is applied saves, and it changes nothing. Where memory is refused, the same graph comes back.
-pub fn rewrite<R: Threads + Sync>(
+/// observed signals, and no more ANDs. Up to `workers` threads list cuts, commit proposals, and look at proposals again:
+/// with one the graph is the same each time, with several it may depend on which commits first. With `zero` proposals that
+/// save nothing are let through before the graph is checked. The gate is told of each commit. Where memory is refused, the
+/// same graph comes back.
+pub fn rewrite<R: Threads + Sync, G: Gate>(
     rt: &R,
     alloc: Global,
     graph: Graph,
     workers: u8,
-    _zero: bool,
+    zero: bool,
+    gate: &G,
 ) -> Result<Graph, (Graph, AllocError)>
     ensures frame { IfOk result (λ g. frame_in g.frame ≡ frame_in graph.frame) }
     ensures names { IfOk result (λ g. g.frame.names ≡ graph.frame.names) }
@@ -34,7 +37,7 @@ pub fn rewrite<R: Threads + Sync>(
         Ok(proposer) => proposer,
         Err(error) => return Err((graph, error)),
     };
-    match pass(rt, alloc, graph, &proposer, &Unimproved, workers) {
+    match pass(rt, alloc, graph, &proposer, workers, zero, gate) {
         Ok((rewritten, _report)) => Ok(rewritten),
         Err(refused) => Err(refused),
     }

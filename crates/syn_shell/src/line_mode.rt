@@ -13,6 +13,7 @@ use crate::scripts::{SCRIPT_LIMIT, run_script};
 use crate::session::Session;
 use std::alloc::Global;
 use std::thread::Threads;
+use syn_commit::Gate;
 use syn_io::{Files, LineFault, Lines, Sink};
 
 // The most lines that are run.
@@ -45,13 +46,14 @@ fn first_status(status: u8, next: u8) -> u8
 }
 
 // Takes a line and runs it.
-fn take_turn<R: Threads + Sync, F: Files, L: Lines, O: Sink>(
+fn take_turn<R: Threads + Sync, F: Files, L: Lines, O: Sink, G: Gate>(
     rt: &R,
     alloc: Global,
     session: &mut Session,
     files: &mut F,
     lines: &mut L,
     out: &mut O,
+    gate: &G,
 ) -> Turn
     ensures { Turned result (state session.old (F.disk files.old) (O.screen out.old)) (L.input lines.old)
         (state session.new (F.disk files.new) (O.screen out.new)) (L.input lines.new) }
@@ -61,7 +63,7 @@ fn take_turn<R: Threads + Sync, F: Files, L: Lines, O: Sink>(
         Ok(None) => return Turn::Ends(0),
         Err(cause) => return Turn::Ends(announce(out, &cause, &[]).status()),
     };
-    match run_script(rt, alloc, session, line.as_slice(), files, out) {
+    match run_script(rt, alloc, session, line.as_slice(), files, out, gate) {
         None => Turn::GoesOn(0),
         Some(Announcement::Whole(status)) => Turn::GoesOn(status),
         Some(Announcement::Cut(status)) => Turn::Ends(status),
@@ -80,13 +82,14 @@ fn last_turn<L: Lines, O: Sink>(alloc: Global, lines: &mut L, out: &mut O) -> u8
 }
 
 /// Runs the lines, each as a script, and gives the status of the first refusal, 0 where nothing was refused.
-pub(crate) fn run_lines<R: Threads + Sync, F: Files, L: Lines, O: Sink>(
+pub(crate) fn run_lines<R: Threads + Sync, F: Files, L: Lines, O: Sink, G: Gate>(
     rt: &R,
     alloc: Global,
     workers: u8,
     files: &mut F,
     lines: &mut L,
     out: &mut O,
+    gate: &G,
 ) -> u8
     requires { (1 ≤ workers) × (workers ≤ 16) }
     ensures { (m : Option Network) × RanLines result 0 (state None (F.disk files.old) (O.screen out.old)) (L.input lines.old)
@@ -95,7 +98,7 @@ pub(crate) fn run_lines<R: Threads + Sync, F: Files, L: Lines, O: Sink>(
     let mut session = Session::new(workers);
     let mut status: u8 = 0;
     for _taken in 0..MOST_LINES {
-        match take_turn(rt, alloc, &mut session, files, lines, out) {
+        match take_turn(rt, alloc, &mut session, files, lines, out, gate) {
             Turn::GoesOn(next) => status = first_status(status, next),
             Turn::Ends(next) => return first_status(status, next),
         }

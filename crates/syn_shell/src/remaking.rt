@@ -14,6 +14,7 @@ use crate::refusal::Refusal;
 use std::alloc::Global;
 use std::thread::Threads;
 use syn_build_luts::{BuildFault, build_luts};
+use syn_commit::Gate;
 use syn_graph::Graph;
 use syn_lutnet::LutNet;
 use syn_words::{Command, LutInputs};
@@ -43,12 +44,13 @@ fn balanced(alloc: Global, graph: Graph) -> Result<Kept, (Graph, Refusal)>
 }
 
 // A graph, rewritten by so many workers; refused, the graph as it was.
-fn rewritten<R: Threads + Sync>(
+fn rewritten<R: Threads + Sync, G: Gate>(
     rt: &R,
     alloc: Global,
     graph: Graph,
     workers: u8,
     zero: bool,
+    gate: &G,
 ) -> Result<Kept, (Graph, Refusal)>
     ensures rewritten { IfOk result (λ new. IsClosedFor rewritings (graph_network (graphs.network_of graph)) (network_of new)) }
     ensures refused { IfErr result (λ back. (graphs.network_of back.0 ≡ graphs.network_of graph) × (back.1 ≡ Refusal.NoMemory)) }
@@ -56,19 +58,20 @@ fn rewritten<R: Threads + Sync>(
     syn_shapes::network_of_graph();
     syn_shapes::graph_has_function();
     syn_netlist::same_from_function();
-    match syn_rewrite::rewrite(rt, alloc, graph, workers, zero) {
+    match syn_rewrite::rewrite(rt, alloc, graph, workers, zero, gate) {
         Ok(new) => Ok(Kept::Graph(new)),
         Err((graph, _)) => Err((graph, Refusal::NoMemory)),
     }
 }
 
 // A graph, refactored by so many workers; refused, the graph as it was.
-fn refactored<R: Threads + Sync>(
+fn refactored<R: Threads + Sync, G: Gate>(
     rt: &R,
     alloc: Global,
     graph: Graph,
     workers: u8,
     zero: bool,
+    gate: &G,
 ) -> Result<Kept, (Graph, Refusal)>
     ensures refactored { IfOk result (λ new. IsClosedFor refactorings (graph_network (graphs.network_of graph)) (network_of new)) }
     ensures refused { IfErr result (λ back. (graphs.network_of back.0 ≡ graphs.network_of graph) × (back.1 ≡ Refusal.NoMemory)) }
@@ -76,7 +79,7 @@ fn refactored<R: Threads + Sync>(
     syn_shapes::network_of_graph();
     syn_shapes::graph_has_function();
     syn_netlist::same_from_function();
-    match syn_refactor::refactor(rt, alloc, graph, workers, zero) {
+    match syn_refactor::refactor(rt, alloc, graph, workers, zero, gate) {
         Ok(new) => Ok(Kept::Graph(new)),
         Err((graph, _)) => Err((graph, Refusal::NoMemory)),
     }
@@ -113,12 +116,13 @@ fn workers_of(named: Option<u8>, workers: u8) -> u8 {
 }
 
 // What a command makes of a graph; refused, the graph as it was. A command that makes none leaves it.
-fn remake_graph<R: Threads + Sync>(
+fn remake_graph<R: Threads + Sync, G: Gate>(
     rt: &R,
     alloc: Global,
     command: &Command,
     graph: Graph,
     workers: u8,
+    gate: &G,
 ) -> Result<Kept, (Graph, Refusal)>
     ensures made { IfOk result (λ new. Makes command.now (graph_network (graphs.network_of graph)) (network_of new)) }
     ensures refused { IfErr result (λ back. (graphs.network_of back.0 ≡ graphs.network_of graph) × (back.1 ≡ Refusal.NoMemory)) }
@@ -129,11 +133,11 @@ fn remake_graph<R: Threads + Sync>(
         Command::Rewrite {
             zero,
             workers: named,
-        } => rewritten(rt, alloc, graph, workers_of(*named, workers), *zero),
+        } => rewritten(rt, alloc, graph, workers_of(*named, workers), *zero, gate),
         Command::Refactor {
             zero,
             workers: named,
-        } => refactored(rt, alloc, graph, workers_of(*named, workers), *zero),
+        } => refactored(rt, alloc, graph, workers_of(*named, workers), *zero, gate),
         Command::Map(inputs) => mapped(rt, alloc, graph, inputs, workers),
         Command::Read(_) | Command::Generate { .. } | Command::Stats | Command::Write(_) => {
             Ok(Kept::Graph(graph))
@@ -157,12 +161,13 @@ fn graph_of(alloc: Global, net: &LutNet) -> Result<Graph, Refusal>
 }
 
 // What a command makes of a net of LUTs: what it makes of its graph.
-fn remake_luts<R: Threads + Sync>(
+fn remake_luts<R: Threads + Sync, G: Gate>(
     rt: &R,
     alloc: Global,
     command: &Command,
     net: &LutNet,
     workers: u8,
+    gate: &G,
 ) -> Result<Kept, Refusal>
     requires making { kind_of command.now ≡ Making }
     requires sources { HasFewSources (mapped_network (nets.network_of net.now)) }
@@ -172,7 +177,7 @@ fn remake_luts<R: Threads + Sync>(
 {
     syn_netlist::same_is_transitive();
     let graph = graph_of(alloc, net)?;
-    match remake_graph(rt, alloc, command, graph, workers) {
+    match remake_graph(rt, alloc, command, graph, workers, gate) {
         Ok(new) => Ok(new),
         Err((_, cause)) => Err(cause),
     }
@@ -180,12 +185,13 @@ fn remake_luts<R: Threads + Sync>(
 
 /// What a command that makes the network anew makes of it, with so many workers where it names none; refused, the network
 /// as it was.
-pub(crate) fn remake<R: Threads + Sync>(
+pub(crate) fn remake<R: Threads + Sync, G: Gate>(
     rt: &R,
     alloc: Global,
     command: &Command,
     network: Kept,
     workers: u8,
+    gate: &G,
 ) -> Result<Kept, (Kept, Refusal)>
     requires making { kind_of command.now ≡ Making }
     requires sources { HasFewSources (network_of network) }
@@ -195,11 +201,11 @@ pub(crate) fn remake<R: Threads + Sync>(
     ensures refused { IfErr result (λ back. (network_of back.0 ≡ network_of network) × MakingRefused (Some (network_of network)) back.1) }
 {
     match network {
-        Kept::Graph(graph) => match remake_graph(rt, alloc, command, graph, workers) {
+        Kept::Graph(graph) => match remake_graph(rt, alloc, command, graph, workers, gate) {
             Ok(new) => Ok(new),
             Err((graph, cause)) => Err((Kept::Graph(graph), cause)),
         },
-        Kept::Luts(net) => match remake_luts(rt, alloc, command, &net, workers) {
+        Kept::Luts(net) => match remake_luts(rt, alloc, command, &net, workers, gate) {
             Ok(new) => Ok(new),
             Err(cause) => Err((Kept::Luts(net), cause)),
         },

@@ -10,6 +10,7 @@ use crate::refusal::Refusal;
 use crate::session::Session;
 use std::alloc::Global;
 use std::thread::Threads;
+use syn_commit::Gate;
 use syn_io::{Files, Sink};
 use syn_words::{Command, ScriptFault, parse_script};
 
@@ -58,19 +59,20 @@ fn commands_in(alloc: Global, text: &[u8]) -> Result<Vec<Command>, Refusal>
 }
 
 // The commands one after the other, up to the first that is refused.
-fn run_commands<'a, R: Threads + Sync, F: Files, O: Sink>(
+fn run_commands<'a, R: Threads + Sync, F: Files, O: Sink, G: Gate>(
     rt: &R,
     alloc: Global,
     session: &mut Session,
     commands: &'a [Command],
     files: &mut F,
     out: &mut O,
+    gate: &G,
 ) -> Result<(), Stopped<'a>>
     ensures { RunsCommands commands.now (state session.old (F.disk files.old) (O.screen out.old))
         (outcome_of result) (state session.new (F.disk files.new) (O.screen out.new)) }
 {
     for command in commands {
-        if let Err(cause) = session.step(rt, alloc, command, files, out) {
+        if let Err(cause) = session.step(rt, alloc, command, files, out, gate) {
             return Err(stopped_at(command, cause));
         }
     }
@@ -78,13 +80,14 @@ fn run_commands<'a, R: Threads + Sync, F: Files, O: Sink>(
 }
 
 /// Runs a script and tells its refusal, if there is one.
-pub(crate) fn run_script<R: Threads + Sync, F: Files, O: Sink>(
+pub(crate) fn run_script<R: Threads + Sync, F: Files, O: Sink, G: Gate>(
     rt: &R,
     alloc: Global,
     session: &mut Session,
     text: &[u8],
     files: &mut F,
     out: &mut O,
+    gate: &G,
 ) -> Option<Announcement>
     ensures { Leaves result text.now (state session.old (F.disk files.old) (O.screen out.old))
         (state session.new (F.disk files.new) (O.screen out.new)) }
@@ -93,7 +96,7 @@ pub(crate) fn run_script<R: Threads + Sync, F: Files, O: Sink>(
         Ok(commands) => commands,
         Err(cause) => return Some(announce(out, &cause, &[])),
     };
-    match run_commands(rt, alloc, session, commands.as_slice(), files, out) {
+    match run_commands(rt, alloc, session, commands.as_slice(), files, out, gate) {
         Ok(()) => None,
         Err(stopped) => Some(announce(out, &stopped.cause, stopped.name)),
     }

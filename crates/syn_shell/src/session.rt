@@ -21,6 +21,7 @@ use std::alloc::{AllocError, Global};
 use std::marker::Model;
 use std::thread::Threads;
 use syn_build::{build, build_checked};
+use syn_commit::Gate;
 use syn_graph::Graph;
 use syn_hierarchy::FileFault;
 use syn_io::{Files, GetFault, PutFault, Sink};
@@ -152,11 +153,12 @@ impl Session {
     }
 
     // Makes the network anew.
-    fn make<R: Threads + Sync>(
+    fn make<R: Threads + Sync, G: Gate>(
         &mut self,
         rt: &R,
         alloc: Global,
         command: &Command,
+        gate: &G,
     ) -> Result<(), Refusal>
         requires { kind_of command.now ≡ Making }
         ensures made { OnOk result (Remakes command.now self.old self.new) }
@@ -165,7 +167,7 @@ impl Session {
         let Some(network) = self.network.take() else {
             return Err(Refusal::NoNetwork);
         };
-        match remake(rt, alloc, command, network, self.workers) {
+        match remake(rt, alloc, command, network, self.workers, gate) {
             Ok(new) => {
                 self.network = Some(new);
                 Ok(())
@@ -177,14 +179,15 @@ impl Session {
         }
     }
 
-    /// Does one command. Refused, it leaves the network.
-    pub fn step<R: Threads + Sync, F: Files, O: Sink>(
+    /// Does one command. Refused, it leaves the network. The gate is told of each commit of rewriting and refactoring.
+    pub fn step<R: Threads + Sync, F: Files, O: Sink, G: Gate>(
         &mut self,
         rt: &R,
         alloc: Global,
         command: &Command,
         files: &mut F,
         out: &mut O,
+        gate: &G,
     ) -> Result<(), Refusal>
         ensures { SessionStep command.now (state self.old (F.disk files.old) (O.screen out.old)) result (state self.new (F.disk files.new) (O.screen out.new)) }
     {
@@ -211,7 +214,7 @@ impl Session {
             | Command::Balance
             | Command::Rewrite { .. }
             | Command::Refactor { .. }
-            | Command::Map(_) => self.make(rt, alloc, command),
+            | Command::Map(_) => self.make(rt, alloc, command, gate),
         }
     }
 }

@@ -13,35 +13,38 @@ use crate::scripts::run_script;
 use crate::session::Session;
 use std::alloc::Global;
 use std::thread::Threads;
+use syn_commit::Gate;
 use syn_io::{Files, Lines, Sink};
 
 // Runs one script, and gives the status of its refusal, 0 where nothing was refused.
-fn run_one<R: Threads + Sync, F: Files, O: Sink>(
+fn run_one<R: Threads + Sync, F: Files, O: Sink, G: Gate>(
     rt: &R,
     alloc: Global,
     workers: u8,
     text: &[u8],
     files: &mut F,
     out: &mut O,
+    gate: &G,
 ) -> u8
     requires { (1 ≤ workers) × (workers ≤ 16) }
     ensures { RanOne result text.now (F.disk files.old) (O.screen out.old) (F.disk files.new) (O.screen out.new) }
 {
     let mut session = Session::new(workers);
-    match run_script(rt, alloc, &mut session, text, files, out) {
+    match run_script(rt, alloc, &mut session, text, files, out, gate) {
         None => 0,
         Some(announcement) => announcement.status(),
     }
 }
 
 // Runs what the words mean.
-fn run_words<R: Threads + Sync, F: Files, L: Lines, O: Sink>(
+fn run_words<R: Threads + Sync, F: Files, L: Lines, O: Sink, G: Gate>(
     rt: &R,
     alloc: Global,
     words: &[String],
     files: &mut F,
     lines: &mut L,
     out: &mut O,
+    gate: &G,
 ) -> u8
     ensures ran { Ran (map string_bytes words.now) (F.disk files.old) (O.screen out.old) (L.input lines.old)
         (F.disk files.new) (O.screen out.new) (L.input lines.new) result }
@@ -51,8 +54,16 @@ fn run_words<R: Threads + Sync, F: Files, L: Lines, O: Sink>(
         Err(cause) => return announce(out, &cause, &[]).status(),
     };
     match asked.script {
-        None => run_lines(rt, alloc, asked.workers, files, lines, out),
-        Some(script) => run_one(rt, alloc, asked.workers, script.as_bytes(), files, out),
+        None => run_lines(rt, alloc, asked.workers, files, lines, out, gate),
+        Some(script) => run_one(
+            rt,
+            alloc,
+            asked.workers,
+            script.as_bytes(),
+            files,
+            out,
+            gate,
+        ),
     }
 }
 
@@ -64,13 +75,14 @@ fn run_words<R: Threads + Sync, F: Files, L: Lines, O: Sink>(
 /// A status of 7 comes only where a call of the files, of the lines or of the sink failed. Where the words are well
 /// formed, scripts and lines are within their limits and spell commands, what each command needs is there in the state
 /// in which it is run, and no such call failed, the status is 0, or 8 for want of memory.
-pub fn run<R: Threads + Sync, F: Files, L: Lines, O: Sink>(
+pub fn run<R: Threads + Sync, F: Files, L: Lines, O: Sink, G: Gate>(
     rt: &R,
     alloc: Global,
     words: &[String],
     files: &mut F,
     lines: &mut L,
     out: &mut O,
+    gate: &G,
 ) -> u8
     ensures ran { Ran (map string_bytes words.now) (F.disk files.old) (O.screen out.old) (L.input lines.old)
         (F.disk files.new) (O.screen out.new) (L.input lines.new) result }
@@ -81,5 +93,5 @@ pub fn run<R: Threads + Sync, F: Files, L: Lines, O: Sink>(
     ensures complete { IsComplete (map string_bytes words.now) (F.disk files.old) (O.screen out.old) (L.input lines.old) (F.disk files.new) (O.screen out.new) (L.input lines.new) result }
 {
     syn_hierarchy::not_both();
-    run_words(rt, alloc, words, files, lines, out)
+    run_words(rt, alloc, words, files, lines, out, gate)
 }

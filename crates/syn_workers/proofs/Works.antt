@@ -9,7 +9,7 @@ use Rattle.syn_decide.specs.Fold.{decided}
 use Rattle.syn_decide.specs.Tasks.{Task}
 use Rattle.syn_table.specs.declared.Known.{Known}
 use Rattle.syn_core_laws.specs.Splits.{view_after_join}
-use Rattle.syn_pool.specs.declared.improving.Report.{Report}
+use Rattle.syn_pool.specs.declared.gains.Report.{Report}
 use Rattle.syn_table.specs.declared.Seat.{Seat}
 use Rattle.syn_table.specs.declared.Shared.{Shared}
 use Rattle.syn_table.specs.Seating.{IsOf, known_of, view_of}

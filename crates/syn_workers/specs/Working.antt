@@ -1,7 +1,7 @@
 -- Workers at a table, and what their commits leave.
 use Rattle.std.specs.Prelude.{◌≡◌, ◌≤◌, Bool, false, [], pos, ◌+ℤ◌, ◌≤ℤ◌}
 use Rattle.syn_core_laws.specs.declared.View.{View}
-use Rattle.syn_pool.specs.declared.improving.Report.{Report}
+use Rattle.syn_pool.specs.declared.gains.Report.{Report}
 use Rattle.syn_table.specs.declared.Seat.{Seat}
 use Rattle.syn_table.specs.declared.Shared.{Shared}
 use Rattle.syn_table.specs.Seating.{IsOf, known_of, view_of}

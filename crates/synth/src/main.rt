@@ -5,6 +5,7 @@
 use std::alloc::{AllocError, Global};
 use std::process::ExitCode;
 use std::{env, io};
+use syn_commit::OpenGate;
 use syn_io::{RealFiles, RealLines, RealSink};
 
 const NO_MEMORY: u8 = 8;
@@ -45,5 +46,6 @@ fn main(rt: HostRuntime) -> ExitCode {
         &mut files,
         &mut lines,
         &mut out,
+        &OpenGate,
     ))
 }

@@ -2,7 +2,7 @@ use Rattle.std.proofs.Common.{◌+◌, ◌<◌, length, ap, arith}
 use Rattle.std.proofs.lemmas.Bool.{ltb-true}
 use Rattle.syn_rows.specs.declared.TheConstants.{NODE_LIMIT}
 use Rattle.syn_gain.specs.Proposals.{replacement}
-use Rattle.syn_pool.proofs.rounds.has_room.Goals as goal
+use Rattle.syn_pool.proofs.applying.has_room.Goals as goal
 
 pub returns : goal.returns
 returns c = λ room.

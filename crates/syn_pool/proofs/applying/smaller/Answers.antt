@@ -2,7 +2,7 @@ use Rattle.syn_gain.specs.Proposals.{replacement}
 use Rattle.syn_pool.specs.Closing.{SavesSome}
 use Rattle.syn_pool.specs.Sound.{IsSound}
 use Rattle.syn_pool.proofs.Maps.{All-read}
-use Rattle.syn_pool.proofs.rounds.smaller.Goals as goal
+use Rattle.syn_pool.proofs.applying.smaller.Goals as goal
 
 pub returns-then-fewer : goal.returns-then-fewer
 returns-then-fewer c = record {

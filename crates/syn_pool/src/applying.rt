@@ -1,6 +1,6 @@
-//! One round: an improvement, the check, and proposals that save applied.
+//! The check of a graph, and proposals that save applied.
 
-ghost use Rattle.std.specs.Prelude.{◌≡◌, ◌+◌, ◌<◌, ◌≤◌, ℕ, Bool, true, List, All, IfNone, IfOk, IfSome, length};
+ghost use Rattle.std.specs.Prelude.{◌≡◌, ◌+◌, ◌<◌, ◌≤◌, ℕ, true, List, All, IfNone, IfOk, IfSome, length};
 ghost use Rattle.syn_rows.specs.declared.Row.{Row};
 ghost use Rattle.syn_rows.specs.Reach.{is_and};
 ghost use Rattle.syn_rows.specs.Rows.{row_at};
@@ -9,33 +9,17 @@ ghost use Rattle.syn_gain.specs.Replacements.{Replacement, rows_after_by};
 ghost use Rattle.syn_gain.specs.Uses.{IsUsesOf};
 ghost use Rattle.syn_pool.specs.Closing.{Closed, SavesSome};
 ghost use Rattle.syn_pool.specs.Following.{Follows};
-ghost use Rattle.syn_pool.specs.Gains.{IsGain};
-ghost use Rattle.syn_pool.specs.Rounds.{IsRoundOf};
 ghost use Rattle.syn_pool.specs.Sound.{IsSound};
 
+use crate::Proposer;
 use crate::checking::leftovers;
 use crate::choosing::chosen;
-use crate::{Improved, Improver, Proposer, Report};
 use std::alloc::{AllocError, Global};
 use std::thread::Threads;
 use syn_apply::{applied, applied_together};
 use syn_gain::{Proposal, Uses, rows_after_are_few};
 use syn_graph::Graph;
 use syn_rows::NODE_LIMIT;
-
-/// No gain.
-pub(crate) const NOTHING: Report = Report { done: 0, gained: 0 };
-
-/// What a round makes of a graph.
-#[derive(Debug, Drop)]
-pub(crate) enum Round {
-    /// It is closed.
-    Stays,
-    /// This graph in its place is closed.
-    Ends(Graph, Report),
-    /// This graph is in its place, with fewer ANDs.
-    GoesOn(Graph, Report),
-}
 
 // Whether a graph has room for the rows of a plan.
 fn has_room(graph: &Graph, proposal: &Proposal) -> bool
@@ -90,8 +74,10 @@ fn smaller(
     }
 }
 
-// A graph in place of one that is not closed; none where it is closed.
-fn checked<R: Threads + Sync, P: Proposer>(
+/// Looks at every proposal of every AND of a graph, and applies many of those that save together: a graph in place of one
+/// that isn't closed, with fewer ANDs, and none where it is closed. Up to `workers` threads look at proposals; the graph is
+/// the same for every number of them. The only error is want of memory.
+pub fn checked<R: Threads + Sync, P: Proposer>(
     rt: &R,
     alloc: Global,
     graph: &Graph,
@@ -109,60 +95,4 @@ fn checked<R: Threads + Sync, P: Proposer>(
         return Ok(None);
     }
     Ok(Some(smaller(alloc, graph, &uses, found.as_slice())?))
-}
-
-// The check of the given graph, with its lists.
-fn check_given<R: Threads + Sync, P: Proposer>(
-    rt: &R,
-    alloc: Global,
-    graph: &Graph,
-    proposer: &P,
-    lists: &P::Lists,
-    workers: u8,
-) -> Result<Round, AllocError>
-    requires lists { P.is_lists_of proposer.now lists.now graph.now.rows }
-    ensures { (strict : Bool) → IfOk result (IsRoundOf graph.now (P.proposals proposer.now) strict) }
-{
-    match checked(rt, alloc, graph, proposer, lists, workers)? {
-        Some(next) => Ok(Round::GoesOn(next, NOTHING)),
-        None => Ok(Round::Stays),
-    }
-}
-
-// The check of a graph in place of a given one.
-fn check_improved<R: Threads + Sync, P: Proposer>(
-    rt: &R,
-    alloc: Global,
-    graph: &Graph,
-    improved: Improved,
-    proposer: &P,
-    workers: u8,
-) -> Result<Round, AllocError>
-    requires { Follows graph.now improved.report.gained improved.graph }
-    ensures { (strict : Bool) → IsGain strict improved.report → IfOk result (IsRoundOf graph.now (P.proposals proposer.now) strict) }
-{
-    let report = improved.report;
-    let lists = proposer.prepare(rt, alloc, &improved.graph, workers)?;
-    match checked(rt, alloc, &improved.graph, proposer, &lists, workers)? {
-        Some(next) => Ok(Round::GoesOn(next, report)),
-        None => Ok(Round::Ends(improved.graph, report)),
-    }
-}
-
-/// One round on a graph. Where nothing is improved, the graph's nodes are listed once.
-pub(crate) fn one_round<R: Threads + Sync, P: Proposer, I: Improver<P>>(
-    rt: &R,
-    alloc: Global,
-    graph: &Graph,
-    proposer: &P,
-    improver: &I,
-    workers: u8,
-) -> Result<Round, AllocError>
-    ensures { IfOk result (IsRoundOf graph.now (P.proposals proposer.now) (I.strict improver.now)) }
-{
-    let lists = proposer.prepare(rt, alloc, graph, workers)?;
-    match improver.improve(alloc, graph, proposer, &lists)? {
-        Some(improved) => check_improved(rt, alloc, graph, improved, proposer, workers),
-        None => check_given(rt, alloc, graph, proposer, &lists, workers),
-    }
 }

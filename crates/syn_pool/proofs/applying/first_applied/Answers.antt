@@ -3,7 +3,7 @@ use Rattle.syn_gain.specs.Proposals.{replacement_of}
 use Rattle.syn_pool.specs.Closing.{SavesSome}
 use Rattle.syn_pool.proofs.Borrowed.{borrowed_is}
 use Rattle.syn_pool.proofs.Chains.{applied_follows_all}
-use Rattle.syn_pool.proofs.rounds.first_applied.Goals as goal
+use Rattle.syn_pool.proofs.applying.first_applied.Goals as goal
 
 pub returns-then-has_room : goal.returns-then-has_room
 returns-then-has_room c =

@@ -1,11 +1,12 @@
+use Rattle.std.proofs.Common.{not}
 use Rattle.syn_pool.specs.Gains.{IsGain}
 use Rattle.syn_pool.proofs.Maps.{IfSome-at}
-use Rattle.syn_pool.proofs.rounds.one_round.Goals as goal
+use Rattle.syn_pass.proofs.rounds.one_round.Goals as goal
 
 pub returns-in-Some : goal.returns-in-Some
 returns-in-Some g c =
-    let strict = g.I.Improver.strict c.args.improver.now in
+    let strict = not c.args.zero_gain in
     c.check_improved.ensures strict (IfSome-at (λ m. IsGain strict m.report) c.in_ok-improved.field-0 c.in-Some.improved c.in-Some.is c.in_ok-improved.ensures.gain)
 
 pub returns : goal.returns
-returns g c = c.check_given.ensures (g.I.Improver.strict c.args.improver.now)
+returns g c = c.check_given.ensures (not c.args.zero_gain)

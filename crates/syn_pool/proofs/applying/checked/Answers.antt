@@ -5,7 +5,7 @@ use Rattle.syn_gain.specs.declared.proposals.Proposal.{Proposal}
 use Rattle.syn_gain.specs.Proposals.{replacement}
 use Rattle.syn_pool.specs.Closing.{SavesSome}
 use Rattle.syn_pool.specs.Sound.{IsSound}
-use Rattle.syn_pool.proofs.rounds.checked.Goals as goal
+use Rattle.syn_pool.proofs.applying.checked.Goals as goal
 
 pub smaller-requires-clause-ands : goal.smaller-requires-clause-ands
 smaller-requires-clause-ands g c =

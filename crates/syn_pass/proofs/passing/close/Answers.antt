@@ -1,16 +1,16 @@
-use Rattle.std.proofs.Common.{◌+◌, subst, arith}
-use Rattle.syn_pool.specs.Rounds.{IsRoundOf}
-use Rattle.syn_pool.proofs.Chains.{chained}
-use Rattle.syn_pool.proofs.passing.close.Goals as goal
+use Rattle.std.proofs.Common.{◌+◌, not, subst, arith}
+use Rattle.syn_pass.specs.Rounds.{IsRoundOf}
+use Rattle.syn_pass.proofs.Chains.{chained}
+use Rattle.syn_pass.proofs.passing.close.Goals as goal
 
 pub returns-in-Ends-clause-follows : goal.returns-in-Ends-clause-follows
 returns-in-Ends-clause-follows g c =
-    let step = subst (IsRoundOf c.loop-graph.graph (g.P.Proposer.proposals c.args.proposer.now) (g.I.Improver.strict c.args.improver.now)) c.in-Ends.is c.in_ok-one_round.ensures in
+    let step = subst (IsRoundOf c.loop-graph.graph (g.P.Proposer.proposals c.args.proposer.now) (not c.args.zero_gain)) c.in-Ends.is c.in_ok-one_round.ensures in
     let sum = c.both.ensures.gained in
     chained c.args.start.now c.loop-graph.graph c.in-Ends.next c.loop-graph.report.gained c.in-Ends.more.gained c.both.result.gained (omega arith) c.loop-graph.invariant.0 step.0
 
 pub loop-graph-preserved : goal.loop-graph-preserved
 loop-graph-preserved g c =
-    let step = subst (IsRoundOf c.loop-graph.graph (g.P.Proposer.proposals c.args.proposer.now) (g.I.Improver.strict c.args.improver.now)) c.in-GoesOn.is c.in_ok-one_round.ensures in
+    let step = subst (IsRoundOf c.loop-graph.graph (g.P.Proposer.proposals c.args.proposer.now) (not c.args.zero_gain)) c.in-GoesOn.is c.in_ok-one_round.ensures in
     let sum = c.both-report.ensures.gained in
     (chained c.args.start.now c.loop-graph.graph c.in-GoesOn.next c.loop-graph.report.gained (c.in-GoesOn.more.gained + 1) c.both-report.result.gained (omega arith) c.loop-graph.invariant.0 step.0, λ strict. c.both-report.ensures.done (c.loop-graph.invariant.1 strict) (step.1 strict))

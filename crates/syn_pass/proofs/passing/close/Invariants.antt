@@ -1,10 +1,10 @@
-use Rattle.std.proofs.Common.{length}
+use Rattle.std.proofs.Common.{not, length}
 use Rattle.syn_pool.specs.Following.{Follows}
 use Rattle.syn_pool.specs.Gains.{IsGain}
-use Rattle.syn_pool.proofs.passing.close.Given as goal
+use Rattle.syn_pass.proofs.passing.close.Given as goal
 
 abbrev pub invariant-loop-graph : goal.invariant-loop-graph
-invariant-loop-graph g l = Follows l.start l.report.gained l.graph × IsGain (g.I.Improver.strict l.improver) l.report
+invariant-loop-graph g l = Follows l.start l.report.gained l.graph × IsGain (not l.zero_gain) l.report
 
 abbrev pub decreases-loop-graph : goal.decreases-loop-graph
 decreases-loop-graph g l = length l.graph.rows
