@@ -1,0 +1,68 @@
+//! Passes of one and of several workers.
+
+use crate::harness::{
+    Counting, NAND, OBSERVED, ONE, SEVERAL, Told, WORKERS, cones, graph_of, report,
+};
+use std::alloc::Global;
+use std::test::Fail;
+use std::thread::Threads;
+use syn_pass::pass;
+use syn_rewrite::CutPlans;
+
+// What a pass of rewriting with so many workers on the text's graph does.
+fn passed<R: Threads + Sync>(
+    rt: &R,
+    alloc: Global,
+    text: &[u8],
+    workers: u8,
+    zero_gain: bool,
+) -> Told {
+    let graph = graph_of(alloc, text)?;
+    let proposer = CutPlans::new(alloc).ok()?;
+    let gate = Counting::new();
+    match pass(rt, alloc, graph, &proposer, workers, zero_gain, &gate) {
+        Ok((graph, report)) => Some((report, graph.count(), gate.told())),
+        Err(_) => None,
+    }
+}
+
+// Whether a pass leaves so many ANDs, and tells as many commits as the gate was told. Where commits meet, some fail, and the
+// check takes their gains.
+fn leaves(found: Told, ands: u32) -> bool {
+    match found {
+        Some((report, left, told)) => left == ands && report.done == told,
+        None => false,
+    }
+}
+
+#[test]
+fn workers_gain_what_each_cone_saves(rt: HostRuntime) -> Result<(), Fail> {
+    let alloc = rt.alloc();
+    let one = cones(alloc, 1)?;
+    let hundred = cones(alloc, 100)?;
+    for workers in ONE {
+        let found = passed(&rt, alloc, one.as_str().as_bytes(), workers, false);
+        assert_eq!(rt; found, Some((report(1, 1), 2, 1)));
+        let found = passed(&rt, alloc, hundred.as_str().as_bytes(), workers, false);
+        assert_eq!(rt; found, Some((report(100, 100), 200, 100)));
+    }
+    for workers in SEVERAL {
+        let found = passed(&rt, alloc, one.as_str().as_bytes(), workers, false);
+        assert!(rt; leaves(found, 2));
+        let found = passed(&rt, alloc, hundred.as_str().as_bytes(), workers, false);
+        assert!(rt; leaves(found, 200));
+    }
+    Ok(())
+}
+
+#[test]
+fn nothing_is_gained_on_closed_graphs(rt: HostRuntime) {
+    for workers in WORKERS {
+        let none = passed(&rt, rt.alloc(), NAND.as_bytes(), workers, false);
+        assert_eq!(rt; none, Some((report(0, 0), 1, 0)));
+        let again = passed(&rt, rt.alloc(), NAND.as_bytes(), workers, true);
+        assert_eq!(rt; again, Some((report(1, 0), 1, 1)));
+        let observed = passed(&rt, rt.alloc(), OBSERVED.as_bytes(), workers, false);
+        assert_eq!(rt; observed, Some((report(0, 0), 3, 0)));
+    }
+}
