@@ -152,6 +152,40 @@ fn some_saves(
     Ok(false)
 }
 
+// The same of plans that are made here. They are large, and a function fills its locals as it begins: so this one is called
+// only where the plans weren't made before.
+fn some_fitted_saves(
+    alloc: Global,
+    graph: &Graph,
+    uses: &Uses,
+    classes: &Classes,
+    node: u32,
+    leaves: &[u32],
+    function: u16,
+    most: u32,
+    room: &mut Room,
+) -> Result<bool, AllocError>
+    requires uses { IsUsesOf uses.now graph.now }
+    requires node { is_and (row_at graph.now.rows node) ≡ true }
+    requires leaves { AreLeavesOf graph.now.rows node leaves.now }
+    requires function { IsFunctionOver graph.now.rows leaves.now node function }
+    requires most { IsMostLost graph.now.rows (count_in uses.now.counts.items) node [] most }
+    ensures none { IfOk result (λ some. some ≡ false → All (SavesNothing graph.now.rows graph.now.observed) (cut_proposals graph.now.rows node leaves.now)) }
+{
+    let plans = plans_of(classes, function);
+    some_saves(
+        alloc,
+        graph,
+        uses,
+        node,
+        leaves,
+        function,
+        plans.as_slice(),
+        most,
+        room,
+    )
+}
+
 // The same of the plans that were made before, or else are made here.
 fn some_of_function_saves(
     alloc: Global,
@@ -177,17 +211,8 @@ fn some_of_function_saves(
             alloc, graph, uses, node, leaves, function, plans, most, room,
         );
     }
-    let plans = plans_of(classes, function);
-    some_saves(
-        alloc,
-        graph,
-        uses,
-        node,
-        leaves,
-        function,
-        plans.as_slice(),
-        most,
-        room,
+    some_fitted_saves(
+        alloc, graph, uses, classes, node, leaves, function, most, room,
     )
 }
 
