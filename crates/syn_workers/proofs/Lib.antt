@@ -1,3 +1,2 @@
 mod Works
-mod Resting
 mod Leaving

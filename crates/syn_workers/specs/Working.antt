@@ -1,19 +1,12 @@
 -- Workers at a table, and what their commits leave.
-use Rattle.std.specs.Prelude.{◌≡◌, ◌≤◌, Bool, false, [], pos, ◌+ℤ◌, ◌≤ℤ◌}
-use Rattle.syn_core_laws.specs.declared.View.{View}
+use Rattle.std.specs.Prelude.{◌≡◌, ◌≤◌, Bool, false, pos, ◌+ℤ◌, ◌≤ℤ◌}
 use Rattle.syn_pool.specs.declared.gains.Report.{Report}
 use Rattle.syn_table.specs.declared.Seat.{Seat}
 use Rattle.syn_table.specs.declared.Shared.{Shared}
 use Rattle.syn_table.specs.Seating.{IsOf, known_of, view_of}
 use Rattle.syn_table.specs.Steps.{with_view}
-use Rattle.syn_commit.specs.Giving.{HoldsAlone}
+use Rattle.syn_commit.specs.Giving.{HoldsAlone, IsAtRest}
 use Rattle.syn_workers.specs.declared.Worker.{Worker}
-
--- the seat holds and pins nothing, and nothing is on its zero list
-pub record IsAtRest (v : View) : Type 0 where
-  pub held : v.held ≡ []
-  pub pins : v.pins ≡ []
-  pub idle : v.idle ≡ []
 
 -- the seat is one of this table, it holds its spare nodes alone, and nothing is pinned
 pub record IsAtWork (shared : Shared) (w : Worker) : Type 0 where

@@ -3,7 +3,7 @@
 ghost use Rattle.std.specs.Prelude.{◌≡◌, ◌+◌, ◌<◌, length, IfOk};
 ghost use Rattle.syn_rows.specs.declared.TheConstants.{NODE_LIMIT};
 ghost use Rattle.syn_table.specs.Seating.{IsOf, graph_of, known_of, spare_of, view_of};
-ghost use Rattle.syn_workers.specs.Working.{IsAtRest};
+ghost use Rattle.syn_commit.specs.Giving.{IsAtRest};
 ghost use Rattle.syn_workers.specs.Closing.{IsLeft};
 
 use std::alloc::{AllocError, Global};

@@ -5,7 +5,8 @@ ghost use Rattle.syn_rows.specs.declared.TheConstants.{NODE_LIMIT};
 ghost use Rattle.syn_pool.specs.Following.{Follows};
 ghost use Rattle.syn_pool.specs.Gains.{IsGain};
 ghost use Rattle.syn_table.specs.Seating.{IsOf, known_of, nodes_of, view_of};
-ghost use Rattle.syn_workers.specs.Working.{HasSwept, IsAtRest};
+ghost use Rattle.syn_commit.specs.Giving.{IsAtRest};
+ghost use Rattle.syn_workers.specs.Working.{HasSwept};
 
 use crate::closing::close;
 use crate::opening::{SPARE, gates_of, noted, opened};

@@ -4,7 +4,8 @@ ghost use Rattle.std.specs.Prelude.{◌≡◌, ◌+◌, ◌*◌, ◌<◌, ◌≤
 ghost use Rattle.std.specs.Thread.{IsSync};
 ghost use Rattle.syn_table.specs.Seating.{IsOf, known_of, nodes_of, view_of};
 ghost use Rattle.syn_table.specs.Splitting.{with_joined};
-ghost use Rattle.syn_workers.specs.Working.{HasSwept, IsAtRest};
+ghost use Rattle.syn_commit.specs.Giving.{IsAtRest};
+ghost use Rattle.syn_workers.specs.Working.{HasSwept};
 
 use crate::Worker;
 use crate::opening::SPARE;

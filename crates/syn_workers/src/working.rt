@@ -3,7 +3,8 @@
 ghost use Rattle.std.specs.Prelude.{◌≡◌, ◌+◌, ◌≤◌};
 ghost use Rattle.syn_table.specs.Seating.{IsOf, known_of, nodes_of, view_of};
 ghost use Rattle.syn_table.specs.Steps.{with_view};
-ghost use Rattle.syn_workers.specs.Working.{IsAtRest, IsAtWork};
+ghost use Rattle.syn_commit.specs.Giving.{IsAtRest};
+ghost use Rattle.syn_workers.specs.Working.{IsAtWork};
 
 use crate::Worker;
 use syn_commit::Pool;

@@ -1,5 +1,5 @@
 use Rattle.syn_table.specs.Seating.{view_of}
-use Rattle.syn_workers.proofs.Resting.{at_rest}
+use Rattle.syn_commit.proofs.Resting.{at_rest}
 use Rattle.syn_workers.proofs.Worker.stop.Goals as goal
 
 pub returns-clause-rest : goal.returns-clause-rest
