@@ -29,7 +29,7 @@ fn both(first: Report, second: Report) -> Report
     }
 }
 
-// Rounds on a graph in place of another, until it is closed.
+// Rounds on a graph in place of another, until it is closed. Workers commit in them only where gains of 0 are let through.
 fn close<R: Threads + Sync, P: Proposer, G: Gate>(
     rt: &R,
     alloc: Global,
@@ -51,7 +51,9 @@ fn close<R: Threads + Sync, P: Proposer, G: Gate>(
     let mut graph = graph;
     let mut report = report;
     loop {
-        match one_round(rt, alloc, &graph, proposer, workers, zero_gain, gate)? {
+        match one_round(
+            rt, alloc, &graph, proposer, workers, zero_gain, zero_gain, gate,
+        )? {
             Round::Stays => return Ok((graph, report)),
             Round::Ends(next, more) => return Ok((next, both(report, more))),
             Round::GoesOn(next, more) => {
@@ -62,7 +64,7 @@ fn close<R: Threads + Sync, P: Proposer, G: Gate>(
     }
 }
 
-// A closed graph in place of the given one; none where that is closed.
+// A closed graph in place of the given one; none where that is closed. Workers commit in the first round.
 fn closed<R: Threads + Sync, P: Proposer, G: Gate>(
     rt: &R,
     alloc: Global,
@@ -75,7 +77,7 @@ fn closed<R: Threads + Sync, P: Proposer, G: Gate>(
     ensures some { IfOk result (λ made. IfSome made (λ r. Follows graph.now r.1.gained r.0 × Closed r.0.rows r.0.observed (P.proposals proposer.now r.0.rows) × IsGain (not zero_gain) r.1)) }
     ensures none { IfOk result (λ made. IfNone made (Closed graph.now.rows graph.now.observed (P.proposals proposer.now graph.now.rows))) }
 {
-    match one_round(rt, alloc, graph, proposer, workers, zero_gain, gate)? {
+    match one_round(rt, alloc, graph, proposer, workers, true, zero_gain, gate)? {
         Round::Stays => Ok(None),
         Round::Ends(next, report) => Ok(Some((next, report))),
         Round::GoesOn(next, report) => {
@@ -86,10 +88,10 @@ fn closed<R: Threads + Sync, P: Proposer, G: Gate>(
     }
 }
 
-/// Lets workers commit proposals on a graph, checks it, and applies proposals that save, again and again until none saves:
-/// the same frame, the same values of the observed signals, fewer ANDs by at least what the report says, and closed. The
-/// report has what the workers' commits did and gained, and nothing of what the checks found. Commits of gain 0 are let
-/// through where `zero_gain` is true. The gate is told of each commit. Where memory is refused, the same graph comes back.
+/// Lets workers commit proposals on a graph, and then checks it and applies proposals that save, again and again until none
+/// saves: the same frame, the same values of the observed signals, fewer ANDs by at least what the report says, and closed.
+/// The report has what the workers' commits did and gained, and nothing of what the checks found. Where `zero_gain` is true,
+/// commits of gain 0 are let through, and workers commit again before each check. The gate is told of each commit. Where memory is refused, the same graph comes back.
 pub fn pass<R: Threads + Sync, P: Proposer, G: Gate>(
     rt: &R,
     alloc: Global,

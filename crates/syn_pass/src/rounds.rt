@@ -67,20 +67,24 @@ fn check_improved<R: Threads + Sync, P: Proposer>(
     }
 }
 
-/// One round on a graph: workers commit, and the graph that they leave is checked. Where it has no room for them, the given
-/// graph is checked, with the lists that were made for them.
+/// One round on a graph: workers commit, if they are to, and the graph that they leave is checked. Where they are not to, or
+/// the graph has no room for them, the given graph is checked.
 pub(crate) fn one_round<R: Threads + Sync, P: Proposer, G: Gate>(
     rt: &R,
     alloc: Global,
     graph: &Graph,
     proposer: &P,
     workers: u8,
+    commits: bool,
     zero_gain: bool,
     gate: &G,
 ) -> Result<Round, AllocError>
     ensures { IfOk result (IsRoundOf graph.now (P.proposals proposer.now) (not zero_gain)) }
 {
     let lists = proposer.prepare(rt, alloc, graph, workers)?;
+    if !commits {
+        return check_given(rt, alloc, graph, proposer, &lists, workers);
+    }
     match round(rt, alloc, graph, proposer, &lists, gate, workers, zero_gain)? {
         Some(improved) => check_improved(rt, alloc, graph, improved, proposer, workers),
         None => check_given(rt, alloc, graph, proposer, &lists, workers),

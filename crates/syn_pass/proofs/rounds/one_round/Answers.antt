@@ -8,5 +8,8 @@ returns-in-Some g c =
     let strict = not c.args.zero_gain in
     c.check_improved.ensures strict (IfSome-at (λ m. IsGain strict m.report) c.in_ok-improved.field-0 c.in-Some.improved c.in-Some.is c.in_ok-improved.ensures.gain)
 
+pub returns-then-not-commits : goal.returns-then-not-commits
+returns-then-not-commits g c = c.check_given.ensures (not c.args.zero_gain)
+
 pub returns : goal.returns
-returns g c = c.check_given.ensures (not c.args.zero_gain)
+returns g c = c.check_given-in-None.ensures (not c.args.zero_gain)
