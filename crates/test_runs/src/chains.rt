@@ -129,14 +129,6 @@ fn takes_a_chain_of_ands(rt: HostRuntime) -> Result<(), Fail> {
             "m : i/o = 2/1 lat = 0 and = 1 lev = 1\n",
         ),
         (
-            "read_blif a; rewrite; ps",
-            "m : i/o = 2/1 lat = 0 and = 1 lev = 1\n",
-        ),
-        (
-            "read_blif a; resyn2; ps",
-            "m : i/o = 2/1 lat = 0 and = 1 lev = 1\n",
-        ),
-        (
             "read_blif a; if; ps",
             "m : i/o = 2/1 lat = 0 lut = 1 lev = 1\n",
         ),
@@ -147,6 +139,43 @@ fn takes_a_chain_of_ands(rt: HostRuntime) -> Result<(), Fail> {
             "{script}"
         );
     }
+    Ok(())
+}
+
+// The same by the commands that take longest, each in a test of its own.
+#[test]
+fn rewrites_a_chain_of_ands(rt: HostRuntime) -> Result<(), Fail> {
+    let alloc = rt.alloc();
+    let text = ands(alloc)?;
+    let printed = "m : i/o = 2/1 lat = 0 and = 1 lev = 1\n";
+    assert!(rt;
+        ends(
+            &rt,
+            alloc,
+            "read_blif a; rewrite; ps",
+            text.as_slice(),
+            printed,
+            None
+        )?
+    );
+    Ok(())
+}
+
+#[test]
+fn runs_resyn2_on_a_chain_of_ands(rt: HostRuntime) -> Result<(), Fail> {
+    let alloc = rt.alloc();
+    let text = ands(alloc)?;
+    let printed = "m : i/o = 2/1 lat = 0 and = 1 lev = 1\n";
+    assert!(rt;
+        ends(
+            &rt,
+            alloc,
+            "read_blif a; resyn2; ps",
+            text.as_slice(),
+            printed,
+            None
+        )?
+    );
     Ok(())
 }
 
@@ -169,10 +198,6 @@ fn takes_a_wide_table(rt: HostRuntime) -> Result<(), Fail> {
             "read_blif a; if; ps",
             "m : i/o = 100000/1 lat = 0 lut = 20000 lev = 20000\n",
         ),
-        (
-            "read_blif a; resyn2; ps",
-            "m : i/o = 100000/1 lat = 0 and = 99999 lev = 17\n",
-        ),
     ];
     for (script, printed) in rows {
         assert!(rt;
@@ -180,5 +205,23 @@ fn takes_a_wide_table(rt: HostRuntime) -> Result<(), Fail> {
             "{script}"
         );
     }
+    Ok(())
+}
+
+#[test]
+fn runs_resyn2_on_a_wide_table(rt: HostRuntime) -> Result<(), Fail> {
+    let alloc = rt.alloc();
+    let text = wide(alloc, 100_000)?;
+    let printed = "m : i/o = 100000/1 lat = 0 and = 99999 lev = 17\n";
+    assert!(rt;
+        ends(
+            &rt,
+            alloc,
+            "read_blif a; resyn2; ps",
+            text.as_slice(),
+            printed,
+            None
+        )?
+    );
     Ok(())
 }

@@ -6,6 +6,8 @@
 #![tactic(auto)]
 
 #[cfg(test)]
+mod contending;
+#[cfg(test)]
 mod harness;
 #[cfg(test)]
 mod passes;
