@@ -63,7 +63,8 @@ impl From<AllocError> for StepFault {
     }
 }
 
-/// A state has the seats that can be read from it.
+/// An event is allowed just where its seat is there and has a number below 64, its node is there,
+/// and the event's own condition holds at that seat.
 pub fn seats_are_read()
     ensures { SeatsAreRead }
 {}
