@@ -10,5 +10,6 @@ pub mod Hitting
 pub mod Counting
 pub mod LeafTables
 pub mod Steps
+pub mod Sweeping
 pub mod Fitting
 pub mod Enough

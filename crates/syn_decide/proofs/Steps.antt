@@ -41,21 +41,21 @@ of_each P row.Source k = tt
 of_each P (row.And x y) k = (k (node_of x), k (node_of y))
 of_each P (row.Alias x) k = k (node_of x)
 
-row_stays : (V W : ℕ → Option Bool) → Keeps V W → (r : Row) (b : Bool) → value_of_row V r ≡ Some b → value_of_row W r ≡ Some b
+pub row_stays : (V W : ℕ → Option Bool) → Keeps V W → (r : Row) (b : Bool) → value_of_row V r ≡ Some b → value_of_row W r ≡ Some b
 row_stays V W k r b h = row_moves V W r b (of_each (λ m. (c : Bool) → V m ≡ Some c → W m ≡ Some c) r k) h
 
-known_stays : (V W : ℕ → Option Bool) → Keeps V W → (o : Option Row) (b : Bool) → known_value V o ≡ Some b → known_value W o ≡ Some b
+pub known_stays : (V W : ℕ → Option Bool) → Keeps V W → (o : Option Row) (b : Bool) → known_value V o ≡ Some b → known_value W o ≡ Some b
 known_stays V W k None b h = absurd (none-some b h)
 known_stays V W k (Some r) b h = row_stays V W k r b h
 
 -- a value by rows of two numbers of steps: a leaf and node 0 have it by any
-open_stays : (p q x : Bool) (v w : Option Bool) (b : Bool) → (v ≡ Some b → w ≡ Some b)
+pub open_stays : (p q x : Bool) (v w : Option Bool) (b : Bool) → (v ≡ Some b → w ≡ Some b)
     → (if p then Some x else (if q then Some false else v)) ≡ Some b → (if p then Some x else (if q then Some false else w)) ≡ Some b
 open_stays true q x v w b f h = h
 open_stays false true x v w b f h = h
 open_stays false false x v w b f h = f h
 
-one_step : (known : ℕ → Option Row) (over : List ℕ) (choice : ℕ → Bool) (k : ℕ) → Keeps (value_by known over choice k) (value_by known over choice (suc k))
+pub one_step : (known : ℕ → Option Row) (over : List ℕ) (choice : ℕ → Bool) (k : ℕ) → Keeps (value_by known over choice k) (value_by known over choice (suc k))
 one_step known over choice zero n b h = open_stays (has_node over n) (n == 0) (choice n) None (known_value (value_by known over choice 0) (known n)) b (λ e. absurd (none-some b e)) h
 one_step known over choice (suc k) n b h =
     open_stays (has_node over n) (n == 0) (choice n) (known_value (value_by known over choice k) (known n)) (known_value (value_by known over choice (suc k)) (known n)) b

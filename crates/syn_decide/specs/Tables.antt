@@ -1,11 +1,11 @@
--- Tables of inner rows, found in rounds: a table for each inner row, or none where it has no value by so many rows.
+-- Tables of inner rows: one for each, or none where the row has none yet, made one after the other or found in rounds.
 use Rattle.std.specs.Prelude.{◌≡◌, ℕ, zero, suc, ◌==◌, if◌then◌else◌, Bool, true, false, All, List, [], ◌∷◌, Option, Some, None}
 use Rattle.syn_rows.specs.declared.Row.{Row}
 use Rattle.syn_truth.specs.declared.Truth.{Truth}
 use Rattle.syn_truth.specs.Truth.{AtEach, value_of}
+use Rattle.syn_rows.specs.Nodes.{has_node}
 use Rattle.syn_core_laws.specs.SameValue.{known_value, value_by, value_of_row}
 use Rattle.syn_decide.specs.declared.decisions.NodeRow.{NodeRow}
-use Rattle.syn_decide.specs.declared.decisions.NodeTable.{NodeTable}
 use Rattle.syn_decide.specs.declared.decisions.Comparison.{Comparison}
 use Rattle.syn_decide.specs.declared.decisions.Comparison.TheVariants.{Circle, Same, Differs}
 use Rattle.syn_decide.specs.Tasks.{Task}
@@ -17,10 +17,15 @@ abbrev pub value_in : List Bool → Option Truth → Option Bool
 value_in xs None = None
 value_in xs (Some t) = Some (value_of t xs)
 
--- the table of a node among those that have one
-abbrev pub table_among : List NodeTable → ℕ → Option Truth
-table_among [] n = None
-table_among (t ∷ tables) n = if t.node == n then t.table else table_among tables n
+-- the table of the first of the inner rows that is the node's, where each row has a table or none
+abbrev pub table_for : List NodeRow → List (Option Truth) → ℕ → Option Truth
+table_for [] tables n = None
+table_for (r ∷ inner) [] n = None
+table_for (r ∷ inner) (t ∷ tables) n = if r.node == n then t else table_for inner tables n
+
+-- the value of a node by these tables, where the leaves have these values
+abbrev pub node_value : List NodeRow → List ℕ → List (Option Truth) → List Bool → ℕ → Option Bool
+node_value inner leaves tables xs n = if has_node leaves n then Some (leaf_value leaves xs n) else if n == 0 then Some false else value_in xs (table_for inner tables n)
 
 -- the value of a node by at most so many rows, where the leaves have these values
 abbrev pub value_after : List NodeRow → List ℕ → List Bool → ℕ → ℕ → Option Bool
@@ -37,24 +42,28 @@ HasVars vars None = Unit {0}
 HasVars vars (Some t) = t.vars ≡ vars
 
 -- each table is of so many variables
-abbrev pub AllVars : ℕ → List NodeTable → Type 0
-AllVars vars tables = All (λ t. HasVars vars t.table) tables
+abbrev pub AllVars : ℕ → List (Option Truth) → Type 0
+AllVars vars tables = All (HasVars vars) tables
 
--- the table of a row by the values of the nodes after so many rows
-pub record IsRowTable (vars : ℕ) (leaves : List ℕ) (inner : List NodeRow) (steps : ℕ) (row : Row) (table : Option Truth) : Type 0 where
-  pub values : AtEach vars (λ xs. value_in xs table ≡ value_of_row (value_after inner leaves xs steps) row)
+-- the table of a row by those of its nodes
+pub record IsRowTable (vars : ℕ) (leaves : List ℕ) (inner : List NodeRow) (tables : List (Option Truth)) (row : Row) (table : Option Truth) : Type 0 where
+  pub values : AtEach vars (λ xs. value_in xs table ≡ value_of_row (node_value inner leaves tables xs) row)
 
--- the table of a node
+-- the table of a node by so many rows
 pub record IsNodeTable (vars : ℕ) (leaves : List ℕ) (inner : List NodeRow) (steps n : ℕ) (table : Option Truth) : Type 0 where
   pub values : AtEach vars (λ xs. value_in xs table ≡ value_after inner leaves xs steps n)
 
 -- the tables of the inner rows after so many rounds
-pub record IsRound (vars : ℕ) (leaves : List ℕ) (inner : List NodeRow) (steps : ℕ) (tables : List NodeTable) : Type 0 where
-  pub values : (n : ℕ) → AtEach vars (λ xs. value_in xs (table_among tables n) ≡ inner_value inner leaves xs steps n)
+pub record IsRound (vars : ℕ) (leaves : List ℕ) (inner : List NodeRow) (steps : ℕ) (tables : List (Option Truth)) : Type 0 where
+  pub values : (n : ℕ) → AtEach vars (λ xs. value_in xs (table_for inner tables n) ≡ inner_value inner leaves xs steps n)
+
+-- Tables of which so many were made, one after the other: each value in one of them is that of its row by as many rows.
+pub record IsMade (vars : ℕ) (leaves : List ℕ) (inner : List NodeRow) (steps : ℕ) (tables : List (Option Truth)) : Type 0 where
+  pub values : (n : ℕ) → AtEach vars (λ xs. (b : Bool) → value_in xs (table_for inner tables n) ≡ Some b → inner_value inner leaves xs steps n ≡ Some b)
 
 -- An entry is that of an inner row after one round more.
-abbrev pub IsEntry : ℕ → List ℕ → List NodeRow → ℕ → NodeRow → NodeTable → Type 0
-IsEntry vars leaves inner steps r t = (t.node ≡ r.node) × IsRowTable vars leaves inner steps r.row t.table
+abbrev pub IsEntry : ℕ → List ℕ → List NodeRow → List (Option Truth) → NodeRow → Option Truth → Type 0
+IsEntry vars leaves inner tables r table = IsRowTable vars leaves inner tables r.row table
 
 -- A comparison says what the definition says.
 abbrev pub IsCompared : Task → List NodeRow → Comparison → Type 0

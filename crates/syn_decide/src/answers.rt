@@ -202,6 +202,7 @@ fn freed_by(inner: &[NodeRow], hits: &[NodeRow], counts: &[u32]) -> u32
 }
 
 // The answer after the last count.
+#[inline(never)]
 fn conclude(
     attempt: &Attempt<'_>,
     inner: &[NodeRow],

@@ -23,7 +23,7 @@ use syn_gain::Proposal;
 use syn_plan::MOST_GATES;
 use syn_rows::Row;
 
-/// What is kept of the reads of a commit, inline, with room to reckon in: some thirty thousand bytes, so it is made once and
+/// What is kept of the reads of a commit, inline, with room to reckon in: some fifty thousand bytes, so it is made once and
 /// begun anew for each commit. Contracts see it as the definition's state.
 #[derive(Debug, Drop)]
 pub struct Deciding {
@@ -200,6 +200,7 @@ impl Deciding {
     }
 
     /// What is decided so far.
+    #[inline(always)]
     pub fn wants(&self) -> Decision
         ensures { told result ≡ fold.wants self.now }
     {
@@ -215,6 +216,7 @@ impl Deciding {
 }
 
 // The row of the node that waits next.
+#[inline(always)]
 fn next_row(waiting: &Waiting) -> Decision
     ensures { told result ≡ fold.wanted_row waiting.now }
 {
@@ -225,6 +227,7 @@ fn next_row(waiting: &Waiting) -> Decision
 }
 
 // Its key.
+#[inline(always)]
 fn next_key(waiting: &Waiting) -> Decision
     ensures { told result ≡ fold.wanted_key waiting.now }
 {
@@ -235,6 +238,7 @@ fn next_key(waiting: &Waiting) -> Decision
 }
 
 // The count of the first inner row that has none.
+#[inline(always)]
 fn next_count(inner: &[NodeRow], counts: &[u32]) -> Decision
     ensures { told result ≡ fold.wanted_count (drop (length counts.now) inner.now) }
 {

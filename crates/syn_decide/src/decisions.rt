@@ -170,15 +170,6 @@ pub enum Comparison {
     Differs { was: Truth, now: Truth },
 }
 
-/// A node with its table, if it has one.
-#[derive(Clone, Copy, Debug, PartialEq, Eq, Default)]
-pub struct NodeTable {
-    /// The node.
-    pub node: u32,
-    /// Its table.
-    pub table: Option<Truth>,
-}
-
 /// How far the reads of a commit have come.
 #[derive(Clone, Copy, Debug, PartialEq, Eq)]
 pub enum Phase {

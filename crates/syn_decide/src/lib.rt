@@ -8,6 +8,7 @@ mod dying;
 mod laws;
 mod lists;
 mod place;
+mod plans;
 mod rows;
 mod stages;
 mod tables;
@@ -16,8 +17,8 @@ mod walk;
 
 pub use deciding::{Deciding, Reads, decide};
 pub use decisions::{
-    Attempt, Comparison, Counted, Decision, MOST_INNER, MetPair, NodeRow, NodeTable, Outcome,
-    Phase, StaleCause, Want,
+    Attempt, Comparison, Counted, Decision, MOST_INNER, MetPair, NodeRow, Outcome, Phase,
+    StaleCause, Want,
 };
 pub use laws::{
     always_fitting, always_linked, always_walked, counted_are_first, dying_are_least, empty_reads,

@@ -1,12 +1,9 @@
 //! The function of the root by the inner rows, against the plan's.
 
-ghost use Rattle.std.specs.Prelude.{◌≡◌, ◌<◌, ◌≤◌, ◌+◌, ◌^◌, ℕ, max, length, false, true, IfNone, IfSome, Some, take, List};
-ghost use Rattle.syn_decide.specs.declared.decisions.NodeRow.{NodeRow};
+ghost use Rattle.std.specs.Prelude.{◌≡◌, ◌<◌, ◌≤◌, ◌+◌, ◌^◌, ℕ, max, length, false, true, IfNone, IfSome, None, Some, slice_set, All};
 ghost use Rattle.std.specs.List.{AllZip};
-ghost use Rattle.arrayvec.specs.ArrayVec.{array_vec_len};
 ghost use Rattle.syn_truth.specs.declared.TheConstants.{MOST_VARS};
 ghost use Rattle.syn_truth.specs.Truth.{AtEach, value_of};
-ghost use Rattle.syn_plan.specs.Plans.{plan_truth};
 ghost use Rattle.syn_rows.specs.Nodes.{has_node};
 ghost use Rattle.syn_core_laws.specs.SameValue.{both, turned_by};
 ghost use Rattle.syn_rows.specs.Rows.{node_of};
@@ -15,13 +12,17 @@ ghost use Rattle.syn_decide.specs.Functions.{leaf_value};
 ghost use Rattle.syn_decide.specs.Tables as spec;
 ghost use Rattle.syn_decide.specs.Tasks.{task_of};
 
-use crate::{Attempt, Comparison, MOST_INNER, NodeRow, NodeTable};
+use crate::plans::{MOST_TABLES, was_table};
+use crate::{Attempt, Comparison, MOST_INNER, NodeRow};
 use arrayvec::ArrayVec;
-use syn_plan::Plan;
 use syn_rows::{Lit, Row};
 use syn_truth::Truth;
 
+// How often the inner rows are swept. A sweep leaves out a row that refers to one before it, as where paths meet again.
+const MOST_SWEEPS: usize = 4;
+
 // The table of a leaf.
+#[inline(always)]
 fn leaf_table(vars: u8, leaves: &[u32], node: u32) -> Option<Truth>
     requires few { vars ≤ MOST_VARS }
     requires within { length leaves.now ≤ vars }
@@ -38,26 +39,36 @@ fn leaf_table(vars: u8, leaves: &[u32], node: u32) -> Option<Truth>
     None
 }
 
-// The table of a node among those that have one.
-fn table_among(tables: &[NodeTable], node: u32) -> Option<Truth>
-    ensures table { result ≡ spec.table_among tables.now node }
+// The table of the first of the inner rows that is the node's, if there is one.
+#[inline(always)]
+fn table_for(inner: &[NodeRow], tables: &[Option<Truth>], node: u32) -> Option<Truth>
+    requires alike { length tables.now ≡ length inner.now }
+    ensures table { result ≡ spec.table_for inner.now tables.now node }
     ensures vars { (vars : ℕ) → spec.AllVars vars tables.now → spec.HasVars vars result }
 {
-    for t in tables {
-        if t.node == node {
-            return t.table;
+    for (i, r) in inner.iter().enumerate() {
+        if r.node == node {
+            return tables[i];
         }
     }
     None
 }
 
 // The table of a node.
-fn node_table(vars: u8, leaves: &[u32], tables: &[NodeTable], node: u32) -> Option<Truth>
+#[inline(always)]
+fn node_table(
+    vars: u8,
+    leaves: &[u32],
+    inner: &[NodeRow],
+    tables: &[Option<Truth>],
+    node: u32,
+) -> Option<Truth>
     requires few { vars ≤ MOST_VARS }
     requires within { length leaves.now ≤ vars }
+    requires count { length tables.now ≡ length inner.now }
     requires alike { spec.AllVars vars tables.now }
     ensures vars { spec.HasVars vars result }
-    ensures values { (inner : List NodeRow) (steps : ℕ) → spec.IsRound vars leaves.now inner steps tables.now → spec.IsNodeTable vars leaves.now inner steps node result }
+    ensures values { AtEach vars (λ xs. spec.value_in xs result ≡ spec.node_value inner.now leaves.now tables.now xs node) }
 {
     if let Some(table) = leaf_table(vars, leaves, node) {
         return Some(table);
@@ -65,24 +76,33 @@ fn node_table(vars: u8, leaves: &[u32], tables: &[NodeTable], node: u32) -> Opti
     if node == 0 {
         return Some(Truth::constant(vars, false));
     }
-    table_among(tables, node)
+    table_for(inner, tables, node)
 }
 
 // The table of a literal.
-fn literal_table(vars: u8, leaves: &[u32], tables: &[NodeTable], l: Lit) -> Option<Truth>
+#[inline(always)]
+fn literal_table(
+    vars: u8,
+    leaves: &[u32],
+    inner: &[NodeRow],
+    tables: &[Option<Truth>],
+    l: Lit,
+) -> Option<Truth>
     requires few { vars ≤ MOST_VARS }
     requires within { length leaves.now ≤ vars }
+    requires count { length tables.now ≡ length inner.now }
     requires alike { spec.AllVars vars tables.now }
     ensures vars { spec.HasVars vars result }
-    ensures values { (inner : List NodeRow) (steps : ℕ) → spec.IsRound vars leaves.now inner steps tables.now → AtEach vars (λ xs. spec.value_in xs result ≡ turned_by l (spec.value_after inner leaves.now xs steps (node_of l))) }
+    ensures values { AtEach vars (λ xs. spec.value_in xs result ≡ turned_by l (spec.node_value inner.now leaves.now tables.now xs (node_of l))) }
 {
-    match node_table(vars, leaves, tables, l.node()) {
+    match node_table(vars, leaves, inner, tables, l.node()) {
         Some(table) => Some(if l.complemented() { table.not() } else { table }),
         None => None,
     }
 }
 
 // The AND of two tables, if both are there.
+#[inline(always)]
 fn both(vars: u8, first: Option<Truth>, second: Option<Truth>) -> Option<Truth>
     requires first { spec.HasVars vars first }
     requires second { spec.HasVars vars second }
@@ -100,29 +120,39 @@ fn both(vars: u8, first: Option<Truth>, second: Option<Truth>) -> Option<Truth>
 }
 
 // The table of a row.
-fn row_table(vars: u8, leaves: &[u32], tables: &[NodeTable], row: Row) -> Option<Truth>
+#[inline(always)]
+fn row_table(
+    vars: u8,
+    leaves: &[u32],
+    inner: &[NodeRow],
+    tables: &[Option<Truth>],
+    row: Row,
+) -> Option<Truth>
     requires few { vars ≤ MOST_VARS }
     requires within { length leaves.now ≤ vars }
+    requires count { length tables.now ≡ length inner.now }
     requires alike { spec.AllVars vars tables.now }
     ensures vars { spec.HasVars vars result }
-    ensures values { (inner : List NodeRow) (steps : ℕ) → spec.IsRound vars leaves.now inner steps tables.now → spec.IsRowTable vars leaves.now inner steps row result }
+    ensures values { spec.IsRowTable vars leaves.now inner.now tables.now row result }
 {
     match row {
         Row::Free | Row::Source => None,
         Row::And(a, b) => {
-            let first = literal_table(vars, leaves, tables, a);
-            let second = literal_table(vars, leaves, tables, b);
+            let first = literal_table(vars, leaves, inner, tables, a);
+            let second = literal_table(vars, leaves, inner, tables, b);
             both(vars, first, second)
         }
-        Row::Alias(a) => literal_table(vars, leaves, tables, a),
+        Row::Alias(a) => literal_table(vars, leaves, inner, tables, a),
     }
 }
 
-/// The tables of a round, and room for those of the next one. It is kept, since it costs more to make than to fill.
+/// The tables of inner rows, one or none for each, room for those of a next round, and for those of a plan. It is kept, since it
+/// costs more to make than to fill.
 #[derive(Debug, Drop)]
 pub(crate) struct Rounds {
-    last: ArrayVec<NodeTable, MOST_INNER>,
-    next: ArrayVec<NodeTable, MOST_INNER>,
+    last: ArrayVec<Option<Truth>, MOST_INNER>,
+    next: ArrayVec<Option<Truth>, MOST_INNER>,
+    plan: ArrayVec<Truth, MOST_TABLES>,
 }
 
 impl Rounds {
@@ -131,8 +161,84 @@ impl Rounds {
         Rounds {
             last: ArrayVec::new(),
             next: ArrayVec::new(),
+            plan: ArrayVec::new(),
         }
     }
+}
+
+// No table for any of so many rows.
+fn no_tables(count: usize, tables: &mut ArrayVec<Option<Truth>, MOST_INNER>)
+    requires { count ≤ MOST_INNER }
+    ensures count { length tables.new.items ≡ count }
+    ensures none { All (λ t. t ≡ None) tables.new.items }
+{
+    tables.clear();
+    for _row in 0..count {
+        tables.push(None);
+    }
+}
+
+// The row at this place has a table now.
+fn set_table(tables: &mut ArrayVec<Option<Truth>, MOST_INNER>, i: usize, table: Truth)
+    requires { i < length tables.old.items }
+    ensures { tables.new.items ≡ slice_set tables.old.items i (Some table) }
+{
+    tables.as_mut_slice()[i] = Some(table);
+}
+
+// Makes the table of one inner row where its nodes have tables. How many were made: one or none.
+fn make_table(
+    vars: u8,
+    leaves: &[u32],
+    inner: &[NodeRow],
+    made: &mut ArrayVec<Option<Truth>, MOST_INNER>,
+    i: usize,
+) -> usize
+    requires few { vars ≤ MOST_VARS }
+    requires within { length leaves.now ≤ vars }
+    requires inner { i < length inner.now }
+    requires count { length made.old.items ≡ length inner.now }
+    requires alike { spec.AllVars vars made.old.items }
+    ensures few { result ≤ 1 }
+    ensures count { length made.new.items ≡ length inner.now }
+    ensures vars { spec.AllVars vars made.new.items }
+    ensures values { (steps : ℕ) → spec.IsMade vars leaves.now inner.now steps made.old.items → spec.IsMade vars leaves.now inner.now (steps + result) made.new.items }
+{
+    if made.as_slice()[i].is_some() {
+        return 0;
+    }
+    let Some(table) = row_table(vars, leaves, inner, made.as_slice(), inner[i].row) else {
+        return 0;
+    };
+    set_table(made, i, table);
+    1
+}
+
+// Makes the tables of inner rows, from the last to the first: in a walk a row refers to rows behind it, for the most part. How
+// many were made.
+fn sweep(
+    vars: u8,
+    leaves: &[u32],
+    inner: &[NodeRow],
+    made: &mut ArrayVec<Option<Truth>, MOST_INNER>,
+) -> usize
+    requires few { vars ≤ MOST_VARS }
+    requires within { length leaves.now ≤ vars }
+    requires inner { length inner.now ≤ MOST_INNER }
+    requires count { length made.old.items ≡ length inner.now }
+    requires alike { spec.AllVars vars made.old.items }
+    ensures few { result ≤ length inner.now }
+    ensures count { length made.new.items ≡ length inner.now }
+    ensures vars { spec.AllVars vars made.new.items }
+    ensures values { (steps : ℕ) → spec.IsMade vars leaves.now inner.now steps made.old.items → spec.IsMade vars leaves.now inner.now (steps + result) made.new.items }
+{
+    let mut count = 0;
+    let mut i = inner.len();
+    while i > 0 {
+        i -= 1;
+        count += make_table(vars, leaves, inner, made, i);
+    }
+    count
 }
 
 // The tables of the inner rows after one round more.
@@ -140,35 +246,71 @@ fn round(
     vars: u8,
     leaves: &[u32],
     inner: &[NodeRow],
-    tables: &[NodeTable],
-    next: &mut ArrayVec<NodeTable, MOST_INNER>,
+    tables: &[Option<Truth>],
+    next: &mut ArrayVec<Option<Truth>, MOST_INNER>,
 )
     requires few { vars ≤ MOST_VARS }
     requires within { length leaves.now ≤ vars }
     requires inner { length inner.now ≤ MOST_INNER }
+    requires count { length tables.now ≡ length inner.now }
     requires alike { spec.AllVars vars tables.now }
+    ensures count { length next.new.items ≡ length inner.now }
     ensures vars { spec.AllVars vars next.new.items }
-    ensures entries { (rows : List NodeRow) (steps : ℕ) → spec.IsRound vars leaves.now rows steps tables.now → AllZip (spec.IsEntry vars leaves.now rows steps) inner.now next.new.items }
+    ensures entries { AllZip (spec.IsEntry vars leaves.now inner.now tables.now) inner.now next.new.items }
 {
     next.clear();
     for r in inner {
-        let table = row_table(vars, leaves, tables, r.row);
-        next.push(NodeTable {
-            node: r.node,
-            table,
-        });
+        next.push(row_table(vars, leaves, inner, tables, r.row));
     }
 }
 
 // One list becomes the other, whose entries alone are copied.
-fn copy_tables(to: &mut ArrayVec<NodeTable, MOST_INNER>, from: &ArrayVec<NodeTable, MOST_INNER>)
+fn copy_tables(
+    to: &mut ArrayVec<Option<Truth>, MOST_INNER>,
+    from: &ArrayVec<Option<Truth>, MOST_INNER>,
+)
     ensures { to.new.items ≡ from.now.items }
 {
     to.clear();
     let _ = to.try_extend_from_slice(from.as_slice());
 }
 
-// The table of the root by the inner rows: after at most as many rounds as there are rows it has one, or never.
+// The table of the root by rounds over all rows: after at most as many rounds as there are rows it has one, or never.
+#[inline(never)]
+fn root_by_rounds(
+    vars: u8,
+    leaves: &[u32],
+    inner: &[NodeRow],
+    root: u32,
+    rounds: &mut Rounds,
+) -> Option<Truth>
+    requires few { vars ≤ MOST_VARS }
+    requires within { length leaves.now ≤ vars }
+    requires inner { length inner.now ≤ MOST_INNER }
+    ensures vars { spec.HasVars vars result }
+    ensures values { spec.IsNodeTable vars leaves.now inner.now (length inner.now) root result }
+{
+    no_tables(inner.len(), &mut rounds.last);
+    let mut steps = 0;
+    while steps < inner.len() {
+        if let Some(table) = node_table(vars, leaves, inner, rounds.last.as_slice(), root) {
+            return Some(table);
+        }
+        round(
+            vars,
+            leaves,
+            inner,
+            rounds.last.as_slice(),
+            &mut rounds.next,
+        );
+        copy_tables(&mut rounds.last, &rounds.next);
+        steps += 1;
+    }
+    node_table(vars, leaves, inner, rounds.last.as_slice(), root)
+}
+
+// The table of the root by the inner rows. Each table that is made takes one step more, so that sweeps find it in as many
+// steps as there are rows, if they find it; else rounds tell whether it has one.
 fn root_table(
     vars: u8,
     leaves: &[u32],
@@ -182,23 +324,18 @@ fn root_table(
     ensures vars { spec.HasVars vars result }
     ensures values { spec.IsNodeTable vars leaves.now inner.now (length inner.now) root result }
 {
-    rounds.last.clear();
+    no_tables(inner.len(), &mut rounds.last);
     let mut steps = 0;
-    while steps < inner.len() {
-        if let Some(table) = node_table(vars, leaves, rounds.last.as_slice(), root) {
+    for _sweep in 0..MOST_SWEEPS {
+        steps += sweep(vars, leaves, inner, &mut rounds.last);
+        if inner.len() < steps {
+            return root_by_rounds(vars, leaves, inner, root, rounds);
+        }
+        if let Some(table) = node_table(vars, leaves, inner, rounds.last.as_slice(), root) {
             return Some(table);
         }
-        round(
-            vars,
-            leaves,
-            inner,
-            rounds.last.as_slice(),
-            &mut rounds.next,
-        );
-        copy_tables(&mut rounds.last, &rounds.next);
-        steps += 1;
     }
-    node_table(vars, leaves, rounds.last.as_slice(), root)
+    root_by_rounds(vars, leaves, inner, root, rounds)
 }
 
 fn greater(a: u8, b: u8) -> u8
@@ -207,17 +344,8 @@ fn greater(a: u8, b: u8) -> u8
     if a < b { b } else { a }
 }
 
-// The table of a plan, widened.
-fn was_table(plan: &Plan, vars: u8) -> Truth
-    requires few { vars ≤ MOST_VARS }
-    requires within { plan.now.leaves ≤ vars }
-    ensures vars { result.vars ≡ vars }
-    ensures values { AtEach vars (λ xs. value_of result xs ≡ plan_truth plan.now (take plan.now.leaves xs)) }
-{
-    plan.truth().widen(vars)
-}
-
 /// The function of the root by the inner rows, against the plan's.
+#[inline(never)]
 pub(crate) fn compare(attempt: &Attempt<'_>, inner: &[NodeRow], rounds: &mut Rounds) -> Comparison
     requires { length inner.now ≤ MOST_INNER }
     ensures { spec.IsCompared (task_of attempt.now) inner.now result }
@@ -227,7 +355,7 @@ pub(crate) fn compare(attempt: &Attempt<'_>, inner: &[NodeRow], rounds: &mut Rou
     let Some(now) = root_table(vars, leaves, inner, attempt.candidate.root, rounds) else {
         return Comparison::Circle;
     };
-    let was = was_table(attempt.candidate.plan, vars);
+    let was = was_table(attempt.candidate.plan, vars, &mut rounds.plan);
     if was == now {
         Comparison::Same
     } else {
