@@ -41,6 +41,17 @@ key_after nodes v w n m k shown ne held pins same known = go (m == 0) same known
     go true s e = e
     go false s e = look_kept (is_mine (released w n)) m w.keys (mine (shown.keys m k e)) ∙ (s ∙ e)
 
+-- a failed claim leaves the hits
+pub missed_hits : (t : Task) (s z : State) (n : ℕ) → is_hinting s.stage ≡ true → z ≡ read_one t s (seen.Miss n) → z.hits ≡ s.hits
+missed_hits t s z n hinting e =
+    let h = hinting_at s.stage hinting in
+    let now : z ≡ at s (Hinting None) = e ∙ ap (λ g. read_at t s g (seen.Miss n)) h.1 in
+    ap (λ (y : State). y.hits) now
+
+-- so does a node that is no hit
+pub no_hit : (t : Task) (n : ℕ) (pair : Row) (v w : View) (s z : State) (hit : Bool) → hit ≡ false → IsHint t n pair v s w z hit → z.hits ≡ s.hits
+no_hit t n pair v w s z hit e h = h.hits ∙ ap (hits_after s.hits n pair) e
+
 -- a node that is neither a leaf nor a hit isn't pinned
 pub not_pinned : (t : Task) (pins : List ℕ) (v : View) (s : State) (n : ℕ) → IsKeyedSoFar t pins v s → has_node t.proposal.leaves n ≡ false → has_node (nodes_of s.hits) n ≡ false → has_node pins n ≡ false
 not_pinned t pins v s n k no_leaf no_hit = go (has_node pins n) refl

@@ -21,7 +21,7 @@ use crate::walking::walk;
 use crate::{Gate, Moment, Tools};
 use arrayvec::ArrayVec;
 use std::snapshot::Snapshot;
-use syn_decide::{Attempt, Deciding, Decision, Outcome, StaleCause};
+use syn_decide::{Attempt, Deciding, Decision, NewRows, Outcome, StaleCause};
 use syn_table::{Seat, Shared};
 
 // Whether all inner rows are claimed, behind the walk.
@@ -68,7 +68,7 @@ fn walked(
     walk(shared, seat, pool, attempt, deciding);
 }
 
-/// From the walk to the answer: what is loaded is what the decision asks for, and hints.
+/// From the walk to the answer: what is loaded is what the decision asks for, and hints. The rows are room.
 pub(crate) fn answer<G: Gate>(
     tools: &Tools<'_, G>,
     seat: &mut Seat,
@@ -76,6 +76,7 @@ pub(crate) fn answer<G: Gate>(
     attempt: &Attempt<'_>,
     deciding: &mut Deciding,
     pins: &mut ArrayVec<u32, MOST_PINS>,
+    rows: &mut NewRows,
     start: &Snapshot<Seat>,
 )
     requires table { IsOf seat.old tools.now.shared.now }
@@ -110,6 +111,7 @@ pub(crate) fn answer<G: Gate>(
         attempt,
         deciding,
         pins,
+        rows,
         start,
     );
     counts(tools.shared, seat, pool, attempt, deciding, pins, start);

@@ -108,6 +108,7 @@ pub fn try_commit<G: Gate>(
         &attempt,
         &mut pool.room.deciding,
         &mut pool.room.holding.pins,
+        &mut pool.room.rows,
         &start,
     );
     let outcome = outcome(&pool.room.deciding);

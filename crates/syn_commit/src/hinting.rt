@@ -20,7 +20,7 @@ use crate::spare::Spare;
 use arrayvec::ArrayVec;
 use std::snapshot::Snapshot;
 use syn_core_laws::Seen;
-use syn_decide::{Attempt, Deciding};
+use syn_decide::{Attempt, Deciding, NewRows};
 use syn_plan::MOST_GATES;
 use syn_rows::Row;
 use syn_table::{Seat, Shared};
@@ -85,6 +85,7 @@ fn try_held(
     ensures keyed { IsKeyedSoFar (task_of attempt.now) pins.new.items (view_of seat.new) deciding.new }
     ensures misses { (view_of seat.new).misses ≡ (view_of seat.old).misses }
     ensures hits { length deciding.new.hits ≤ length deciding.old.hits + 1 }
+    ensures same { result ≡ false → deciding.new.hits ≡ deciding.old.hits }
     ensures pins { length pins.new.items ≤ length pins.old.items + 1 }
 {
     let _ = pool;
@@ -124,6 +125,7 @@ fn try_other(
     ensures keyed { IsKeyedSoFar (task_of attempt.now) pins.new.items (view_of seat.new) deciding.new }
     ensures sole { length (known_of seat.old).numbers ≡ 64 → (view_of seat.new).misses ≡ (view_of seat.old).misses }
     ensures hits { length deciding.new.hits ≤ length deciding.old.hits + 1 }
+    ensures same { result ≡ false → deciding.new.hits ≡ deciding.old.hits }
     ensures pins { length pins.new.items ≤ length pins.old.items + 1 }
 {
     let _ = pool;
@@ -187,6 +189,7 @@ fn try_hint(
     ensures hinting { IsHinting (task_of attempt.now) (view_of start.now.value) pool.now pins.new.items (view_of seat.new) deciding.new }
     ensures keyed { IsKeyedSoFar (task_of attempt.now) pins.new.items (view_of seat.new) deciding.new }
     ensures sole { length (known_of seat.old).numbers ≡ 64 → (view_of seat.new).misses ≡ (view_of seat.old).misses }
+    ensures same { result ≡ false → deciding.new.hits ≡ deciding.old.hits }
     ensures pins { length pins.new.items ≤ length pins.old.items + 1 }
 {
     let Row::And(first, second) = pair else {
@@ -206,6 +209,16 @@ fn try_hint(
     )
 }
 
+// After a hit the gates are placed anew.
+fn place_again(attempt: &Attempt<'_>, deciding: &Deciding, rows: &mut NewRows, hit: bool)
+    requires { hit ≡ false → rows.old.rows.items ≡ (placed_now (task_of attempt.now) deciding.now).extra }
+    ensures { rows.new.rows.items ≡ (placed_now (task_of attempt.now) deciding.now).extra }
+{
+    if hit {
+        deciding.new_rows(attempt, rows);
+    }
+}
+
 // Tries the hint for the new gate at this place, if one is asked for. True where it is a hit; none where there is no such gate.
 fn try_place(
     shared: &Shared,
@@ -215,6 +228,7 @@ fn try_place(
     attempt: &Attempt<'_>,
     deciding: &mut Deciding,
     pins: &mut ArrayVec<u32, MOST_PINS>,
+    rows: &mut NewRows,
     start: &Snapshot<Seat>,
     place: usize,
 ) -> Option<bool>
@@ -222,25 +236,30 @@ fn try_place(
     requires hinting { IsHinting (task_of attempt.now) (view_of start.now.value) pool.now pins.old.items (view_of seat.old) deciding.old }
     requires keyed { IsKeyedSoFar (task_of attempt.now) pins.old.items (view_of seat.old) deciding.old }
     requires room { length pins.old.items < 512 }
+    requires rows { rows.old.rows.items ≡ (placed_now (task_of attempt.now) deciding.old).extra }
     ensures table { IsOf seat.new shared.now }
     ensures known { known_of seat.new ≡ with_view (known_of seat.old) (view_of seat.new) }
     ensures hinting { IsHinting (task_of attempt.now) (view_of start.now.value) pool.now pins.new.items (view_of seat.new) deciding.new }
     ensures keyed { IsKeyedSoFar (task_of attempt.now) pins.new.items (view_of seat.new) deciding.new }
     ensures sole { length (known_of seat.old).numbers ≡ 64 → (view_of seat.new).misses ≡ (view_of seat.old).misses }
     ensures pins { length pins.new.items ≤ length pins.old.items + 1 }
+    ensures rows { rows.new.rows.items ≡ (placed_now (task_of attempt.now) deciding.new).extra }
 {
-    let Some((pair, asked)) = deciding.asked_pair(attempt, place) else {
+    let Some((pair, asked)) = rows.asked_pair(place) else {
         return None;
     };
     if !asked || deciding.hits().len() == MOST_GATES {
         return Some(false);
     }
-    Some(try_hint(
+    let hit = try_hint(
         shared, hints, seat, pool, attempt, deciding, pins, start, pair,
-    ))
+    );
+    place_again(attempt, deciding, rows, hit);
+    Some(hit)
 }
 
-/// Tries the hints for the pairs of new gates, in order, where hints may stand. Each hit is held, and has a pin that stays.
+/// Tries the hints for the pairs of new gates, in order, where hints may stand. Each hit is held, and has a pin that stays. The
+/// rows are room for those of the new gates.
 pub(crate) fn try_hints(
     shared: &Shared,
     hints: &Hints,
@@ -249,6 +268,7 @@ pub(crate) fn try_hints(
     attempt: &Attempt<'_>,
     deciding: &mut Deciding,
     pins: &mut ArrayVec<u32, MOST_PINS>,
+    rows: &mut NewRows,
     start: &Snapshot<Seat>,
 )
     requires table { IsOf seat.old shared.now }
@@ -269,10 +289,11 @@ pub(crate) fn try_hints(
     if !deciding.takes_hints() {
         return;
     }
+    deciding.new_rows(attempt, rows);
     let mut place = 0;
     for _step in 0..MOST_GATES {
         let Some(hit) = try_place(
-            shared, hints, seat, pool, attempt, deciding, pins, start, place,
+            shared, hints, seat, pool, attempt, deciding, pins, rows, start, place,
         ) else {
             return;
         };

@@ -1,6 +1,6 @@
 //! The decision of one commit, read by read.
 
-ghost use Rattle.std.specs.Prelude.{◌≡◌, ◌<◌, ◌≤◌, ℕ, length, drop, slice_get, Some, IfNone, IfSome};
+ghost use Rattle.std.specs.Prelude.{◌≡◌, ◌<◌, ◌≤◌, ℕ, length, drop};
 ghost use Rattle.syn_rows.specs.declared.TheConstants.{NODE_LIMIT};
 ghost use Rattle.syn_plan.specs.declared.TheConstants.{MOST_GATES};
 ghost use Rattle.syn_decide.specs.declared.decisions.TheConstants.{MOST_INNER};
@@ -10,7 +10,7 @@ ghost use Rattle.syn_decide.specs.Walk.{is_met};
 ghost use Rattle.syn_decide.specs.Fold as fold;
 ghost use Rattle.syn_decide.specs.Hints as hints;
 
-use crate::answers::{place, read_counting, read_hinting, read_keying};
+use crate::answers::{read_counting, read_hinting, read_keying};
 use crate::place::Placing;
 use crate::stages::read_walking;
 use crate::tables::Rounds;
@@ -21,7 +21,6 @@ use std::marker::Model;
 use syn_core_laws::Seen;
 use syn_gain::Proposal;
 use syn_plan::MOST_GATES;
-use syn_rows::Row;
 
 /// What is kept of the reads of a commit, inline, with room to reckon in: some fifty thousand bytes, so it is made once and
 /// begun anew for each commit. Contracts see it as the definition's state.
@@ -177,17 +176,6 @@ impl Deciding {
             Phase::Walking | Phase::Keying | Phase::Counting | Phase::Ended(_) | Phase::Failed =>
                 false,
         }
-    }
-
-    /// The pair of the new gate at this place, with the hits so far, and whether a hint may be tried for it.
-    pub fn asked_pair(&mut self, attempt: &Attempt<'_>, at: usize) -> Option<(Row, bool)>
-        ensures none { IfNone result (length (fold.placed_now (task_of attempt.now) self.old).extra ≤ at) }
-        ensures pair { IfSome result (λ p. slice_get (fold.placed_now (task_of attempt.now) self.old).extra at ≡ Some p.0) }
-        ensures asked { IfSome result (λ p. p.1 ≡ hints.is_asked (fold.placed_now (task_of attempt.now) self.old).extra p.0) }
-        ensures same { self.new ≡ self.old }
-    {
-        place(attempt, self.hits.as_slice(), &mut self.placing);
-        self.placing.asked_pair(at)
     }
 
     /// What is stored for the attempt with the hits so far.

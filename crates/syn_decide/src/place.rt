@@ -1,6 +1,6 @@
 //! What the gates of a plan become.
 
-ghost use Rattle.std.specs.Prelude.{◌≡◌, ℕ, ◌+◌, ◌-◌, ◌*◌, ◌^◌, ◌<◌, ◌≤◌, ◌∷◌, ◌++◌, [], All, length, map, reverse, slice_index_or, if◌then◌else◌, None, Some, IfNone, IfSome, slice_get};
+ghost use Rattle.std.specs.Prelude.{◌≡◌, ℕ, ◌+◌, ◌-◌, ◌*◌, ◌^◌, ◌<◌, ◌≤◌, ◌∷◌, ◌++◌, [], All, length, map, reverse, slice_index_or, if◌then◌else◌, None, Some};
 ghost use Rattle.std.specs.List.{list_any};
 ghost use Rattle.arrayvec.specs.ArrayVec.{array_vec_len};
 ghost use Rattle.syn_rows.specs.declared.TheConstants.{NODE_LIMIT};
@@ -296,24 +296,7 @@ impl Placing {
     pub(crate) fn asks(&self, row: Row) -> bool
         ensures { result ≡ spec.is_asked self.now.extra row }
     {
-        match row {
-            Row::And(a, b) => {
-                !is_new_gate(a) && !is_new_gate(b) && has_pair(self.extra.as_slice(), a, b)
-            }
-            Row::Free | Row::Source | Row::Alias(_) => false,
-        }
-    }
-
-    /// The pair of the new gate at this place, and whether a hint is asked for it.
-    pub(crate) fn asked_pair(&self, place: usize) -> Option<(Row, bool)>
-        ensures none { IfNone result (length self.now.extra ≤ place) }
-        ensures pair { IfSome result (λ p. slice_get self.now.extra place ≡ Some p.0) }
-        ensures asked { IfSome result (λ p. p.1 ≡ spec.is_asked self.now.extra p.0) }
-    {
-        match self.extra.as_slice().get(place) {
-            None => None,
-            Some(row) => Some((*row, self.asks(*row))),
-        }
+        is_asked(self.extra.as_slice(), row)
     }
 
     /// How many new gates there are.
@@ -366,6 +349,16 @@ fn last_or(rows: &[Row], other: Row) -> Row
         other
     } else {
         rows[rows.len() - 1]
+    }
+}
+
+/// Whether a hint is asked for a row's pair, where these are the pairs of the new gates.
+pub(crate) fn is_asked(extra: &[Row], row: Row) -> bool
+    ensures { result ≡ spec.is_asked extra.now row }
+{
+    match row {
+        Row::And(a, b) => !is_new_gate(a) && !is_new_gate(b) && has_pair(extra, a, b),
+        Row::Free | Row::Source | Row::Alias(_) => false,
     }
 }
 

@@ -1,12 +1,12 @@
 //! The rows of a commit's new gates.
 
-ghost use Rattle.std.specs.Prelude.{◌≡◌, ◌<◌, All};
+ghost use Rattle.std.specs.Prelude.{◌≡◌, ◌<◌, ◌≤◌, All, length, slice_get, Some, IfNone, IfSome};
 ghost use Rattle.syn_rows.specs.declared.TheConstants.{NODE_LIMIT};
 ghost use Rattle.syn_decide.specs.Hints as spec;
 ghost use Rattle.syn_decide.specs.Tasks.{task_of};
 
 use crate::answers::place;
-use crate::place::Placing;
+use crate::place::{Placing, is_asked};
 use crate::{Attempt, NodeRow};
 use arrayvec::ArrayVec;
 use syn_plan::MOST_GATES;
@@ -46,5 +46,18 @@ impl NewRows {
         self.placing.copy_rows(&mut self.rows);
         self.needed = self.placing.needed(attempt.candidate.plan.out);
         self.root = self.placing.root_row(attempt.candidate.plan.out);
+    }
+
+    /// The pair of the new gate at this place, and whether a hint may be tried for it.
+    pub fn asked_pair(&self, place: usize) -> Option<(Row, bool)>
+        ensures none { IfNone result (length self.now.rows.items ≤ place) }
+        ensures pair { IfSome result (λ p. slice_get self.now.rows.items place ≡ Some p.0) }
+        ensures asked { IfSome result (λ p. p.1 ≡ spec.is_asked self.now.rows.items p.0) }
+    {
+        let rows = self.rows.as_slice();
+        match rows.get(place) {
+            None => None,
+            Some(row) => Some((*row, is_asked(rows, *row))),
+        }
     }
 }

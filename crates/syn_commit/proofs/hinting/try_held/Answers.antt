@@ -4,7 +4,7 @@ use Rattle.syn_table.specs.declared.Known.{Known}
 use Rattle.syn_table.specs.Seating.{view_of}
 use Rattle.syn_commit.specs.Hinted.{IsHinting}
 use Rattle.syn_commit.specs.Keyed.{IsKeyedSoFar}
-use Rattle.syn_commit.proofs.Keeping.{held_hits_keyed, held_misses_keyed}
+use Rattle.syn_commit.proofs.Keeping.{held_hits_keyed, held_misses_keyed, no_hit}
 use Rattle.syn_commit.proofs.Meshing.{hit_may, held_hits, held_misses}
 use Rattle.syn_commit.proofs.hinting.try_held.Goals as goal
 
@@ -42,3 +42,8 @@ returns-clause-keyed c =
     (subst (λ w. IsKeyedSoFar t (c.args.pins.now.items ++ c.args.node ∷ []) w c.load_hint.new.deciding) (sym (ap (λ (k : Known). k.core) c.pin.ensures.known))
     (held_hits_keyed t c.args.pins.now.items (view_of c.args.seat.now) c.args.deciding.now c.requires.keyed c.requires.open.stage c.args.node c.requires.unpinned c.requires.other_root c.args.pair
     (view_of c.load_hint.new.seat) c.load_hint.new.deciding c.load_hint.result is c.load_hint.ensures.hint))
+
+pub returns-then-not-load_hint-clause-same : goal.returns-then-not-load_hint-clause-same
+returns-then-not-load_hint-clause-same c = λ none.
+    let is : c.load_hint.result ≡ false = search rules in
+    no_hit (task_of c.args.attempt.now) c.args.node c.args.pair (view_of c.args.seat.now) (view_of c.load_hint.new.seat) c.args.deciding.now c.load_hint.new.deciding c.load_hint.result is c.load_hint.ensures.hint

@@ -1,4 +1,5 @@
 use Rattle.std.proofs.Common.{◌≡◌, ◌+◌, ◌≤◌, length}
+use Rattle.syn_decide.specs.Fold.{placed_now}
 use Rattle.syn_decide.specs.Tasks.{task_of}
 use Rattle.syn_table.specs.Seating.{IsOf, known_of, view_of}
 use Rattle.syn_table.specs.Steps.{with_view}
@@ -15,4 +16,5 @@ invariant-loop-step l = record {
   sole : length (known_of l.fn.seat).numbers ≡ 64 → (view_of l.seat).misses ≡ (view_of l.fn.seat).misses;
   few : length l.pins.items ≤ 9 + l._step;
   place : l.place ≤ l._step;
+  rows : l.rows.rows.items ≡ (placed_now (task_of l.attempt) l.deciding).extra;
 }

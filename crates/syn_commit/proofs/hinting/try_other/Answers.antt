@@ -6,7 +6,7 @@ use Rattle.syn_table.specs.declared.Known.{Known}
 use Rattle.syn_table.specs.Seating.{nodes_of, view_of}
 use Rattle.syn_commit.specs.Hinted.{IsHint, IsHinting}
 use Rattle.syn_commit.specs.Keyed.{IsKeyedSoFar}
-use Rattle.syn_commit.proofs.Keeping.{claim_misses, other_hits_keyed, other_misses_keyed}
+use Rattle.syn_commit.proofs.Keeping.{claim_misses, missed_hits, no_hit, other_hits_keyed, other_misses_keyed}
 use Rattle.syn_commit.proofs.Meshing.{hit_may, other_hits, other_missed, other_misses}
 use Rattle.syn_commit.proofs.hinting.try_other.Goals as goal
 
@@ -71,3 +71,12 @@ returns-clause-keyed c =
     (other_hits_keyed t c.args.pins.now.items (view_of c.args.seat.now) c.args.deciding.now c.requires.keyed c.requires.open.stage c.args.node c.requires.unpinned c.requires.other_root c.args.pair
     (view_of c.load_hint.new.seat) c.load_hint.new.deciding c.load_hint.result is
     (subst (λ (v : View). IsHint t c.args.node c.args.pair v c.args.deciding.now (view_of c.load_hint.new.seat) c.load_hint.new.deciding c.load_hint.result) held c.load_hint.ensures.hint)))
+
+pub returns-then-not-claim-clause-same : goal.returns-then-not-claim-clause-same
+returns-then-not-claim-clause-same c = λ none.
+    missed_hits (task_of c.args.attempt.now) c.args.deciding.now c.read.new.self c.args.node c.requires.open.stage c.read.ensures
+
+pub returns-then-not-load_hint-clause-same : goal.returns-then-not-load_hint-clause-same
+returns-then-not-load_hint-clause-same c = λ none.
+    let is : c.load_hint.result ≡ false = search rules in
+    no_hit (task_of c.args.attempt.now) c.args.node c.args.pair (view_of c.claim.new.seat) (view_of c.load_hint.new.seat) c.args.deciding.now c.load_hint.new.deciding c.load_hint.result is c.load_hint.ensures.hint
