@@ -1,5 +1,5 @@
 -- The leaves that a plan uses, along the list of leaves.
-use Rattle.std.proofs.Common.{◌≡◌, ℕ, suc, ◌+◌, ◌<◌, true, false, not, if◌then◌else◌, List, [], ◌∷◌, ◌++◌, length, drop, get_or, sym, ap, ◌∙◌, arith, drop-cons, cond, Some}
+use Rattle.std.proofs.Common.{◌≡◌, ℕ, suc, ◌+◌, ◌<◌, Bool, true, false, not, if◌then◌else◌, List, [], ◌∷◌, ◌++◌, length, drop, get_or, refl, sym, ap, ◌∙◌, arith, drop-cons, cond, Some}
 use Rattle.std.specs.Prelude.{find}
 use Rattle.syn_decide.specs.declared.decisions.NodeRow.{NodeRow}
 use Rattle.syn_decide.specs.Tasks.{Task}
@@ -48,3 +48,12 @@ pub unmet_met : (t : Task) (inner : List NodeRow) (leaves : List ℕ) (i d : ℕ
     → find (λ n. not (is_met inner n)) (used_from t (i + 1) (drop (i + 1) leaves)) ≡ find (λ n. not (is_met inner n)) (used_from t i (drop i leaves))
 unmet_met t inner leaves i d l h k =
     sym (find_not inner (get_or leaves i d) _ k) ∙ ap (find (λ n. not (is_met inner n))) (sym (used_take t leaves i d l h))
+
+-- and so past one that is met, whether it is used or not
+pub unmet_past : (t : Task) (inner : List NodeRow) (leaves : List ℕ) (i d : ℕ) → i < length leaves → is_met inner (get_or leaves i d) ≡ true
+    → find (λ n. not (is_met inner n)) (used_from t (i + 1) (drop (i + 1) leaves)) ≡ find (λ n. not (is_met inner n)) (used_from t i (drop i leaves))
+unmet_past t inner leaves i d l k = go (uses t i) refl
+  where
+    go : (b : Bool) → uses t i ≡ b → find (λ n. not (is_met inner n)) (used_from t (i + 1) (drop (i + 1) leaves)) ≡ find (λ n. not (is_met inner n)) (used_from t i (drop i leaves))
+    go true e = unmet_met t inner leaves i d l e k
+    go false e = unmet_unused t inner leaves i l e

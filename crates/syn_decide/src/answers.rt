@@ -12,7 +12,7 @@ ghost use Rattle.syn_decide.specs.Fold as fold;
 ghost use Rattle.syn_decide.specs.Fold.{Stage};
 ghost use Rattle.syn_decide.specs.Phases.{most_at, stage_of, state_with};
 
-use crate::dying::{counted_of, freed};
+use crate::dying::{CountedRoom, freed_by};
 use crate::lists::has;
 use crate::place::Placing;
 use crate::waiting::Waiting;
@@ -191,16 +191,6 @@ fn least_gain(zero_gain: bool) -> u32
     if zero_gain { 0 } else { 1 }
 }
 
-// How many ANDs die with the root's row, where these counts were loaded.
-fn freed_by(inner: &[NodeRow], hits: &[NodeRow], counts: &[u32]) -> u32
-    requires within { length counts.now ≤ length inner.now }
-    requires few { length inner.now ≤ MOST_INNER }
-    ensures { result ≡ fold.freed_by inner.now hits.now counts.now }
-{
-    let counted = counted_of(inner, counts);
-    freed(hits, counted.as_slice())
-}
-
 // The answer after the last count.
 #[inline(never)]
 fn conclude(
@@ -211,6 +201,7 @@ fn conclude(
     hits: &[NodeRow],
     counts: &[u32],
     placing: &mut Placing,
+    room: &mut CountedRoom,
 ) -> Outcome
     requires hits { All (λ h. h.node < NODE_LIMIT) hits.now }
     requires within { length counts.now ≤ length inner.now }
@@ -218,7 +209,7 @@ fn conclude(
     ensures { (stage : Stage)
         → told_answer result ≡ fold.concluded (task_of attempt.now) (state_with stage inner.now low high hits.now counts.now) }
 {
-    let freed = freed_by(inner, hits, counts);
+    let freed = freed_by(inner, hits, counts, room);
     place(attempt, hits, placing);
     let added = placing.added();
     if freed < added + least_gain(attempt.zero_gain) {
@@ -237,6 +228,7 @@ fn read_count(
     hits: &[NodeRow],
     counts: &mut ArrayVec<u32, MOST_INNER>,
     placing: &mut Placing,
+    room: &mut CountedRoom,
     node: u32,
     count: u32,
     own: u32,
@@ -259,7 +251,16 @@ fn read_count(
     if at + 1 < inner.len() {
         return Phase::Counting;
     }
-    Phase::Ended(conclude(attempt, inner, low, high, hits, counts.as_slice(), placing))
+    Phase::Ended(conclude(
+        attempt,
+        inner,
+        low,
+        high,
+        hits,
+        counts.as_slice(),
+        placing,
+        room,
+    ))
 }
 
 /// One read of the counts.
@@ -271,6 +272,7 @@ pub(crate) fn read_counting(
     hits: &[NodeRow],
     counts: &mut ArrayVec<u32, MOST_INNER>,
     placing: &mut Placing,
+    room: &mut CountedRoom,
     read: Seen,
 ) -> Phase
     requires hits { All (λ h. h.node < NODE_LIMIT) hits.now }
@@ -282,7 +284,7 @@ pub(crate) fn read_counting(
 {
     match read {
         Seen::Count { node, count, own } => read_count(
-            attempt, inner, low, high, hits, counts, placing, node, count, own,
+            attempt, inner, low, high, hits, counts, placing, room, node, count, own,
         ),
         _ => Phase::Failed,
     }
@@ -297,6 +299,7 @@ pub(crate) fn read_hinting(
     hits: &mut ArrayVec<NodeRow, MOST_GATES>,
     counts: &mut ArrayVec<u32, MOST_INNER>,
     placing: &mut Placing,
+    room: &mut CountedRoom,
     last: Option<NodeRow>,
     read: Seen,
 ) -> Phase
@@ -320,6 +323,7 @@ pub(crate) fn read_hinting(
             hits.as_slice(),
             counts,
             placing,
+            room,
             node,
             count,
             own,

@@ -11,6 +11,7 @@ ghost use Rattle.syn_decide.specs.Fold as fold;
 ghost use Rattle.syn_decide.specs.Hints as hints;
 
 use crate::answers::{read_counting, read_hinting, read_keying};
+use crate::dying::CountedRoom;
 use crate::place::Placing;
 use crate::stages::read_walking;
 use crate::tables::Rounds;
@@ -35,6 +36,7 @@ pub struct Deciding {
     counts: ArrayVec<u32, MOST_INNER>,
     placing: Placing,
     rounds: Rounds,
+    room: CountedRoom,
 }
 
 impl Model for Deciding {
@@ -63,6 +65,7 @@ impl Deciding {
             counts: ArrayVec::new(),
             placing: Placing::new(),
             rounds: Rounds::new(),
+            room: CountedRoom::new(),
         }
     }
 
@@ -110,6 +113,7 @@ impl Deciding {
                 &mut self.hits,
                 &mut self.counts,
                 &mut self.placing,
+                &mut self.room,
                 last,
                 read,
             ),
@@ -121,6 +125,7 @@ impl Deciding {
                 self.hits.as_slice(),
                 &mut self.counts,
                 &mut self.placing,
+                &mut self.room,
                 read,
             ),
             Phase::Ended(_) => Phase::Failed,

@@ -4,6 +4,7 @@ ghost use Rattle.std.specs.Prelude.{◌≡◌, ◌+◌, ◌*◌, ◌≤◌, ◌�
 ghost use Rattle.arrayvec.specs.ArrayVec.{array_vec_len};
 ghost use Rattle.syn_decide.specs.declared.decisions.TheConstants.{MOST_INNER};
 ghost use Rattle.syn_decide.specs.Dying as spec;
+ghost use Rattle.syn_decide.specs.Fold as fold;
 ghost use Rattle.syn_decide.specs.Walk.{nodes_of};
 
 use crate::lists::{and_count, has_counted, has_row, refs};
@@ -46,21 +47,25 @@ fn first_dying(hits: &[NodeRow], dying: &[Counted], rows: &[Counted]) -> Option<
 }
 
 // The rows that die with the root's, with which they begin.
-fn dying_with(hits: &[NodeRow], root: Counted, rows: &[Counted]) -> ArrayVec<Counted, MOST_INNER>
+fn dying_with(
+    hits: &[NodeRow],
+    root: Counted,
+    rows: &[Counted],
+    dying: &mut ArrayVec<Counted, MOST_INNER>,
+)
     requires { length rows.now + 1 ≤ MOST_INNER }
-    ensures { result.items ≡ spec.dying_of (nodes_of hits.now) (root ∷ rows.now) }
+    ensures { dying.new.items ≡ spec.dying_of (nodes_of hits.now) (root ∷ rows.now) }
 {
-    let mut dying = ArrayVec::new();
+    dying.clear();
     dying.push(root);
     let mut left = rows.len();
     while left > 0 {
         left -= 1;
         let Some(r) = first_dying(hits, dying.as_slice(), rows) else {
-            return dying;
+            return;
         };
         dying.push(r);
     }
-    dying
 }
 
 // How many of the rows are ANDs.
@@ -75,13 +80,13 @@ fn ands_of(rows: &[Counted]) -> u32
     sum
 }
 
-/// The first of the inner rows, with these counts.
-pub(crate) fn counted_of(inner: &[NodeRow], counts: &[u32]) -> ArrayVec<Counted, MOST_INNER>
+// The first of the inner rows, with these counts.
+fn counted_of(inner: &[NodeRow], counts: &[u32], rows: &mut ArrayVec<Counted, MOST_INNER>)
     requires within { length counts.now ≤ length inner.now }
     requires few { length inner.now ≤ MOST_INNER }
-    ensures { result.items ≡ spec.counted_of inner.now counts.now }
+    ensures { rows.new.items ≡ spec.counted_of inner.now counts.now }
 {
-    let mut rows = ArrayVec::new();
+    rows.clear();
     for (i, others) in counts.iter().enumerate() {
         let r = inner[i];
         rows.push(Counted {
@@ -90,17 +95,48 @@ pub(crate) fn counted_of(inner: &[NodeRow], counts: &[u32]) -> ArrayVec<Counted,
             others: *others,
         });
     }
-    rows
 }
 
-/// How many ANDs die with the first row, the root's, itself included.
-pub(crate) fn freed(hits: &[NodeRow], rows: &[Counted]) -> u32
+// How many ANDs die with the first row, the root's, itself included.
+fn freed(hits: &[NodeRow], rows: &[Counted], dying: &mut ArrayVec<Counted, MOST_INNER>) -> u32
     requires { length rows.now ≤ MOST_INNER }
     ensures { result ≡ spec.ands_of (spec.dying_of (nodes_of hits.now) rows.now) }
 {
     let Some((root, rest)) = rows.split_first() else {
         return 0;
     };
-    let dying = dying_with(hits, *root, rest);
+    dying_with(hits, *root, rest, dying);
     ands_of(dying.as_slice())
+}
+
+/// Room for the rows that have counts, and for those of them that die. It is kept, since it costs more to make than to fill.
+#[derive(Debug, Drop)]
+pub(crate) struct CountedRoom {
+    counted: ArrayVec<Counted, MOST_INNER>,
+    dying: ArrayVec<Counted, MOST_INNER>,
+}
+
+impl CountedRoom {
+    /// No rows.
+    pub(crate) fn new() -> CountedRoom {
+        CountedRoom {
+            counted: ArrayVec::new(),
+            dying: ArrayVec::new(),
+        }
+    }
+}
+
+/// How many ANDs die with the root's row, with these counts of the inner rows.
+pub(crate) fn freed_by(
+    inner: &[NodeRow],
+    hits: &[NodeRow],
+    counts: &[u32],
+    room: &mut CountedRoom,
+) -> u32
+    requires within { length counts.now ≤ length inner.now }
+    requires few { length inner.now ≤ MOST_INNER }
+    ensures { result ≡ fold.freed_by inner.now hits.now counts.now }
+{
+    counted_of(inner, counts, &mut room.counted);
+    freed(hits, room.counted.as_slice(), &mut room.dying)
 }

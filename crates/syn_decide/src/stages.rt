@@ -57,7 +57,7 @@ fn first_unmet(attempt: &Attempt<'_>, inner: &[NodeRow]) -> Option<u32>
 {
     let leaves = attempt.candidate.leaves;
     for (i, leaf) in leaves.iter().enumerate() {
-        if uses(attempt, i) && !is_met(inner, *leaf) {
+        if !is_met(inner, *leaf) && uses(attempt, i) {
             return Some(*leaf);
         }
     }
