@@ -1,6 +1,6 @@
 //! Whether a proposal saves, where a bound is asked first.
 
-ghost use Rattle.std.specs.Prelude.{◌≡◌, ℤ, pos, ◌≤ℤ◌, ◌≤◌, true, false, length, IfOk};
+ghost use Rattle.std.specs.Prelude.{◌≡◌, ℤ, pos, ◌≤ℤ◌, ◌≤◌, true, false, length, nat_lt, IfOk};
 ghost use Rattle.syn_rows.specs.Rows.{row_at};
 ghost use Rattle.syn_rows.specs.Reach.{is_and};
 ghost use Rattle.syn_fanout_free.specs.Bounding.{IsLostBut, IsMostLost};
@@ -8,9 +8,10 @@ ghost use Rattle.syn_fanout_free.specs.Saved.{count_in};
 ghost use Rattle.syn_gain.specs.Leaves.{rise_above};
 ghost use Rattle.syn_gain.specs.Proposals.{replacement_of};
 ghost use Rattle.syn_gain.specs.Replacements.{SavedBy};
+ghost use Rattle.syn_gain.specs.Searching.{new_rows_anywhere};
 ghost use Rattle.syn_gain.specs.Uses.{IsUsesOf};
 
-use crate::placing::{INLINE_LITERALS, INLINE_ROWS, place_into};
+use crate::placing::{INLINE_LITERALS, INLINE_ROWS, place_below, place_into};
 use crate::{Candidate, Uses};
 use smallvec::SmallVec;
 use std::alloc::{AllocError, Global};
@@ -100,4 +101,29 @@ pub fn saves(
         most,
         &mut room.kept,
     )
+}
+
+/// Whether a proposal for an AND adds fewer than so many new rows where its gates may be those of any row, also of one behind
+/// the root. The only error is want of memory, which a small plan doesn't take.
+pub fn adds_fewer(
+    graph: &Graph,
+    uses: &Uses,
+    candidate: Candidate,
+    limit: u32,
+    room: &mut Room,
+) -> Result<bool, AllocError>
+    requires uses { IsUsesOf uses.now graph.now }
+    requires root { is_and (row_at graph.now.rows candidate.root) ≡ true }
+    ensures { IfOk result (λ fewer. fewer ≡ nat_lt (length (new_rows_anywhere graph.now.rows (replacement_of candidate.entry))) limit) }
+{
+    let rows = graph.rows.as_slice();
+    place_below(
+        rows,
+        &uses.pairs,
+        rows.len() as u32,
+        candidate,
+        &mut room.literals,
+        &mut room.extra,
+    )?;
+    Ok(room.extra.as_slice().len() < limit as usize)
 }

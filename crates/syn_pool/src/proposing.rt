@@ -75,6 +75,28 @@ pub trait Proposer: Sync {
         let proposals = self.propose(alloc, graph, lists, node)?;
         first_of(alloc, graph, uses, node, proposals)
     }
+
+    /// Those of them that are worth a commit, in order: with `zero_gain` also those that save nothing. Which are left out is
+    /// free, and nothing rests on it: a commit judges each one again. A proposer that tells it without a list of all may give
+    /// a body of its own.
+    fn promising(
+        &self,
+        alloc: Global,
+        graph: &Graph,
+        uses: &Uses,
+        lists: &Self::Lists,
+        node: u32,
+        zero_gain: bool,
+    ) -> Result<Vec<Proposal>, AllocError>
+        requires uses { IsUsesOf uses.now graph.now }
+        requires lists { is_lists_of self.now lists.now graph.now.rows }
+        requires node { is_and (row_at graph.now.rows node) ≡ true }
+        ensures roots { IfOk result (λ v. All (λ p. p.root ≡ node) v.items) }
+    {
+        let _ = uses;
+        let _ = zero_gain;
+        self.propose(alloc, graph, lists, node)
+    }
 }
 
 // The first of these proposals for a node that saves.

@@ -111,6 +111,10 @@ join_gates rows root known (gate ∷ gates) = join_gates rows root (join_gate ro
 abbrev pub begun : ℕ → List ℕ → List Known
 begun count leaves = Old constant ∷ each_below count (λ i. Old (lit_of (slice_index_or leaves i 0)))
 
--- a number of new rows that a plan adds at least
+-- a number of new rows that a plan adds at least, where its gates may be those of rows below a node
+abbrev pub least_added_below : List Row → ℕ → Replacement → ℕ
+least_added_below rows node r = new_rows (known_of (join_gates rows node (begun r.count r.leaves) r.gates) r.out)
+
+-- a number of new rows that a replacement's plan adds at least
 abbrev pub least_added : List Row → Replacement → ℕ
-least_added rows r = new_rows (known_of (join_gates rows r.root (begun r.count r.leaves) r.gates) r.out)
+least_added rows r = least_added_below rows r.root r

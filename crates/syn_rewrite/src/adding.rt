@@ -16,7 +16,8 @@ ghost use Rattle.syn_pool.specs.Closing.{SavesNothing};
 ghost use Rattle.syn_rewrite.specs.Adding as spec;
 
 use arrayvec::ArrayVec;
-use syn_gain::{Candidate, Uses, node_at};
+use std::alloc::AllocError;
+use syn_gain::{Candidate, Room, Uses, adds_fewer, literal_below, node_at};
 use syn_graph::Graph;
 use syn_hashed::PairIndex;
 use syn_plan::PLit;
@@ -100,33 +101,6 @@ fn larger(a: u8, b: u8) -> u8
     ensures { result ≡ spec.larger a b }
 {
     if a < b { b } else { a }
-}
-
-// The node of the pair, the smaller literal first.
-fn find(rows: &[Row], index: &PairIndex, x: Lit, y: Lit) -> Option<u32>
-    requires index { IsIndexOf rows.now index.now }
-    requires pairs { PairsOnce rows.now }
-    ensures some { IfSome result (λ n. (n < length rows.now) × (row_at rows.now n ≡ joining.ordered_and x y)) }
-    ensures none { IfNone result ((n : ℕ) → row_at rows.now n ≢ joining.ordered_and x y) }
-{
-    if x.0 < y.0 {
-        index.find(rows, x, y)
-    } else {
-        index.find(rows, y, x)
-    }
-}
-
-// The literal of the row below the root that is the AND of x and y.
-fn literal_below(rows: &[Row], index: &PairIndex, root: u32, x: Lit, y: Lit) -> Option<Lit>
-    requires index { IsIndexOf rows.now index.now }
-    requires pairs { PairsOnce rows.now }
-    requires few { length rows.now < NODE_LIMIT }
-    ensures { result ≡ placing.literal_below rows.now root x y }
-{
-    match find(rows, index, x, y) {
-        Some(node) if node < root => Some(Lit::of(node, false)),
-        _ => None,
-    }
 }
 
 // The AND of two old literals: one that needs no row, that of a row below the root, or a new row's.
@@ -266,13 +240,13 @@ fn join_gates(
     }
 }
 
-// A number of new rows that a plan adds at least; 0 of a large plan.
-fn least_added(rows: &[Row], index: &PairIndex, candidate: Candidate) -> u32
+// A number of new rows that a plan adds at least, where its gates may be those of rows below a node; 0 of a large plan.
+fn least_added(rows: &[Row], index: &PairIndex, node: u32, candidate: Candidate) -> u32
     requires index { IsIndexOf rows.now index.now }
     requires pairs { PairsOnce rows.now }
     requires few { length rows.now < NODE_LIMIT }
     requires root { candidate.root < length rows.now }
-    ensures { result ≤ spec.least_added rows.now (replacement_of candidate.entry) }
+    ensures { result ≤ spec.least_added_below rows.now node (replacement_of candidate.entry) }
 {
     let plan = candidate.plan;
     let gates = plan.gates.as_slice();
@@ -281,7 +255,7 @@ fn least_added(rows: &[Row], index: &PairIndex, candidate: Candidate) -> u32
     }
     let mut known = ArrayVec::new();
     begin(plan.leaves, candidate.leaves, &mut known);
-    join_gates(rows, index, candidate.root, gates, &mut known);
+    join_gates(rows, index, node, gates, &mut known);
     known_of(known.as_slice(), plan.out).new_rows()
 }
 
@@ -293,6 +267,38 @@ pub(crate) fn adds_enough(graph: &Graph, uses: &Uses, candidate: Candidate, most
     requires most { IsMostLost graph.now.rows (count_in uses.now.counts.items) candidate.root [] most }
     ensures { result ≡ true → SavesNothing graph.now.rows graph.now.observed (replacement_of candidate.entry) }
 {
+    let rows = graph.rows.as_slice();
     most as usize <= candidate.plan.gates.len()
-        && most <= least_added(graph.rows.as_slice(), &uses.pairs, candidate)
+        && most <= least_added(rows, &uses.pairs, candidate.root, candidate)
+}
+
+// Whether a plan for an AND surely adds so many new rows, also where its gates may be those of any row.
+fn adds_so_many(graph: &Graph, uses: &Uses, candidate: Candidate, many: u32) -> bool
+    requires uses { IsUsesOf uses.now graph.now }
+    requires root { is_and (row_at graph.now.rows candidate.root) ≡ true }
+    ensures { result ≡ true → many ≤ spec.least_added_below graph.now.rows (length graph.now.rows) (replacement_of candidate.entry) }
+{
+    let rows = graph.rows.as_slice();
+    many <= least_added(rows, &uses.pairs, rows.len() as u32, candidate)
+}
+
+/// Whether a proposal for an AND adds fewer than so many new rows, where its gates may be those of any row: most plans that
+/// don't are told from their gates alone. The only error is want of memory, which a small plan doesn't take.
+pub(crate) fn may_add_fewer(
+    graph: &Graph,
+    uses: &Uses,
+    candidate: Candidate,
+    limit: u32,
+    room: &mut Room,
+) -> Result<bool, AllocError>
+    requires uses { IsUsesOf uses.now graph.now }
+    requires root { is_and (row_at graph.now.rows candidate.root) ≡ true }
+{
+    if candidate.plan.gates.len() < limit as usize {
+        return Ok(true);
+    }
+    if adds_so_many(graph, uses, candidate, limit) {
+        return Ok(false);
+    }
+    adds_fewer(graph, uses, candidate, limit, room)
 }

@@ -8,6 +8,7 @@ mod known_plans;
 mod laws;
 mod plans;
 mod prepared;
+mod promising;
 mod proposing;
 mod rewriting;
 

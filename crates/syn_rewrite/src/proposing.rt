@@ -20,6 +20,7 @@ use crate::adding::adds_enough;
 use crate::known_plans::KnownPlans;
 use crate::plans::plans_of;
 use crate::prepared::{Prepared, cuts_of, prepare};
+use crate::promising::push_promising;
 use std::alloc::{AllocError, Global};
 use std::thread::Threads;
 use syn_gain::{Candidate, Proposal, Room, Uses, lost_but, owned};
@@ -28,8 +29,8 @@ use syn_library::Prepared as Classes;
 use syn_plan::Plan;
 use syn_pool::{Proposer, saves_bounded};
 
-// How many ANDs that go with a row are counted before its plans are looked at; hardly a plan of four leaves adds as many.
-const MOST_COUNTED: u32 = 64;
+/// How many ANDs that go with a row are counted before its plans are looked at; hardly a plan of four leaves adds as many.
+pub(crate) const MOST_COUNTED: u32 = 16;
 
 /// Proposes for each AND, cut by cut, the plans of its function over the cut.
 #[derive(Drop)]
@@ -46,8 +47,8 @@ impl CutPlans {
     }
 }
 
-// A plan of a node's function over leaves, in place of the node.
-fn candidate<'a>(
+/// A plan of a node's function over leaves, in place of the node.
+pub(crate) fn candidate<'a>(
     graph: &Graph,
     node: u32,
     leaves: &'a [u32],
@@ -371,5 +372,38 @@ impl Proposer for CutPlans {
             }
         }
         Ok(None)
+    }
+
+    fn promising(
+        &self,
+        alloc: Global,
+        graph: &Graph,
+        uses: &Uses,
+        lists: &Prepared,
+        node: u32,
+        zero_gain: bool,
+    ) -> Result<Vec<Proposal>, AllocError> {
+        let cuts = cuts_of(&lists.cuts, node);
+        let functions = &lists.functions[node as usize];
+        let mut room = Room::new(alloc);
+        let mut proposals = Vec::new(alloc);
+        for (i, cut) in cuts.iter().enumerate() {
+            let function = functions[i];
+            let leaves = cut.as_slice();
+            push_promising(
+                alloc,
+                graph,
+                uses,
+                &self.classes,
+                &lists.known,
+                node,
+                leaves,
+                function,
+                zero_gain,
+                &mut room,
+                &mut proposals,
+            )?;
+        }
+        Ok(proposals)
     }
 }
