@@ -1,4 +1,4 @@
-//! The pass of a proposer over a graph, until no proposal of it saves anything: rounds of workers, and a check after each.
+//! The pass of a proposer over a graph, until no proposal of it saves anything: workers commit, then checks find what is left.
 #![tactic(auto)]
 
 mod passing;

@@ -29,7 +29,16 @@ fn both(first: Report, second: Report) -> Report
     }
 }
 
-// Rounds on a graph in place of another, until it is closed. Workers commit in them only where gains of 0 are let through.
+// Commits of gain 0 are worth another round where the last one took away one in so many of the ANDs.
+const LEAST_SHARE: usize = 1024;
+
+// Whether they are, where there were so many nodes before the last round and so many after it.
+fn is_worth_another(before: usize, after: usize) -> bool {
+    before.saturating_sub(after).saturating_mul(LEAST_SHARE) >= before
+}
+
+// Rounds on a graph in place of another, until it is closed. Workers commit in them only where gains of 0 are let through,
+// and for as long as these lead to much.
 fn close<R: Threads + Sync, P: Proposer, G: Gate>(
     rt: &R,
     alloc: Global,
@@ -50,13 +59,16 @@ fn close<R: Threads + Sync, P: Proposer, G: Gate>(
     let _count = start.count();
     let mut graph = graph;
     let mut report = report;
+    let mut commits = zero_gain;
     loop {
         match one_round(
-            rt, alloc, &graph, proposer, workers, zero_gain, zero_gain, gate,
+            rt, alloc, &graph, proposer, workers, commits, zero_gain, gate,
         )? {
             Round::Stays => return Ok((graph, report)),
             Round::Ends(next, more) => return Ok((next, both(report, more))),
             Round::GoesOn(next, more) => {
+                commits = commits
+                    && is_worth_another(graph.rows.as_slice().len(), next.rows.as_slice().len());
                 graph = next;
                 report = both(report, more);
             }
@@ -91,7 +103,8 @@ fn closed<R: Threads + Sync, P: Proposer, G: Gate>(
 /// Lets workers commit proposals on a graph, and then checks it and applies proposals that save, again and again until none
 /// saves: the same frame, the same values of the observed signals, fewer ANDs by at least what the report says, and closed.
 /// The report has what the workers' commits did and gained, and nothing of what the checks found. Where `zero_gain` is true,
-/// commits of gain 0 are let through, and workers commit again before each check. The gate is told of each commit. Where memory is refused, the same graph comes back.
+/// commits of gain 0 are let through, and workers commit again before each check for as long as a round leads to much. The
+/// gate is told of each commit. Where memory is refused, the same graph comes back.
 pub fn pass<R: Threads + Sync, P: Proposer, G: Gate>(
     rt: &R,
     alloc: Global,

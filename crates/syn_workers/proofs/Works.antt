@@ -34,6 +34,10 @@ has_both zero_gain u v w f s = record {
   gains = λ strict le. s.gains strict (f.gains strict le);
 }
 
+-- where each commit saved, it is so whether gains of 0 are enough or not
+pub has_saved : (zero_gain : Bool) (u v : Worker) → HasWorked false u v → HasWorked zero_gain u v
+has_saved zero_gain u v f = record { known = f.known; fell = f.fell; gains = λ _ le. f.gains refl le }
+
 fell_by : (d e : ℤ) (gain more was now : ℕ) → (d +ℤ pos (gain + more)) ≡ e → now ≤ was + gain → (d +ℤ pos now) ≤ℤ (e +ℤ pos was)
 fell_by d e gain more was now is le = omega (arith, ints, is, le)
 

@@ -1,5 +1,7 @@
 //! A look before a commit, at the graph that the table was opened with. It chooses what is tried, and nothing rests on it.
 
+ghost use Rattle.std.specs.Prelude.{◌≤◌};
+
 use arrayvec::ArrayVec;
 use syn_decide::MOST_INNER;
 use syn_gain::Proposal;
@@ -54,4 +56,26 @@ pub(crate) fn is_narrow(graph: &Graph, proposal: &Proposal) -> bool {
         }
     }
     true
+}
+
+/// Whether a proposal's leaves are the fan-ins of its root.
+pub(crate) fn is_over_fan_ins(graph: &Graph, proposal: &Proposal) -> bool {
+    let leaves = proposal.leaves.as_slice();
+    match graph.rows.as_slice().get(proposal.root as usize) {
+        Some(Row::And(a, b)) => {
+            leaves.len() == 2 && is_among(leaves, a.node()) && is_among(leaves, b.node())
+        }
+        _ => false,
+    }
+}
+
+/// A place in a list of so many, by a hash of a node's number; 0 in an empty one.
+pub(crate) fn place_of(node: u32, count: usize) -> usize
+    ensures { result ≤ count }
+{
+    if count == 0 {
+        return 0;
+    }
+    let hash = node.wrapping_mul(0x9E37_79B1);
+    (hash >> 16) as usize % count
 }

@@ -14,6 +14,7 @@ use crate::sharing::swept_by_all;
 use std::alloc::{AllocError, Global};
 use std::thread::Threads;
 use syn_commit::Gate;
+use syn_gain::Uses;
 use syn_graph::Graph;
 use syn_pool::{Improved, Proposer, Report};
 use syn_rows::NODE_LIMIT;
@@ -55,10 +56,12 @@ fn swept<R: Threads + Sync, P: Proposer, G: Gate>(
 {
     let hints = noted(alloc, graph)?;
     let gates = gates_of(alloc, graph)?;
+    let uses = Uses::new(alloc, graph)?;
     let last = workers - 1;
     let nodes = gates.as_slice();
     let swept = swept_by_all(
-        rt, alloc, graph, proposer, lists, shared, &hints, gate, last, seat, nodes, zero_gain,
+        rt, alloc, graph, &uses, proposer, lists, shared, &hints, gate, last, seat, nodes,
+        zero_gain,
     );
     swept.memory?;
     Ok((swept.seat, swept.report))

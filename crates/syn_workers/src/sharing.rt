@@ -2,6 +2,7 @@
 
 ghost use Rattle.std.specs.Prelude.{◌≡◌, ◌+◌, ◌*◌, ◌<◌, ◌≤◌, length};
 ghost use Rattle.std.specs.Thread.{IsSync};
+ghost use Rattle.syn_gain.specs.Uses.{IsUsesOf};
 ghost use Rattle.syn_table.specs.Seating.{IsOf, known_of, nodes_of, view_of};
 ghost use Rattle.syn_table.specs.Splitting.{with_joined};
 ghost use Rattle.syn_commit.specs.Giving.{IsAtRest};
@@ -13,6 +14,7 @@ use crate::sweeping::sweep;
 use std::alloc::{AllocError, Global};
 use std::thread::{Threads, join};
 use syn_commit::{Gate, Hints, Tools};
+use syn_gain::Uses;
 use syn_graph::Graph;
 use syn_pool::{Proposer, Report};
 use syn_table::{Seat, Shared};
@@ -75,6 +77,7 @@ fn unswept(seat: Seat) -> Swept
 fn swept_alone<P: Proposer, G: Gate>(
     alloc: Global,
     graph: &Graph,
+    uses: &Uses,
     proposer: &P,
     lists: &P::Lists,
     shared: &Shared,
@@ -85,6 +88,7 @@ fn swept_alone<P: Proposer, G: Gate>(
     nodes: &[u32],
     zero_gain: bool,
 ) -> Swept
+    requires uses { IsUsesOf uses.now graph.now }
     requires lists { P.is_lists_of proposer.now lists.now graph.now.rows }
     requires nodes { length graph.now.rows + 512 * (worker + 1) ≤ nodes_of shared.now }
     requires table { IsOf seat shared.now }
@@ -100,7 +104,7 @@ fn swept_alone<P: Proposer, G: Gate>(
         worker,
     };
     let memory = sweep(
-        alloc, graph, proposer, lists, &tools, &mut own, nodes, zero_gain,
+        alloc, graph, uses, proposer, lists, &tools, &mut own, nodes, zero_gain,
     );
     let (seat, report) = own.stop(shared);
     Swept {
@@ -117,6 +121,7 @@ pub(crate) fn swept_by_all<R: Threads + Sync, P: Proposer, G: Gate>(
     rt: &R,
     alloc: Global,
     graph: &Graph,
+    uses: &Uses,
     proposer: &P,
     lists: &P::Lists,
     shared: &Shared,
@@ -127,6 +132,7 @@ pub(crate) fn swept_by_all<R: Threads + Sync, P: Proposer, G: Gate>(
     nodes: &[u32],
     zero_gain: bool,
 ) -> Swept
+    requires uses { IsUsesOf uses.now graph.now }
     requires lists { P.is_lists_of proposer.now lists.now graph.now.rows }
     requires nodes { length graph.now.rows + 512 * (worker + 1) ≤ nodes_of shared.now }
     requires table { IsOf seat shared.now }
@@ -136,7 +142,8 @@ pub(crate) fn swept_by_all<R: Threads + Sync, P: Proposer, G: Gate>(
 {
     if worker == 0 {
         return swept_alone(
-            alloc, graph, proposer, lists, shared, hints, gate, worker, seat, nodes, zero_gain,
+            alloc, graph, uses, proposer, lists, shared, hints, gate, worker, seat, nodes,
+            zero_gain,
         );
     }
     let mut seat = seat;
@@ -146,19 +153,21 @@ pub(crate) fn swept_by_all<R: Threads + Sync, P: Proposer, G: Gate>(
     let (part, others) = nodes.split_at(nodes.len() / (worker as usize + 1));
     let fewer = worker - 1;
     let alone = move || -> Swept
-        requires { P.is_lists_of proposer.now lists.now graph.now.rows × (length graph.now.rows + 512 * (worker + 1) ≤ nodes_of shared.now) × IsOf other shared.now × IsAtRest (view_of other) }
+        requires { IsUsesOf uses.now graph.now × P.is_lists_of proposer.now lists.now graph.now.rows × (length graph.now.rows + 512 * (worker + 1) ≤ nodes_of shared.now) × IsOf other shared.now × IsAtRest (view_of other) }
         ensures { HasSwept shared.entry.now zero_gain other result.seat result.report }
     {
         swept_alone(
-            alloc, graph, proposer, lists, shared, hints, gate, worker, other, part, zero_gain,
+            alloc, graph, uses, proposer, lists, shared, hints, gate, worker, other, part,
+            zero_gain,
         )
     };
     let by_others = move || -> Swept
-        requires { IsSync R.row × IsSync P.row × IsSync G.row × IsSync P.Lists.row × P.is_lists_of proposer.now lists.now graph.now.rows × (length graph.now.rows + 512 * (fewer + 1) ≤ nodes_of shared.now) × IsOf seat shared.now × (fewer < length (known_of seat).numbers) × IsAtRest (view_of seat) }
+        requires { IsSync R.row × IsSync P.row × IsSync G.row × IsSync P.Lists.row × IsUsesOf uses.now graph.now × P.is_lists_of proposer.now lists.now graph.now.rows × (length graph.now.rows + 512 * (fewer + 1) ≤ nodes_of shared.now) × IsOf seat shared.now × (fewer < length (known_of seat).numbers) × IsAtRest (view_of seat) }
         ensures { HasSwept shared.entry.now zero_gain seat result.seat result.report }
     {
         swept_by_all(
-            rt, alloc, graph, proposer, lists, shared, hints, gate, fewer, seat, others, zero_gain,
+            rt, alloc, graph, uses, proposer, lists, shared, hints, gate, fewer, seat, others,
+            zero_gain,
         )
     };
     let (second, first) = join(rt, alone, by_others);

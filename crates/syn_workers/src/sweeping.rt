@@ -3,13 +3,15 @@
 ghost use Rattle.std.specs.Prelude.{◌≡◌, ◌<◌, ◌≤◌, true, length};
 ghost use Rattle.syn_rows.specs.Reach.{is_and};
 ghost use Rattle.syn_rows.specs.Rows.{row_at};
+ghost use Rattle.syn_gain.specs.Uses.{IsUsesOf};
 ghost use Rattle.syn_table.specs.Seating.{nodes_of};
 ghost use Rattle.syn_workers.specs.Working.{HasWorked, IsAtWork};
 
 use crate::Worker;
-use crate::trying::try_each;
+use crate::trying::{try_each, try_from_some_place};
 use std::alloc::{AllocError, Global};
 use syn_commit::{Gate, Tools};
+use syn_gain::Uses;
 use syn_graph::Graph;
 use syn_pool::Proposer;
 use syn_rows::Row;
@@ -33,13 +35,15 @@ fn may_change<G: Gate>(tools: &Tools<'_, G>, worker: &Worker, node: u32) -> bool
     matches!(row, Row::And(_, _)) && !worker.pool.has(node)
 }
 
-/// Proposes for a node on the graph that the table was opened with, and commits the proposals in order until one is done:
-/// the difference in ANDs falls by at least what the worker's report gains. Commits of gain 0 are let through where
-/// `zero_gain` is true. A node is left as it is that is no AND of the graph, that a look at the table shows as none, or
-/// that is one of the worker's spare nodes. The only error is want of memory for the proposals; the clauses hold then too.
+/// Proposes for a node on the graph that the table was opened with, and commits the proposals that are worth it in order,
+/// until one is done: the difference in ANDs falls by at least what the worker's report gains. Where `zero_gain` is true and
+/// none saves, one of gain 0 is let through. A node is left as it is that is no AND of the graph, that a look at the table
+/// shows as none, or that is one of the worker's spare nodes. The only error is want of memory for the proposals; the clauses
+/// hold then too.
 pub fn visit<P: Proposer, G: Gate>(
     alloc: Global,
     graph: &Graph,
+    uses: &Uses,
     proposer: &P,
     lists: &P::Lists,
     tools: &Tools<'_, G>,
@@ -47,6 +51,7 @@ pub fn visit<P: Proposer, G: Gate>(
     node: u32,
     zero_gain: bool,
 ) -> Result<(), AllocError>
+    requires uses { IsUsesOf uses.now graph.now }
     requires lists { P.is_lists_of proposer.now lists.now graph.now.rows }
     requires nodes { length graph.now.rows ≤ nodes_of tools.now.shared.now }
     requires at_work { IsAtWork tools.now.shared.now worker.old }
@@ -56,8 +61,12 @@ pub fn visit<P: Proposer, G: Gate>(
     if !is_gate(graph, node) || !may_change(tools, worker, node) {
         return Ok(());
     }
-    let proposals = proposer.propose(alloc, graph, lists, node)?;
-    try_each(graph, tools, worker, proposals.as_slice(), zero_gain);
+    let saving = proposer.promising(alloc, graph, uses, lists, node, false)?;
+    if try_each(graph, tools, worker, saving.as_slice(), false, true) || !zero_gain {
+        return Ok(());
+    }
+    let proposals = proposer.promising(alloc, graph, uses, lists, node, true)?;
+    try_from_some_place(graph, tools, worker, node, proposals.as_slice(), zero_gain);
     Ok(())
 }
 
@@ -65,6 +74,7 @@ pub fn visit<P: Proposer, G: Gate>(
 pub fn sweep<P: Proposer, G: Gate>(
     alloc: Global,
     graph: &Graph,
+    uses: &Uses,
     proposer: &P,
     lists: &P::Lists,
     tools: &Tools<'_, G>,
@@ -72,6 +82,7 @@ pub fn sweep<P: Proposer, G: Gate>(
     nodes: &[u32],
     zero_gain: bool,
 ) -> Result<(), AllocError>
+    requires uses { IsUsesOf uses.now graph.now }
     requires lists { P.is_lists_of proposer.now lists.now graph.now.rows }
     requires nodes { length graph.now.rows ≤ nodes_of tools.now.shared.now }
     requires at_work { IsAtWork tools.now.shared.now worker.old }
@@ -80,7 +91,7 @@ pub fn sweep<P: Proposer, G: Gate>(
 {
     for node in nodes {
         visit(
-            alloc, graph, proposer, lists, tools, worker, *node, zero_gain,
+            alloc, graph, uses, proposer, lists, tools, worker, *node, zero_gain,
         )?;
     }
     Ok(())

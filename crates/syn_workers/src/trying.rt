@@ -5,7 +5,7 @@ ghost use Rattle.syn_table.specs.Seating.{nodes_of};
 ghost use Rattle.syn_workers.specs.Working.{HasWorked, IsAtWork};
 
 use crate::Worker;
-use crate::looking::is_narrow;
+use crate::looking::{is_narrow, is_over_fan_ins, place_of};
 use syn_commit::{Gate, Tools, try_commit};
 use syn_decide::Outcome;
 use syn_gain::Proposal;
@@ -54,12 +54,40 @@ fn is_done<G: Gate>(
     }
 }
 
-/// Commits the proposals in order, until one is done. One that has more rows between root and leaves than a commit takes, on
-/// the graph that the table was opened with, is passed over: claims on all of them would be for nothing.
+/// Commits the proposals in order, until one is done: whether one was. One that has more rows between root and leaves than a
+/// commit takes, on the graph that the table was opened with, is passed over: claims on all of them would be for nothing. So
+/// are those over the fan-ins of their root, unless these are wanted too.
 pub(crate) fn try_each<G: Gate>(
     graph: &Graph,
     tools: &Tools<'_, G>,
     worker: &mut Worker,
+    proposals: &[Proposal],
+    zero_gain: bool,
+    over_fan_ins: bool,
+) -> bool
+    requires at_work { IsAtWork tools.now.shared.now worker.old }
+    requires roots { All (λ p. p.root < nodes_of tools.now.shared.now) proposals.now }
+    ensures at_work { IsAtWork tools.now.shared.now worker.new }
+    ensures worked { HasWorked zero_gain worker.old worker.new }
+{
+    for proposal in proposals {
+        if !is_narrow(graph, proposal) || (!over_fan_ins && is_over_fan_ins(graph, proposal)) {
+            continue;
+        }
+        if is_done(tools, worker, proposal, zero_gain) {
+            return true;
+        }
+    }
+    false
+}
+
+/// Commits one of the proposals for a node, also one of gain 0. Which one stands first is told by the node's number, so that
+/// neighbours choose differently; those over the node's own fan-ins stand last, as they make the same row again.
+pub(crate) fn try_from_some_place<G: Gate>(
+    graph: &Graph,
+    tools: &Tools<'_, G>,
+    worker: &mut Worker,
+    node: u32,
     proposals: &[Proposal],
     zero_gain: bool,
 )
@@ -68,12 +96,8 @@ pub(crate) fn try_each<G: Gate>(
     ensures at_work { IsAtWork tools.now.shared.now worker.new }
     ensures worked { HasWorked zero_gain worker.old worker.new }
 {
-    for proposal in proposals {
-        if !is_narrow(graph, proposal) {
-            continue;
-        }
-        if is_done(tools, worker, proposal, zero_gain) {
-            return;
-        }
-    }
+    let (last, first) = proposals.split_at(place_of(node, proposals.len()));
+    let _done = try_each(graph, tools, worker, first, zero_gain, false)
+        || try_each(graph, tools, worker, last, zero_gain, false)
+        || try_each(graph, tools, worker, proposals, zero_gain, true);
 }
