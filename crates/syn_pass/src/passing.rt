@@ -1,33 +1,19 @@
 //! Rounds until the graph is closed.
 
-ghost use Rattle.std.specs.Prelude.{◌≡◌, ◌+◌, ◌<◌, ◌≤◌, ℕ, Bool, false, not, List, IfErr, IfNone, IfOk, IfSome, length, ◌^◌};
-ghost use Rattle.syn_rows.specs.declared.Row.{Row};
+ghost use Rattle.std.specs.Prelude.{◌≡◌, ◌+◌, ◌≤◌, ℕ, Bool, false, not, List, IfErr, IfNone, IfOk, IfSome, length};
 ghost use Rattle.syn_rows.specs.Values.{rows_function};
 ghost use Rattle.syn_netlist.specs.Frames.{frame_in};
-ghost use Rattle.syn_gain.specs.Replacements.{Replacement};
 ghost use Rattle.syn_pool.specs.Closing.{Closed};
 ghost use Rattle.syn_pool.specs.Following.{Follows};
 ghost use Rattle.syn_pool.specs.Gains.{IsGain};
 ghost use Rattle.syn_pass.specs.Rounds.{IsRoundOf};
 
-use crate::rounds::{NOTHING, Round, one_round};
+use crate::rounds::{NOTHING, Round, both, one_round};
 use std::alloc::{AllocError, Global};
 use std::thread::Threads;
 use syn_commit::Gate;
 use syn_graph::Graph;
 use syn_pool::{Proposer, Report};
-
-// Two reports as one; a number of applied proposals past the largest is the largest.
-fn both(first: Report, second: Report) -> Report
-    requires { first.gained + second.gained < 2 ^ 64 }
-    ensures gained { result.gained ≡ first.gained + second.gained }
-    ensures done { first.done ≤ first.gained → second.done ≤ second.gained → result.done ≤ result.gained }
-{
-    Report {
-        done: first.done.saturating_add(second.done),
-        gained: first.gained + second.gained,
-    }
-}
 
 // Commits of gain 0 are worth another round where the last one took away one in so many of the ANDs.
 const LEAST_SHARE: usize = 1024;
@@ -37,8 +23,8 @@ fn is_worth_another(before: usize, after: usize) -> bool {
     before.saturating_sub(after).saturating_mul(LEAST_SHARE) >= before
 }
 
-// Rounds on a graph in place of another, until it is closed. Workers commit in them only where gains of 0 are let through,
-// and for as long as these lead to much.
+// Rounds on a graph in place of another, until it is closed. Workers commit for all ANDs in them only where gains of 0 are
+// let through, and for as long as these lead to much.
 fn close<R: Threads + Sync, P: Proposer, G: Gate>(
     rt: &R,
     alloc: Global,
@@ -76,7 +62,7 @@ fn close<R: Threads + Sync, P: Proposer, G: Gate>(
     }
 }
 
-// A closed graph in place of the given one; none where that is closed. Workers commit in the first round.
+// A closed graph in place of the given one; none where that is closed. Workers commit for all ANDs in the first round.
 fn closed<R: Threads + Sync, P: Proposer, G: Gate>(
     rt: &R,
     alloc: Global,
@@ -100,11 +86,12 @@ fn closed<R: Threads + Sync, P: Proposer, G: Gate>(
     }
 }
 
-/// Lets workers commit proposals on a graph, and then checks it and applies proposals that save, again and again until none
-/// saves: the same frame, the same values of the observed signals, fewer ANDs by at least what the report says, and closed.
-/// The report has what the workers' commits did and gained, and nothing of what the checks found. Where `zero_gain` is true,
-/// commits of gain 0 are let through, and workers commit again before each check for as long as a round leads to much. The
-/// gate is told of each commit. Where memory is refused, the same graph comes back.
+/// Lets workers commit proposals on a graph, and then checks it; workers commit for what the check finds, or it is applied,
+/// again and again until no proposal saves: the same frame, the same values of the observed signals, fewer ANDs by at least
+/// what the report says, and closed. The report has what the workers' commits did and gained, and nothing of what was applied
+/// without them. Where `zero_gain` is true, commits of gain 0 are let through, and workers commit for all ANDs again before
+/// each check for as long as a round leads to much. The gate is told of each commit. Where memory is refused, the same graph
+/// comes back.
 pub fn pass<R: Threads + Sync, P: Proposer, G: Gate>(
     rt: &R,
     alloc: Global,

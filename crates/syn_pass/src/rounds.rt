@@ -1,19 +1,25 @@
-//! One round: workers commit, then the check.
+//! One round: workers commit, then the check, and what it finds is committed or applied.
 
-ghost use Rattle.std.specs.Prelude.{◌≡◌, ◌+◌, ◌≤◌, ℕ, Bool, not, List, IfOk, length};
+ghost use Rattle.std.specs.Prelude.{◌≡◌, ◌+◌, ◌<◌, ◌≤◌, ◌^◌, ℕ, Bool, not, true, List, All, IfNone, IfOk, IfSome, length};
 ghost use Rattle.syn_rows.specs.declared.Row.{Row};
+ghost use Rattle.syn_rows.specs.Reach.{is_and};
+ghost use Rattle.syn_rows.specs.Rows.{row_at};
+ghost use Rattle.syn_gain.specs.Proposals.{replacement};
 ghost use Rattle.syn_gain.specs.Replacements.{Replacement};
-ghost use Rattle.syn_pool.specs.Closing.{Closed};
+ghost use Rattle.syn_gain.specs.Uses.{IsUsesOf};
+ghost use Rattle.syn_pool.specs.Closing.{Closed, SavesSome};
 ghost use Rattle.syn_pool.specs.Following.{Follows};
 ghost use Rattle.syn_pool.specs.Gains.{IsGain};
-ghost use Rattle.syn_pass.specs.Rounds.{IsRoundOf};
+ghost use Rattle.syn_pool.specs.Sound.{IsSound};
+ghost use Rattle.syn_pass.specs.Rounds.{IsFewer, IsRoundOf};
 
 use std::alloc::{AllocError, Global};
 use std::thread::Threads;
 use syn_commit::Gate;
+use syn_gain::{Proposal, Uses};
 use syn_graph::Graph;
-use syn_pool::{Improved, Proposer, Report, checked};
-use syn_workers::round;
+use syn_pool::{Improved, Proposer, Report, is_smaller, leftovers, smaller};
+use syn_workers::{Order, round, round_at};
 
 /// No gain.
 pub(crate) const NOTHING: Report = Report { done: 0, gained: 0 };
@@ -29,40 +35,143 @@ pub(crate) enum Round {
     GoesOn(Graph, Report),
 }
 
-// The check of the given graph, with its lists.
-fn check_given<R: Threads + Sync, P: Proposer>(
+// The roots of proposals, the last one first.
+fn roots_of(alloc: Global, proposals: &[Proposal]) -> Result<Vec<u32>, AllocError> {
+    let mut roots = Vec::new(alloc);
+    for proposal in proposals.iter().rev() {
+        roots.push(proposal.root)?;
+    }
+    Ok(roots)
+}
+
+// A graph with fewer ANDs in place of one with leftovers: workers commit for their roots and around them, and where they
+// gain nothing, the leftovers are applied.
+fn mended<R: Threads + Sync, P: Proposer, G: Gate>(
+    rt: &R,
+    alloc: Global,
+    graph: &Graph,
+    uses: &Uses,
+    proposer: &P,
+    lists: &P::Lists,
+    workers: u8,
+    gate: &G,
+    found: &[Proposal],
+) -> Result<Improved, AllocError>
+    requires uses { IsUsesOf uses.now graph.now }
+    requires lists { P.is_lists_of proposer.now lists.now graph.now.rows }
+    requires some { 0 < length found.now }
+    requires ands { All (λ p. is_and (row_at graph.now.rows p.root) ≡ true) found.now }
+    requires saves { All (λ p. SavesSome graph.now.rows graph.now.observed (replacement p)) found.now }
+    requires sound { All (IsSound graph.now.rows) found.now }
+    ensures { IfOk result (λ m. IsFewer graph.now m.report m.graph) }
+{
+    let roots = roots_of(alloc, found)?;
+    let nodes = roots.as_slice();
+    if let Some(improved) = round_at(
+        rt,
+        alloc,
+        graph,
+        proposer,
+        lists,
+        gate,
+        workers,
+        nodes,
+        Order::Numbers,
+        false,
+    )? {
+        if is_smaller(&improved.graph, graph) {
+            return Ok(improved);
+        }
+    }
+    let next = smaller(alloc, graph, uses, found)?;
+    Ok(Improved {
+        graph: next,
+        report: NOTHING,
+    })
+}
+
+// The check of a graph with its lists: one with fewer ANDs in place of it, and none where it is closed.
+fn check<R: Threads + Sync, P: Proposer, G: Gate>(
     rt: &R,
     alloc: Global,
     graph: &Graph,
     proposer: &P,
     lists: &P::Lists,
     workers: u8,
+    gate: &G,
+) -> Result<Option<Improved>, AllocError>
+    requires lists { P.is_lists_of proposer.now lists.now graph.now.rows }
+    ensures some { IfOk result (λ made. IfSome made (λ m. IsFewer graph.now m.report m.graph)) }
+    ensures none { IfOk result (λ made. IfNone made (Closed graph.now.rows graph.now.observed (P.proposals proposer.now graph.now.rows))) }
+{
+    let uses = Uses::new(alloc, graph)?;
+    let found = leftovers(rt, alloc, graph, &uses, proposer, lists, workers)?;
+    if found.len() == 0 {
+        return Ok(None);
+    }
+    let made = mended(
+        rt,
+        alloc,
+        graph,
+        &uses,
+        proposer,
+        lists,
+        workers,
+        gate,
+        found.as_slice(),
+    )?;
+    Ok(Some(made))
+}
+
+// The check of the given graph, with its lists.
+fn check_given<R: Threads + Sync, P: Proposer, G: Gate>(
+    rt: &R,
+    alloc: Global,
+    graph: &Graph,
+    proposer: &P,
+    lists: &P::Lists,
+    workers: u8,
+    gate: &G,
 ) -> Result<Round, AllocError>
     requires lists { P.is_lists_of proposer.now lists.now graph.now.rows }
     ensures { (strict : Bool) → IfOk result (IsRoundOf graph.now (P.proposals proposer.now) strict) }
 {
-    match checked(rt, alloc, graph, proposer, lists, workers)? {
-        Some(next) => Ok(Round::GoesOn(next, NOTHING)),
+    match check(rt, alloc, graph, proposer, lists, workers, gate)? {
+        Some(next) => Ok(Round::GoesOn(next.graph, next.report)),
         None => Ok(Round::Stays),
     }
 }
 
+// Two reports as one; a number of applied proposals past the largest is the largest.
+pub(crate) fn both(first: Report, second: Report) -> Report
+    requires { first.gained + second.gained < 2 ^ 64 }
+    ensures gained { result.gained ≡ first.gained + second.gained }
+    ensures done { first.done ≤ first.gained → second.done ≤ second.gained → result.done ≤ result.gained }
+{
+    Report {
+        done: first.done.saturating_add(second.done),
+        gained: first.gained + second.gained,
+    }
+}
+
 // The check of a graph in place of a given one.
-fn check_improved<R: Threads + Sync, P: Proposer>(
+fn check_improved<R: Threads + Sync, P: Proposer, G: Gate>(
     rt: &R,
     alloc: Global,
     graph: &Graph,
     improved: Improved,
     proposer: &P,
     workers: u8,
+    gate: &G,
 ) -> Result<Round, AllocError>
     requires { Follows graph.now improved.report.gained improved.graph }
     ensures { (strict : Bool) → IsGain strict improved.report → IfOk result (IsRoundOf graph.now (P.proposals proposer.now) strict) }
 {
     let report = improved.report;
+    let _count = graph.count();
     let lists = proposer.prepare(rt, alloc, &improved.graph, workers)?;
-    match checked(rt, alloc, &improved.graph, proposer, &lists, workers)? {
-        Some(next) => Ok(Round::GoesOn(next, report)),
+    match check(rt, alloc, &improved.graph, proposer, &lists, workers, gate)? {
+        Some(next) => Ok(Round::GoesOn(next.graph, both(report, next.report))),
         None => Ok(Round::Ends(improved.graph, report)),
     }
 }
@@ -83,10 +192,10 @@ pub(crate) fn one_round<R: Threads + Sync, P: Proposer, G: Gate>(
 {
     let lists = proposer.prepare(rt, alloc, graph, workers)?;
     if !commits {
-        return check_given(rt, alloc, graph, proposer, &lists, workers);
+        return check_given(rt, alloc, graph, proposer, &lists, workers, gate);
     }
     match round(rt, alloc, graph, proposer, &lists, gate, workers, zero_gain)? {
-        Some(improved) => check_improved(rt, alloc, graph, improved, proposer, workers),
-        None => check_given(rt, alloc, graph, proposer, &lists, workers),
+        Some(improved) => check_improved(rt, alloc, graph, improved, proposer, workers, gate),
+        None => check_given(rt, alloc, graph, proposer, &lists, workers, gate),
     }
 }

@@ -11,11 +11,8 @@ ghost use Rattle.syn_pool.specs.Closing.{Closed, SavesSome};
 ghost use Rattle.syn_pool.specs.Following.{Follows};
 ghost use Rattle.syn_pool.specs.Sound.{IsSound};
 
-use crate::Proposer;
-use crate::checking::leftovers;
 use crate::choosing::chosen;
 use std::alloc::{AllocError, Global};
-use std::thread::Threads;
 use syn_apply::{applied, applied_together};
 use syn_gain::{Proposal, Uses, rows_after_are_few};
 use syn_graph::Graph;
@@ -42,16 +39,16 @@ fn first_applied(alloc: Global, graph: &Graph, proposal: &Proposal) -> Result<Gr
     }
 }
 
-// Whether a graph has fewer rows than another.
-fn is_smaller(next: &Graph, graph: &Graph) -> bool
+/// Whether a graph has fewer rows than another.
+pub fn is_smaller(next: &Graph, graph: &Graph) -> bool
     ensures { result ≡ true → length next.now.rows + 1 ≤ length graph.now.rows }
 {
     next.rows.as_slice().len() < graph.rows.as_slice().len()
 }
 
-// A smaller graph in place of one with leftovers: that after many of them, or after the first alone where what the many
-// save doesn't add up.
-fn smaller(
+/// A smaller graph in place of one with leftovers: that after many of them, or after the first alone where what the many
+/// save doesn't add up. The only error is want of memory.
+pub fn smaller(
     alloc: Global,
     graph: &Graph,
     uses: &Uses,
@@ -72,27 +69,4 @@ fn smaller(
     } else {
         first_applied(alloc, graph, &found[0])
     }
-}
-
-/// Looks at every proposal of every AND of a graph, and applies many of those that save together: a graph in place of one
-/// that isn't closed, with fewer ANDs, and none where it is closed. Up to `workers` threads look at proposals; the graph is
-/// the same for every number of them. The only error is want of memory.
-pub fn checked<R: Threads + Sync, P: Proposer>(
-    rt: &R,
-    alloc: Global,
-    graph: &Graph,
-    proposer: &P,
-    lists: &P::Lists,
-    workers: u8,
-) -> Result<Option<Graph>, AllocError>
-    requires lists { P.is_lists_of proposer.now lists.now graph.now.rows }
-    ensures some { IfOk result (λ next. IfSome next (Follows graph.now 1)) }
-    ensures none { IfOk result (λ next. IfNone next (Closed graph.now.rows graph.now.observed (P.proposals proposer.now graph.now.rows))) }
-{
-    let uses = Uses::new(alloc, graph)?;
-    let found = leftovers(rt, alloc, graph, &uses, proposer, lists, workers)?;
-    if found.len() == 0 {
-        return Ok(None);
-    }
-    Ok(Some(smaller(alloc, graph, &uses, found.as_slice())?))
 }

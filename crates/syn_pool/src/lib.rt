@@ -8,7 +8,7 @@ mod gains;
 mod laws;
 mod proposing;
 
-pub use applying::checked;
+pub use applying::{is_smaller, smaller};
 pub use checking::leftovers;
 pub use gains::{Improved, Report};
 pub use laws::{closed_saves_nothing, first_of_parts};

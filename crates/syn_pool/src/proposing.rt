@@ -18,6 +18,7 @@ use std::alloc::{AllocError, Global};
 use std::thread::Threads;
 use syn_gain::{Candidate, Proposal, Room, Uses, saved};
 use syn_graph::Graph;
+use syn_plan::Plan;
 
 /// Proposes plans in place of the ANDs of a graph.
 pub trait Proposer: Sync {
@@ -96,6 +97,14 @@ pub trait Proposer: Sync {
         let _ = uses;
         let _ = zero_gain;
         self.propose(alloc, graph, lists, node)
+    }
+
+    /// Plans for a function of four variables that are worth a look where rows have changed, with variable i for the leaf at
+    /// place i. Which they are is free, as a commit judges each one; a proposer may have none.
+    fn plans_over<'a>(&'a self, lists: &'a Self::Lists, function: u16) -> &'a [Plan] {
+        let _ = lists;
+        let _ = function;
+        &[]
     }
 }
 

@@ -1,8 +1,7 @@
 //! How many new rows a plan surely adds: told without placing it.
 
-ghost use Rattle.std.specs.Prelude.{◌≡◌, ◌≢◌, ℕ, ◌+◌, ◌<◌, ◌≤◌, ◌^◌, [], length, true, slice_index_or, IfNone, IfSome};
+ghost use Rattle.std.specs.Prelude.{◌≡◌, ℕ, ◌+◌, ◌<◌, ◌≤◌, ◌^◌, [], length, true, slice_index_or};
 ghost use Rattle.syn_rows.specs.declared.TheConstants.{NODE_LIMIT};
-ghost use Rattle.syn_rows.specs.Joining as joining;
 ghost use Rattle.syn_rows.specs.Rows.{InOrder, row_at};
 ghost use Rattle.syn_rows.specs.Reach.{is_and};
 ghost use Rattle.syn_hashed.specs.Indexed.{IsIndexOf};

@@ -406,4 +406,8 @@ impl Proposer for CutPlans {
         }
         Ok(proposals)
     }
+
+    fn plans_over<'a>(&'a self, lists: &'a Prepared, function: u16) -> &'a [Plan] {
+        lists.known.plans(function).unwrap_or(&[])
+    }
 }

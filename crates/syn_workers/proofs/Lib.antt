@@ -1,2 +1,3 @@
 mod Works
 mod Leaving
+mod Numbers

@@ -8,6 +8,7 @@ ghost use Rattle.syn_table.specs.Seating.{IsOf, known_of, nodes_of, view_of};
 ghost use Rattle.syn_commit.specs.Giving.{IsAtRest};
 ghost use Rattle.syn_workers.specs.Working.{HasSwept};
 
+use crate::Order;
 use crate::closing::close;
 use crate::opening::{SPARE, gates_of, noted, opened};
 use crate::sharing::swept_by_all;
@@ -16,6 +17,7 @@ use std::thread::Threads;
 use syn_commit::Gate;
 use syn_gain::Uses;
 use syn_graph::Graph;
+use syn_looks::FanOuts;
 use syn_pool::{Improved, Proposer, Report};
 use syn_rows::NODE_LIMIT;
 use syn_table::{Seat, Shared};
@@ -33,7 +35,7 @@ fn has_room(graph: &Graph, workers: u8) -> bool
     nodes < NODE_LIMIT && graph.observed.as_slice().len() < 1 << 30
 }
 
-// Sweeps the ANDs of the graph by so many workers: the seat is at rest again.
+// Sweeps nodes of the graph by so many workers: the seat is at rest again.
 fn swept<R: Threads + Sync, P: Proposer, G: Gate>(
     rt: &R,
     alloc: Global,
@@ -44,6 +46,7 @@ fn swept<R: Threads + Sync, P: Proposer, G: Gate>(
     gate: &G,
     workers: u8,
     seat: Seat,
+    nodes: &[u32],
     zero_gain: bool,
 ) -> Result<(Seat, Report), AllocError>
     requires lists { P.is_lists_of proposer.now lists.now graph.now.rows }
@@ -55,13 +58,12 @@ fn swept<R: Threads + Sync, P: Proposer, G: Gate>(
     ensures { IfOk result (λ r. HasSwept shared.now zero_gain seat r.0 r.1) }
 {
     let hints = noted(alloc, graph)?;
-    let gates = gates_of(alloc, graph)?;
     let uses = Uses::new(alloc, graph)?;
+    let fan_outs = FanOuts::new(alloc, graph)?;
     let last = workers - 1;
-    let nodes = gates.as_slice();
     let swept = swept_by_all(
-        rt, alloc, graph, &uses, proposer, lists, shared, &hints, gate, last, seat, nodes,
-        zero_gain,
+        rt, alloc, graph, &uses, &fan_outs, proposer, lists, shared, &hints, gate, last, seat,
+        nodes, zero_gain,
     );
     swept.memory?;
     Ok((swept.seat, swept.report))
@@ -76,6 +78,8 @@ fn improved<R: Threads + Sync, P: Proposer, G: Gate>(
     lists: &P::Lists,
     gate: &G,
     workers: u8,
+    nodes: &[u32],
+    order: Order,
     zero_gain: bool,
 ) -> Result<Improved, AllocError>
     requires lists { P.is_lists_of proposer.now lists.now graph.now.rows }
@@ -85,9 +89,9 @@ fn improved<R: Threads + Sync, P: Proposer, G: Gate>(
     ensures follows { IfOk result (λ m. Follows graph.now m.report.gained m.graph) }
     ensures gain { IfOk result (λ m. IsGain (not zero_gain) m.report) }
 {
-    let (shared, seat) = opened(alloc, graph, workers)?;
+    let (shared, seat) = opened(alloc, graph, workers, order)?;
     let (seat, report) = swept(
-        rt, alloc, graph, proposer, lists, &shared, gate, workers, seat, zero_gain,
+        rt, alloc, graph, proposer, lists, &shared, gate, workers, seat, nodes, zero_gain,
     )?;
     let next = close(alloc, graph, shared, seat)?;
     Ok(Improved {
@@ -96,12 +100,40 @@ fn improved<R: Threads + Sync, P: Proposer, G: Gate>(
     })
 }
 
-/// One round of 1 to 16 workers: commits proposals for all ANDs of a graph on its table, and closes the table. The graph
+/// One round of 1 to 16 workers: commits proposals for nodes of a graph on its table, and closes the table. The graph
 /// that comes has the same frame and the same values of the observed signals, and fewer ANDs by at least what the report
-/// says. 0 workers count as 1, and more than 16 as 16. Each has a thread of its own and a part of the ANDs; the work of a
+/// says. 0 workers count as 1, and more than 16 as 16. Each has a thread of its own and a part of the nodes; the work of a
 /// thread that can't be made is done by the caller's. None comes, and the graph stays, where it has no room for the
 /// workers' spare nodes below the limit of nodes, or 2^30 observed signals or more. Commits of gain 0 are let through where
 /// `zero_gain` is true. The gate is told each commit. The only error is want of memory.
+pub fn round_at<R: Threads + Sync, P: Proposer, G: Gate>(
+    rt: &R,
+    alloc: Global,
+    graph: &Graph,
+    proposer: &P,
+    lists: &P::Lists,
+    gate: &G,
+    workers: u8,
+    nodes: &[u32],
+    order: Order,
+    zero_gain: bool,
+) -> Result<Option<Improved>, AllocError>
+    requires lists { P.is_lists_of proposer.now lists.now graph.now.rows }
+    ensures follows { IfOk result (λ made. IfSome made (λ m. Follows graph.now m.report.gained m.graph)) }
+    ensures gain { IfOk result (λ made. IfSome made (λ m. IsGain (not zero_gain) m.report)) }
+    ensures none { IfOk result (λ made. IfNone made ((NODE_LIMIT ≤ length graph.now.rows + 512 * min (max workers 1) 16) ⊎ (2 ^ 30 ≤ length graph.now.observed))) }
+{
+    let workers = workers.max(1).min(MOST_WORKERS);
+    if !has_room(graph, workers) {
+        return Ok(None);
+    }
+    let made = improved(
+        rt, alloc, graph, proposer, lists, gate, workers, nodes, order, zero_gain,
+    )?;
+    Ok(Some(made))
+}
+
+/// The same for all ANDs of the graph.
 pub fn round<R: Threads + Sync, P: Proposer, G: Gate>(
     rt: &R,
     alloc: Global,
@@ -117,10 +149,18 @@ pub fn round<R: Threads + Sync, P: Proposer, G: Gate>(
     ensures gain { IfOk result (λ made. IfSome made (λ m. IsGain (not zero_gain) m.report)) }
     ensures none { IfOk result (λ made. IfNone made ((NODE_LIMIT ≤ length graph.now.rows + 512 * min (max workers 1) 16) ⊎ (2 ^ 30 ≤ length graph.now.observed))) }
 {
-    let workers = workers.max(1).min(MOST_WORKERS);
-    if !has_room(graph, workers) {
-        return Ok(None);
-    }
-    let made = improved(rt, alloc, graph, proposer, lists, gate, workers, zero_gain)?;
-    Ok(Some(made))
+    let gates = gates_of(alloc, graph)?;
+    let nodes = gates.as_slice();
+    round_at(
+        rt,
+        alloc,
+        graph,
+        proposer,
+        lists,
+        gate,
+        workers,
+        nodes,
+        Order::Levels,
+        zero_gain,
+    )
 }

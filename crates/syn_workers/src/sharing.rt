@@ -16,6 +16,7 @@ use std::thread::{Threads, join};
 use syn_commit::{Gate, Hints, Tools};
 use syn_gain::Uses;
 use syn_graph::Graph;
+use syn_looks::FanOuts;
 use syn_pool::{Proposer, Report};
 use syn_table::{Seat, Shared};
 
@@ -78,6 +79,7 @@ fn swept_alone<P: Proposer, G: Gate>(
     alloc: Global,
     graph: &Graph,
     uses: &Uses,
+    fan_outs: &FanOuts,
     proposer: &P,
     lists: &P::Lists,
     shared: &Shared,
@@ -104,7 +106,7 @@ fn swept_alone<P: Proposer, G: Gate>(
         worker,
     };
     let memory = sweep(
-        alloc, graph, uses, proposer, lists, &tools, &mut own, nodes, zero_gain,
+        alloc, graph, uses, fan_outs, proposer, lists, &tools, &mut own, nodes, zero_gain,
     );
     let (seat, report) = own.stop(shared);
     Swept {
@@ -122,6 +124,7 @@ pub(crate) fn swept_by_all<R: Threads + Sync, P: Proposer, G: Gate>(
     alloc: Global,
     graph: &Graph,
     uses: &Uses,
+    fan_outs: &FanOuts,
     proposer: &P,
     lists: &P::Lists,
     shared: &Shared,
@@ -142,8 +145,8 @@ pub(crate) fn swept_by_all<R: Threads + Sync, P: Proposer, G: Gate>(
 {
     if worker == 0 {
         return swept_alone(
-            alloc, graph, uses, proposer, lists, shared, hints, gate, worker, seat, nodes,
-            zero_gain,
+            alloc, graph, uses, fan_outs, proposer, lists, shared, hints, gate, worker, seat,
+            nodes, zero_gain,
         );
     }
     let mut seat = seat;
@@ -157,8 +160,8 @@ pub(crate) fn swept_by_all<R: Threads + Sync, P: Proposer, G: Gate>(
         ensures { HasSwept shared.entry.now zero_gain other result.seat result.report }
     {
         swept_alone(
-            alloc, graph, uses, proposer, lists, shared, hints, gate, worker, other, part,
-            zero_gain,
+            alloc, graph, uses, fan_outs, proposer, lists, shared, hints, gate, worker, other,
+            part, zero_gain,
         )
     };
     let by_others = move || -> Swept
@@ -166,8 +169,8 @@ pub(crate) fn swept_by_all<R: Threads + Sync, P: Proposer, G: Gate>(
         ensures { HasSwept shared.entry.now zero_gain seat result.seat result.report }
     {
         swept_by_all(
-            rt, alloc, graph, uses, proposer, lists, shared, hints, gate, fewer, seat, others,
-            zero_gain,
+            rt, alloc, graph, uses, fan_outs, proposer, lists, shared, hints, gate, fewer, seat,
+            others, zero_gain,
         )
     };
     let (second, first) = join(rt, alone, by_others);

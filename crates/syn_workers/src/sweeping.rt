@@ -8,11 +8,13 @@ ghost use Rattle.syn_table.specs.Seating.{nodes_of};
 ghost use Rattle.syn_workers.specs.Working.{HasWorked, IsAtWork};
 
 use crate::Worker;
+use crate::following::follow;
 use crate::trying::{try_each, try_from_some_place};
 use std::alloc::{AllocError, Global};
 use syn_commit::{Gate, Tools};
 use syn_gain::Uses;
 use syn_graph::Graph;
+use syn_looks::{Cuts, FanOuts};
 use syn_pool::Proposer;
 use syn_rows::Row;
 
@@ -44,10 +46,12 @@ pub fn visit<P: Proposer, G: Gate>(
     alloc: Global,
     graph: &Graph,
     uses: &Uses,
+    fan_outs: &FanOuts,
     proposer: &P,
     lists: &P::Lists,
     tools: &Tools<'_, G>,
     worker: &mut Worker,
+    cuts: &mut Cuts,
     node: u32,
     zero_gain: bool,
 ) -> Result<(), AllocError>
@@ -62,7 +66,11 @@ pub fn visit<P: Proposer, G: Gate>(
         return Ok(());
     }
     let saving = proposer.promising(alloc, graph, uses, lists, node, false)?;
-    if try_each(graph, tools, worker, saving.as_slice(), false, true) || !zero_gain {
+    if try_each(graph, tools, worker, saving.as_slice(), false, true) {
+        follow(graph, fan_outs, proposer, lists, tools, worker, node, cuts);
+        return Ok(());
+    }
+    if !zero_gain {
         return Ok(());
     }
     let proposals = proposer.promising(alloc, graph, uses, lists, node, true)?;
@@ -75,6 +83,7 @@ pub fn sweep<P: Proposer, G: Gate>(
     alloc: Global,
     graph: &Graph,
     uses: &Uses,
+    fan_outs: &FanOuts,
     proposer: &P,
     lists: &P::Lists,
     tools: &Tools<'_, G>,
@@ -89,9 +98,11 @@ pub fn sweep<P: Proposer, G: Gate>(
     ensures at_work { IsAtWork tools.now.shared.now worker.new }
     ensures worked { HasWorked zero_gain worker.old worker.new }
 {
+    let mut cuts = Cuts::new();
     for node in nodes {
         visit(
-            alloc, graph, uses, proposer, lists, tools, worker, *node, zero_gain,
+            alloc, graph, uses, fan_outs, proposer, lists, tools, worker, &mut cuts, *node,
+            zero_gain,
         )?;
     }
     Ok(())

@@ -23,8 +23,8 @@ fn with_done(report: Report, gain: u32) -> Report
     }
 }
 
-// Commits one proposal, unless the root is one of the worker's spare nodes: whether it was done.
-fn is_done<G: Gate>(
+/// Commits one proposal, unless the root is one of the worker's spare nodes: whether it was done.
+pub(crate) fn is_done<G: Gate>(
     tools: &Tools<'_, G>,
     worker: &mut Worker,
     proposal: &Proposal,

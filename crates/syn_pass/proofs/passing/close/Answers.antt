@@ -13,4 +13,4 @@ pub loop-graph-preserved : goal.loop-graph-preserved
 loop-graph-preserved g c =
     let step = subst (IsRoundOf c.loop-graph.graph (g.P.Proposer.proposals c.args.proposer.now) (not c.args.zero_gain)) c.in-GoesOn.is c.in_ok-one_round.ensures in
     let sum = c.both-report.ensures.gained in
-    (chained c.args.start.now c.loop-graph.graph c.in-GoesOn.next c.loop-graph.report.gained (c.in-GoesOn.more.gained + 1) c.both-report.result.gained (omega arith) c.loop-graph.invariant.0 step.0, λ strict. c.both-report.ensures.done (c.loop-graph.invariant.1 strict) (step.1 strict))
+    (chained c.args.start.now c.loop-graph.graph c.in-GoesOn.next c.loop-graph.report.gained c.in-GoesOn.more.gained c.both-report.result.gained (omega arith) c.loop-graph.invariant.0 step.0, λ strict. c.both-report.ensures.done (c.loop-graph.invariant.1 strict) (step.2 strict))
