@@ -35,6 +35,14 @@ fn has_room(graph: &Graph, workers: u8) -> bool
     nodes < NODE_LIMIT && graph.observed.as_slice().len() < 1 << 30
 }
 
+// The fan-outs, where workers look around their commits: on the tables of leftovers, of which there are few.
+fn fan_outs_of(alloc: Global, graph: &Graph, order: Order) -> Result<Option<FanOuts>, AllocError> {
+    match order {
+        Order::Levels => Ok(None),
+        Order::Numbers => Ok(Some(FanOuts::new(alloc, graph)?)),
+    }
+}
+
 // Sweeps nodes of the graph by so many workers: the seat is at rest again.
 fn swept<R: Threads + Sync, P: Proposer, G: Gate>(
     rt: &R,
@@ -47,6 +55,7 @@ fn swept<R: Threads + Sync, P: Proposer, G: Gate>(
     workers: u8,
     seat: Seat,
     nodes: &[u32],
+    order: Order,
     zero_gain: bool,
 ) -> Result<(Seat, Report), AllocError>
     requires lists { P.is_lists_of proposer.now lists.now graph.now.rows }
@@ -59,11 +68,23 @@ fn swept<R: Threads + Sync, P: Proposer, G: Gate>(
 {
     let hints = noted(alloc, graph)?;
     let uses = Uses::new(alloc, graph)?;
-    let fan_outs = FanOuts::new(alloc, graph)?;
+    let fan_outs = fan_outs_of(alloc, graph, order)?;
     let last = workers - 1;
     let swept = swept_by_all(
-        rt, alloc, graph, &uses, &fan_outs, proposer, lists, shared, &hints, gate, last, seat,
-        nodes, zero_gain,
+        rt,
+        alloc,
+        graph,
+        &uses,
+        fan_outs.as_ref(),
+        proposer,
+        lists,
+        shared,
+        &hints,
+        gate,
+        last,
+        seat,
+        nodes,
+        zero_gain,
     );
     swept.memory?;
     Ok((swept.seat, swept.report))
@@ -91,7 +112,7 @@ fn improved<R: Threads + Sync, P: Proposer, G: Gate>(
 {
     let (shared, seat) = opened(alloc, graph, workers, order)?;
     let (seat, report) = swept(
-        rt, alloc, graph, proposer, lists, &shared, gate, workers, seat, nodes, zero_gain,
+        rt, alloc, graph, proposer, lists, &shared, gate, workers, seat, nodes, order, zero_gain,
     )?;
     let next = close(alloc, graph, shared, seat)?;
     Ok(Improved {
