@@ -44,8 +44,11 @@ fn roots_of(alloc: Global, proposals: &[Proposal]) -> Result<Vec<u32>, AllocErro
     Ok(roots)
 }
 
-// A graph with fewer ANDs in place of one with leftovers: workers commit for their roots and around them, and where they
-// gain nothing, the leftovers are applied.
+// The most leftovers that are committed for; more are applied at once, which takes less for each.
+const MOST_COMMITTED: usize = 1024;
+
+// A graph with fewer ANDs in place of one with leftovers: workers commit for their roots and around them; where there are
+// many, or nothing is gained so, the leftovers are applied.
 fn mended<R: Threads + Sync, P: Proposer, G: Gate>(
     rt: &R,
     alloc: Global,
@@ -65,22 +68,24 @@ fn mended<R: Threads + Sync, P: Proposer, G: Gate>(
     requires sound { All (IsSound graph.now.rows) found.now }
     ensures { IfOk result (λ m. IsFewer graph.now m.report m.graph) }
 {
-    let roots = roots_of(alloc, found)?;
-    let nodes = roots.as_slice();
-    if let Some(improved) = round_at(
-        rt,
-        alloc,
-        graph,
-        proposer,
-        lists,
-        gate,
-        workers,
-        nodes,
-        Order::Numbers,
-        false,
-    )? {
-        if is_smaller(&improved.graph, graph) {
-            return Ok(improved);
+    if found.len() <= MOST_COMMITTED {
+        let roots = roots_of(alloc, found)?;
+        let nodes = roots.as_slice();
+        if let Some(improved) = round_at(
+            rt,
+            alloc,
+            graph,
+            proposer,
+            lists,
+            gate,
+            workers,
+            nodes,
+            Order::Numbers,
+            false,
+        )? {
+            if is_smaller(&improved.graph, graph) {
+                return Ok(improved);
+            }
         }
     }
     let next = smaller(alloc, graph, uses, found)?;
