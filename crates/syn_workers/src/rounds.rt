@@ -35,11 +35,12 @@ fn has_room(graph: &Graph, workers: u8) -> bool
     nodes < NODE_LIMIT && graph.observed.as_slice().len() < 1 << 30
 }
 
-// The fan-outs, where workers look around their commits: on the tables of leftovers, of which there are few.
-fn fan_outs_of(alloc: Global, graph: &Graph, order: Order) -> Result<Option<FanOuts>, AllocError> {
+// The fan-outs, none where workers don't look around their commits: they do on the tables of leftovers, of which there are
+// few.
+fn fan_outs_of(alloc: Global, graph: &Graph, order: Order) -> Result<FanOuts, AllocError> {
     match order {
-        Order::Levels => Ok(None),
-        Order::Numbers => Ok(Some(FanOuts::new(alloc, graph)?)),
+        Order::Levels => Ok(FanOuts::none(alloc)),
+        Order::Numbers => FanOuts::new(alloc, graph),
     }
 }
 
@@ -71,20 +72,8 @@ fn swept<R: Threads + Sync, P: Proposer, G: Gate>(
     let fan_outs = fan_outs_of(alloc, graph, order)?;
     let last = workers - 1;
     let swept = swept_by_all(
-        rt,
-        alloc,
-        graph,
-        &uses,
-        fan_outs.as_ref(),
-        proposer,
-        lists,
-        shared,
-        &hints,
-        gate,
-        last,
-        seat,
-        nodes,
-        zero_gain,
+        rt, alloc, graph, &uses, &fan_outs, proposer, lists, shared, &hints, gate, last, seat,
+        nodes, zero_gain,
     );
     swept.memory?;
     Ok((swept.seat, swept.report))

@@ -46,7 +46,7 @@ pub fn visit<P: Proposer, G: Gate>(
     alloc: Global,
     graph: &Graph,
     uses: &Uses,
-    fan_outs: Option<&FanOuts>,
+    fan_outs: &FanOuts,
     proposer: &P,
     lists: &P::Lists,
     tools: &Tools<'_, G>,
@@ -67,7 +67,7 @@ pub fn visit<P: Proposer, G: Gate>(
     }
     let saving = proposer.promising(alloc, graph, uses, lists, node, false)?;
     if try_each(graph, tools, worker, saving.as_slice(), false, true) {
-        if let Some(fan_outs) = fan_outs {
+        if !fan_outs.is_empty() {
             follow(graph, fan_outs, proposer, lists, tools, worker, node, cuts);
         }
         return Ok(());
@@ -85,7 +85,7 @@ pub fn sweep<P: Proposer, G: Gate>(
     alloc: Global,
     graph: &Graph,
     uses: &Uses,
-    fan_outs: Option<&FanOuts>,
+    fan_outs: &FanOuts,
     proposer: &P,
     lists: &P::Lists,
     tools: &Tools<'_, G>,
