@@ -1,4 +1,5 @@
 pub mod Computed
+pub mod Flipping
 pub mod Imaging
 pub mod Keys
 pub mod Least

@@ -1,6 +1,6 @@
 //! The classes of all functions at once.
 
-ghost use Rattle.std.specs.Prelude.{◌≡◌, ℕ, ◌+◌, ◌^◌, ◌<◌, ◌≤◌, ◌==◌, if◌then◌else◌, length, replicate, slice_index_or, slice_set, IfOk};
+ghost use Rattle.std.specs.Prelude.{◌≡◌, ℕ, ◌+◌, ◌%◌, ◌^◌, ◌<◌, ◌==◌, if◌then◌else◌, List, length, replicate, slice_index_or, slice_set, IfOk};
 ghost use Rattle.syn_npn.specs.Keys.{AreNoted, AreSeen, canon_key, class_of, IsKeyed};
 ghost use Rattle.syn_npn.specs.Permutations.{image_at};
 ghost use Rattle.syn_npn.specs.Transforms.{IsCanon};
@@ -8,11 +8,14 @@ ghost use Rattle.syn_npn.specs.Transforms.{IsCanon};
 use crate::Transform;
 use crate::classes::{image, of_key, undo};
 use crate::plain::TRANSFORMS;
-use crate::walk::KEY_STEP;
+use crate::walk::{KEY_STEP, flipped};
 use std::alloc::{AllocError, Global};
 
 /// The number of functions of four variables.
 const FUNCTIONS: u32 = 65536;
+
+/// How many transforms differ in their flips alone.
+const FLIPS: u8 = 16;
 
 /// What stands for a key that is not noted yet, above each key.
 const UNSEEN: u32 = u32::MAX;
@@ -44,6 +47,23 @@ fn note(keys: &mut [u32], function: u16, key: u32)
     }
 }
 
+/// Notes the keys of the functions that lead to a class by the transforms from a place on that differ in their flips alone.
+/// Only the first is turned back: flips are undone by the same flips of the variables.
+fn note_flips(keys: &mut [u32], class: u16, first: u16)
+    requires count { length keys.old ≡ 65536 }
+    requires class { class_of class ≡ class }
+    requires first { first % 16 ≡ 0 }
+    requires within { first < 768 }
+    ensures count { length keys.new ≡ 65536 }
+    ensures noted { (old : List ℕ) → AreNoted first class old keys.old → AreNoted (first + 16) class old keys.new }
+{
+    let plain = member(class, first);
+    for flips in 0..FLIPS {
+        let place = first as u32 + flips as u32;
+        note(keys, flipped(plain, flips), class as u32 * KEY_STEP + place);
+    }
+}
+
 /// Notes the keys of all functions of a class: a transform that comes later finds them noted.
 fn note_class(keys: &mut [u32], class: u16)
     requires count { length keys.old ≡ 65536 }
@@ -51,9 +71,8 @@ fn note_class(keys: &mut [u32], class: u16)
     ensures count { length keys.new ≡ 65536 }
     ensures noted { AreNoted 768 class keys.old keys.new }
 {
-    for place in 0..TRANSFORMS {
-        let key = class as u32 * KEY_STEP + place as u32;
-        note(keys, member(class, place), key);
+    for block in 0..TRANSFORMS / FLIPS as u16 {
+        note_flips(keys, class, block * FLIPS as u16);
     }
 }
 

@@ -1,6 +1,6 @@
 //! The images of a function, walked by exchanges of two neighbouring variables and by complementing one variable.
 
-ghost use Rattle.std.specs.Prelude.{◌≡◌, ℕ, ◌+◌, ◌-◌, ◌*◌, ◌%◌, ◌^◌, ◌<◌, ◌≤◌, ◌||◌, ◌&&◌, ◌⊎◌, nat_le, false, if◌then◌else◌};
+ghost use Rattle.std.specs.Prelude.{◌≡◌, ℕ, ◌+◌, ◌-◌, ◌*◌, ◌^◌, ◌<◌, ◌≤◌, ◌||◌, ◌&&◌, ◌⊎◌, nat_le, false, if◌then◌else◌};
 ghost use Rattle.syn_npn.specs.Images.{value_at};
 ghost use Rattle.syn_npn.specs.Permutations.{IsKey, key_at, permutation_at};
 ghost use Rattle.syn_npn.specs.Values.{image_by};
@@ -73,7 +73,7 @@ fn flipped_where(table: u16, variable: u8, flip: bool) -> u16
 }
 
 /// The image of a function by the plain transform with these flips that keeps the variables in their places.
-fn flipped(function: u16, flips: u8) -> u16
+pub(crate) fn flipped(function: u16, flips: u8) -> u16
     requires { flips < 16 }
     ensures { result ≡ image_by (permutation_at 0) flips false function }
 {
