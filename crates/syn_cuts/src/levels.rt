@@ -15,7 +15,7 @@ use std::thread::Threads;
 use syn_rows::{Row, levels};
 
 // How many nodes are worth a thread.
-const LEAST: usize = 256;
+const LEAST: usize = 64;
 
 // How many nodes are listed at most before their lists are set.
 const MOST: usize = 16_384;
