@@ -9,3 +9,4 @@ mod Candidates
 mod Carried
 mod Deep
 mod Enough
+mod Own

@@ -6,3 +6,4 @@ pub mod PlansOf
 pub mod Prepared
 pub mod Carried
 pub mod Adding
+pub mod Owning

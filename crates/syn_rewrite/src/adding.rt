@@ -22,8 +22,8 @@ use syn_hashed::PairIndex;
 use syn_plan::PLit;
 use syn_rows::{FALSE, Lit, Row, simple_and};
 
-// How many indexes a plan has that is looked at: the constant, its leaves and its gates.
-const MOST_INDEXES: usize = 24;
+/// How many indexes a plan has that is looked at: the constant, its leaves and its gates.
+pub(crate) const MOST_INDEXES: usize = 24;
 
 /// What is known of the literal that an index of a plan becomes.
 #[derive(Clone, Copy, Debug, Default)]

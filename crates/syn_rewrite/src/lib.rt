@@ -6,6 +6,7 @@ mod carrying;
 mod functions;
 mod known_plans;
 mod laws;
+mod owning;
 mod plans;
 mod prepared;
 mod promising;

@@ -18,6 +18,7 @@ ghost use Rattle.syn_rewrite.specs.Rewriting.{cut_proposals, over, rewritings};
 
 use crate::adding::adds_enough;
 use crate::known_plans::KnownPlans;
+use crate::owning::is_own;
 use crate::plans::plans_of;
 use crate::prepared::{Prepared, cuts_of, prepare};
 use crate::promising::push_promising;
@@ -141,7 +142,7 @@ fn some_saves(
     let mut counted = None;
     for plan in plans {
         let candidate = candidate(graph, node, leaves, function, plan);
-        if adds_enough(graph, uses, candidate, most) {
+        if adds_enough(graph, uses, candidate, most) || is_own(graph, uses, candidate) {
             continue;
         }
         let bound = bound_over(alloc, graph, uses, node, leaves, counted)?;
