@@ -1,6 +1,5 @@
 -- Functions that are carried from the cuts of fan-ins.
 use Rattle.std.proofs.Common.{◌≡◌, ℕ, ◌<◌, true, false, nat_eq, nat_lt, List, [], ◌∷◌, ◌++◌, length, get_or, refl, sym, ap, ◌∙◌, subst, inl, inr, arith}
-use Rattle.std.specs.Global.{Vec}
 use Rattle.std.proofs.lemmas.Bool.{and_parts, both_ways, cases_lt, false_from_ne_true, ltb-true, or_cases}
 use Rattle.std.proofs.lemmas.List.{get_or_append_left, get_or_default, get_or_push, length-map, length_push}
 use Rattle.arrayvec.specs.ArrayVec.{ArrayVec}
@@ -13,6 +12,7 @@ use Rattle.syn_cuts.specs.Leaves.{leaves as leaves_in, leaves_of}
 use Rattle.syn_rewrite.specs.Carried.{AreCarried, HaveCarried}
 use Rattle.syn_rewrite.specs.Prepared.{cuts_of}
 use Rattle.syn_rewrite.specs.declared.carrying.Carried.{Carried}
+use Rattle.syn_rewrite.specs.declared.carrying.Functions.{Functions}
 use Rattle.syn_rewrite.proofs.Cuts.{leaves_is}
 
 -- the function over one of the cuts
@@ -22,11 +22,10 @@ from_cut rows node cuts known i cut d are there inside is =
     subst (λ ls. IsCutFunction rows ls node (get_or known i d).function) (sym (leaves_is cuts i cut is)) (are i cut.items d there (omega (arith, inside, length-map cuts leaves_in)))
 
 -- the functions of a node that has its list
-pub at_list : (rows : List Row) (node : ℕ) (cuts : List (ArrayVec ℕ)) (lists : List (Vec Carried)) (v : Vec Carried) → HaveCarried rows lists → node < length lists → v ≡ get_or lists node v → leaves_of cuts ≡ cuts_of rows node
-    → AreCarried rows node (leaves_of cuts) v.items
-at_list rows node cuts lists v have lt is same =
-    subst (λ (cs : List (List ℕ)). AreCarried rows node cs v.items) (sym same)
-    (subst (λ (w : Vec Carried). AreCarried rows node (cuts_of rows node) w.items) (sym is) (have node v lt))
+pub at_list : (rows : List Row) (node : ℕ) (cuts : List (ArrayVec ℕ)) (lists : List Functions) (d : Functions) → HaveCarried rows lists → node < length lists → leaves_of cuts ≡ cuts_of rows node
+    → AreCarried rows node (leaves_of cuts) (get_or lists node d).carried.items
+at_list rows node cuts lists d have lt same =
+    subst (λ (cs : List (List ℕ)). AreCarried rows node cs (get_or lists node d).carried.items) (sym same) (have node d lt)
 
 -- a node isn't among nodes below it
 pub not_below : (node : ℕ) (ns : List ℕ) → are_below node ns ≡ true → has_node ns node ≡ false
@@ -50,11 +49,15 @@ more_carried rows node cuts known one i c count are is here k d e lt inside = el
 ]
 
 -- the functions of one node more
-pub more_lists : (rows : List Row) (lists : List (Vec Carried)) (one : Vec Carried) (last : ℕ) → length lists ≡ last → HaveCarried rows lists → AreCarried rows last (cuts_of rows last) one.items → HaveCarried rows (lists ++ one ∷ [])
+pub more_lists : (rows : List Row) (lists : List Functions) (one : Functions) (last : ℕ) → length lists ≡ last → HaveCarried rows lists → AreCarried rows last (cuts_of rows last) one.carried.items → HaveCarried rows (lists ++ one ∷ [])
 more_lists rows lists one last count have here node d lt = elim (cases_lt node (length lists)) [
-  | inl low ↦ subst (λ (v : Vec Carried). AreCarried rows node (cuts_of rows node) v.items) (sym (get_or_append_left lists (one ∷ []) d node low)) (have node d low)
+  | inl low ↦ subst (λ (v : Functions). AreCarried rows node (cuts_of rows node) v.carried.items) (sym (get_or_append_left lists (one ∷ []) d node low)) (have node d low)
   | inr high ↦
       let same : last ≡ node = let long = length_push lists one in omega (arith, long, lt, high, count) in
-      subst (λ (v : Vec Carried). AreCarried rows node (cuts_of rows node) v.items) (sym (get_or_push lists one d node (count ∙ same)))
-      (subst (λ k. AreCarried rows k (cuts_of rows k) one.items) same here)
+      subst (λ (v : Functions). AreCarried rows node (cuts_of rows node) v.carried.items) (sym (get_or_push lists one d node (count ∙ same)))
+      (subst (λ k. AreCarried rows k (cuts_of rows k) one.carried.items) same here)
 ]
+
+-- no functions are right
+pub none_own : (rows : List Row) (node : ℕ) (cuts : List (List ℕ)) (known : List Carried) → known ≡ [] → AreCarried rows node cuts known
+none_own rows node cuts known none i c d lt inside = absurd (omega (arith, lt, ap length none))

@@ -7,6 +7,6 @@ mod Fitted
 mod Listed
 mod Candidates
 mod Carried
+mod Own
 mod Deep
 mod Enough
-mod Own

@@ -1,6 +1,6 @@
 //! The function of an AND over a cut, from the functions of its fan-ins.
 
-ghost use Rattle.std.specs.Prelude.{◌≡◌, ◌<◌, ◌≤◌, false, List, IfOk, IfSome, length};
+ghost use Rattle.std.specs.Prelude.{◌≡◌, ◌≢◌, ◌<◌, ◌≤◌, false, List, IfNone, IfOk, IfSome, length};
 ghost use Rattle.syn_rows.specs.declared.Row.{Row};
 ghost use Rattle.syn_rows.specs.declared.Row.TheVariants.{And};
 ghost use Rattle.syn_rows.specs.Nodes.{has_node};
@@ -23,6 +23,22 @@ use syn_rows::Lit;
 pub(crate) struct Carried {
     pub(crate) function: CutFunction,
     pub(crate) signature: u64,
+}
+
+/// The functions of a node over its first cuts, in order.
+#[derive(Drop)]
+pub struct Functions {
+    pub(crate) node: u32,
+    pub(crate) carried: Vec<Carried>,
+}
+
+/// Whether the rows between a node and a cut of it are looked at where its fan-ins' functions don't serve.
+#[derive(Clone, Copy, Debug)]
+pub enum Cones {
+    /// They are.
+    Walked,
+    /// They aren't.
+    Left,
 }
 
 // The function of a node over leaves, from the first of its functions over cuts that serves.
@@ -49,7 +65,7 @@ fn from_cuts(
 // The function of a node over leaves: a leaf's own, or from its functions over cuts.
 fn fan_in(
     cuts: &CutLists,
-    lists: &[Vec<Carried>],
+    lists: &[Functions],
     node: u32,
     leaves: &[u32],
     bits: u64,
@@ -62,7 +78,7 @@ fn fan_in(
     if let Some(own) = CutFunction::of_leaf(leaves, node) {
         return Some(own);
     }
-    let known = lists[node as usize].as_slice();
+    let known = lists[node as usize].carried.as_slice();
     let found = from_cuts(node, cuts_of(cuts, node), known, leaves, bits)?;
     Some(found)
 }
@@ -70,7 +86,7 @@ fn fan_in(
 // The function of an AND over leaves, from those of its fan-ins, where some of their cuts serve.
 fn from_fan_ins(
     cuts: &CutLists,
-    lists: &[Vec<Carried>],
+    lists: &[Functions],
     node: u32,
     first: Lit,
     second: Lit,
@@ -88,28 +104,36 @@ fn from_fan_ins(
 }
 
 /// The function of an AND over a cut of it, which has this signature: from those of its fan-ins where some of their cuts
-/// serve, else by the rows between. The only error is want of memory.
+/// serve, else by the rows between, or none where these aren't looked at. The only error is want of memory.
 pub(crate) fn over_cut(
     alloc: Global,
     graph: &Graph,
     cuts: &CutLists,
-    lists: &[Vec<Carried>],
+    lists: &[Functions],
     node: u32,
     first: Lit,
     second: Lit,
     leaves: &[u32],
     bits: u64,
-) -> Result<CutFunction, AllocError>
+    cones: Cones,
+) -> Result<Option<CutFunction>, AllocError>
     requires node { node < length graph.now.rows }
     requires row { row_at graph.now.rows node ≡ And first second }
     requires cuts { cuts.now ≡ listed_cuts 4 graph.now.rows }
     requires count { length lists.now ≡ node }
     requires lists { HaveCarried graph.now.rows lists.now }
     requires leaves { AreLeavesOf graph.now.rows node leaves.now }
-    ensures { IfOk result (IsCutFunction graph.now.rows leaves.now node) }
+    ensures some { IfOk result (λ found. IfSome found (IsCutFunction graph.now.rows leaves.now node)) }
+    ensures none { IfOk result (λ found. IfNone found (cones ≢ Cones.Walked)) }
 {
     if let Some(found) = from_fan_ins(cuts, lists, node, first, second, leaves, bits) {
-        return Ok(found);
+        return Ok(Some(found));
     }
-    CutFunction::of_cone(alloc, graph.rows.as_slice(), node, leaves)
+    match cones {
+        Cones::Walked => {
+            let walked = CutFunction::of_cone(alloc, graph.rows.as_slice(), node, leaves)?;
+            Ok(Some(walked))
+        }
+        Cones::Left => Ok(None),
+    }
 }

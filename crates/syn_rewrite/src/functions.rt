@@ -1,94 +1,140 @@
 //! The functions of nodes over their cuts.
 
-ghost use Rattle.std.specs.Prelude.{◌≡◌, ℕ, ◌<◌, ◌≤◌, true, List, IfOk, length};
+ghost use Rattle.std.specs.Prelude.{◌≡◌, ℕ, ◌<◌, ◌≤◌, true, List, IfOk, OnOk, length};
 ghost use Rattle.syn_rows.specs.declared.Row.{Row};
 ghost use Rattle.syn_rows.specs.declared.Row.TheVariants.{And};
 ghost use Rattle.syn_rows.specs.Reach.{is_and};
 ghost use Rattle.syn_rows.specs.Rows.{row_at};
 ghost use Rattle.syn_cones.specs.Carried.{IsCutFunction};
 ghost use Rattle.syn_cuts.specs.Cuts.{listed_cuts};
+ghost use Rattle.syn_cuts.specs.Leaves.{leaves_of};
 ghost use Rattle.syn_rewrite.specs.Carried.{AreCarried, HaveCarried};
 ghost use Rattle.syn_rewrite.specs.Functions.{IsFunctionOver};
 ghost use Rattle.syn_rewrite.specs.Prepared.{AreFunctionsOver, cuts_of};
 
-use crate::carrying::{Carried, over_cut};
+use crate::carrying::{Carried, Cones, Functions, over_cut};
 use crate::prepared::cuts_of;
 use std::alloc::{AllocError, Global};
-use syn_cones::CutFunction;
-use syn_cuts::{CutLists, signature};
+use syn_cuts::{Cut, CutLists, signature};
 use syn_graph::Graph;
 use syn_rows::{Lit, Row};
 
-// The functions of a node over its cuts, as they are carried on, and as numbers.
-#[derive(Drop)]
-pub(crate) struct Functions {
-    pub(crate) carried: Vec<Carried>,
-    pub(crate) numbers: Vec<u16>,
-}
-
 // The number of a function over leaves.
 #[inline]
-fn number_of(function: CutFunction, leaves: &[u32]) -> u16
+fn number_of(one: &Carried, leaves: &[u32]) -> u16
     requires { length leaves.now ≤ 4 }
-    ensures { (rows : List Row) (node : ℕ) → IsCutFunction rows leaves.now node function → IsFunctionOver rows leaves.now node result }
+    ensures { (rows : List Row) (node : ℕ) → IsCutFunction rows leaves.now node one.now.function → IsFunctionOver rows leaves.now node result }
 {
-    function.table(leaves).to_bits()
+    one.function.table(leaves).to_bits()
 }
 
-// The functions of an AND over its cuts, in order.
-fn over_cuts(
+// Adds the functions of an AND over its further cuts, in order; where cones aren't walked, up to the first one that wants it.
+fn add_further(
     alloc: Global,
     graph: &Graph,
     cuts: &CutLists,
-    lists: &[Vec<Carried>],
+    lists: &[Functions],
     node: u32,
     first: Lit,
     second: Lit,
-) -> Result<Functions, AllocError>
+    cones: Cones,
+    carried: &mut Vec<Carried>,
+) -> Result<(), AllocError>
     requires node { node < length graph.now.rows }
     requires row { row_at graph.now.rows node ≡ And first second }
     requires cuts { cuts.now ≡ listed_cuts 4 graph.now.rows }
     requires count { length lists.now ≡ node }
     requires lists { HaveCarried graph.now.rows lists.now }
-    ensures carried { IfOk result (λ f. AreCarried graph.now.rows node (cuts_of graph.now.rows node) f.carried.items) }
-    ensures numbers { IfOk result (λ f. AreFunctionsOver graph.now.rows node (cuts_of graph.now.rows node) f.numbers.items) }
+    requires carried { AreCarried graph.now.rows node (cuts_of graph.now.rows node) carried.old.items }
+    ensures carried { OnOk result (AreCarried graph.now.rows node (cuts_of graph.now.rows node) carried.new.items) }
+    ensures all { OnOk result (cones ≡ Cones.Walked → length (cuts_of graph.now.rows node) ≤ length carried.new.items) }
 {
     let own = cuts_of(cuts, node);
-    let mut carried = Vec::with_capacity(alloc, own.len())?;
-    let mut numbers = Vec::with_capacity(alloc, own.len())?;
-    for cut in own {
-        let leaves = cut.as_slice();
+    for i in carried.len()..own.len() {
+        let leaves = own[i].as_slice();
         let bits = signature(leaves);
-        let function = over_cut(alloc, graph, cuts, lists, node, first, second, leaves, bits)?;
-        numbers.push(number_of(function, leaves))?;
-        carried.push(Carried {
-            function,
-            signature: bits,
-        })?;
+        let found = over_cut(
+            alloc, graph, cuts, lists, node, first, second, leaves, bits, cones,
+        )?;
+        match found {
+            Some(function) => carried.push(Carried {
+                function,
+                signature: bits,
+            })?,
+            None => return Ok(()),
+        }
     }
-    Ok(Functions { carried, numbers })
+    Ok(())
 }
 
-/// The functions of a node over its cuts; none where it is no AND.
-pub(crate) fn functions_at(
+/// The functions of a node over its cuts, where these are those over the first ones: over all of them, or, where cones
+/// aren't walked, as far as they follow from those of its fan-ins. A node that is no AND has none. The only error is want
+/// of memory.
+pub(crate) fn further_at(
     alloc: Global,
     graph: &Graph,
     cuts: &CutLists,
-    lists: &[Vec<Carried>],
+    lists: &[Functions],
     node: u32,
-) -> Result<Functions, AllocError>
+    cones: Cones,
+    carried: Vec<Carried>,
+) -> Result<Vec<Carried>, AllocError>
     requires node { node < length graph.now.rows }
     requires cuts { cuts.now ≡ listed_cuts 4 graph.now.rows }
     requires count { length lists.now ≡ node }
     requires lists { HaveCarried graph.now.rows lists.now }
-    ensures carried { IfOk result (λ f. AreCarried graph.now.rows node (cuts_of graph.now.rows node) f.carried.items) }
-    ensures numbers { IfOk result (λ f. is_and (row_at graph.now.rows node) ≡ true → AreFunctionsOver graph.now.rows node (cuts_of graph.now.rows node) f.numbers.items) }
+    requires carried { AreCarried graph.now.rows node (cuts_of graph.now.rows node) carried.items }
+    ensures carried { IfOk result (λ v. AreCarried graph.now.rows node (cuts_of graph.now.rows node) v.items) }
+    ensures all { IfOk result (λ v. cones ≡ Cones.Walked → is_and (row_at graph.now.rows node) ≡ true → length (cuts_of graph.now.rows node) ≤ length v.items) }
 {
     match graph.rows.as_slice()[node as usize] {
-        Row::And(first, second) => over_cuts(alloc, graph, cuts, lists, node, first, second),
-        _ => Ok(Functions {
-            carried: Vec::new(alloc),
-            numbers: Vec::new(alloc),
-        }),
+        Row::And(first, second) => {
+            let mut carried = carried;
+            let more = &mut carried;
+            add_further(alloc, graph, cuts, lists, node, first, second, cones, more)?;
+            Ok(carried)
+        }
+        _ => Ok(carried),
+    }
+}
+
+// The numbers of the functions over cuts.
+fn numbers_over(
+    alloc: Global,
+    graph: &Graph,
+    node: u32,
+    own: &[Cut],
+    carried: &[Carried],
+) -> Result<Vec<u16>, AllocError>
+    requires node { is_and (row_at graph.now.rows node) ≡ true }
+    requires own { leaves_of own.now ≡ cuts_of graph.now.rows node }
+    requires all { length own.now ≤ length carried.now }
+    requires carried { AreCarried graph.now.rows node (cuts_of graph.now.rows node) carried.now }
+    ensures { IfOk result (λ v. AreFunctionsOver graph.now.rows node (cuts_of graph.now.rows node) v.items) }
+{
+    let mut numbers = Vec::with_capacity(alloc, own.len())?;
+    for (i, cut) in own.iter().enumerate() {
+        numbers.push(number_of(&carried[i], cut.as_slice()))?;
+    }
+    Ok(numbers)
+}
+
+/// The functions of a node over its cuts as numbers; none where it is no AND. The only error is want of memory.
+pub(crate) fn numbers_at(
+    alloc: Global,
+    graph: &Graph,
+    cuts: &CutLists,
+    node: u32,
+    carried: &[Carried],
+) -> Result<Vec<u16>, AllocError>
+    requires node { node < length graph.now.rows }
+    requires cuts { cuts.now ≡ listed_cuts 4 graph.now.rows }
+    requires all { is_and (row_at graph.now.rows node) ≡ true → length (cuts_of graph.now.rows node) ≤ length carried.now }
+    requires carried { AreCarried graph.now.rows node (cuts_of graph.now.rows node) carried.now }
+    ensures { IfOk result (λ v. is_and (row_at graph.now.rows node) ≡ true → AreFunctionsOver graph.now.rows node (cuts_of graph.now.rows node) v.items) }
+{
+    match graph.rows.as_slice()[node as usize] {
+        Row::And(_, _) => numbers_over(alloc, graph, node, cuts_of(cuts, node), carried),
+        _ => Ok(Vec::new(alloc)),
     }
 }

@@ -3,9 +3,11 @@
 
 mod adding;
 mod carrying;
+mod completing;
 mod functions;
 mod known_plans;
 mod laws;
+mod listing;
 mod owning;
 mod plans;
 mod prepared;

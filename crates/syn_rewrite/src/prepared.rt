@@ -1,16 +1,13 @@
 //! What is listed once for a graph.
 
-ghost use Rattle.std.specs.Prelude.{◌≡◌, ◌-◌, ◌<◌, ◌≤◌, true, All, List, IfOk, length};
+ghost use Rattle.std.specs.Prelude.{◌≡◌, ◌-◌, ◌<◌, All, List, IfOk, length};
 ghost use Rattle.syn_rows.specs.declared.Row.{Row};
-ghost use Rattle.syn_rows.specs.Rows.{row_at};
-ghost use Rattle.syn_rows.specs.Reach.{is_and};
 ghost use Rattle.syn_cuts.specs.Cuts.{listed_cuts};
 ghost use Rattle.syn_cuts.specs.Leaves.{leaves_of};
-ghost use Rattle.syn_rewrite.specs.Carried.{HaveCarried};
-ghost use Rattle.syn_rewrite.specs.Prepared.{HaveFunctions, IsPreparedFor, cuts_of};
+ghost use Rattle.syn_rewrite.specs.Prepared.{IsPreparedFor, cuts_of};
 ghost use Rattle.syn_rewrite.specs.Rewriting.{all_but_last};
 
-use crate::functions::{Functions, functions_at};
+use crate::completing::all_functions;
 use crate::known_plans::KnownPlans;
 use std::alloc::{AllocError, Global};
 use std::thread::Threads;
@@ -48,26 +45,6 @@ pub(crate) fn cuts_of(cuts: &CutLists, node: u32) -> &[Cut]
     but_last(cuts.of(node))
 }
 
-// The functions of each AND over its cuts, as numbers.
-fn all_functions(alloc: Global, graph: &Graph, cuts: &CutLists) -> Result<Vec<Vec<u16>>, AllocError>
-    requires { cuts.now ≡ listed_cuts 4 graph.now.rows }
-    ensures count { IfOk result (λ v. length v.items ≡ length graph.now.rows) }
-    ensures functions { IfOk result (λ v. HaveFunctions graph.now.rows v.items) }
-{
-    let _count = graph.count();
-    let mut carried = Vec::new(alloc);
-    let mut numbers = Vec::new(alloc);
-    for node in 0..graph.rows.as_slice().len() as u32 {
-        let Functions {
-            carried: carries,
-            numbers: numbered,
-        } = functions_at(alloc, graph, cuts, &carried, node)?;
-        carried.push(carries)?;
-        numbers.push(numbered)?;
-    }
-    Ok(numbers)
-}
-
 /// What is listed for a graph.
 pub(crate) fn prepare<R: Threads + Sync>(
     rt: &R,
@@ -79,7 +56,7 @@ pub(crate) fn prepare<R: Threads + Sync>(
     ensures { IfOk result (λ lists. IsPreparedFor lists graph.now.rows) }
 {
     let cuts = listed(rt, alloc, graph, MOST_LEAVES, workers)?;
-    let functions = all_functions(alloc, graph, &cuts)?;
+    let functions = all_functions(rt, alloc, graph, &cuts, workers)?;
     let known = KnownPlans::of(alloc, classes, functions.as_slice())?;
     Ok(Prepared {
         cuts,

@@ -8,5 +8,6 @@ use Rattle.syn_rewrite.proofs.carrying.fan_in.Goals as goal
 pub returns : goal.returns
 returns c = λ rows order listed have.
     let cuts = c.cuts_of.result.now in
-    let own = at_list rows c.args.node cuts c.args.lists.now c.index-lists-node.result have c.requires.node c.index-lists-node.is (c.cuts_of.ensures rows listed) in
+    let all = c.args.lists.now in
+    let own = at_list rows c.args.node cuts all c.index-lists-node.result have c.requires.node (c.cuts_of.ensures rows listed) in
     c.in_ok-found.ensures rows order (subst (λ (known : List Carried). AreCarried rows c.args.node (leaves_of cuts) known) (sym c.as_slice-known.ensures.value) own)
