@@ -23,7 +23,7 @@ fn is_worth_another(before: usize, after: usize) -> bool {
     before.saturating_sub(after).saturating_mul(LEAST_SHARE) >= before
 }
 
-// Rounds on a graph in place of another, until it is closed. Workers commit for all ANDs in them only where gains of 0 are
+// Rounds on a graph in place of another, until it is closed; the lists are those of one before it. Workers commit for all ANDs in them only where gains of 0 are
 // let through, and for as long as these lead to much.
 fn close<R: Threads + Sync, P: Proposer, G: Gate>(
     rt: &R,
@@ -32,6 +32,7 @@ fn close<R: Threads + Sync, P: Proposer, G: Gate>(
     graph: Graph,
     report: Report,
     proposer: &P,
+    lists: P::Lists,
     workers: u8,
     zero_gain: bool,
     gate: &G,
@@ -45,18 +46,21 @@ fn close<R: Threads + Sync, P: Proposer, G: Gate>(
     let _count = start.count();
     let mut graph = graph;
     let mut report = report;
+    let mut lists = lists;
     let mut commits = zero_gain;
     loop {
+        let before = Some(lists);
         match one_round(
-            rt, alloc, &graph, proposer, workers, commits, zero_gain, gate,
+            rt, alloc, &graph, proposer, before, workers, commits, zero_gain, gate,
         )? {
             Round::Stays => return Ok((graph, report)),
             Round::Ends(next, more) => return Ok((next, both(report, more))),
-            Round::GoesOn(next, more) => {
+            Round::GoesOn(next, more, used) => {
                 commits = commits
                     && is_worth_another(graph.rows.as_slice().len(), next.rows.as_slice().len());
                 graph = next;
                 report = both(report, more);
+                lists = used;
             }
         }
     }
@@ -75,12 +79,14 @@ fn closed<R: Threads + Sync, P: Proposer, G: Gate>(
     ensures some { IfOk result (λ made. IfSome made (λ r. Follows graph.now r.1.gained r.0 × Closed r.0.rows r.0.observed (P.proposals proposer.now r.0.rows) × IsGain (not zero_gain) r.1)) }
     ensures none { IfOk result (λ made. IfNone made (Closed graph.now.rows graph.now.observed (P.proposals proposer.now graph.now.rows))) }
 {
-    match one_round(rt, alloc, graph, proposer, workers, true, zero_gain, gate)? {
+    match one_round(
+        rt, alloc, graph, proposer, None, workers, true, zero_gain, gate,
+    )? {
         Round::Stays => Ok(None),
         Round::Ends(next, report) => Ok(Some((next, report))),
-        Round::GoesOn(next, report) => {
+        Round::GoesOn(next, report, lists) => {
             Ok(Some(close(
-                rt, alloc, graph, next, report, proposer, workers, zero_gain, gate,
+                rt, alloc, graph, next, report, proposer, lists, workers, zero_gain, gate,
             )?))
         }
     }

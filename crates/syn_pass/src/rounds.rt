@@ -25,14 +25,14 @@ use syn_workers::{Order, round, round_at};
 pub(crate) const NOTHING: Report = Report { done: 0, gained: 0 };
 
 /// What a round makes of a graph.
-#[derive(Debug, Drop)]
-pub(crate) enum Round {
+#[derive(Drop)]
+pub(crate) enum Round<L> {
     /// It is closed.
     Stays,
     /// This graph in its place is closed.
     Ends(Graph, Report),
-    /// This graph is in its place, with fewer ANDs.
-    GoesOn(Graph, Report),
+    /// This graph is in its place, with fewer ANDs; these are the lists of one before it.
+    GoesOn(Graph, Report, L),
 }
 
 // The roots of proposals, the last one first.
@@ -46,6 +46,14 @@ fn roots_of(alloc: Global, proposals: &[Proposal]) -> Result<Vec<u32>, AllocErro
 
 // The most leftovers that are committed for; more are applied at once, which takes less for each.
 const MOST_COMMITTED: usize = 1024;
+
+// The most leftovers that are left to one worker: several would meet around so few, and leave more to the next check.
+const MOST_ALONE: usize = 256;
+
+// How many workers commit for so many leftovers.
+fn workers_for(leftovers: usize, workers: u8) -> u8 {
+    if leftovers <= MOST_ALONE { 1 } else { workers }
+}
 
 // A graph with fewer ANDs in place of one with leftovers: workers commit for their roots and around them; where there are
 // many, or nothing is gained so, the leftovers are applied.
@@ -78,7 +86,7 @@ fn mended<R: Threads + Sync, P: Proposer, G: Gate>(
             proposer,
             lists,
             gate,
-            workers,
+            workers_for(found.len(), workers),
             nodes,
             Order::Numbers,
             false,
@@ -134,15 +142,15 @@ fn check_given<R: Threads + Sync, P: Proposer, G: Gate>(
     alloc: Global,
     graph: &Graph,
     proposer: &P,
-    lists: &P::Lists,
+    lists: P::Lists,
     workers: u8,
     gate: &G,
-) -> Result<Round, AllocError>
-    requires lists { P.is_lists_of proposer.now lists.now graph.now.rows }
+) -> Result<Round<P::Lists>, AllocError>
+    requires lists { P.is_lists_of proposer.now lists graph.now.rows }
     ensures { (strict : Bool) → IfOk result (IsRoundOf graph.now (P.proposals proposer.now) strict) }
 {
-    match check(rt, alloc, graph, proposer, lists, workers, gate)? {
-        Some(next) => Ok(Round::GoesOn(next.graph, next.report)),
+    match check(rt, alloc, graph, proposer, &lists, workers, gate)? {
+        Some(next) => Ok(Round::GoesOn(next.graph, next.report, lists)),
         None => Ok(Round::Stays),
     }
 }
@@ -159,48 +167,69 @@ pub(crate) fn both(first: Report, second: Report) -> Report
     }
 }
 
-// The check of a graph in place of a given one.
+// The check of a graph in place of a given one, which has these lists.
 fn check_improved<R: Threads + Sync, P: Proposer, G: Gate>(
     rt: &R,
     alloc: Global,
     graph: &Graph,
     improved: Improved,
     proposer: &P,
+    lists: P::Lists,
     workers: u8,
     gate: &G,
-) -> Result<Round, AllocError>
+) -> Result<Round<P::Lists>, AllocError>
     requires { Follows graph.now improved.report.gained improved.graph }
     ensures { (strict : Bool) → IsGain strict improved.report → IfOk result (IsRoundOf graph.now (P.proposals proposer.now) strict) }
 {
     let report = improved.report;
     let _count = graph.count();
-    let lists = proposer.prepare(rt, alloc, &improved.graph, workers)?;
+    let lists = proposer.prepare_again(rt, alloc, &improved.graph, lists, workers)?;
     match check(rt, alloc, &improved.graph, proposer, &lists, workers, gate)? {
-        Some(next) => Ok(Round::GoesOn(next.graph, both(report, next.report))),
+        Some(next) => Ok(Round::GoesOn(next.graph, both(report, next.report), lists)),
         None => Ok(Round::Ends(improved.graph, report)),
     }
 }
 
-/// One round on a graph: workers commit, if they are to, and the graph that they leave is checked. Where they are not to, or
-/// the graph has no room for them, the given graph is checked.
+// The lists of a graph, where these are those of one before it, if there was one.
+fn listed<R: Threads + Sync, P: Proposer>(
+    rt: &R,
+    alloc: Global,
+    graph: &Graph,
+    proposer: &P,
+    before: Option<P::Lists>,
+    workers: u8,
+) -> Result<P::Lists, AllocError>
+    ensures { IfOk result (λ lists. P.is_lists_of proposer.now lists graph.now.rows) }
+{
+    match before {
+        Some(lists) => proposer.prepare_again(rt, alloc, graph, lists, workers),
+        None => proposer.prepare(rt, alloc, graph, workers),
+    }
+}
+
+/// One round on a graph: workers commit, if they are to, and the graph that they leave is checked. Where they are not to, the
+/// graph has no room for them, or nothing was done, the given graph is checked. The lists are those of a graph before it, if there was one.
 pub(crate) fn one_round<R: Threads + Sync, P: Proposer, G: Gate>(
     rt: &R,
     alloc: Global,
     graph: &Graph,
     proposer: &P,
+    before: Option<P::Lists>,
     workers: u8,
     commits: bool,
     zero_gain: bool,
     gate: &G,
-) -> Result<Round, AllocError>
+) -> Result<Round<P::Lists>, AllocError>
     ensures { IfOk result (IsRoundOf graph.now (P.proposals proposer.now) (not zero_gain)) }
 {
-    let lists = proposer.prepare(rt, alloc, graph, workers)?;
+    let lists = listed(rt, alloc, graph, proposer, before, workers)?;
     if !commits {
-        return check_given(rt, alloc, graph, proposer, &lists, workers, gate);
+        return check_given(rt, alloc, graph, proposer, lists, workers, gate);
     }
     match round(rt, alloc, graph, proposer, &lists, gate, workers, zero_gain)? {
-        Some(improved) => check_improved(rt, alloc, graph, improved, proposer, workers, gate),
-        None => check_given(rt, alloc, graph, proposer, &lists, workers, gate),
+        Some(improved) if improved.report.done > 0 => {
+            check_improved(rt, alloc, graph, improved, proposer, lists, workers, gate)
+        }
+        _ => check_given(rt, alloc, graph, proposer, lists, workers, gate),
     }
 }

@@ -42,6 +42,23 @@ pub trait Proposer: Sync {
         requires { IsSync R.row }
         ensures { IfOk result (λ lists. is_lists_of self.now lists graph.now.rows) };
 
+    /// The same where another graph was listed before. A proposer that keeps in its lists what serves every graph may take it
+    /// over from these.
+    fn prepare_again<R: Threads + Sync>(
+        &self,
+        rt: &R,
+        alloc: Global,
+        graph: &Graph,
+        lists: Self::Lists,
+        workers: u8,
+    ) -> Result<Self::Lists, AllocError>
+        requires { IsSync R.row }
+        ensures { IfOk result (λ lists. is_lists_of self.now lists graph.now.rows) }
+    {
+        drop(lists);
+        self.prepare(rt, alloc, graph, workers)
+    }
+
     /// The proposals for an AND, in order.
     fn propose(
         &self,

@@ -61,8 +61,8 @@ fn fit_all(classes: &Classes, function: u16) -> FunctionPlans {
 }
 
 impl KnownPlans {
-    // No plans.
-    fn new(alloc: Global) -> Result<KnownPlans, AllocError> {
+    /// No plans. The only error is want of memory.
+    pub(crate) fn new(alloc: Global) -> Result<KnownPlans, AllocError> {
         Ok(KnownPlans {
             lists: Vec::new(alloc),
             places: no_places(alloc, FUNCTIONS)?,
@@ -111,16 +111,15 @@ impl KnownPlans {
         Ok(())
     }
 
-    /// The plans of all functions of these lists. The only error is want of memory.
-    pub(crate) fn of(
-        alloc: Global,
+    /// Makes the plans of all functions of these lists, so far as so many are kept. The only error is want of memory.
+    pub(crate) fn meet_lists(
+        &mut self,
         classes: &Classes,
-        functions: &[Vec<u16>],
-    ) -> Result<KnownPlans, AllocError> {
-        let mut known = KnownPlans::new(alloc)?;
-        for list in functions {
-            known.meet_all(classes, list.as_slice())?;
+        lists: &[Vec<u16>],
+    ) -> Result<(), AllocError> {
+        for functions in lists {
+            self.meet_all(classes, functions.as_slice())?;
         }
-        Ok(known)
+        Ok(())
     }
 }

@@ -25,7 +25,7 @@ pub struct Prepared {
     pub cuts: CutLists,
     /// The functions of an AND over its listed cuts but the last, in order.
     pub functions: Vec<Vec<u16>>,
-    /// The plans of these functions.
+    /// The plans of these functions, and of those of graphs before.
     pub known: KnownPlans,
 }
 
@@ -45,19 +45,21 @@ pub(crate) fn cuts_of(cuts: &CutLists, node: u32) -> &[Cut]
     but_last(cuts.of(node))
 }
 
-/// What is listed for a graph.
+/// What is listed for a graph, where these plans are known from other graphs.
 pub(crate) fn prepare<R: Threads + Sync>(
     rt: &R,
     alloc: Global,
     classes: &Classes,
     graph: &Graph,
+    known: KnownPlans,
     workers: u8,
 ) -> Result<Prepared, AllocError>
     ensures { IfOk result (λ lists. IsPreparedFor lists graph.now.rows) }
 {
+    let mut known = known;
     let cuts = listed(rt, alloc, graph, MOST_LEAVES, workers)?;
     let functions = all_functions(rt, alloc, graph, &cuts, workers)?;
-    let known = KnownPlans::of(alloc, classes, functions.as_slice())?;
+    known.meet_lists(classes, functions.as_slice())?;
     Ok(Prepared {
         cuts,
         functions,

@@ -300,7 +300,20 @@ impl Proposer for CutPlans {
         graph: &Graph,
         workers: u8,
     ) -> Result<Prepared, AllocError> {
-        prepare(rt, alloc, &self.classes, graph, workers)
+        let known = KnownPlans::new(alloc)?;
+        prepare(rt, alloc, &self.classes, graph, known, workers)
+    }
+
+    fn prepare_again<R: Threads + Sync>(
+        &self,
+        rt: &R,
+        alloc: Global,
+        graph: &Graph,
+        lists: Prepared,
+        workers: u8,
+    ) -> Result<Prepared, AllocError> {
+        let Prepared { known, .. } = lists;
+        prepare(rt, alloc, &self.classes, graph, known, workers)
     }
 
     fn propose(
