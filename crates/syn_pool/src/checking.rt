@@ -1,6 +1,6 @@
 //! The check of a graph: the proposals that save, or that none does.
 
-ghost use Rattle.std.specs.Prelude.{◌≡◌, ◌+◌, ◌-◌, ◌<◌, ◌≤◌, ◌++◌, All, IfOk, IfSome, OnOk, length, map, option_map, option_to_list};
+ghost use Rattle.std.specs.Prelude.{◌≡◌, ◌-◌, ◌<◌, ◌≤◌, ◌++◌, All, IfOk, IfSome, OnOk, length, map, option_map, option_to_list};
 ghost use Rattle.syn_rows.specs.declared.TheConstants.{NODE_LIMIT};
 ghost use Rattle.syn_gain.specs.Uses.{IsUsesOf};
 ghost use Rattle.syn_gain.specs.Proposals.{replacement};
@@ -8,7 +8,7 @@ ghost use Rattle.syn_pool.specs.Closing.{Closed};
 ghost use Rattle.syn_pool.specs.Leftovers.{AreLeftovers, IsAddedBy, IsPartOf};
 ghost use Rattle.syn_pool.specs.Sound.{IsLeftover, IsSound};
 
-use crate::Proposer;
+use crate::{Proposer, Turns};
 use std::alloc::{AllocError, Global};
 use std::thread;
 use std::thread::Threads;
@@ -27,16 +27,9 @@ struct Part {
     found: Vec<Proposal>,
 }
 
-// How many nodes a part has, of so many nodes for so many workers; few nodes are one part.
-fn part_size(nodes: usize, workers: u8) -> usize
-    ensures { 0 < result }
-{
-    let share = if workers == 0 {
-        nodes
-    } else {
-        nodes.div_ceil(workers as usize)
-    };
-    if share < LEAST { LEAST } else { share }
+// How many threads are worth so many nodes, at most one a worker.
+fn threads_for(nodes: usize, workers: u8) -> usize {
+    nodes.div_ceil(LEAST).min(workers as usize).max(1)
 }
 
 // The first proposal of a node that saves, if it is an AND and has one.
@@ -115,7 +108,52 @@ fn part_of<P: Proposer>(
     Ok(Part { from, to, found })
 }
 
-// All parts, found one after the other or at the same time.
+// The parts of the blocks that one thread draws, until none is left.
+fn parts_drawn<P: Proposer>(
+    alloc: Global,
+    graph: &Graph,
+    uses: &Uses,
+    proposer: &P,
+    lists: &P::Lists,
+    turns: &Turns,
+) -> Result<Vec<Part>, AllocError>
+    requires uses { IsUsesOf uses.now graph.now }
+    requires lists { P.is_lists_of proposer.now lists.now graph.now.rows }
+    requires few { length graph.now.rows < NODE_LIMIT }
+    ensures { IfOk result (λ parts. All (IsPartOf graph.now.rows graph.now.observed (P.proposals proposer.now graph.now.rows)) parts.items) }
+{
+    let count = graph.rows.as_slice().len();
+    let mut parts = Vec::new(alloc);
+    for _turn in 0..count {
+        let (from, to) = turns.draw(count);
+        if from == to {
+            break;
+        }
+        let part = part_of(alloc, graph, uses, proposer, lists, from as u32, to as u32)?;
+        parts.push(part)?;
+    }
+    Ok(parts)
+}
+
+// The parts of all threads together.
+fn gathered<P: Proposer>(
+    alloc: Global,
+    graph: &Graph,
+    proposer: &P,
+    drawn: Vec<Result<Vec<Part>, AllocError>>,
+) -> Result<Vec<Part>, AllocError>
+    requires { All (λ more. IfOk more (λ parts. All (IsPartOf graph.now.rows graph.now.observed (P.proposals proposer.now graph.now.rows)) parts.items)) drawn.items }
+    ensures { IfOk result (λ parts. All (IsPartOf graph.now.rows graph.now.observed (P.proposals proposer.now graph.now.rows)) parts.items) }
+{
+    let mut parts = Vec::new(alloc);
+    for more in drawn {
+        let mut more = more?;
+        parts.append(&mut more)?;
+    }
+    Ok(parts)
+}
+
+// All parts in node order, found by threads that draw the nodes' blocks.
 fn find_parts<R: Threads + Sync, P: Proposer>(
     rt: &R,
     alloc: Global,
@@ -124,28 +162,22 @@ fn find_parts<R: Threads + Sync, P: Proposer>(
     proposer: &P,
     lists: &P::Lists,
     workers: u8,
-) -> Result<Vec<Result<Part, AllocError>>, AllocError>
+) -> Result<Vec<Part>, AllocError>
     requires uses { IsUsesOf uses.now graph.now }
     requires lists { P.is_lists_of proposer.now lists.now graph.now.rows }
     requires few { length graph.now.rows < NODE_LIMIT }
-    ensures { IfOk result (λ parts. All (λ part. IfOk part (IsPartOf graph.now.rows graph.now.observed (P.proposals proposer.now graph.now.rows))) parts.items) }
+    ensures { IfOk result (λ parts. All (IsPartOf graph.now.rows graph.now.observed (P.proposals proposer.now graph.now.rows)) parts.items) }
 {
-    let work = move |start: usize, chunk: &[Row]| -> Result<Part, AllocError>
-        requires { IsUsesOf uses.now graph.now × P.is_lists_of proposer.now lists.now graph.now.rows × (start + length chunk.now ≤ length graph.now.rows) × (length graph.now.rows < NODE_LIMIT) }
-        ensures { IfOk result (IsPartOf graph.entry.now.rows graph.entry.now.observed (P.proposals proposer.entry.now graph.entry.now.rows)) }
-    {
-        part_of(
-            alloc,
-            graph,
-            uses,
-            proposer,
-            lists,
-            start as u32,
-            (start + chunk.len()) as u32,
-        )
-    };
-    let rows = graph.rows.as_slice();
-    thread::map_chunks(rt, alloc, rows, part_size(rows.len(), workers), &work)
+    let turns = &Turns::new();
+    let work = move |_thread: usize| -> Result<Vec<Part>, AllocError>
+        requires { IsUsesOf uses.now graph.now × P.is_lists_of proposer.now lists.now graph.now.rows × (length graph.now.rows < NODE_LIMIT) }
+        ensures { IfOk result (λ parts. All (IsPartOf graph.entry.now.rows graph.entry.now.observed (P.proposals proposer.entry.now graph.entry.now.rows)) parts.items) }
+    { parts_drawn(alloc, graph, uses, proposer, lists, turns) };
+    let threads = threads_for(graph.rows.as_slice().len(), workers);
+    let drawn = thread::map_indices(rt, alloc, threads, &work)?;
+    let mut parts = gathered(alloc, graph, proposer, drawn)?;
+    parts.sort_unstable_by_key(|part| part.from);
+    Ok(parts)
 }
 
 // Adds the leftovers of a part to those of the nodes before it: of how many nodes they are now. A part that begins
@@ -184,19 +216,18 @@ fn found_in_parts<P: Proposer>(
     uses: &Uses,
     proposer: &P,
     lists: &P::Lists,
-    parts: Vec<Result<Part, AllocError>>,
+    parts: Vec<Part>,
 ) -> Result<Vec<Proposal>, AllocError>
     requires uses { IsUsesOf uses.now graph.now }
     requires lists { P.is_lists_of proposer.now lists.now graph.now.rows }
     requires few { length graph.now.rows < NODE_LIMIT }
-    requires parts { All (λ part. IfOk part (IsPartOf graph.now.rows graph.now.observed (P.proposals proposer.now graph.now.rows))) parts.items }
+    requires parts { All (IsPartOf graph.now.rows graph.now.observed (P.proposals proposer.now graph.now.rows)) parts.items }
     ensures all { IfOk result (λ found. AreLeftovers graph.now.rows graph.now.observed (P.proposals proposer.now graph.now.rows) 0 (length graph.now.rows) (map replacement found.items)) }
     ensures sound { IfOk result (λ found. All (IsSound graph.now.rows) found.items) }
 {
     let mut found = Vec::new(alloc);
     let mut reached = 0;
     for part in parts {
-        let part = part?;
         reached = take_part(graph, proposer, &mut found, part, reached)?;
     }
     let mut more = rest(alloc, graph, uses, proposer, lists, reached)?;

@@ -7,6 +7,7 @@ mod choosing;
 mod gains;
 mod laws;
 mod proposing;
+mod turns;
 
 pub use applying::{is_smaller, smaller};
 pub use checking::leftovers;
@@ -14,3 +15,4 @@ pub use gains::{Improved, Report};
 pub use laws::{closed_saves_nothing, first_of_parts};
 pub use proposing::{Proposer, saves, saves_bounded};
 pub use syn_gain::owned;
+pub use turns::Turns;

@@ -8,6 +8,7 @@ mod opening;
 mod rounds;
 mod sharing;
 mod sweeping;
+mod taking;
 mod trying;
 mod weighing;
 mod working;

@@ -12,6 +12,7 @@ use crate::Order;
 use crate::closing::close;
 use crate::opening::{SPARE, gates_of, noted, opened};
 use crate::sharing::swept_by_all;
+use crate::taking::shares_of;
 use std::alloc::{AllocError, Global};
 use std::thread::Threads;
 use syn_commit::Gate;
@@ -70,10 +71,12 @@ fn swept<R: Threads + Sync, P: Proposer, G: Gate>(
     let hints = noted(alloc, graph)?;
     let uses = Uses::new(alloc, graph)?;
     let fan_outs = fan_outs_of(alloc, graph, order)?;
+    let shares = shares_of(alloc, nodes, workers)?;
+    let shares = shares.as_slice();
     let last = workers - 1;
     let swept = swept_by_all(
         rt, alloc, graph, &uses, &fan_outs, proposer, lists, shared, &hints, gate, last, seat,
-        nodes, zero_gain,
+        shares, zero_gain,
     );
     swept.memory?;
     Ok((swept.seat, swept.report))
@@ -112,10 +115,11 @@ fn improved<R: Threads + Sync, P: Proposer, G: Gate>(
 
 /// One round of 1 to 16 workers: commits proposals for nodes of a graph on its table, and closes the table. The graph
 /// that comes has the same frame and the same values of the observed signals, and fewer ANDs by at least what the report
-/// says. 0 workers count as 1, and more than 16 as 16. Each has a thread of its own and a part of the nodes; the work of a
-/// thread that can't be made is done by the caller's. None comes, and the graph stays, where it has no room for the
-/// workers' spare nodes below the limit of nodes, or 2^30 observed signals or more. Commits of gain 0 are let through where
-/// `zero_gain` is true. The gate is told each commit. The only error is want of memory.
+/// says. 0 workers count as 1, and more than 16 as 16. Each has a thread of its own and a share of the nodes, and takes of
+/// the others' shares when its own is done; the work of a thread that can't be made is done by the caller's. None comes, and
+/// the graph stays, where it has no room for the workers' spare nodes below the limit of nodes, or 2^30 observed signals or
+/// more. Commits of gain 0 are let through where `zero_gain` is true. The gate is told each commit. The only error is want of
+/// memory.
 pub fn round_at<R: Threads + Sync, P: Proposer, G: Gate>(
     rt: &R,
     alloc: Global,

@@ -10,7 +10,7 @@ ghost use Rattle.syn_workers.specs.Working.{HasSwept};
 
 use crate::Worker;
 use crate::opening::SPARE;
-use crate::sweeping::sweep;
+use crate::taking::{Share, take_all};
 use std::alloc::{AllocError, Global};
 use std::thread::{Threads, join};
 use syn_commit::{Gate, Hints, Tools};
@@ -74,7 +74,7 @@ fn unswept(seat: Seat) -> Swept
     }
 }
 
-// Sweeps nodes by the worker of this number, whose spare nodes are those of its number.
+// Sweeps shares by the worker of this number, whose spare nodes are those of its number: its own share first.
 fn swept_alone<P: Proposer, G: Gate>(
     alloc: Global,
     graph: &Graph,
@@ -87,7 +87,7 @@ fn swept_alone<P: Proposer, G: Gate>(
     gate: &G,
     worker: u8,
     seat: Seat,
-    nodes: &[u32],
+    shares: &[Share],
     zero_gain: bool,
 ) -> Swept
     requires uses { IsUsesOf uses.now graph.now }
@@ -105,8 +105,8 @@ fn swept_alone<P: Proposer, G: Gate>(
         gate,
         worker,
     };
-    let memory = sweep(
-        alloc, graph, uses, fan_outs, proposer, lists, &tools, &mut own, nodes, zero_gain,
+    let memory = take_all(
+        alloc, graph, uses, fan_outs, proposer, lists, &tools, &mut own, shares, zero_gain,
     );
     let (seat, report) = own.stop(shared);
     Swept {
@@ -116,8 +116,9 @@ fn swept_alone<P: Proposer, G: Gate>(
     }
 }
 
-/// Sweeps nodes by the worker of this number and all workers with a smaller one, each in a thread of its own: each has a
-/// part of the nodes. Where no thread can be made, this one does the work. All seats are joined again when it returns.
+/// Sweeps shares of nodes by the worker of this number and all workers with a smaller one, each in a thread of its own: they
+/// take of the shares in turn. Where no thread can be made, this one does the work. All seats are joined again when it
+/// returns.
 #[cycle(shares)]
 pub(crate) fn swept_by_all<R: Threads + Sync, P: Proposer, G: Gate>(
     rt: &R,
@@ -132,7 +133,7 @@ pub(crate) fn swept_by_all<R: Threads + Sync, P: Proposer, G: Gate>(
     gate: &G,
     worker: u8,
     seat: Seat,
-    nodes: &[u32],
+    shares: &[Share],
     zero_gain: bool,
 ) -> Swept
     requires uses { IsUsesOf uses.now graph.now }
@@ -146,14 +147,13 @@ pub(crate) fn swept_by_all<R: Threads + Sync, P: Proposer, G: Gate>(
     if worker == 0 {
         return swept_alone(
             alloc, graph, uses, fan_outs, proposer, lists, shared, hints, gate, worker, seat,
-            nodes, zero_gain,
+            shares, zero_gain,
         );
     }
     let mut seat = seat;
     let Ok(other) = shared.split(&mut seat) else {
         return unswept(seat);
     };
-    let (part, others) = nodes.split_at(nodes.len() / (worker as usize + 1));
     let fewer = worker - 1;
     let alone = move || -> Swept
         requires { IsUsesOf uses.now graph.now × P.is_lists_of proposer.now lists.now graph.now.rows × (length graph.now.rows + 512 * (worker + 1) ≤ nodes_of shared.now) × IsOf other shared.now × IsAtRest (view_of other) }
@@ -161,7 +161,7 @@ pub(crate) fn swept_by_all<R: Threads + Sync, P: Proposer, G: Gate>(
     {
         swept_alone(
             alloc, graph, uses, fan_outs, proposer, lists, shared, hints, gate, worker, other,
-            part, zero_gain,
+            shares, zero_gain,
         )
     };
     let by_others = move || -> Swept
@@ -170,7 +170,7 @@ pub(crate) fn swept_by_all<R: Threads + Sync, P: Proposer, G: Gate>(
     {
         swept_by_all(
             rt, alloc, graph, uses, fan_outs, proposer, lists, shared, hints, gate, fewer, seat,
-            others, zero_gain,
+            shares, zero_gain,
         )
     };
     let (second, first) = join(rt, alone, by_others);

@@ -80,6 +80,35 @@ pub fn visit<P: Proposer, G: Gate>(
     Ok(())
 }
 
+/// Visits the nodes in turn, as `sweep` does, with the caller's room for the looks around commits.
+pub(crate) fn visit_each<P: Proposer, G: Gate>(
+    alloc: Global,
+    graph: &Graph,
+    uses: &Uses,
+    fan_outs: &FanOuts,
+    proposer: &P,
+    lists: &P::Lists,
+    tools: &Tools<'_, G>,
+    worker: &mut Worker,
+    cuts: &mut Cuts,
+    nodes: &[u32],
+    zero_gain: bool,
+) -> Result<(), AllocError>
+    requires uses { IsUsesOf uses.now graph.now }
+    requires lists { P.is_lists_of proposer.now lists.now graph.now.rows }
+    requires nodes { length graph.now.rows ≤ nodes_of tools.now.shared.now }
+    requires at_work { IsAtWork tools.now.shared.now worker.old }
+    ensures at_work { IsAtWork tools.now.shared.now worker.new }
+    ensures worked { HasWorked zero_gain worker.old worker.new }
+{
+    for node in nodes {
+        visit(
+            alloc, graph, uses, fan_outs, proposer, lists, tools, worker, cuts, *node, zero_gain,
+        )?;
+    }
+    Ok(())
+}
+
 /// Visits the nodes in turn. Want of memory ends it, and what was done before stands in the worker's report.
 pub fn sweep<P: Proposer, G: Gate>(
     alloc: Global,
@@ -101,11 +130,7 @@ pub fn sweep<P: Proposer, G: Gate>(
     ensures worked { HasWorked zero_gain worker.old worker.new }
 {
     let mut cuts = Cuts::new();
-    for node in nodes {
-        visit(
-            alloc, graph, uses, fan_outs, proposer, lists, tools, worker, &mut cuts, *node,
-            zero_gain,
-        )?;
-    }
-    Ok(())
+    visit_each(
+        alloc, graph, uses, fan_outs, proposer, lists, tools, worker, &mut cuts, nodes, zero_gain,
+    )
 }
