@@ -14,7 +14,8 @@ use syn_graph::Graph;
 use syn_looks::{Cuts, FanOuts};
 use syn_pool::{Proposer, Turns};
 
-/// A share of the nodes: one worker's own, of which the others take too when theirs are done.
+/// A share of the nodes: one worker's own, of which the others take too when theirs are done. It has a copy of its nodes:
+/// with a lifetime in its type the recursion over workers learns nothing of what its threads did.
 #[derive(Drop)]
 pub(crate) struct Share {
     nodes: Vec<u32>,
