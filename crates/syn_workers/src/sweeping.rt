@@ -80,8 +80,8 @@ pub fn visit<P: Proposer, G: Gate>(
     Ok(())
 }
 
-/// Visits the nodes in turn, as `sweep` does, with the caller's room for the looks around commits.
-pub(crate) fn visit_each<P: Proposer, G: Gate>(
+/// Visits the nodes in turn. Want of memory ends it, and what was done before stands in the worker's report.
+pub fn sweep<P: Proposer, G: Gate>(
     alloc: Global,
     graph: &Graph,
     uses: &Uses,
@@ -107,30 +107,4 @@ pub(crate) fn visit_each<P: Proposer, G: Gate>(
         )?;
     }
     Ok(())
-}
-
-/// Visits the nodes in turn. Want of memory ends it, and what was done before stands in the worker's report.
-pub fn sweep<P: Proposer, G: Gate>(
-    alloc: Global,
-    graph: &Graph,
-    uses: &Uses,
-    fan_outs: &FanOuts,
-    proposer: &P,
-    lists: &P::Lists,
-    tools: &Tools<'_, G>,
-    worker: &mut Worker,
-    nodes: &[u32],
-    zero_gain: bool,
-) -> Result<(), AllocError>
-    requires uses { IsUsesOf uses.now graph.now }
-    requires lists { P.is_lists_of proposer.now lists.now graph.now.rows }
-    requires nodes { length graph.now.rows ≤ nodes_of tools.now.shared.now }
-    requires at_work { IsAtWork tools.now.shared.now worker.old }
-    ensures at_work { IsAtWork tools.now.shared.now worker.new }
-    ensures worked { HasWorked zero_gain worker.old worker.new }
-{
-    let mut cuts = Cuts::new();
-    visit_each(
-        alloc, graph, uses, fan_outs, proposer, lists, tools, worker, &mut cuts, nodes, zero_gain,
-    )
 }

@@ -6,7 +6,7 @@ ghost use Rattle.syn_table.specs.Seating.{nodes_of};
 ghost use Rattle.syn_workers.specs.Working.{HasWorked, IsAtWork};
 
 use crate::Worker;
-use crate::sweeping::visit_each;
+use crate::sweeping::sweep;
 use std::alloc::{AllocError, Global};
 use syn_commit::{Gate, Tools};
 use syn_gain::Uses;
@@ -66,7 +66,7 @@ fn take<P: Proposer, G: Gate>(
             break;
         }
         let block = &nodes[from..to];
-        visit_each(
+        sweep(
             alloc, graph, uses, fan_outs, proposer, lists, tools, worker, cuts, block, zero_gain,
         )?;
     }

@@ -1,5 +1,5 @@
 use Rattle.syn_workers.specs.Working.{HasWorked, IsAtWork}
-use Rattle.syn_workers.proofs.sweeping.visit_each.Given as goal
+use Rattle.syn_workers.proofs.sweeping.sweep.Given as goal
 
 abbrev pub invariant-loop-node : goal.invariant-loop-node
 invariant-loop-node g l = record {
