@@ -1,4 +1,4 @@
-//! The listed cuts of rows, level by level.
+//! Rows level by level: their nodes, and their listed cuts.
 
 ghost use Rattle.std.specs.Prelude.{◌≡◌, ◌+◌, ◌^◌, ◌<◌, ◌≤◌, All, IfOk, OnOk, length};
 ghost use Rattle.syn_truth.specs.declared.TheConstants.{MOST_VARS};
@@ -20,12 +20,9 @@ const LEAST: usize = 64;
 // How many nodes are listed at most before their lists are set.
 const MOST: usize = 16_384;
 
-// The factor of the level in a key that holds a level and a node.
-const SPAN: u64 = 1 << 32;
-
-// How many nodes a chunk has, of so many nodes for so many workers, so that there are no more chunks than workers; few
-// nodes are one chunk.
-fn chunk_size(nodes: usize, workers: u8) -> usize
+/// How many nodes a chunk has, of so many nodes for so many workers, so that there are no more chunks than workers; few
+/// nodes are one chunk.
+pub fn chunk_size(nodes: usize, workers: u8) -> usize
     ensures { 0 < result }
 {
     let share = if workers == 0 {
@@ -81,19 +78,56 @@ fn set_some<R: Threads + Sync>(
     Ok(())
 }
 
-// The nodes with their levels, by level and then by number.
-fn by_level(alloc: Global, levels: &[u32]) -> Result<Vec<u64>, AllocError>
-    requires { length levels.now < 2 ^ 32 }
-{
-    let mut keys = Vec::new(alloc);
-    for (n, level) in levels.iter().enumerate() {
-        keys.push(*level as u64 * SPAN + n as u64)?;
+// Adds a node to those of its level.
+fn add_node(
+    alloc: Global,
+    by_level: &mut Vec<Vec<u32>>,
+    level: usize,
+    node: u32,
+) -> Result<(), AllocError> {
+    while by_level.len() <= level {
+        by_level.push(Vec::new(alloc))?;
     }
-    keys.sort_unstable();
-    Ok(keys)
+    by_level[level].push(node)?;
+    Ok(())
 }
 
-// Sets the lists of all nodes, those of a level together.
+/// The nodes of rows by level: lower levels first, and within a level by number.
+///
+/// Nothing is promised of which node is in which level, so nothing may rest on it. The only error is want of memory.
+pub fn nodes_by_level(alloc: Global, rows: &[Row]) -> Result<Vec<Vec<u32>>, AllocError>
+    requires { length rows.now + 1 < 2 ^ 32 }
+{
+    let heights = levels(alloc, rows)?;
+    let mut by_level = Vec::new(alloc);
+    for (n, level) in heights.iter().enumerate() {
+        add_node(alloc, &mut by_level, *level as usize, n as u32)?;
+    }
+    Ok(by_level)
+}
+
+// Sets the lists of the nodes of a level.
+fn set_level<R: Threads + Sync>(
+    rt: &R,
+    alloc: Global,
+    rows: &[Row],
+    lists: &mut CutLists,
+    nodes: &[u32],
+    k: usize,
+    workers: u8,
+) -> Result<(), AllocError>
+    requires small { k ≤ MOST_VARS }
+    requires order { InOrder rows.now }
+    requires lists { AreListed k rows.now lists.old }
+    ensures { OnOk result (AreListed k rows.now lists.new) }
+{
+    for some in nodes.chunks(MOST) {
+        set_some(rt, alloc, rows, lists, some, k, workers)?;
+    }
+    Ok(())
+}
+
+// Sets the lists of all nodes, level by level.
 fn set_levels<R: Threads + Sync>(
     rt: &R,
     alloc: Global,
@@ -108,19 +142,10 @@ fn set_levels<R: Threads + Sync>(
     requires lists { AreListed k rows.now lists.old }
     ensures { OnOk result (AreListed k rows.now lists.new) }
 {
-    let heights = levels(alloc, rows)?;
-    let keys = by_level(alloc, &heights)?;
-    let mut batch = Vec::new(alloc);
-    let mut level = 0;
-    for key in &keys {
-        if *key / SPAN != level || batch.len() >= MOST {
-            set_some(rt, alloc, rows, lists, &batch, k, workers)?;
-            batch.clear();
-            level = *key / SPAN;
-        }
-        batch.push((*key % SPAN) as u32)?;
+    for nodes in nodes_by_level(alloc, rows)? {
+        set_level(rt, alloc, rows, lists, &nodes, k, workers)?;
     }
-    set_some(rt, alloc, rows, lists, &batch, k, workers)
+    Ok(())
 }
 
 /// The listed cuts, with at most `k` leaves, of each node of rows in order.

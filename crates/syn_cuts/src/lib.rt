@@ -18,5 +18,6 @@ pub use graphs::{function, listed};
 pub use laws::{
     arranged_in_order, listed_are_cuts, listed_cuts_rise, signatures_bound_unions, worked_cuts,
 };
+pub use levels::{chunk_size, nodes_by_level};
 pub use lists::CutLists;
 pub use signatures::signature;

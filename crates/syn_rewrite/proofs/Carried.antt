@@ -1,7 +1,8 @@
 -- Functions that are carried from the cuts of fan-ins.
-use Rattle.std.proofs.Common.{◌≡◌, ℕ, ◌<◌, true, false, nat_eq, nat_lt, List, [], ◌∷◌, ◌++◌, length, get_or, refl, sym, ap, ◌∙◌, subst, inl, inr, arith}
-use Rattle.std.proofs.lemmas.Bool.{and_parts, both_ways, cases_lt, false_from_ne_true, ltb-true, or_cases}
-use Rattle.std.proofs.lemmas.List.{get_or_append_left, get_or_default, get_or_push, length-map, length_push}
+use Rattle.std.proofs.Common.{◌≡◌, ℕ, ◌<◌, true, false, nat_eq, nat_lt, List, [], ◌∷◌, ◌++◌, length, get_or, set, refl, sym, ap, ◌∙◌, subst, inl, inr, arith}
+use Rattle.std.proofs.lemmas.Bool.{and_parts, both_ways, cases_eq, cases_lt, false_from_ne_true, ltb-true, or_cases}
+use Rattle.std.proofs.lemmas.List.{get_or_append_left, get_or_default, get_or_push, get_or-set_other, get_or-set_same, length-map, length-set, length_push}
+use Rattle.std.proofs.lemmas.List.Elements.{All-set}
 use Rattle.arrayvec.specs.ArrayVec.{ArrayVec}
 use Rattle.syn_rows.specs.declared.Row.{Row}
 use Rattle.syn_rows.specs.Nodes.{has_node}
@@ -9,7 +10,7 @@ use Rattle.syn_rows.proofs.Nodes.{same_node}
 use Rattle.syn_cones.specs.Carried.{IsCutFunction}
 use Rattle.syn_cones.specs.Leaves.{are_below}
 use Rattle.syn_cuts.specs.Leaves.{leaves as leaves_in, leaves_of}
-use Rattle.syn_rewrite.specs.Carried.{AreCarried, HaveCarried}
+use Rattle.syn_rewrite.specs.Carried.{AreCarried, AreOfAll, HaveCarried, IsOwnOf}
 use Rattle.syn_rewrite.specs.Prepared.{cuts_of}
 use Rattle.syn_rewrite.specs.declared.carrying.Carried.{Carried}
 use Rattle.syn_rewrite.specs.declared.carrying.Functions.{Functions}
@@ -61,3 +62,18 @@ more_lists rows lists one last count have here node d lt = elim (cases_lt node (
 -- no functions are right
 pub none_own : (rows : List Row) (node : ℕ) (cuts : List (List ℕ)) (known : List Carried) → known ≡ [] → AreCarried rows node cuts known
 none_own rows node cuts known none i c d lt inside = absurd (omega (arith, lt, ap length none))
+
+-- the functions of a node set at its place
+pub set_lists : (rows : List Row) (lists : List Functions) (one : Functions) → AreOfAll rows lists → IsOwnOf rows one → AreOfAll rows (set lists one.node one)
+set_lists rows lists one are own = record {
+  count = length-set lists one.node one ∙ are.count;
+  carried = λ node d lt. elim (cases_eq node one.node) [
+    | inl same ↦
+        subst (λ k. AreCarried rows k (cuts_of rows k) (get_or (set lists one.node one) k d).carried.items) (sym same)
+        (subst (λ (v : Functions). AreCarried rows one.node (cuts_of rows one.node) v.carried.items) (sym (get_or-set_same lists one.node one d (omega (arith, own.within, are.count)))) own.carried)
+    | inr other ↦
+        subst (λ (v : Functions). AreCarried rows node (cuts_of rows node) v.carried.items) (sym (get_or-set_other lists one.node node one d other))
+        (are.carried node d (omega (arith, lt, length-set lists one.node one)))
+  ];
+  own = All-set (IsOwnOf rows) lists one.node one own are.own;
+}

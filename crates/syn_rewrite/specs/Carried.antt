@@ -1,5 +1,5 @@
 -- The functions of nodes over their cuts, carried from fan-ins to nodes.
-use Rattle.std.specs.Prelude.{ℕ, ◌<◌, All, List, length, slice_index_or}
+use Rattle.std.specs.Prelude.{◌≡◌, ℕ, ◌<◌, All, List, length, slice_index_or}
 use Rattle.std.specs.Global.{Vec}
 use Rattle.syn_rows.specs.declared.Row.{Row}
 use Rattle.syn_cones.specs.Carried.{IsCutFunction}
@@ -23,3 +23,9 @@ pub record IsOwnOf (rows : List Row) (f : Functions) : Type 0 where
 -- Those of several nodes.
 pub record AreOwnOf (rows : List Row) (list : Vec Functions) : Type 0 where
   pub each : All (IsOwnOf rows) list.items
+
+-- Those of all nodes, each at its place.
+pub record AreOfAll (rows : List Row) (lists : List Functions) : Type 0 where
+  pub count : length lists ≡ length rows
+  pub carried : HaveCarried rows lists
+  pub own : All (IsOwnOf rows) lists

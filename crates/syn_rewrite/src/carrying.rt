@@ -1,6 +1,6 @@
 //! The function of an AND over a cut, from the functions of its fan-ins.
 
-ghost use Rattle.std.specs.Prelude.{◌≡◌, ◌≢◌, ◌<◌, ◌≤◌, false, List, IfNone, IfOk, IfSome, length};
+ghost use Rattle.std.specs.Prelude.{◌≡◌, ◌<◌, ◌≤◌, false, List, IfOk, IfSome, length};
 ghost use Rattle.syn_rows.specs.declared.Row.{Row};
 ghost use Rattle.syn_rows.specs.declared.Row.TheVariants.{And};
 ghost use Rattle.syn_rows.specs.Nodes.{has_node};
@@ -30,15 +30,6 @@ pub(crate) struct Carried {
 pub struct Functions {
     pub(crate) node: u32,
     pub(crate) carried: Vec<Carried>,
-}
-
-/// Whether the rows between a node and a cut of it are looked at where its fan-ins' functions don't serve.
-#[derive(Clone, Copy, Debug)]
-pub enum Cones {
-    /// They are.
-    Walked,
-    /// They aren't.
-    Left,
 }
 
 // The function of a node over leaves, from the first of its functions over cuts that serves.
@@ -104,7 +95,7 @@ fn from_fan_ins(
 }
 
 /// The function of an AND over a cut of it, which has this signature: from those of its fan-ins where some of their cuts
-/// serve, else by the rows between, or none where these aren't looked at. The only error is want of memory.
+/// serve, else by the rows between. The only error is want of memory.
 pub(crate) fn over_cut(
     alloc: Global,
     graph: &Graph,
@@ -115,25 +106,17 @@ pub(crate) fn over_cut(
     second: Lit,
     leaves: &[u32],
     bits: u64,
-    cones: Cones,
-) -> Result<Option<CutFunction>, AllocError>
+) -> Result<CutFunction, AllocError>
     requires node { node < length graph.now.rows }
     requires row { row_at graph.now.rows node ≡ And first second }
     requires cuts { cuts.now ≡ listed_cuts 4 graph.now.rows }
-    requires count { length lists.now ≡ node }
+    requires count { node ≤ length lists.now }
     requires lists { HaveCarried graph.now.rows lists.now }
     requires leaves { AreLeavesOf graph.now.rows node leaves.now }
-    ensures some { IfOk result (λ found. IfSome found (IsCutFunction graph.now.rows leaves.now node)) }
-    ensures none { IfOk result (λ found. IfNone found (cones ≢ Cones.Walked)) }
+    ensures { IfOk result (IsCutFunction graph.now.rows leaves.now node) }
 {
     if let Some(found) = from_fan_ins(cuts, lists, node, first, second, leaves, bits) {
-        return Ok(Some(found));
+        return Ok(found);
     }
-    match cones {
-        Cones::Walked => {
-            let walked = CutFunction::of_cone(alloc, graph.rows.as_slice(), node, leaves)?;
-            Ok(Some(walked))
-        }
-        Cones::Left => Ok(None),
-    }
+    CutFunction::of_cone(alloc, graph.rows.as_slice(), node, leaves)
 }

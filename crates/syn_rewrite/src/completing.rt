@@ -1,15 +1,15 @@
-//! The functions of each AND over its cuts, from what was found in parts.
+//! The functions of each AND over its cuts, from what was found level by level.
 
-ghost use Rattle.std.specs.Prelude.{◌≡◌, ◌+◌, ◌<◌, ◌≤◌, All, IfOk, OnOk, length};
+ghost use Rattle.std.specs.Prelude.{◌≡◌, ◌+◌, ◌<◌, ◌≤◌, IfOk, OnOk, length};
 ghost use Rattle.syn_rows.specs.declared.TheConstants.{NODE_LIMIT};
 ghost use Rattle.syn_cuts.specs.Cuts.{listed_cuts};
 ghost use Rattle.syn_rewrite.specs.Carried.{AreOwnOf, IsOwnOf};
 ghost use Rattle.syn_rewrite.specs.Completing.{AreDone};
 ghost use Rattle.syn_rewrite.specs.Prepared.{HaveFunctions};
 
-use crate::carrying::{Cones, Functions};
+use crate::carrying::Functions;
 use crate::functions::{further_at, numbers_at};
-use crate::listing::find_parts;
+use crate::levels::found_by_level;
 use std::alloc::{AllocError, Global};
 use std::thread::Threads;
 use syn_cuts::CutLists;
@@ -39,45 +39,22 @@ fn add_next(
 {
     let Functions { node, carried } = known;
     let before = done.carried.as_slice();
-    let carried = further_at(alloc, graph, cuts, before, node, Cones::Walked, carried)?;
+    let carried = further_at(alloc, graph, cuts, before, node, carried)?;
     let numbers = numbers_at(alloc, graph, cuts, node, carried.as_slice())?;
     done.numbers.push(numbers)?;
     done.carried.push(Functions { node, carried })?;
     Ok(())
 }
 
-// Adds the functions of nodes of which some are known, those of the next ones.
-fn add_part(
-    alloc: Global,
-    graph: &Graph,
-    cuts: &CutLists,
-    part: Vec<Functions>,
-    done: &mut Done,
-) -> Result<(), AllocError>
-    requires cuts { cuts.now ≡ listed_cuts 4 graph.now.rows }
-    requires part { AreOwnOf graph.now.rows part }
-    requires done { AreDone graph.now.rows done.old }
-    requires within { length done.old.carried.items ≤ length graph.now.rows }
-    ensures done { OnOk result (AreDone graph.now.rows done.new) }
-    ensures within { OnOk result (length done.new.carried.items ≤ length graph.now.rows) }
-{
-    for known in part {
-        if known.node as usize == done.carried.len() {
-            add_next(alloc, graph, cuts, known, done)?;
-        }
-    }
-    Ok(())
-}
-
-// The functions of nodes that were found in parts, each completed.
+// The functions of the first nodes, from what is known of them in their order.
 fn completed(
     alloc: Global,
     graph: &Graph,
     cuts: &CutLists,
-    parts: Vec<Result<Vec<Functions>, AllocError>>,
+    lists: Vec<Functions>,
 ) -> Result<Done, AllocError>
     requires cuts { cuts.now ≡ listed_cuts 4 graph.now.rows }
-    requires parts { All (λ part. IfOk part (AreOwnOf graph.now.rows)) parts.items }
+    requires lists { AreOwnOf graph.now.rows lists }
     ensures done { IfOk result (AreDone graph.now.rows) }
     ensures within { IfOk result (λ d. length d.carried.items ≤ length graph.now.rows) }
 {
@@ -85,9 +62,10 @@ fn completed(
         carried: Vec::new(alloc),
         numbers: Vec::new(alloc),
     };
-    for part in parts {
-        let part = part?;
-        add_part(alloc, graph, cuts, part, &mut done)?;
+    for known in lists {
+        if known.node as usize == done.carried.len() {
+            add_next(alloc, graph, cuts, known, &mut done)?;
+        }
     }
     Ok(done)
 }
@@ -125,8 +103,8 @@ pub(crate) fn all_functions<R: Threads + Sync>(
     ensures functions { IfOk result (λ v. HaveFunctions graph.now.rows v.items) }
 {
     let _count = graph.count();
-    let parts = find_parts(rt, alloc, graph, cuts, workers)?;
-    let done = completed(alloc, graph, cuts, parts)?;
+    let lists = found_by_level(rt, alloc, graph, cuts, workers)?;
+    let done = completed(alloc, graph, cuts, lists)?;
     let all = all_done(alloc, graph, cuts, done)?;
     Ok(all.numbers)
 }

@@ -12,7 +12,7 @@ ghost use Rattle.syn_rewrite.specs.Carried.{AreCarried, HaveCarried};
 ghost use Rattle.syn_rewrite.specs.Functions.{IsFunctionOver};
 ghost use Rattle.syn_rewrite.specs.Prepared.{AreFunctionsOver, cuts_of};
 
-use crate::carrying::{Carried, Cones, Functions, over_cut};
+use crate::carrying::{Carried, Functions, over_cut};
 use crate::prepared::cuts_of;
 use std::alloc::{AllocError, Global};
 use syn_cuts::{Cut, CutLists, signature};
@@ -28,7 +28,7 @@ fn number_of(one: &Carried, leaves: &[u32]) -> u16
     one.function.table(leaves).to_bits()
 }
 
-// Adds the functions of an AND over its further cuts, in order; where cones aren't walked, up to the first one that wants it.
+// Adds the functions of an AND over its further cuts, in order.
 fn add_further(
     alloc: Global,
     graph: &Graph,
@@ -37,61 +37,52 @@ fn add_further(
     node: u32,
     first: Lit,
     second: Lit,
-    cones: Cones,
     carried: &mut Vec<Carried>,
 ) -> Result<(), AllocError>
     requires node { node < length graph.now.rows }
     requires row { row_at graph.now.rows node ≡ And first second }
     requires cuts { cuts.now ≡ listed_cuts 4 graph.now.rows }
-    requires count { length lists.now ≡ node }
+    requires count { node ≤ length lists.now }
     requires lists { HaveCarried graph.now.rows lists.now }
     requires carried { AreCarried graph.now.rows node (cuts_of graph.now.rows node) carried.old.items }
     ensures carried { OnOk result (AreCarried graph.now.rows node (cuts_of graph.now.rows node) carried.new.items) }
-    ensures all { OnOk result (cones ≡ Cones.Walked → length (cuts_of graph.now.rows node) ≤ length carried.new.items) }
+    ensures all { OnOk result (length (cuts_of graph.now.rows node) ≤ length carried.new.items) }
 {
     let own = cuts_of(cuts, node);
     for i in carried.len()..own.len() {
         let leaves = own[i].as_slice();
         let bits = signature(leaves);
-        let found = over_cut(
-            alloc, graph, cuts, lists, node, first, second, leaves, bits, cones,
-        )?;
-        match found {
-            Some(function) => carried.push(Carried {
-                function,
-                signature: bits,
-            })?,
-            None => return Ok(()),
-        }
+        let function = over_cut(alloc, graph, cuts, lists, node, first, second, leaves, bits)?;
+        carried.push(Carried {
+            function,
+            signature: bits,
+        })?;
     }
     Ok(())
 }
 
-/// The functions of a node over its cuts, where these are those over the first ones: over all of them, or, where cones
-/// aren't walked, as far as they follow from those of its fan-ins. A node that is no AND has none. The only error is want
-/// of memory.
+/// The functions of a node over all its cuts, where these are those over the first ones. A node that is no AND has none.
+/// The only error is want of memory.
 pub(crate) fn further_at(
     alloc: Global,
     graph: &Graph,
     cuts: &CutLists,
     lists: &[Functions],
     node: u32,
-    cones: Cones,
     carried: Vec<Carried>,
 ) -> Result<Vec<Carried>, AllocError>
     requires node { node < length graph.now.rows }
     requires cuts { cuts.now ≡ listed_cuts 4 graph.now.rows }
-    requires count { length lists.now ≡ node }
+    requires count { node ≤ length lists.now }
     requires lists { HaveCarried graph.now.rows lists.now }
     requires carried { AreCarried graph.now.rows node (cuts_of graph.now.rows node) carried.items }
     ensures carried { IfOk result (λ v. AreCarried graph.now.rows node (cuts_of graph.now.rows node) v.items) }
-    ensures all { IfOk result (λ v. cones ≡ Cones.Walked → is_and (row_at graph.now.rows node) ≡ true → length (cuts_of graph.now.rows node) ≤ length v.items) }
+    ensures all { IfOk result (λ v. is_and (row_at graph.now.rows node) ≡ true → length (cuts_of graph.now.rows node) ≤ length v.items) }
 {
     match graph.rows.as_slice()[node as usize] {
         Row::And(first, second) => {
             let mut carried = carried;
-            let more = &mut carried;
-            add_further(alloc, graph, cuts, lists, node, first, second, cones, more)?;
+            add_further(alloc, graph, cuts, lists, node, first, second, &mut carried)?;
             Ok(carried)
         }
         _ => Ok(carried),

@@ -7,7 +7,7 @@ mod completing;
 mod functions;
 mod known_plans;
 mod laws;
-mod listing;
+mod levels;
 mod owning;
 mod plans;
 mod prepared;

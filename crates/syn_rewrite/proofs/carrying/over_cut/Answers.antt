@@ -32,8 +32,8 @@ from_fan_ins-requires-clause-second c =
     let low = (refs graph c.args.node c.args.first c.args.second c.requires.row).1 in
     (omega (arith, low, c.requires.count), within_lists c.args.cuts.now graph.rows _ c.requires.cuts (omega (arith, low, c.requires.node)))
 
-pub returns-in-Some-clause-some : goal.returns-in-Some-clause-some
-returns-in-Some-clause-some c =
+pub returns-in-Some : goal.returns-in-Some
+returns-in-Some c =
     c.in-Some.ensures c.args.graph.now.rows (in_order c.args.graph.now) c.requires.row (not_below c.args.node c.args.leaves.now c.requires.leaves.below) c.requires.cuts c.requires.lists
 
 pub of_cone-requires-clause-order : goal.of_cone-requires-clause-order

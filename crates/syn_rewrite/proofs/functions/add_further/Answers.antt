@@ -1,4 +1,4 @@
-use Rattle.std.proofs.Common.{◌≡◌, ◌+◌, IfSome, get_or, length, sym, ap, ◌∙◌, subst}
+use Rattle.std.proofs.Common.{◌≡◌, ◌+◌, get_or, length, sym, ap, ◌∙◌, subst}
 use Rattle.std.proofs.lemmas.List.{length_push}
 use Rattle.syn_rows.specs.Reach.{is_and}
 use Rattle.syn_cones.specs.Carried.{IsCutFunction}
@@ -27,12 +27,12 @@ loop-i-preserved c =
     let cuts = c.cuts_of-own.result.now in
     let i = c.loop-i.i in
     let cut = c.index-own-i.result in
-    let f = c.in-Some.function in
+    let f = c.in_ok-function.function in
     let are : leaves_of cuts ≡ cuts_of rows node = c.cuts_of-own.ensures rows c.requires.cuts in
-    let here : IsCutFunction rows cut.items node f = subst (λ ls. IsCutFunction rows ls node f) c.as_slice-leaves.ensures.value (subst (λ o. IfSome o (IsCutFunction rows c.as_slice-leaves.result.now node)) c.in-Some.is c.in_ok-found.ensures.some) in
+    let here : IsCutFunction rows cut.items node f = subst (λ ls. IsCutFunction rows ls node f) c.as_slice-leaves.ensures.value c.in_ok-function.ensures in
     record {
-      count = ap length c.in_ok-push-in-Some.ensures.items ∙ length_push c.loop-i.carried.items _ ∙ ap (λ n. n + 1) c.loop-i.invariant.count;
+      count = ap length c.in_ok-push.ensures.items ∙ length_push c.loop-i.carried.items _ ∙ ap (λ n. n + 1) c.loop-i.invariant.count;
       carried =
-          subst (AreCarried rows node (cuts_of rows node)) (sym c.in_ok-push-in-Some.ensures.items)
+          subst (AreCarried rows node (cuts_of rows node)) (sym c.in_ok-push.ensures.items)
           (more_carried rows node (cuts_of rows node) c.loop-i.carried.items _ i cut.items c.loop-i.invariant.count c.loop-i.invariant.carried (leaves_is cuts i cut c.index-own-i.is ∙ ap (λ cs. get_or cs i cut.items) are) here);
     }

@@ -4,7 +4,7 @@ use Rattle.std.proofs.lemmas.List.Elements.{All-push}
 use Rattle.syn_rewrite.specs.Carried.{HaveCarried, IsOwnOf}
 use Rattle.syn_rewrite.specs.Prepared.{cuts_of}
 use Rattle.syn_rewrite.proofs.Carried.{more_lists, none_own}
-use Rattle.syn_rewrite.proofs.listing.none_carried.Goals as goal
+use Rattle.syn_rewrite.proofs.levels.none_carried.Goals as goal
 
 pub loop-node-preserved : goal.loop-node-preserved
 loop-node-preserved c =

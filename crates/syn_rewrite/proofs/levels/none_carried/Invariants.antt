@@ -1,7 +1,7 @@
 use Rattle.std.proofs.Common.{◌≡◌, ◌≤◌, All, List, length}
 use Rattle.syn_rows.specs.declared.Row.{Row}
 use Rattle.syn_rewrite.specs.Carried.{HaveCarried, IsOwnOf}
-use Rattle.syn_rewrite.proofs.listing.none_carried.Given as goal
+use Rattle.syn_rewrite.proofs.levels.none_carried.Given as goal
 
 abbrev pub invariant-loop-node : goal.invariant-loop-node
 invariant-loop-node l = record {

@@ -1,0 +1,5 @@
+use Rattle.syn_rewrite.proofs.Carried.{set_lists}
+use Rattle.syn_rewrite.proofs.levels.set.Goals as goal
+
+pub returns : goal.returns
+returns c = set_lists c.args.graph.now.rows c.args.lists.now.items c.args.own c.requires.lists c.requires.own
