@@ -1,8 +1,8 @@
 -- Functions that are carried from the cuts of fan-ins.
-use Rattle.std.proofs.Common.{◌≡◌, ℕ, ◌<◌, true, false, nat_eq, nat_lt, List, [], ◌∷◌, ◌++◌, length, get_or, set, refl, sym, ap, ◌∙◌, subst, inl, inr, arith}
+use Rattle.std.proofs.Common.{◌≡◌, ℕ, ◌<◌, true, false, nat_eq, nat_lt, All, List, Option, None, [], ◌∷◌, ◌++◌, length, get_or, set, refl, sym, ap, ◌∙◌, subst, inl, inr, arith}
 use Rattle.std.proofs.lemmas.Bool.{and_parts, both_ways, cases_eq, cases_lt, false_from_ne_true, ltb-true, or_cases}
 use Rattle.std.proofs.lemmas.List.{get_or_append_left, get_or_default, get_or_push, get_or-set_other, get_or-set_same, length-map, length-set, length_push}
-use Rattle.std.proofs.lemmas.List.Elements.{All-set}
+use Rattle.std.specs.Global.{Vec}
 use Rattle.arrayvec.specs.ArrayVec.{ArrayVec}
 use Rattle.syn_rows.specs.declared.Row.{Row}
 use Rattle.syn_rows.specs.Nodes.{has_node}
@@ -49,31 +49,52 @@ more_carried rows node cuts known one i c count are is here k d e lt inside = el
       (subst (λ l. IsCutFunction rows l node one.function) (is ∙ ap (λ m. get_or cuts m c) same ∙ get_or_default cuts k c d inside) here)
 ]
 
--- the functions of one node more
-pub more_lists : (rows : List Row) (lists : List Functions) (one : Functions) (last : ℕ) → length lists ≡ last → HaveCarried rows lists → AreCarried rows last (cuts_of rows last) one.carried.items → HaveCarried rows (lists ++ one ∷ [])
-more_lists rows lists one last count have here node d lt = elim (cases_lt node (length lists)) [
-  | inl low ↦ subst (λ (v : Functions). AreCarried rows node (cuts_of rows node) v.carried.items) (sym (get_or_append_left lists (one ∷ []) d node low)) (have node d low)
-  | inr high ↦
-      let same : last ≡ node = let long = length_push lists one in omega (arith, long, lt, high, count) in
-      subst (λ (v : Functions). AreCarried rows node (cuts_of rows node) v.carried.items) (sym (get_or_push lists one d node (count ∙ same)))
-      (subst (λ k. AreCarried rows k (cuts_of rows k) one.carried.items) same here)
-]
-
 -- no functions are right
 pub none_own : (rows : List Row) (node : ℕ) (cuts : List (List ℕ)) (known : List Carried) → known ≡ [] → AreCarried rows node cuts known
 none_own rows node cuts known none i c d lt inside = absurd (omega (arith, lt, ap length none))
 
--- the functions of a node set at its place
-pub set_lists : (rows : List Row) (lists : List Functions) (one : Functions) → AreOfAll rows lists → IsOwnOf rows one → AreOfAll rows (set lists one.node one)
-set_lists rows lists one are own = record {
-  count = length-set lists one.node one ∙ are.count;
-  carried = λ node d lt. elim (cases_eq node one.node) [
-    | inl same ↦
-        subst (λ k. AreCarried rows k (cuts_of rows k) (get_or (set lists one.node one) k d).carried.items) (sym same)
-        (subst (λ (v : Functions). AreCarried rows one.node (cuts_of rows one.node) v.carried.items) (sym (get_or-set_same lists one.node one d (omega (arith, own.within, are.count)))) own.carried)
-    | inr other ↦
-        subst (λ (v : Functions). AreCarried rows node (cuts_of rows node) v.carried.items) (sym (get_or-set_other lists one.node node one d other))
-        (are.carried node d (omega (arith, lt, length-set lists one.node one)))
-  ];
-  own = All-set (IsOwnOf rows) lists one.node one own are.own;
+-- no functions at all
+abbrev pub IsNothing : Functions → Type 0
+IsNothing f = (f.carried.items ≡ []) × (f.numbers ≡ None)
+
+-- no functions of all nodes are right
+pub nothing_of_all : (rows : List Row) (lists : List Functions) → length lists ≡ length rows → All IsNothing lists → AreOfAll rows lists
+nothing_of_all rows lists count none = record {
+  count = count;
+  each = λ node d lt. record {
+    carried = none_own rows node (cuts_of rows node) (get_or lists node d).carried.items (none node d lt).0;
+    numbers = rw (none node d lt).1 tt;
+  };
 }
+
+-- those that are carried on, of all nodes
+pub have_carried : (rows : List Row) (lists : List Functions) → AreOfAll rows lists → HaveCarried rows lists
+have_carried rows lists are node d lt = (are.each node d lt).carried
+
+-- the functions of a node set at its place
+pub set_lists : (rows : List Row) (lists : List Functions) (node : ℕ) (own : Functions) → AreOfAll rows lists → IsOwnOf rows node own → AreOfAll rows (set lists node own)
+set_lists rows lists node own are is = record {
+  count = length-set lists node own ∙ are.count;
+  each = λ m d lt. elim (cases_eq m node) [
+    | inl same ↦
+        subst (λ k. IsOwnOf rows k (get_or (set lists node own) k d)) (sym same)
+        (subst (IsOwnOf rows node) (sym (get_or-set_same lists node own d (omega (arith, lt, same, length-set lists node own)))) is)
+    | inr other ↦ subst (IsOwnOf rows m) (sym (get_or-set_other lists node m own d other)) (are.each m d (omega (arith, lt, length-set lists node own)))
+  ];
+}
+
+-- the functions of a node that are at its place
+pub own_at : (rows : List Row) (lists : List Functions) (node : ℕ) (own : Functions) → AreOfAll rows lists → node < length rows → own ≡ get_or lists node own → IsOwnOf rows node own
+own_at rows lists node own are within is = subst (IsOwnOf rows node) (sym is) (are.each node own (omega (arith, within, are.count)))
+
+-- the numbers of a node taken
+pub numbers_taken : (rows : List Row) (lists : List Functions) (node : ℕ) (own : Functions) (left : Option (Vec ℕ)) → AreOfAll rows lists → node < length rows → own ≡ get_or lists node own → left ≡ None
+    → AreOfAll rows (set lists node (record { carried = own.carried; numbers = left }))
+numbers_taken rows lists node own left are within is none =
+    set_lists rows lists node (record { carried = own.carried; numbers = left }) are (record { carried = (own_at rows lists node own are within is).carried; numbers = rw none tt })
+
+-- the functions of a node set as they are carried on
+pub carried_set : (rows : List Row) (lists : List Functions) (node : ℕ) (own : Functions) (carried : Vec Carried) → AreOfAll rows lists → node < length rows → own ≡ get_or lists node own
+    → AreCarried rows node (cuts_of rows node) carried.items → AreOfAll rows (set lists node (record { carried = carried; numbers = own.numbers }))
+carried_set rows lists node own carried are within is found =
+    set_lists rows lists node (record { carried = carried; numbers = own.numbers }) are (record { carried = found; numbers = (own_at rows lists node own are within is).numbers })

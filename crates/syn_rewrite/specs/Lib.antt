@@ -5,6 +5,5 @@ pub mod Laws
 pub mod PlansOf
 pub mod Prepared
 pub mod Carried
-pub mod Completing
 pub mod Adding
 pub mod Owning

@@ -25,11 +25,11 @@ pub(crate) struct Carried {
     pub(crate) signature: u64,
 }
 
-/// The functions of a node over its first cuts, in order.
+/// The functions of a node over its cuts, in order: as they are carried on, and as numbers until these are taken.
 #[derive(Drop)]
 pub struct Functions {
-    pub(crate) node: u32,
     pub(crate) carried: Vec<Carried>,
+    pub(crate) numbers: Option<Vec<u16>>,
 }
 
 // The function of a node over leaves, from the first of its functions over cuts that serves.

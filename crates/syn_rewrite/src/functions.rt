@@ -1,6 +1,6 @@
 //! The functions of nodes over their cuts.
 
-ghost use Rattle.std.specs.Prelude.{◌≡◌, ℕ, ◌<◌, ◌≤◌, true, List, IfOk, OnOk, length};
+ghost use Rattle.std.specs.Prelude.{◌≡◌, ℕ, ◌<◌, ◌≤◌, true, List, IfOk, length};
 ghost use Rattle.syn_rows.specs.declared.Row.{Row};
 ghost use Rattle.syn_rows.specs.declared.Row.TheVariants.{And};
 ghost use Rattle.syn_rows.specs.Reach.{is_and};
@@ -28,8 +28,8 @@ fn number_of(one: &Carried, leaves: &[u32]) -> u16
     one.function.table(leaves).to_bits()
 }
 
-// Adds the functions of an AND over its further cuts, in order.
-fn add_further(
+// The functions of an AND over its cuts, in order.
+fn carried_over(
     alloc: Global,
     graph: &Graph,
     cuts: &CutLists,
@@ -37,19 +37,18 @@ fn add_further(
     node: u32,
     first: Lit,
     second: Lit,
-    carried: &mut Vec<Carried>,
-) -> Result<(), AllocError>
+) -> Result<Vec<Carried>, AllocError>
     requires node { node < length graph.now.rows }
     requires row { row_at graph.now.rows node ≡ And first second }
     requires cuts { cuts.now ≡ listed_cuts 4 graph.now.rows }
     requires count { node ≤ length lists.now }
     requires lists { HaveCarried graph.now.rows lists.now }
-    requires carried { AreCarried graph.now.rows node (cuts_of graph.now.rows node) carried.old.items }
-    ensures carried { OnOk result (AreCarried graph.now.rows node (cuts_of graph.now.rows node) carried.new.items) }
-    ensures all { OnOk result (length (cuts_of graph.now.rows node) ≤ length carried.new.items) }
+    ensures carried { IfOk result (λ v. AreCarried graph.now.rows node (cuts_of graph.now.rows node) v.items) }
+    ensures all { IfOk result (λ v. length (cuts_of graph.now.rows node) ≤ length v.items) }
 {
     let own = cuts_of(cuts, node);
-    for i in carried.len()..own.len() {
+    let mut carried = Vec::with_capacity(alloc, own.len())?;
+    for i in 0..own.len() {
         let leaves = own[i].as_slice();
         let bits = signature(leaves);
         let function = over_cut(alloc, graph, cuts, lists, node, first, second, leaves, bits)?;
@@ -58,34 +57,29 @@ fn add_further(
             signature: bits,
         })?;
     }
-    Ok(())
+    Ok(carried)
 }
 
-/// The functions of a node over all its cuts, where these are those over the first ones. A node that is no AND has none.
-/// The only error is want of memory.
-pub(crate) fn further_at(
+/// The functions of a node over its cuts, as they are carried on; none where it is no AND. The only error is want of memory.
+pub(crate) fn carried_at(
     alloc: Global,
     graph: &Graph,
     cuts: &CutLists,
     lists: &[Functions],
     node: u32,
-    carried: Vec<Carried>,
 ) -> Result<Vec<Carried>, AllocError>
     requires node { node < length graph.now.rows }
     requires cuts { cuts.now ≡ listed_cuts 4 graph.now.rows }
     requires count { node ≤ length lists.now }
     requires lists { HaveCarried graph.now.rows lists.now }
-    requires carried { AreCarried graph.now.rows node (cuts_of graph.now.rows node) carried.items }
     ensures carried { IfOk result (λ v. AreCarried graph.now.rows node (cuts_of graph.now.rows node) v.items) }
     ensures all { IfOk result (λ v. is_and (row_at graph.now.rows node) ≡ true → length (cuts_of graph.now.rows node) ≤ length v.items) }
 {
     match graph.rows.as_slice()[node as usize] {
         Row::And(first, second) => {
-            let mut carried = carried;
-            add_further(alloc, graph, cuts, lists, node, first, second, &mut carried)?;
-            Ok(carried)
+            carried_over(alloc, graph, cuts, lists, node, first, second)
         }
-        _ => Ok(carried),
+        _ => Ok(Vec::new(alloc)),
     }
 }
 

@@ -1,5 +1,5 @@
 use Rattle.syn_rewrite.specs.Carried.{AreOfAll}
-use Rattle.syn_rewrite.proofs.levels.found_by_level.Given as goal
+use Rattle.syn_rewrite.proofs.levels.set_levels.Given as goal
 
 abbrev pub invariant-loop-nodes : goal.invariant-loop-nodes
 invariant-loop-nodes g l = AreOfAll l.graph.rows l.lists.items

@@ -1,7 +1,7 @@
 use Rattle.std.proofs.Common.{◌≡◌, length}
 use Rattle.syn_rewrite.specs.Carried.{AreCarried}
 use Rattle.syn_rewrite.specs.Prepared.{cuts_of}
-use Rattle.syn_rewrite.proofs.functions.add_further.Given as goal
+use Rattle.syn_rewrite.proofs.functions.carried_over.Given as goal
 
 abbrev pub invariant-loop-i : goal.invariant-loop-i
 invariant-loop-i l = record {

@@ -9,7 +9,7 @@ use Rattle.syn_rewrite.proofs.Candidates.{leaves_read}
 use Rattle.syn_rewrite.proofs.Carried.{more_carried}
 use Rattle.syn_rewrite.proofs.Cuts.{leaves_is}
 use Rattle.syn_rewrite.proofs.Listed.{within_lists}
-use Rattle.syn_rewrite.proofs.functions.add_further.Goals as goal
+use Rattle.syn_rewrite.proofs.functions.carried_over.Goals as goal
 
 pub cuts_of-own-requires : goal.cuts_of-own-requires
 cuts_of-own-requires c = within_lists c.args.cuts.now c.args.graph.now.rows c.args.node c.requires.cuts c.requires.node
