@@ -166,8 +166,8 @@ fn are_equal(alloc: Global, first: &Graph, second: &Graph) -> Result<bool, Alloc
     Ok(true)
 }
 
-// The worker that first claims goes on only once another one has done a commit. Each has cones of its own, and they meet in
-// one at most.
+// The worker that first claims goes on only once another one has done a commit. Of each cone the root alone has a proposal
+// that saves, and one worker visits it.
 #[test]
 fn two_workers_work_at_the_same_time(rt: HostRuntime) -> Result<(), Fail> {
     let alloc = rt.alloc();
