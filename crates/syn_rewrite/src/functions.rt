@@ -76,9 +76,7 @@ pub(crate) fn carried_at(
     ensures all { IfOk result (λ v. is_and (row_at graph.now.rows node) ≡ true → length (cuts_of graph.now.rows node) ≤ length v.items) }
 {
     match graph.rows.as_slice()[node as usize] {
-        Row::And(first, second) => {
-            carried_over(alloc, graph, cuts, lists, node, first, second)
-        }
+        Row::And(first, second) => { carried_over(alloc, graph, cuts, lists, node, first, second) }
         _ => Ok(Vec::new(alloc)),
     }
 }
