@@ -8,5 +8,6 @@ mod Listed
 mod Candidates
 mod Carried
 mod Own
-mod Deep
-mod Enough
+mod Told
+mod AllKept
+mod Weighed

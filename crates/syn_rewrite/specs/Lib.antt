@@ -5,5 +5,5 @@ pub mod Laws
 pub mod PlansOf
 pub mod Prepared
 pub mod Carried
-pub mod Adding
-pub mod Owning
+pub mod Lean
+pub mod Weighing

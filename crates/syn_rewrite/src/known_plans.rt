@@ -1,12 +1,14 @@
 //! The plans of the functions that a graph's cuts have, each fitted once.
 
-ghost use Rattle.std.specs.Prelude.{◌≡◌, All, IfOk, IfSome, length, map};
+ghost use Rattle.std.specs.Prelude.{◌≡◌, true, All, IfSome, map};
 ghost use Rattle.syn_plan.specs.Naming.{built_of};
 ghost use Rattle.syn_library.specs.Fitting.{Computes};
 ghost use Rattle.syn_library.specs.Library.{NamesOwn};
+ghost use Rattle.syn_rewrite.specs.Lean.{IsLeanPlan};
 ghost use Rattle.syn_rewrite.specs.PlansOf.{ArePlansOf};
 ghost use Rattle.syn_rewrite.specs.Rewriting.{fitted_plans};
 
+use crate::lean::are_lean;
 use crate::plans::plans_of;
 use arrayvec::ArrayVec;
 use std::alloc::{AllocError, Global};
@@ -21,23 +23,40 @@ const MOST_KEPT: usize = 8192;
 
 /// The plans of one function.
 #[derive(Drop)]
-struct FunctionPlans {
-    function: u16,
-    plans: ArrayVec<Plan, 4>,
+pub struct FunctionPlans {
+    /// The function, of four variables.
+    pub function: u16,
+    /// Its plans, in order.
+    pub plans: ArrayVec<Plan, 4>,
+    /// Whether none of them has a gate in vain.
+    pub lean: bool,
     ghost built: { map built_of plans.items ≡ fitted_plans function },
     ghost leaves: { All (λ p. p.leaves ≡ 4) plans.items },
     ghost values: { All (λ p. Computes p function) plans.items },
     ghost names: { All (λ p. NamesOwn p function) plans.items },
+    ghost told: { lean ≡ true → All IsLeanPlan plans.items },
 }
 
 impl FunctionPlans {
-    // The plans of a function that is this one.
-    #[inline]
-    fn plans(&self, function: u16) -> &[Plan]
-        requires { self.now.function ≡ function }
-        ensures { ArePlansOf function result.now }
+    /// The plans of a function, fitted.
+    pub(crate) fn fitted(classes: &Classes, function: u16) -> FunctionPlans
+        ensures { result.function ≡ function }
     {
-        let _ = function;
+        let plans = plans_of(classes, function);
+        let lean = are_lean(plans.as_slice());
+        FunctionPlans {
+            function,
+            plans,
+            lean,
+        }
+    }
+
+    /// The plans, in order.
+    #[inline]
+    pub(crate) fn as_slice(&self) -> &[Plan]
+        ensures plans { ArePlansOf self.now.function result.now }
+        ensures lean { self.now.lean ≡ true → All IsLeanPlan result.now }
+    {
         self.plans.as_slice()
     }
 }
@@ -54,12 +73,6 @@ fn no_places(alloc: Global, count: usize) -> Result<Vec<u32>, AllocError> {
     vec![in alloc; 0; count]
 }
 
-// The plans of a function, fitted.
-fn fit_all(classes: &Classes, function: u16) -> FunctionPlans {
-    let plans = plans_of(classes, function);
-    FunctionPlans { function, plans }
-}
-
 impl KnownPlans {
     /// No plans. The only error is want of memory.
     pub(crate) fn new(alloc: Global) -> Result<KnownPlans, AllocError> {
@@ -71,8 +84,8 @@ impl KnownPlans {
 
     /// The plans of a function, where they were made.
     #[inline]
-    pub(crate) fn plans(&self, function: u16) -> Option<&[Plan]>
-        ensures { IfSome result (λ plans. ArePlansOf function plans.now) }
+    pub(crate) fn plans(&self, function: u16) -> Option<&FunctionPlans>
+        ensures { IfSome result (λ plans. plans.now.function ≡ function) }
     {
         let at = function as usize;
         if at >= self.places.len() {
@@ -84,7 +97,7 @@ impl KnownPlans {
         }
         let found = &self.lists[place];
         if found.function == function {
-            Some(found.plans(function))
+            Some(found)
         } else {
             None
         }
@@ -98,7 +111,7 @@ impl KnownPlans {
         let at = function as usize;
         if at < self.places.len() && self.lists.len() < MOST_KEPT {
             self.places[at] = self.lists.len() as u32;
-            self.lists.push(fit_all(classes, function))?;
+            self.lists.push(FunctionPlans::fitted(classes, function))?;
         }
         Ok(())
     }

@@ -7,10 +7,9 @@ ghost use Rattle.syn_gain.specs.Uses.{IsUsesOf};
 ghost use Rattle.syn_rewrite.specs.Functions.{IsFunctionOver};
 ghost use Rattle.syn_rewrite.specs.Prepared.{AreLeavesOf, ArePlansOf};
 
-use crate::adding::may_add_fewer;
-use crate::known_plans::KnownPlans;
-use crate::plans::plans_of;
+use crate::known_plans::{FunctionPlans, KnownPlans};
 use crate::proposing::{MOST_COUNTED, candidate};
+use crate::weighing::{Weighed, may_add_fewer};
 use std::alloc::{AllocError, Global};
 use syn_gain::{Proposal, Room, Uses, lost_but, owned};
 use syn_graph::Graph;
@@ -36,9 +35,10 @@ fn push_fewer(
     requires plans { ArePlansOf function plans.now }
     ensures { OnOk result (All (λ p. p.root ≡ node) proposals.old.items → All (λ p. p.root ≡ node) proposals.new.items) }
 {
+    let mut weighed = Weighed::new();
     for plan in plans {
         let candidate = candidate(graph, node, leaves, function, plan);
-        if !may_add_fewer(graph, uses, candidate, limit, room)? {
+        if !may_add_fewer(graph, uses, candidate, limit, &mut weighed, room)? {
             continue;
         }
         proposals.push(owned(candidate))?;
@@ -65,7 +65,7 @@ fn push_fitted(
     requires function { IsFunctionOver graph.now.rows leaves.now node function }
     ensures { OnOk result (All (λ p. p.root ≡ node) proposals.old.items → All (λ p. p.root ≡ node) proposals.new.items) }
 {
-    let made = plans_of(classes, function);
+    let made = FunctionPlans::fitted(classes, function);
     let plans = made.as_slice();
     push_fewer(
         graph, uses, node, leaves, function, plans, limit, room, proposals,
@@ -95,7 +95,8 @@ pub(crate) fn push_promising(
 {
     let lost = lost_but(alloc, graph, uses, node, leaves, MOST_COUNTED)?;
     let limit = lost.saturating_add(u32::from(zero_gain));
-    if let Some(plans) = known.plans(function) {
+    if let Some(found) = known.plans(function) {
+        let plans = found.as_slice();
         return push_fewer(
             graph, uses, node, leaves, function, plans, limit, room, proposals,
         );

@@ -16,12 +16,12 @@ ghost use Rattle.syn_rewrite.specs.Functions.{IsFunctionOver};
 ghost use Rattle.syn_rewrite.specs.Prepared.{AreLeavesOf, ArePlansOf, IsPreparedFor};
 ghost use Rattle.syn_rewrite.specs.Rewriting.{cut_proposals, over, rewritings};
 
-use crate::adding::adds_enough;
-use crate::known_plans::KnownPlans;
-use crate::owning::is_own;
+use crate::known_plans::{FunctionPlans, KnownPlans};
 use crate::plans::plans_of;
 use crate::prepared::{Prepared, cuts_of, prepare};
 use crate::promising::push_promising;
+use crate::telling::saves_nothing;
+use crate::weighing::Weighed;
 use std::alloc::{AllocError, Global};
 use std::thread::Threads;
 use syn_gain::{Candidate, Proposal, Room, Uses, lost_but, owned};
@@ -126,23 +126,23 @@ fn some_saves(
     uses: &Uses,
     node: u32,
     leaves: &[u32],
-    function: u16,
-    plans: &[Plan],
+    plans: &FunctionPlans,
     most: u32,
     room: &mut Room,
 ) -> Result<bool, AllocError>
     requires uses { IsUsesOf uses.now graph.now }
     requires node { is_and (row_at graph.now.rows node) ≡ true }
     requires leaves { AreLeavesOf graph.now.rows node leaves.now }
-    requires function { IsFunctionOver graph.now.rows leaves.now node function }
-    requires plans { ArePlansOf function plans.now }
+    requires function { IsFunctionOver graph.now.rows leaves.now node plans.now.function }
     requires most { IsMostLost graph.now.rows (count_in uses.now.counts.items) node [] most }
     ensures none { IfOk result (λ some. some ≡ false → All (SavesNothing graph.now.rows graph.now.observed) (cut_proposals graph.now.rows node leaves.now)) }
 {
+    let all = plans.as_slice();
     let mut counted = None;
-    for plan in plans {
-        let candidate = candidate(graph, node, leaves, function, plan);
-        if adds_enough(graph, uses, candidate, most) || is_own(graph, uses, candidate) {
+    let mut weighed = Weighed::new();
+    for plan in all {
+        let candidate = candidate(graph, node, leaves, plans.function, plan);
+        if plans.lean && saves_nothing(alloc, graph, uses, candidate, most, &mut weighed)? {
             continue;
         }
         let bound = bound_over(alloc, graph, uses, node, leaves, counted)?;
@@ -174,18 +174,8 @@ fn some_fitted_saves(
     requires most { IsMostLost graph.now.rows (count_in uses.now.counts.items) node [] most }
     ensures none { IfOk result (λ some. some ≡ false → All (SavesNothing graph.now.rows graph.now.observed) (cut_proposals graph.now.rows node leaves.now)) }
 {
-    let plans = plans_of(classes, function);
-    some_saves(
-        alloc,
-        graph,
-        uses,
-        node,
-        leaves,
-        function,
-        plans.as_slice(),
-        most,
-        room,
-    )
+    let plans = FunctionPlans::fitted(classes, function);
+    some_saves(alloc, graph, uses, node, leaves, &plans, most, room)
 }
 
 // The same of the plans that were made before, or else are made here.
@@ -209,9 +199,7 @@ fn some_of_function_saves(
     ensures none { IfOk result (λ some. some ≡ false → All (SavesNothing graph.now.rows graph.now.observed) (cut_proposals graph.now.rows node leaves.now)) }
 {
     if let Some(plans) = known.plans(function) {
-        return some_saves(
-            alloc, graph, uses, node, leaves, function, plans, most, room,
-        );
+        return some_saves(alloc, graph, uses, node, leaves, plans, most, room);
     }
     some_fitted_saves(
         alloc, graph, uses, classes, node, leaves, function, most, room,
@@ -270,10 +258,11 @@ fn first_of_function(
     ensures sound { IfOk result (λ found. IfSome found (IsSound graph.now.rows)) }
     ensures none { IfOk result (λ found. IfNone found (All (SavesNothing graph.now.rows graph.now.observed) (cut_proposals graph.now.rows node leaves.now))) }
 {
-    if let Some(plans) = known.plans(function) {
+    if let Some(found) = known.plans(function) {
+        let plans = found.as_slice();
         return first_over(alloc, graph, uses, node, leaves, function, plans, room);
     }
-    let plans = plans_of(classes, function);
+    let plans = FunctionPlans::fitted(classes, function);
     first_over(
         alloc,
         graph,
@@ -422,6 +411,9 @@ impl Proposer for CutPlans {
     }
 
     fn plans_over<'a>(&'a self, lists: &'a Prepared, function: u16) -> &'a [Plan] {
-        lists.known.plans(function).unwrap_or(&[])
+        match lists.known.plans(function) {
+            Some(found) => found.as_slice(),
+            None => &[],
+        }
     }
 }

@@ -13,10 +13,11 @@ returns c =
     let graph = c.args.graph.now in
     let node = c.args.node in
     let leaves = c.args.leaves.now in
+    let all = c.as_slice-all.result.now in
     let f : Plan → Replacement = λ p. over node leaves (built_of p) in
-    let same = plans_are graph.rows node c.args.function leaves c.args.plans.now (is_function graph node c.args.function leaves c.requires.node c.requires.leaves c.requires.function) c.requires.plans in
-    let end : length c.args.plans.now ≤ c.loop-plan.plan-index = c.loop-plan-test.false in
-    let all : All (λ p. SavesNothing graph.rows graph.observed (f p)) c.args.plans.now = λ k d lt. c.loop-plan.invariant.none k d (omega arith) (omega (arith, lt, end)) in
+    let same = plans_are graph.rows node c.args.plans.now.function leaves all (is_function graph node c.args.plans.now.function leaves c.requires.node c.requires.leaves c.requires.function) c.as_slice-all.ensures.plans in
+    let end : length all ≤ c.loop-plan.plan-index = c.loop-plan-test.false in
+    let none_of_all : All (λ p. SavesNothing graph.rows graph.observed (f p)) all = λ k d lt. c.loop-plan.invariant.none k d (omega arith) (omega (arith, lt, end)) in
     let none : All (SavesNothing graph.rows graph.observed) (cut_proposals graph.rows node leaves) =
-    subst (λ (l : List Replacement). All (SavesNothing graph.rows graph.observed) l) same (All-map (SavesNothing graph.rows graph.observed) f c.args.plans.now all) in
+    subst (λ (l : List Replacement). All (SavesNothing graph.rows graph.observed) l) same (All-map (SavesNothing graph.rows graph.observed) f all none_of_all) in
     search (rules, none)

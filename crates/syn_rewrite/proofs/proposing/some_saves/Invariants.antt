@@ -9,6 +9,6 @@ use Rattle.syn_rewrite.proofs.proposing.some_saves.Given as goal
 
 abbrev pub invariant-loop-plan : goal.invariant-loop-plan
 invariant-loop-plan l = record {
-  none : AllWithin (λ p. SavesNothing l.graph.rows l.graph.observed (over l.node l.leaves (built_of p))) l.plans 0 l.plan-index;
+  none : AllWithin (λ p. SavesNothing l.graph.rows l.graph.observed (over l.node l.leaves (built_of p))) l.all 0 l.plan-index;
   counted : IfSome l.counted (IsMostLost l.graph.rows (count_in l.uses.counts.items) l.node l.leaves);
 }

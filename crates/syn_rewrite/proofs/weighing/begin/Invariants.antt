@@ -1,7 +1,7 @@
 use Rattle.std.proofs.Common.{◌≡◌, ◌+◌, ◌∷◌, length}
 use Rattle.syn_rows.specs.Joining.{constant}
 use Rattle.syn_gain.specs.Placing.{leaf_literals}
-use Rattle.syn_rewrite.proofs.owning.begin.Given as goal
+use Rattle.syn_rewrite.proofs.weighing.begin.Given as goal
 
 abbrev pub invariant-loop-i : goal.invariant-loop-i
 invariant-loop-i l = record {

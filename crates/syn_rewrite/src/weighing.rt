@@ -1,0 +1,231 @@
+//! What a plan becomes, placed in room for a small one; told where each of its gates needs a row.
+
+ghost use Rattle.std.specs.Prelude.{◌≡◌, ℕ, ◌+◌, ◌<◌, ◌≤◌, ◌^◌, [], ◌∷◌, None, Some, length, true, slice_index_or};
+ghost use Rattle.syn_rows.specs.declared.TheConstants.{NODE_LIMIT};
+ghost use Rattle.syn_rows.specs.Reach.{is_and};
+ghost use Rattle.syn_rows.specs.Rows.{InOrder, node_of, row_at};
+ghost use Rattle.syn_rows.specs.Joining as joining;
+ghost use Rattle.syn_hashed.specs.Indexed.{IsIndexOf};
+ghost use Rattle.syn_hashed.specs.Joined.{PairsOnce};
+ghost use Rattle.syn_gain.specs.Placing as placing;
+ghost use Rattle.syn_gain.specs.Proposals.{replacement_of};
+ghost use Rattle.syn_gain.specs.Searching as search;
+ghost use Rattle.syn_gain.specs.Uses.{IsUsesOf};
+ghost use Rattle.syn_rewrite.specs.Weighing as spec;
+
+use arrayvec::ArrayVec;
+use std::alloc::AllocError;
+use syn_gain::{Candidate, Room, Uses, adds_fewer, literal_below, literal_for, node_at};
+use syn_graph::Graph;
+use syn_hashed::PairIndex;
+use syn_plan::PLit;
+use syn_rows::{FALSE, Lit, Row, is_and_of, ordered_and, simple_and};
+
+/// How many indexes a plan has that is weighed: the constant, its leaves and its gates.
+pub(crate) const MOST_INDEXES: usize = 24;
+
+/// What a plan becomes: room that is used again. Literals of nodes from the number of rows on are of new rows.
+#[derive(Drop)]
+pub struct Weighed {
+    /// The literals that the constant, its leaves and its gates become.
+    pub literals: ArrayVec<Lit, MOST_INDEXES>,
+    /// The new rows.
+    pub extra: ArrayVec<Row, MOST_INDEXES>,
+}
+
+impl Weighed {
+    /// Room for what plans become.
+    pub(crate) fn new() -> Weighed {
+        Weighed {
+            literals: ArrayVec::new(),
+            extra: ArrayVec::new(),
+        }
+    }
+}
+
+// Whether the literal is that of a new row.
+#[inline]
+fn is_new(rows: &[Row], x: Lit) -> bool
+    ensures { result ≡ true → length rows.now ≤ node_of x }
+{
+    x.node() as usize >= rows.len()
+}
+
+// The literal of the row below a node that is the AND of x and y. No old row refers to a new one, so that a pair with a new
+// row's literal isn't looked up.
+#[inline]
+fn old_literal_below(rows: &[Row], index: &PairIndex, node: u32, x: Lit, y: Lit) -> Option<Lit>
+    requires index { IsIndexOf rows.now index.now }
+    requires pairs { PairsOnce rows.now }
+    requires order { InOrder rows.now }
+    requires few { length rows.now < NODE_LIMIT }
+    ensures { result ≡ placing.literal_below rows.now node x y }
+{
+    if is_new(rows, x) || is_new(rows, y) {
+        return None;
+    }
+    literal_below(rows, index, node, x, y)
+}
+
+// The literal of the last new row that is the AND of x and y. The first one is node `first`.
+#[inline]
+fn literal_new(first: u32, extra: &[Row], x: Lit, y: Lit) -> Option<Lit>
+    requires few { first + length extra.now < 2 ^ 30 }
+    ensures { result ≡ search.literal_new first extra.now (length extra.now) x y }
+{
+    let mut i = extra.len();
+    while i > 0 {
+        i -= 1;
+        if is_and_of(x, y, extra[i]) {
+            return Some(Lit::of(first + i as u32, false));
+        }
+    }
+    None
+}
+
+// The literal of a pair that needs a row. Where none is there, it is that of a new row.
+fn join(
+    rows: &[Row],
+    index: &PairIndex,
+    node: u32,
+    extra: &mut ArrayVec<Row, MOST_INDEXES>,
+    x: Lit,
+    y: Lit,
+) -> Lit
+    requires index { IsIndexOf rows.now index.now }
+    requires pairs { PairsOnce rows.now }
+    requires order { InOrder rows.now }
+    requires few { length rows.now < NODE_LIMIT }
+    requires room { length extra.old.items < MOST_INDEXES }
+    requires needs { joining.simple_and x y ≡ None }
+    ensures literal { result ≡ (search.placed_pair rows.now node extra.old.items x y).literal }
+    ensures rows { extra.new.items ≡ (search.placed_pair rows.now node extra.old.items x y).extra }
+    ensures more { length extra.new.items ≤ length extra.old.items + 1 }
+{
+    if let Some(literal) = old_literal_below(rows, index, node, x, y) {
+        return literal;
+    }
+    let first = rows.len() as u32;
+    if let Some(literal) = literal_new(first, extra.as_slice(), x, y) {
+        return literal;
+    }
+    let count = extra.len() as u32;
+    extra.push(ordered_and(x, y));
+    Lit::of(first + count, false)
+}
+
+// One gate of a plan: whether it needs a row.
+fn weigh_gate(
+    rows: &[Row],
+    index: &PairIndex,
+    node: u32,
+    gate: (PLit, PLit),
+    weighed: &mut Weighed,
+) -> bool
+    requires index { IsIndexOf rows.now index.now }
+    requires pairs { PairsOnce rows.now }
+    requires order { InOrder rows.now }
+    requires few { length rows.now < NODE_LIMIT }
+    requires room { length weighed.old.literals.items < MOST_INDEXES }
+    requires small { length weighed.old.extra.items < length weighed.old.literals.items }
+    ensures told { result ≡ true → spec.weigh_gate rows.now node (spec.weight_of weighed.old) gate ≡ Some (spec.weight_of weighed.new) }
+    ensures count { result ≡ true → length weighed.new.literals.items ≡ length weighed.old.literals.items + 1 }
+    ensures small { result ≡ true → length weighed.new.extra.items < length weighed.new.literals.items }
+{
+    let x = literal_for(weighed.literals.as_slice(), gate.0);
+    let y = literal_for(weighed.literals.as_slice(), gate.1);
+    if simple_and(x, y).is_some() {
+        return false;
+    }
+    let literal = join(rows, index, node, &mut weighed.extra, x, y);
+    weighed.literals.push(literal);
+    true
+}
+
+// The gates of a plan in order: whether each needs a row.
+fn weigh_gates(
+    rows: &[Row],
+    index: &PairIndex,
+    node: u32,
+    gates: &[(PLit, PLit)],
+    weighed: &mut Weighed,
+) -> bool
+    requires index { IsIndexOf rows.now index.now }
+    requires pairs { PairsOnce rows.now }
+    requires order { InOrder rows.now }
+    requires few { length rows.now < NODE_LIMIT }
+    requires room { length weighed.old.literals.items + length gates.now ≤ MOST_INDEXES }
+    requires small { length weighed.old.extra.items < length weighed.old.literals.items }
+    ensures told { result ≡ true → spec.weigh_gates rows.now node gates.now (spec.weight_of weighed.old) ≡ Some (spec.weight_of weighed.new) }
+{
+    for gate in gates {
+        if !weigh_gate(rows, index, node, *gate, weighed) {
+            return false;
+        }
+    }
+    true
+}
+
+// The literals of the constant and of a plan's leaves, of which there are so many.
+fn begin(count: u8, leaves: &[u32], literals: &mut ArrayVec<Lit, MOST_INDEXES>)
+    requires few { count < MOST_INDEXES }
+    requires none { literals.old.items ≡ [] }
+    requires low { (i : ℕ) → slice_index_or leaves.now i 0 < 2 ^ 31 }
+    ensures literals { literals.new.items ≡ joining.constant ∷ placing.leaf_literals count leaves.now }
+    ensures count { length literals.new.items ≡ 1 + count }
+{
+    literals.push(FALSE);
+    for i in 0..count {
+        let leaf = node_at(leaves, i as usize);
+        literals.push(Lit::of(leaf, false));
+    }
+}
+
+/// What a plan for a node of a graph becomes, where its gates may be those of rows below another: whether it is told, which
+/// it isn't of a large plan, nor of one some of whose gates need no row.
+pub(crate) fn weigh(
+    graph: &Graph,
+    uses: &Uses,
+    candidate: Candidate,
+    node: u32,
+    weighed: &mut Weighed,
+) -> bool
+    requires uses { IsUsesOf uses.now graph.now }
+    requires root { candidate.root < length graph.now.rows }
+    ensures told { result ≡ true → spec.IsWeightOf graph.now.rows node (replacement_of candidate.entry) (spec.weight_of weighed.new) }
+    ensures few { result ≡ true → 1 + candidate.entry.plan.now.leaves + length candidate.entry.plan.now.gates.items ≤ MOST_INDEXES }
+{
+    let plan = candidate.plan;
+    let gates = plan.gates.as_slice();
+    if plan.leaves as usize + gates.len() >= MOST_INDEXES {
+        return false;
+    }
+    weighed.literals.clear();
+    weighed.extra.clear();
+    begin(plan.leaves, candidate.leaves, &mut weighed.literals);
+    let rows = graph.rows.as_slice();
+    weigh_gates(rows, &uses.pairs, node, gates, weighed)
+}
+
+/// Whether a proposal for an AND adds fewer than so many new rows, where its gates may be those of any row. The only error is
+/// want of memory, which a small plan doesn't take.
+pub(crate) fn may_add_fewer(
+    graph: &Graph,
+    uses: &Uses,
+    candidate: Candidate,
+    limit: u32,
+    weighed: &mut Weighed,
+    room: &mut Room,
+) -> Result<bool, AllocError>
+    requires uses { IsUsesOf uses.now graph.now }
+    requires root { is_and (row_at graph.now.rows candidate.root) ≡ true }
+{
+    if candidate.plan.gates.len() < limit as usize {
+        return Ok(true);
+    }
+    let any = graph.rows.as_slice().len() as u32;
+    if weigh(graph, uses, candidate, any, weighed) {
+        return Ok(weighed.extra.len() < limit as usize);
+    }
+    adds_fewer(graph, uses, candidate, limit, room)
+}
