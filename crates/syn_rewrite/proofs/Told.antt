@@ -1,11 +1,11 @@
 -- What placing tells of gates that each need a row: a gate with a new literal becomes a new row, which refers to it.
-use Rattle.std.proofs.Common.{◌≡◌, ◌≢◌, ◌⊎◌, ℕ, zero, suc, ◌+◌, ◌-◌, ◌%◌, ◌<◌, ◌≤◌, ◌&&◌, ◌==◌, if◌then◌else◌, true, List, [], ◌∷◌, ◌++◌, length, get_or, Option, Some, None, refl, sym, ap, ◌∙◌, subst, arith, inl, inr}
-use Rattle.std.proofs.lemmas.Bool.{cases_lt, cond_both, and_from, and_parts, or_cases, or_left, eq-eqb, eqb-true}
+use Rattle.std.proofs.Common.{◌≡◌, ◌≢◌, ◌⊎◌, ℕ, zero, suc, ◌+◌, ◌-◌, ◌%◌, ◌<◌, ◌≤◌, ◌&&◌, ◌==◌, if◌then◌else◌, true, false, List, [], ◌∷◌, ◌++◌, length, get_or, Option, Some, None, refl, sym, ap, ◌∙◌, subst, arith, inl, inr}
+use Rattle.std.proofs.lemmas.Bool.{cases_Bool, cond-false, cases_lt, cond_both, and_from, and_parts, or_cases, or_left, eq-eqb, eqb-true}
 use Rattle.std.proofs.lemmas.List.{append-nil, append_assoc, get_or_append_left, get_or_push, get_or_past, length_push}
 use Rattle.syn_rows.specs.declared.Lit.{Lit}
 use Rattle.syn_rows.specs.declared.Row.{Row}
 use Rattle.syn_rows.specs.declared.Row.TheVariants.{Free, Source, And, Alias}
-use Rattle.syn_rows.specs.Rows.{InOrder, node_of, row_at}
+use Rattle.syn_rows.specs.Rows.{AllRefs, InOrder, node_of, row_at}
 use Rattle.syn_rows.specs.Joining.{complement, constant, is_and_of, lit_of, ordered_and, same_pair, simple_and}
 use Rattle.syn_rows.proofs.JoinLaws.{complement_node, none_needs, same_lit}
 use Rattle.syn_hashed.proofs.Looking.{ordered_is}
@@ -17,7 +17,7 @@ use Rattle.syn_gain.specs.Laws.{IsBefore, IsPlacing}
 use Rattle.syn_gain.specs.Leaves.{are_below}
 use Rattle.syn_gain.specs.Placing.{each_below, leaf_literals, literal_for}
 use Rattle.syn_gain.specs.Replacements.{Replacement}
-use Rattle.syn_gain.specs.Searching.{Searched, search_gate, search_gates, searched, state, with_pair}
+use Rattle.syn_gain.specs.Searching.{Searched, literal_new, search_gate, search_gates, searched, state, with_pair}
 use Rattle.syn_gain.proofs.Bounds.{OfSome, begun_in, below_each, each_push, joined_by}
 use Rattle.syn_rewrite.specs.Weighing.{IsWeightOf, and_then, weigh_gate, weigh_gates, where_needed}
 
@@ -67,6 +67,28 @@ pair_refers x y (Alias a) h = absurd (cc)
 
 pair_itself : (x y : Lit) → is_and_of x y (ordered_and x y) ≡ true
 pair_itself x y = ordered_is x y x y ∙ or_left (x.0 == x.0 && y.0 == y.0) (x.0 == y.0 && y.0 == x.0) (and_from (x.0 == x.0) (y.0 == y.0) (eq-eqb x.0 x.0 refl) (eq-eqb y.0 y.0 refl))
+
+-- no new row has a pair where none of the first ones has
+pub none_new : (first : ℕ) (extra : List Row) (k : ℕ) (x y : Lit) → ((i : ℕ) → i < k → is_and_of x y (row_at extra i) ≡ false) → literal_new first extra k x y ≡ None
+none_new first extra zero x y each = refl
+none_new first extra (suc k) x y each =
+    cond-false (is_and_of x y (row_at extra k)) (Some (lit_of (first + k))) (literal_new first extra k x y) (each k (omega arith)) ∙ none_new first extra k x y (λ i lt. each i (omega arith))
+
+-- a new row refers to no node behind it
+pub not_behind : (root first : ℕ) (extra : List Row) (x y l : Lit) (i : ℕ) → root ≤ first → AllRefs (IsBefore root first (first + i)) (row_at extra i) → (l ≡ x) ⊎ (l ≡ y) → first + i ≤ node_of l → is_and_of x y (row_at extra i) ≡ false
+not_behind root first extra x y l i low before one far = elim (cases_Bool (is_and_of x y (row_at extra i))) [
+  | inr f ↦ f
+  | inl t ↦
+      let refs = pair_refers x y (row_at extra i) t in
+      let named : refers (row_at extra i) (node_of l) ≡ true = elim one [
+        | inl e ↦ ap (λ (z : Lit). refers (row_at extra i) (node_of z)) e ∙ refs.0
+        | inr e ↦ ap (λ (z : Lit). refers (row_at extra i) (node_of z)) e ∙ refs.1
+      ] in
+      absurd (elim (at_ref (IsBefore root first (first + i)) (row_at extra i) before (node_of l) named) [
+        | inl old ↦ omega (arith, old, low, far)
+        | inr new ↦ omega (arith, new.1, far)
+      ])
+]
 
 -- ---- what is told
 pub record IsTold (first base : ℕ) (done : List (PLit × PLit)) (s : Searched) : Type 0 where

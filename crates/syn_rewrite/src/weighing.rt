@@ -1,9 +1,11 @@
 //! What a plan becomes, placed in room for a small one; told where each of its gates needs a row.
 
-ghost use Rattle.std.specs.Prelude.{◌≡◌, ℕ, ◌+◌, ◌<◌, ◌≤◌, ◌^◌, [], ◌∷◌, None, Some, length, true, slice_index_or};
+ghost use Rattle.std.specs.Prelude.{◌≡◌, ℕ, ◌+◌, ◌-◌, ◌<◌, ◌≤◌, ◌^◌, [], ◌∷◌, None, Some, length, false, true, slice_index_or};
 ghost use Rattle.syn_rows.specs.declared.TheConstants.{NODE_LIMIT};
 ghost use Rattle.syn_rows.specs.Reach.{is_and};
-ghost use Rattle.syn_rows.specs.Rows.{InOrder, node_of, row_at};
+ghost use Rattle.syn_rows.specs.Rows.{AllRefs, InOrder, node_of, row_at};
+ghost use Rattle.syn_rows.specs.Joining.{is_and_of};
+ghost use Rattle.syn_gain.specs.Laws.{IsBefore, IsPlacing};
 ghost use Rattle.syn_rows.specs.Joining as joining;
 ghost use Rattle.syn_hashed.specs.Indexed.{IsIndexOf};
 ghost use Rattle.syn_hashed.specs.Joined.{PairsOnce};
@@ -67,14 +69,23 @@ fn old_literal_below(rows: &[Row], index: &PairIndex, node: u32, x: Lit, y: Lit)
     literal_below(rows, index, node, x, y)
 }
 
-// The literal of the last new row that is the AND of x and y. The first one is node `first`.
+// The first place at which a new row may refer to a literal's node, where the first new row is node `first`.
 #[inline]
-fn literal_new(first: u32, extra: &[Row], x: Lit, y: Lit) -> Option<Lit>
+fn place_behind(first: u32, l: Lit) -> usize
+    ensures { result ≡ node_of l + 1 - first }
+{
+    (l.node() as usize + 1).saturating_sub(first as usize)
+}
+
+// The literal of the last new row that is the AND of x and y, where none before this place is. The first one is node `first`.
+#[inline]
+fn literal_new(first: u32, extra: &[Row], from: usize, x: Lit, y: Lit) -> Option<Lit>
     requires few { first + length extra.now < 2 ^ 30 }
+    requires none { (i : ℕ) → i < from → is_and_of x y (row_at extra.now i) ≡ false }
     ensures { result ≡ search.literal_new first extra.now (length extra.now) x y }
 {
     let mut i = extra.len();
-    while i > 0 {
+    while i > from {
         i -= 1;
         if is_and_of(x, y, extra[i]) {
             return Some(Lit::of(first + i as u32, false));
@@ -83,7 +94,7 @@ fn literal_new(first: u32, extra: &[Row], x: Lit, y: Lit) -> Option<Lit>
     None
 }
 
-// The literal of a pair that needs a row. Where none is there, it is that of a new row.
+// The literal of a pair that needs a row. Where none is there, it is that of a new row. New rows refer to those before them.
 fn join(
     rows: &[Row],
     index: &PairIndex,
@@ -96,8 +107,10 @@ fn join(
     requires pairs { PairsOnce rows.now }
     requires order { InOrder rows.now }
     requires few { length rows.now < NODE_LIMIT }
+    requires low { node ≤ length rows.now }
     requires room { length extra.old.items < MOST_INDEXES }
     requires needs { joining.simple_and x y ≡ None }
+    requires before { (i : ℕ) → AllRefs (IsBefore node (length rows.now) (length rows.now + i)) (row_at extra.old.items i) }
     ensures literal { result ≡ (search.placed_pair rows.now node extra.old.items x y).literal }
     ensures rows { extra.new.items ≡ (search.placed_pair rows.now node extra.old.items x y).extra }
     ensures more { length extra.new.items ≤ length extra.old.items + 1 }
@@ -106,7 +119,8 @@ fn join(
         return literal;
     }
     let first = rows.len() as u32;
-    if let Some(literal) = literal_new(first, extra.as_slice(), x, y) {
+    let from = place_behind(first, x).max(place_behind(first, y));
+    if let Some(literal) = literal_new(first, extra.as_slice(), from, x, y) {
         return literal;
     }
     let count = extra.len() as u32;
@@ -126,11 +140,15 @@ fn weigh_gate(
     requires pairs { PairsOnce rows.now }
     requires order { InOrder rows.now }
     requires few { length rows.now < NODE_LIMIT }
+    requires low { node ≤ length rows.now }
+    requires positive { 0 < node }
     requires room { length weighed.old.literals.items < MOST_INDEXES }
     requires small { length weighed.old.extra.items < length weighed.old.literals.items }
+    requires placing { IsPlacing node (length rows.now) weighed.old.literals.items weighed.old.extra.items }
     ensures told { result ≡ true → spec.weigh_gate rows.now node (spec.weight_of weighed.old) gate ≡ Some (spec.weight_of weighed.new) }
     ensures count { result ≡ true → length weighed.new.literals.items ≡ length weighed.old.literals.items + 1 }
     ensures small { result ≡ true → length weighed.new.extra.items < length weighed.new.literals.items }
+    ensures placing { result ≡ true → IsPlacing node (length rows.now) weighed.new.literals.items weighed.new.extra.items }
 {
     let x = literal_for(weighed.literals.as_slice(), gate.0);
     let y = literal_for(weighed.literals.as_slice(), gate.1);
@@ -154,8 +172,11 @@ fn weigh_gates(
     requires pairs { PairsOnce rows.now }
     requires order { InOrder rows.now }
     requires few { length rows.now < NODE_LIMIT }
+    requires low { node ≤ length rows.now }
+    requires positive { 0 < node }
     requires room { length weighed.old.literals.items + length gates.now ≤ MOST_INDEXES }
     requires small { length weighed.old.extra.items < length weighed.old.literals.items }
+    requires placing { IsPlacing node (length rows.now) weighed.old.literals.items weighed.old.extra.items }
     ensures told { result ≡ true → spec.weigh_gates rows.now node gates.now (spec.weight_of weighed.old) ≡ Some (spec.weight_of weighed.new) }
 {
     for gate in gates {
@@ -192,6 +213,8 @@ pub(crate) fn weigh(
 ) -> bool
     requires uses { IsUsesOf uses.now graph.now }
     requires root { candidate.root < length graph.now.rows }
+    requires low { node ≤ length graph.now.rows }
+    requires leaves { candidate.root ≤ node }
     ensures told { result ≡ true → spec.IsWeightOf graph.now.rows node (replacement_of candidate.entry) (spec.weight_of weighed.new) }
     ensures few { result ≡ true → 1 + candidate.entry.plan.now.leaves + length candidate.entry.plan.now.gates.items ≤ MOST_INDEXES }
 {

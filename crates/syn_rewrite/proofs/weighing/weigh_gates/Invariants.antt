@@ -1,4 +1,5 @@
 use Rattle.std.proofs.Common.{◌≡◌, ◌+◌, ◌<◌, drop, length}
+use Rattle.syn_gain.specs.Laws.{IsPlacing}
 use Rattle.syn_rewrite.specs.Weighing.{weigh_gates, weight_of}
 use Rattle.syn_rewrite.proofs.weighing.weigh_gates.Given as goal
 
@@ -7,4 +8,5 @@ invariant-loop-gate l = record {
   rest : weigh_gates l.rows l.node (drop l.gate-index l.gates) (weight_of l.weighed) ≡ weigh_gates l.rows l.node l.gates (weight_of l.initial.weighed);
   count : length l.weighed.literals.items ≡ length l.initial.weighed.literals.items + l.gate-index;
   small : length l.weighed.extra.items < length l.weighed.literals.items;
+  placing : IsPlacing l.node (length l.rows) l.weighed.literals.items l.weighed.extra.items;
 }
