@@ -103,6 +103,14 @@ impl KnownPlans {
         }
     }
 
+    // Adds the plans of a function. They are large, and a function fills its locals as it begins: so this one is called only
+    // where they aren't there, and stays one of its own.
+    #[inline(never)]
+    fn add(&mut self, classes: &Classes, function: u16) -> Result<(), AllocError> {
+        self.lists.push(FunctionPlans::fitted(classes, function))?;
+        Ok(())
+    }
+
     // Makes the plans of a function unless they are there.
     fn meet(&mut self, classes: &Classes, function: u16) -> Result<(), AllocError> {
         if self.plans(function).is_some() {
@@ -111,7 +119,7 @@ impl KnownPlans {
         let at = function as usize;
         if at < self.places.len() && self.lists.len() < MOST_KEPT {
             self.places[at] = self.lists.len() as u32;
-            self.lists.push(FunctionPlans::fitted(classes, function))?;
+            self.add(classes, function)?;
         }
         Ok(())
     }

@@ -9,22 +9,60 @@ ghost use Rattle.syn_rewrite.specs.Prepared.{AreLeavesOf, ArePlansOf};
 
 use crate::known_plans::{FunctionPlans, KnownPlans};
 use crate::proposing::{MOST_COUNTED, candidate};
-use crate::weighing::{Weighed, may_add_fewer};
+use crate::weighing::{Weighed, weigh};
 use std::alloc::{AllocError, Global};
-use syn_gain::{Proposal, Room, Uses, lost_but, owned};
+use syn_gain::{Candidate, Proposal, Room, Uses, adds_fewer, literal_for, lost_but, owned};
 use syn_graph::Graph;
 use syn_library::Prepared as Classes;
 use syn_plan::Plan;
 
-// Adds those of the plans of a node's function over leaves that add fewer than so many new rows, in order.
-fn push_fewer(
+// Which proposals are worth a commit.
+#[derive(Clone, Copy, Debug)]
+struct Worth {
+    // They add fewer new rows than so many.
+    limit: u32,
+    // It may be one that becomes the row that is there.
+    own_row: bool,
+}
+
+// Whether a weighed plan becomes the root itself.
+fn is_root(candidate: Candidate, weighed: &Weighed) -> bool {
+    literal_for(weighed.literals.as_slice(), candidate.plan.out).node() == candidate.root
+}
+
+// Whether a proposal for an AND is worth a commit, where its gates may be those of any row. The only error is want of memory,
+// which a small plan doesn't take.
+fn is_worth(
+    graph: &Graph,
+    uses: &Uses,
+    candidate: Candidate,
+    worth: Worth,
+    weighed: &mut Weighed,
+    room: &mut Room,
+) -> Result<bool, AllocError>
+    requires uses { IsUsesOf uses.now graph.now }
+    requires root { is_and (row_at graph.now.rows candidate.root) ≡ true }
+{
+    let limit = worth.limit as usize;
+    if candidate.plan.gates.len() < limit {
+        return Ok(true);
+    }
+    let any = graph.rows.as_slice().len() as u32;
+    if weigh(graph, uses, candidate, any, limit, weighed) {
+        return Ok(weighed.extra.len() < limit && (worth.own_row || !is_root(candidate, weighed)));
+    }
+    adds_fewer(graph, uses, candidate, worth.limit, room)
+}
+
+// Adds those of the plans of a node's function over leaves that are worth a commit, in order.
+fn push_worth(
     graph: &Graph,
     uses: &Uses,
     node: u32,
     leaves: &[u32],
     function: u16,
     plans: &[Plan],
-    limit: u32,
+    worth: Worth,
     room: &mut Room,
     proposals: &mut Vec<Proposal>,
 ) -> Result<(), AllocError>
@@ -38,7 +76,7 @@ fn push_fewer(
     let mut weighed = Weighed::new();
     for plan in plans {
         let candidate = candidate(graph, node, leaves, function, plan);
-        if !may_add_fewer(graph, uses, candidate, limit, &mut weighed, room)? {
+        if !is_worth(graph, uses, candidate, worth, &mut weighed, room)? {
             continue;
         }
         proposals.push(owned(candidate))?;
@@ -55,7 +93,7 @@ fn push_fitted(
     node: u32,
     leaves: &[u32],
     function: u16,
-    limit: u32,
+    worth: Worth,
     room: &mut Room,
     proposals: &mut Vec<Proposal>,
 ) -> Result<(), AllocError>
@@ -67,13 +105,14 @@ fn push_fitted(
 {
     let made = FunctionPlans::fitted(classes, function);
     let plans = made.as_slice();
-    push_fewer(
-        graph, uses, node, leaves, function, plans, limit, room, proposals,
+    push_worth(
+        graph, uses, node, leaves, function, plans, worth, room, proposals,
     )
 }
 
 /// Adds those of the plans of a node's function over leaves that may save on a shared table of the graph, and with
-/// `zero_gain` those that lose nothing: they add fewer new rows than go with the node's row where the leaves stay, or as many.
+/// `zero_gain` those that lose nothing: they add fewer new rows than go with the node's row where the leaves stay, or as
+/// many. A plan that becomes the row that is there is one of those that lose nothing.
 pub(crate) fn push_promising(
     alloc: Global,
     graph: &Graph,
@@ -94,14 +133,17 @@ pub(crate) fn push_promising(
     ensures { OnOk result (All (λ p. p.root ≡ node) proposals.old.items → All (λ p. p.root ≡ node) proposals.new.items) }
 {
     let lost = lost_but(alloc, graph, uses, node, leaves, MOST_COUNTED)?;
-    let limit = lost.saturating_add(u32::from(zero_gain));
+    let worth = Worth {
+        limit: lost.saturating_add(u32::from(zero_gain)),
+        own_row: zero_gain,
+    };
     if let Some(found) = known.plans(function) {
         let plans = found.as_slice();
-        return push_fewer(
-            graph, uses, node, leaves, function, plans, limit, room, proposals,
+        return push_worth(
+            graph, uses, node, leaves, function, plans, worth, room, proposals,
         );
     }
     push_fitted(
-        graph, uses, classes, node, leaves, function, limit, room, proposals,
+        graph, uses, classes, node, leaves, function, worth, room, proposals,
     )
 }

@@ -2,7 +2,6 @@
 
 ghost use Rattle.std.specs.Prelude.{◌≡◌, ℕ, ◌+◌, ◌-◌, ◌<◌, ◌≤◌, ◌^◌, [], ◌∷◌, None, Some, length, false, true, slice_index_or};
 ghost use Rattle.syn_rows.specs.declared.TheConstants.{NODE_LIMIT};
-ghost use Rattle.syn_rows.specs.Reach.{is_and};
 ghost use Rattle.syn_rows.specs.Rows.{AllRefs, InOrder, node_of, row_at};
 ghost use Rattle.syn_rows.specs.Joining.{is_and_of};
 ghost use Rattle.syn_gain.specs.Laws.{IsBefore, IsPlacing};
@@ -16,8 +15,7 @@ ghost use Rattle.syn_gain.specs.Uses.{IsUsesOf};
 ghost use Rattle.syn_rewrite.specs.Weighing as spec;
 
 use arrayvec::ArrayVec;
-use std::alloc::AllocError;
-use syn_gain::{Candidate, Room, Uses, adds_fewer, literal_below, literal_for, node_at};
+use syn_gain::{Candidate, Uses, literal_below, literal_for, node_at};
 use syn_graph::Graph;
 use syn_hashed::PairIndex;
 use syn_plan::PLit;
@@ -160,12 +158,13 @@ fn weigh_gate(
     true
 }
 
-// The gates of a plan in order: whether each needs a row.
+// The gates of a plan in order, until so many new rows stand: whether each needs a row.
 fn weigh_gates(
     rows: &[Row],
     index: &PairIndex,
     node: u32,
     gates: &[(PLit, PLit)],
+    most: usize,
     weighed: &mut Weighed,
 ) -> bool
     requires index { IsIndexOf rows.now index.now }
@@ -177,9 +176,13 @@ fn weigh_gates(
     requires room { length weighed.old.literals.items + length gates.now ≤ MOST_INDEXES }
     requires small { length weighed.old.extra.items < length weighed.old.literals.items }
     requires placing { IsPlacing node (length rows.now) weighed.old.literals.items weighed.old.extra.items }
-    ensures told { result ≡ true → spec.weigh_gates rows.now node gates.now (spec.weight_of weighed.old) ≡ Some (spec.weight_of weighed.new) }
+    ensures told { result ≡ true → length weighed.new.extra.items < most → spec.weigh_gates rows.now node gates.now (spec.weight_of weighed.old) ≡ Some (spec.weight_of weighed.new) }
+    ensures few { result ≡ true → length weighed.new.extra.items < MOST_INDEXES }
 {
     for gate in gates {
+        if weighed.extra.len() >= most {
+            return true;
+        }
         if !weigh_gate(rows, index, node, *gate, weighed) {
             return false;
         }
@@ -203,19 +206,22 @@ fn begin(count: u8, leaves: &[u32], literals: &mut ArrayVec<Lit, MOST_INDEXES>)
 }
 
 /// What a plan for a node of a graph becomes, where its gates may be those of rows below another: whether it is told, which
-/// it isn't of a large plan, nor of one some of whose gates need no row.
+/// it isn't of a large plan, nor of one some of whose gates need no row. Where `most` new rows stand, those behind them are
+/// left out.
 pub(crate) fn weigh(
     graph: &Graph,
     uses: &Uses,
     candidate: Candidate,
     node: u32,
+    most: usize,
     weighed: &mut Weighed,
 ) -> bool
     requires uses { IsUsesOf uses.now graph.now }
     requires root { candidate.root < length graph.now.rows }
     requires low { node ≤ length graph.now.rows }
     requires leaves { candidate.root ≤ node }
-    ensures told { result ≡ true → spec.IsWeightOf graph.now.rows node (replacement_of candidate.entry) (spec.weight_of weighed.new) }
+    ensures told { result ≡ true → length weighed.new.extra.items < most → spec.IsWeightOf graph.now.rows node (replacement_of candidate.entry) (spec.weight_of weighed.new) }
+    ensures rows { result ≡ true → length weighed.new.extra.items < MOST_INDEXES }
     ensures few { result ≡ true → 1 + candidate.entry.plan.now.leaves + length candidate.entry.plan.now.gates.items ≤ MOST_INDEXES }
 {
     let plan = candidate.plan;
@@ -227,28 +233,5 @@ pub(crate) fn weigh(
     weighed.extra.clear();
     begin(plan.leaves, candidate.leaves, &mut weighed.literals);
     let rows = graph.rows.as_slice();
-    weigh_gates(rows, &uses.pairs, node, gates, weighed)
-}
-
-/// Whether a proposal for an AND adds fewer than so many new rows, where its gates may be those of any row. The only error is
-/// want of memory, which a small plan doesn't take.
-pub(crate) fn may_add_fewer(
-    graph: &Graph,
-    uses: &Uses,
-    candidate: Candidate,
-    limit: u32,
-    weighed: &mut Weighed,
-    room: &mut Room,
-) -> Result<bool, AllocError>
-    requires uses { IsUsesOf uses.now graph.now }
-    requires root { is_and (row_at graph.now.rows candidate.root) ≡ true }
-{
-    if candidate.plan.gates.len() < limit as usize {
-        return Ok(true);
-    }
-    let any = graph.rows.as_slice().len() as u32;
-    if weigh(graph, uses, candidate, any, weighed) {
-        return Ok(weighed.extra.len() < limit as usize);
-    }
-    adds_fewer(graph, uses, candidate, limit, room)
+    weigh_gates(rows, &uses.pairs, node, gates, most, weighed)
 }

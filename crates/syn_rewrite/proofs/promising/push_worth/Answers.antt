@@ -4,7 +4,7 @@ use Rattle.syn_plan.specs.Naming.{built_of}
 use Rattle.syn_gain.specs.Proposals.{replacement}
 use Rattle.syn_rewrite.specs.Rewriting.{over}
 use Rattle.syn_rewrite.proofs.Candidates.{has_root}
-use Rattle.syn_rewrite.proofs.promising.push_fewer.Goals as goal
+use Rattle.syn_rewrite.proofs.promising.push_worth.Goals as goal
 
 pub loop-plan-preserved : goal.loop-plan-preserved
 loop-plan-preserved c = λ all.
