@@ -1,15 +1,16 @@
 -- Lists of cuts, as nodes get theirs.
-use Rattle.std.proofs.Common.{◌≡◌, ◌≢◌, ℕ, zero, suc, ◌+◌, ◌<◌, List, [], ◌∷◌, ◌++◌, length, replicate, refl, sym, ap, ap₂, ◌∙◌, inl, inr, ◌⊎◌, arith}
+use Rattle.std.proofs.Common.{◌≡◌, ◌≢◌, ℕ, zero, suc, ◌+◌, ◌<◌, All, List, [], ◌∷◌, length, replicate, refl, sym, ap, ap₂, ◌∙◌, inl, inr, ◌⊎◌, arith}
 use Rattle.std.proofs.Math.ListN.{set, length-set}
 use Rattle.std.proofs.lemmas.Bool.Decides.{eqb_tells}
 use Rattle.std.proofs.lemmas.Grind.{get_or-set_at}
 use Rattle.std.proofs.lemmas.List.{get_or-set_other, get_or-replicate, length-replicate}
+use Rattle.std.proofs.lemmas.List.Elements.{All-head, All-tail}
 use Rattle.syn_rows.specs.declared.Row.{Row}
 use Rattle.syn_rows.specs.declared.Row.TheVariants.{Free, Source, And, Alias}
 use Rattle.syn_rows.specs.Rows.{row_at, node_of, AllRefs, InOrder}
 use Rattle.syn_rows.proofs.Folds.{length-fold}
 use Rattle.syn_cuts.specs.Cuts.{row_cuts, listed_cuts}
-use Rattle.syn_cuts.specs.Lists.{list_at, AreListed, IsListed}
+use Rattle.syn_cuts.specs.Lists.{list_at, with_lists, AreListed, IsFound}
 use Rattle.syn_cuts.proofs.Cutting.{row_cuts-local, listed_at}
 
 AllRefs-both : (P Q R : ℕ → Type 0) → ((m : ℕ) → P m → Q m → R m) → (row : Row) → AllRefs P row → AllRefs Q row → AllRefs R row
@@ -57,8 +58,11 @@ set_listed k rows lists new n list are lt e s =
       ];
     }
 
-pub found_listed : (k : ℕ) (rows : List Row) (lists new : List (List (List ℕ))) (n : ℕ) (cuts : List (List ℕ)) → AreListed k rows lists → IsListed k rows n cuts → new ≡ set lists n (cuts ++ (n ∷ []) ∷ []) → AreListed k rows new
-found_listed k rows lists new n cuts are is s = set_listed k rows lists new n (cuts ++ (n ∷ []) ∷ []) are is.0 is.1 s
+pub found_listed : (k : ℕ) (rows : List Row) (lists : List (List (List ℕ))) (found : List (ℕ × List (List ℕ))) → AreListed k rows lists → All (IsFound k rows) found → AreListed k rows (with_lists lists found)
+found_listed k rows lists [] are is = are
+found_listed k rows lists (f ∷ fs) are is =
+    let here = All-head (IsFound k rows) f fs is in
+    found_listed k rows (set lists f.0 f.1) fs (set_listed k rows lists (set lists f.0 f.1) f.0 f.1 are here.0 here.1 refl) (All-tail (IsFound k rows) f fs is)
 
 pub set_done : (k : ℕ) (rows : List Row) (lists new : List (List (List ℕ))) (n : ℕ) → AreListed k rows lists → n < length rows → ((m : ℕ) → m < n → list_at lists m ≡ list_at (listed_cuts k rows) m)
     → new ≡ set lists n (list_at (listed_cuts k rows) n) → (m : ℕ) → m < n + 1 → list_at new m ≡ list_at (listed_cuts k rows) m

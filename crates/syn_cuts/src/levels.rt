@@ -4,10 +4,10 @@ ghost use Rattle.std.specs.Prelude.{◌≡◌, ◌+◌, ◌^◌, ◌<◌, ◌≤
 ghost use Rattle.syn_truth.specs.declared.TheConstants.{MOST_VARS};
 ghost use Rattle.syn_rows.specs.Rows.{InOrder};
 ghost use Rattle.syn_cuts.specs.Cuts.{listed_cuts};
-ghost use Rattle.syn_cuts.specs.Leaves.{leaves_of};
-ghost use Rattle.syn_cuts.specs.Lists.{AreListed, IsListed};
+ghost use Rattle.syn_cuts.specs.Lists.{AreListed, IsFound};
 
-use crate::listing::{Found, find_all, set_all, sweep};
+use crate::found::Found;
+use crate::listing::{find_all, set_all, sweep};
 use crate::lists::CutLists;
 use std::alloc::{AllocError, Global};
 use std::thread;
@@ -42,15 +42,15 @@ fn find_parts<R: Threads + Sync>(
     nodes: &[u32],
     k: usize,
     workers: u8,
-) -> Result<Vec<Result<Vec<Found>, AllocError>>, AllocError>
+) -> Result<Vec<Result<Found, AllocError>>, AllocError>
     requires small { k ≤ MOST_VARS }
     requires order { InOrder rows.now }
     requires lists { AreListed k rows.now lists.now }
-    ensures { IfOk result (λ parts. All (λ part. IfOk part (λ v. All (λ f. IsListed k rows.now f.node (leaves_of f.kept.items)) v.items)) parts.items) }
+    ensures { IfOk result (λ parts. All (λ part. IfOk part (All (IsFound k rows.now))) parts.items) }
 {
-    let work = move |_start: usize, chunk: &[u32]| -> Result<Vec<Found>, AllocError>
+    let work = move |_start: usize, chunk: &[u32]| -> Result<Found, AllocError>
         requires { (k ≤ MOST_VARS) × InOrder rows.now × AreListed k rows.now lists.now }
-        ensures { IfOk result (λ v. All (λ f. IsListed k rows.entry.now f.node (leaves_of f.kept.items)) v.items) }
+        ensures { IfOk result (All (IsFound k rows.entry.now)) }
     { find_all(alloc, rows, lists, chunk, k) };
     thread::map_chunks(rt, alloc, nodes, chunk_size(nodes.len(), workers), &work)
 }

@@ -1,11 +1,13 @@
 //! Listed cuts of the nodes of an and-inverter graph, and functions over cuts.
 #![tactic(auto)]
 
+mod found;
 mod graphs;
 mod laws;
 mod levels;
 mod listing;
 mod lists;
+mod parts;
 mod signatures;
 mod unions;
 

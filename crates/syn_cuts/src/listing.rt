@@ -5,21 +5,15 @@ ghost use Rattle.syn_truth.specs.declared.TheConstants.{MOST_VARS};
 ghost use Rattle.syn_rows.specs.Rows.{AllRefs, InOrder, row_at};
 ghost use Rattle.syn_cuts.specs.Cuts.{listed_cuts, row_cuts};
 ghost use Rattle.syn_cuts.specs.Leaves.{leaves_of};
-ghost use Rattle.syn_cuts.specs.Lists.{AreListed, IsListed, list_at};
+ghost use Rattle.syn_cuts.specs.Lists.{AreListed, IsFound, IsListed, list_at};
 
 use crate::Cut;
+use crate::found::Found;
 use crate::lists::CutLists;
 use crate::unions::{KEPT, first_unions};
 use arrayvec::ArrayVec;
 use std::alloc::{AllocError, Global};
 use syn_rows::Row;
-
-// A node with its listed cuts but the last.
-#[derive(Drop)]
-pub struct Found {
-    pub node: u32,
-    pub kept: ArrayVec<Cut, KEPT>,
-}
 
 // The first unions of the listed cuts of the nodes that a row refers to.
 fn row_unions(lists: &CutLists, row: Row, k: usize) -> ArrayVec<Cut, KEPT>
@@ -53,60 +47,61 @@ fn is_ready(lists: &CutLists, row: Row) -> bool
     }
 }
 
-// The listed cuts of a node, where those that it refers to have their lists.
-fn find(rows: &[Row], lists: &CutLists, node: u32, k: usize) -> Option<Found>
+// Whether a node is there, and those that it refers to have their lists.
+fn can_find(rows: &[Row], lists: &CutLists, node: u32) -> bool
+    requires order { InOrder rows.now }
+    requires count { length lists.now ≡ length rows.now }
+    ensures { IsTrue result → (node < length rows.now) × AllRefs (λ m. list_at lists.now m ≢ []) (row_at rows.now node) }
+{
+    (node as usize) < rows.len() && is_ready(lists, rows[node as usize])
+}
+
+// The listed cuts of a node but the last, where those that it refers to have their lists.
+fn find(rows: &[Row], lists: &CutLists, node: u32, k: usize) -> ArrayVec<Cut, KEPT>
     requires small { k ≤ MOST_VARS }
     requires order { InOrder rows.now }
     requires lists { AreListed k rows.now lists.now }
-    ensures { IfSome result (λ f. IsListed k rows.now f.node (leaves_of f.kept.items)) }
+    requires node { node < length rows.now }
+    requires ready { AllRefs (λ m. list_at lists.now m ≢ []) (row_at rows.now node) }
+    ensures { IsListed k rows.now node (leaves_of result.items) }
 {
-    if node as usize >= rows.len() {
-        return None;
-    }
-    let row = rows[node as usize];
-    if !is_ready(lists, row) {
-        return None;
-    }
-    let kept = row_unions(lists, row, k);
-    Some(Found { node, kept })
+    row_unions(lists, rows[node as usize], k)
 }
 
-// The listed cuts of those of these nodes for which all that they refer to have their lists.
+// The lists of those of these nodes for which all that they refer to have their lists.
 pub(crate) fn find_all(
     alloc: Global,
     rows: &[Row],
     lists: &CutLists,
     nodes: &[u32],
     k: usize,
-) -> Result<Vec<Found>, AllocError>
+) -> Result<Found, AllocError>
     requires small { k ≤ MOST_VARS }
     requires order { InOrder rows.now }
     requires lists { AreListed k rows.now lists.now }
-    ensures { IfOk result (λ v. All (λ f. IsListed k rows.now f.node (leaves_of f.kept.items)) v.items) }
+    ensures { IfOk result (All (IsFound k rows.now)) }
 {
-    let mut found = Vec::new(alloc);
+    let mut found = Found::with_room(alloc, nodes.len())?;
     for node in nodes {
-        if let Some(f) = find(rows, lists, *node, k) {
-            found.push(f)?;
+        if can_find(rows, lists, *node) {
+            found.push(*node, find(rows, lists, *node, k))?;
         }
     }
     Ok(found)
 }
 
-// Sets the lists of nodes that were found.
+// Sets lists that were found.
 pub(crate) fn set_all(
     rows: &[Row],
     lists: &mut CutLists,
-    found: Vec<Found>,
+    found: Found,
     k: usize,
 ) -> Result<(), AllocError>
     requires lists { AreListed k rows.now lists.old }
-    requires found { All (λ f. IsListed k rows.now f.node (leaves_of f.kept.items)) found.items }
+    requires found { All (IsFound k rows.now) found }
     ensures { OnOk result (AreListed k rows.now lists.new) }
 {
-    for f in found {
-        lists.set(f.node, f.kept)?;
-    }
+    lists.set_found(found)?;
     Ok(())
 }
 

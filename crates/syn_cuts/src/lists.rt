@@ -1,82 +1,59 @@
 //! The listed cuts of all nodes.
 
-ghost use Rattle.std.specs.Prelude.{◌≡◌, ◌+◌, ◌++◌, ◌∷◌, ◌<◌, ◌≤◌, [], IfOk, OnOk, drop, length, replicate, slice_set, take};
+ghost use Rattle.std.specs.Prelude.{◌≡◌, ℕ, ◌++◌, ◌∷◌, ◌<◌, [], All, IfOk, OnOk, length, replicate, slice_set};
 ghost use Rattle.syn_cuts.specs.Leaves.{leaves_of};
-ghost use Rattle.syn_cuts.specs.Lists.{list_at};
+ghost use Rattle.syn_cuts.specs.Lists.{list_at, with_lists, with_spans};
 
 use crate::Cut;
+use crate::found::{Entry, Found};
+use crate::parts::Part;
 use crate::unions::KEPT;
 use arrayvec::ArrayVec;
 use std::alloc::{AllocError, Global};
 use std::marker::Model;
 
-// Where the cuts of a node stand: the place of the first, and how many there are.
+// Where the list of a node stands: the part, the place of the first cut in it, and how many there are.
 #[derive(Clone, Copy, Debug, PartialEq, Eq)]
 pub struct Span {
+    part: usize,
     start: usize,
     len: usize,
 }
 
 /// The listed cuts of each node, by its number. Contracts see the list of these lists.
+///
+/// The lists stand in parts: those that were set one by one in the first, and those that were found together in a part
+/// of their own.
 #[derive(Drop)]
 pub struct CutLists {
-    cuts: Vec<Cut>,
+    parts: Vec<Part>,
     spans: Vec<Span>,
 }
 
 impl Model for CutLists {
-    ghost use Rattle.std.specs.Prelude.{◌≡◌, true, ℕ, List, length};
-    ghost use Rattle.syn_cuts.specs.Lists.{lists_in, spans_within};
+    ghost use Rattle.std.specs.Prelude.{◌<◌, ℕ, All, List, length};
+    ghost use Rattle.syn_cuts.specs.Lists.{IsWithin, lists_in};
 
     ghost Value = { List (List (List ℕ)) };
 
-    ghost view = { λ l. lists_in l.cuts.items l.spans.items };
+    ghost view = { λ l. lists_in l.parts.items l.spans.items };
 
-    ghost invariant = { λ l. spans_within (length l.cuts.items) l.spans.items ≡ true };
+    ghost invariant = { λ l. (0 < length l.parts.items) × All (IsWithin l.parts.items) l.spans.items };
 }
 
-// The part of a list from a place on.
-fn part(cuts: &[Cut], start: usize, len: usize) -> &[Cut]
-    requires { start + len ≤ length cuts.now }
-    ensures { result.now ≡ take len (drop start cuts.now) }
+// Sets where lists stand that are all in one part.
+fn set_spans(spans: &mut [Span], entries: &[Entry], part: usize)
+    requires { All (λ e. e.node < length spans.old) entries.now }
+    ensures len { length spans.new ≡ length spans.old }
+    ensures spans { spans.new ≡ with_spans part spans.old entries.now }
 {
-    let (_, rest) = cuts.split_at(start);
-    let (part, _) = rest.split_at(len);
-    part
-}
-
-// Moves cuts behind others.
-fn push_cuts(cuts: &mut Vec<Cut>, more: ArrayVec<Cut, KEPT>) -> Result<(), AllocError>
-    ensures more { length cuts.old.items ≤ length cuts.new.items }
-    ensures items { OnOk result (cuts.new.items ≡ cuts.old.items ++ more.items) }
-{
-    for cut in more {
-        cuts.push(cut)?;
+    for entry in entries {
+        spans[entry.node as usize] = Span {
+            part,
+            start: entry.start,
+            len: entry.len,
+        };
     }
-    Ok(())
-}
-
-// The cut of a node alone.
-fn alone(node: u32) -> Cut
-    ensures { result.items ≡ node ∷ [] }
-{
-    let mut cut = Cut::new();
-    cut.push(node);
-    cut
-}
-
-// Appends the list of a node: these cuts, and the node alone.
-fn push_list(cuts: &mut Vec<Cut>, kept: ArrayVec<Cut, KEPT>, node: u32) -> Result<Span, AllocError>
-    ensures more { length cuts.old.items ≤ length cuts.new.items }
-    ensures leaves { OnOk result (leaves_of cuts.new.items ≡ leaves_of cuts.old.items ++ (leaves_of kept.items ++ (node ∷ []) ∷ [])) }
-    ensures start { IfOk result (λ span. span.start ≡ length cuts.old.items) }
-    ensures end { IfOk result (λ span. span.start + span.len ≡ length cuts.new.items) }
-{
-    let start = cuts.len();
-    push_cuts(cuts, kept)?;
-    cuts.push(alone(node))?;
-    let len = cuts.len() - start;
-    Ok(Span { start, len })
 }
 
 impl CutLists {
@@ -84,9 +61,14 @@ impl CutLists {
     pub(crate) fn empty(alloc: Global, count: usize) -> Result<CutLists, AllocError>
         ensures { IfOk result (λ lists. lists ≡ replicate count []) }
     {
+        let none = Span {
+            part: 0,
+            start: 0,
+            len: 0,
+        };
         Ok(CutLists {
-            cuts: Vec::new(alloc),
-            spans: vec![in alloc; Span { start: 0, len: 0 }; count]?,
+            parts: vec![in alloc; Part::new(alloc)]?,
+            spans: vec![in alloc; none; count]?,
         })
     }
 
@@ -98,12 +80,13 @@ impl CutLists {
     }
 
     /// The listed cuts of a node.
+    #[inline]
     pub fn of(&self, node: u32) -> &[Cut]
         requires { node < length self.now }
         ensures { leaves_of result.now ≡ list_at self.now node }
     {
         let span = self.spans[node as usize];
-        part(&self.cuts, span.start, span.len)
+        self.parts[span.part].slice(span.start, span.len)
     }
 
     // Sets the list of a node: these cuts, and the node alone.
@@ -111,8 +94,27 @@ impl CutLists {
         requires { node < length self.old }
         ensures { OnOk result (self.new ≡ slice_set self.old node (leaves_of kept.items ++ (node ∷ []) ∷ [])) }
     {
-        let span = push_list(&mut self.cuts, kept, node)?;
-        self.spans[node as usize] = span;
+        let first = &mut self.parts[0];
+        let start = first.len();
+        first.push_list(kept, node)?;
+        let len = first.len() - start;
+        self.spans[node as usize] = Span {
+            part: 0,
+            start,
+            len,
+        };
+        Ok(())
+    }
+
+    // Sets lists that were found, without a copy of them.
+    pub(crate) fn set_found(&mut self, found: Found) -> Result<(), AllocError>
+        requires { All (λ f. f.0 < length self.old) found }
+        ensures { OnOk result (self.new ≡ with_lists self.old found) }
+    {
+        let (part, entries) = found.open();
+        let number = self.parts.len();
+        self.parts.push(part)?;
+        set_spans(&mut self.spans, &entries, number);
         Ok(())
     }
 }
