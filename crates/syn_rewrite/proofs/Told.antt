@@ -264,7 +264,7 @@ begun_told first root count leaves positive low under = record {
     at_end m (inl less) = omega (arith, less, low)
     at_end m (inr new) = omega (arith, new.1)
 
-each_long : {A : Type 0} (n : ℕ) (f : ℕ → A) → length (each_below n f) ≡ n
+pub each_long : {A : Type 0} (n : ℕ) (f : ℕ → A) → length (each_below n f) ≡ n
 each_long zero f = refl
 each_long (suc n) f = omega (arith, length_push (each_below n f) (f n), each_long n f)
 

@@ -1,5 +1,5 @@
 -- What a plan becomes, told gate by gate as long as each needs a row.
-use Rattle.std.specs.Prelude.{◌≡◌, ℕ, ◌+◌, ◌<◌, ◌≤◌, ◌⊎◌, nat_lt, if◌then◌else◌, List, [], ◌∷◌, ◌++◌, length, slice_index_or, Option, Some, None}
+use Rattle.std.specs.Prelude.{◌≡◌, ℕ, ◌+◌, ◌<◌, ◌≤◌, ◌⊎◌, nat_lt, if◌then◌else◌, List, [], ◌∷◌, ◌++◌, length, take, slice_index_or, Option, Some, None}
 use Rattle.syn_rows.specs.declared.Lit.{Lit}
 use Rattle.syn_rows.specs.declared.Row.{Row}
 use Rattle.syn_rows.specs.Rows.{node_of}
@@ -13,6 +13,10 @@ use Rattle.syn_rewrite.specs.declared.weighing.Weighed.{Weighed}
 -- literals and new rows as one
 abbrev pub weight_of : Weighed → Searched
 weight_of w = state w.literals.items w.extra.items
+
+-- the first literals are those of the constant and of so many leaves
+abbrev pub BeginsWith : ℕ → List ℕ → Weighed → Type 0
+BeginsWith count leaves w = take (1 + count) w.literals.items ≡ constant ∷ leaf_literals count leaves
 
 -- something, where a pair needs a row
 abbrev pub where_needed : Option Lit → Searched → Option Searched

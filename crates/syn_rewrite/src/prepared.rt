@@ -16,7 +16,7 @@ use syn_graph::Graph;
 use syn_library::Prepared as Classes;
 
 /// The most leaves of a cut that is looked at.
-const MOST_LEAVES: u8 = 4;
+pub(crate) const MOST_LEAVES: u8 = 4;
 
 /// The listed cuts of each node, and the functions of each AND over those that are looked at.
 #[derive(Drop)]

@@ -6,8 +6,10 @@ ghost use Rattle.syn_rows.specs.Reach.{is_and};
 ghost use Rattle.syn_gain.specs.Uses.{IsUsesOf};
 ghost use Rattle.syn_rewrite.specs.Functions.{IsFunctionOver};
 ghost use Rattle.syn_rewrite.specs.Prepared.{AreLeavesOf, ArePlansOf};
+ghost use Rattle.syn_rewrite.specs.Weighing.{BeginsWith};
 
 use crate::known_plans::{FunctionPlans, KnownPlans};
+use crate::prepared::MOST_LEAVES;
 use crate::proposing::{MOST_COUNTED, candidate};
 use crate::weighing::{Weighed, weigh};
 use std::alloc::{AllocError, Global};
@@ -42,6 +44,8 @@ fn is_worth(
 ) -> Result<bool, AllocError>
     requires uses { IsUsesOf uses.now graph.now }
     requires root { is_and (row_at graph.now.rows candidate.root) ≡ true }
+    requires begins { BeginsWith candidate.plan.now.leaves candidate.leaves.now weighed.old }
+    ensures begins { OnOk result (BeginsWith candidate.entry.plan.now.leaves candidate.entry.leaves.now weighed.new) }
 {
     let limit = worth.limit as usize;
     if candidate.plan.gates.len() < limit {
@@ -73,7 +77,7 @@ fn push_worth(
     requires plans { ArePlansOf function plans.now }
     ensures { OnOk result (All (λ p. p.root ≡ node) proposals.old.items → All (λ p. p.root ≡ node) proposals.new.items) }
 {
-    let mut weighed = Weighed::new();
+    let mut weighed = Weighed::over(MOST_LEAVES, leaves);
     for plan in plans {
         let candidate = candidate(graph, node, leaves, function, plan);
         if !is_worth(graph, uses, candidate, worth, &mut weighed, room)? {

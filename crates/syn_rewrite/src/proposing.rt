@@ -18,7 +18,7 @@ ghost use Rattle.syn_rewrite.specs.Rewriting.{cut_proposals, over, rewritings};
 
 use crate::known_plans::{FunctionPlans, KnownPlans};
 use crate::plans::plans_of;
-use crate::prepared::{Prepared, cuts_of, prepare};
+use crate::prepared::{MOST_LEAVES, Prepared, cuts_of, prepare};
 use crate::promising::push_promising;
 use crate::telling::saves_nothing;
 use crate::weighing::Weighed;
@@ -139,7 +139,7 @@ fn some_saves(
 {
     let all = plans.as_slice();
     let mut counted = None;
-    let mut weighed = Weighed::new();
+    let mut weighed = Weighed::over(MOST_LEAVES, leaves);
     for plan in all {
         let candidate = candidate(graph, node, leaves, plans.function, plan);
         if plans.lean && saves_nothing(alloc, graph, uses, candidate, most, &mut weighed)? {

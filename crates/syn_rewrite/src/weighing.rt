@@ -1,6 +1,6 @@
 //! What a plan becomes, placed in room for a small one; told where each of its gates needs a row.
 
-ghost use Rattle.std.specs.Prelude.{◌≡◌, ℕ, ◌+◌, ◌-◌, ◌<◌, ◌≤◌, ◌^◌, [], ◌∷◌, None, Some, length, false, true, slice_index_or};
+ghost use Rattle.std.specs.Prelude.{◌≡◌, ℕ, ◌+◌, ◌-◌, ◌<◌, ◌≤◌, ◌^◌, [], ◌∷◌, None, Some, length, false, take, true, slice_index_or};
 ghost use Rattle.syn_rows.specs.declared.TheConstants.{NODE_LIMIT};
 ghost use Rattle.syn_rows.specs.Rows.{AllRefs, InOrder, node_of, row_at};
 ghost use Rattle.syn_rows.specs.Joining.{is_and_of};
@@ -19,7 +19,7 @@ use syn_gain::{Candidate, Uses, literal_below, literal_for, node_at};
 use syn_graph::Graph;
 use syn_hashed::PairIndex;
 use syn_plan::PLit;
-use syn_rows::{FALSE, Lit, Row, is_and_of, ordered_and, simple_and};
+use syn_rows::{FALSE, Lit, Row, is_and_of, ordered_and};
 
 /// How many indexes a plan has that is weighed: the constant, its leaves and its gates.
 pub(crate) const MOST_INDEXES: usize = 24;
@@ -34,10 +34,16 @@ pub struct Weighed {
 }
 
 impl Weighed {
-    /// Room for what plans become.
-    pub(crate) fn new() -> Weighed {
+    /// Room for what plans of so many leaves become, which stand for these nodes: their literals are the same for each plan.
+    pub(crate) fn over(count: u8, leaves: &[u32]) -> Weighed
+        requires few { count < MOST_INDEXES }
+        requires low { (i : ℕ) → slice_index_or leaves.now i 0 < 2 ^ 31 }
+        ensures { spec.BeginsWith count leaves.now result }
+    {
+        let mut literals = ArrayVec::new();
+        begin(count, leaves, &mut literals);
         Weighed {
-            literals: ArrayVec::new(),
+            literals,
             extra: ArrayVec::new(),
         }
     }
@@ -126,6 +132,15 @@ fn join(
     Lit::of(first + count, false)
 }
 
+// Whether the AND of two literals needs no row: they are of one node, or one is the constant's.
+#[inline]
+fn is_simple(x: Lit, y: Lit) -> bool
+    ensures { result ≡ false → joining.simple_and x y ≡ None }
+{
+    let (first, second) = (x.node(), y.node());
+    first == second || first == 0 || second == 0
+}
+
 // One gate of a plan: whether it needs a row.
 fn weigh_gate(
     rows: &[Row],
@@ -147,10 +162,11 @@ fn weigh_gate(
     ensures count { result ≡ true → length weighed.new.literals.items ≡ length weighed.old.literals.items + 1 }
     ensures small { result ≡ true → length weighed.new.extra.items < length weighed.new.literals.items }
     ensures placing { result ≡ true → IsPlacing node (length rows.now) weighed.new.literals.items weighed.new.extra.items }
+    ensures first { (n : ℕ) → n ≤ length weighed.old.literals.items → take n weighed.new.literals.items ≡ take n weighed.old.literals.items }
 {
     let x = literal_for(weighed.literals.as_slice(), gate.0);
     let y = literal_for(weighed.literals.as_slice(), gate.1);
-    if simple_and(x, y).is_some() {
+    if is_simple(x, y) {
         return false;
     }
     let literal = join(rows, index, node, &mut weighed.extra, x, y);
@@ -178,6 +194,7 @@ fn weigh_gates(
     requires placing { IsPlacing node (length rows.now) weighed.old.literals.items weighed.old.extra.items }
     ensures told { result ≡ true → length weighed.new.extra.items < most → spec.weigh_gates rows.now node gates.now (spec.weight_of weighed.old) ≡ Some (spec.weight_of weighed.new) }
     ensures few { result ≡ true → length weighed.new.extra.items < MOST_INDEXES }
+    ensures first { (n : ℕ) → n ≤ length weighed.old.literals.items → take n weighed.new.literals.items ≡ take n weighed.old.literals.items }
 {
     for gate in gates {
         if weighed.extra.len() >= most {
@@ -207,7 +224,7 @@ fn begin(count: u8, leaves: &[u32], literals: &mut ArrayVec<Lit, MOST_INDEXES>)
 
 /// What a plan for a node of a graph becomes, where its gates may be those of rows below another: whether it is told, which
 /// it isn't of a large plan, nor of one some of whose gates need no row. Where `most` new rows stand, those behind them are
-/// left out.
+/// left out. The room has the literals of the plan's leaves.
 pub(crate) fn weigh(
     graph: &Graph,
     uses: &Uses,
@@ -220,6 +237,8 @@ pub(crate) fn weigh(
     requires root { candidate.root < length graph.now.rows }
     requires low { node ≤ length graph.now.rows }
     requires leaves { candidate.root ≤ node }
+    requires begins { spec.BeginsWith candidate.plan.now.leaves candidate.leaves.now weighed.old }
+    ensures begins { spec.BeginsWith candidate.entry.plan.now.leaves candidate.entry.leaves.now weighed.new }
     ensures told { result ≡ true → length weighed.new.extra.items < most → spec.IsWeightOf graph.now.rows node (replacement_of candidate.entry) (spec.weight_of weighed.new) }
     ensures rows { result ≡ true → length weighed.new.extra.items < MOST_INDEXES }
     ensures few { result ≡ true → 1 + candidate.entry.plan.now.leaves + length candidate.entry.plan.now.gates.items ≤ MOST_INDEXES }
@@ -229,9 +248,8 @@ pub(crate) fn weigh(
     if plan.leaves as usize + gates.len() >= MOST_INDEXES {
         return false;
     }
-    weighed.literals.clear();
+    weighed.literals.truncate(1 + plan.leaves as usize);
     weighed.extra.clear();
-    begin(plan.leaves, candidate.leaves, &mut weighed.literals);
     let rows = graph.rows.as_slice();
     weigh_gates(rows, &uses.pairs, node, gates, most, weighed)
 }

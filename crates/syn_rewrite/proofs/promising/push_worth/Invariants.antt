@@ -1,5 +1,9 @@
 use Rattle.std.proofs.Common.{◌≡◌, All}
+use Rattle.syn_rewrite.specs.Weighing.{BeginsWith}
 use Rattle.syn_rewrite.proofs.promising.push_worth.Given as goal
 
 abbrev pub invariant-loop-plan : goal.invariant-loop-plan
-invariant-loop-plan l = All (λ p. p.root ≡ l.node) l.initial.proposals.items → All (λ p. p.root ≡ l.node) l.proposals.items
+invariant-loop-plan l = record {
+  roots : All (λ p. p.root ≡ l.node) l.initial.proposals.items → All (λ p. p.root ≡ l.node) l.proposals.items;
+  begins : BeginsWith 4 l.leaves l.weighed;
+}

@@ -5,10 +5,12 @@ use Rattle.syn_fanout_free.specs.Saved.{count_in}
 use Rattle.syn_plan.specs.Naming.{built_of}
 use Rattle.syn_pool.specs.Closing.{SavesNothing}
 use Rattle.syn_rewrite.specs.Rewriting.{over}
+use Rattle.syn_rewrite.specs.Weighing.{BeginsWith}
 use Rattle.syn_rewrite.proofs.proposing.some_saves.Given as goal
 
 abbrev pub invariant-loop-plan : goal.invariant-loop-plan
 invariant-loop-plan l = record {
   none : AllWithin (λ p. SavesNothing l.graph.rows l.graph.observed (over l.node l.leaves (built_of p))) l.all 0 l.plan-index;
+  begins : BeginsWith 4 l.leaves l.weighed;
   counted : IfSome l.counted (IsMostLost l.graph.rows (count_in l.uses.counts.items) l.node l.leaves);
 }
