@@ -9,5 +9,6 @@ mod Candidates
 mod Carried
 mod Own
 mod Told
+mod GoingOn
 mod AllKept
 mod Weighed

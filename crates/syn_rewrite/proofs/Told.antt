@@ -33,14 +33,14 @@ for_node literals p =
     (λ _. refl) (λ _. complement_node (get_or literals (index_of p) constant))
 
 -- an index that has a node is there
-is_there : (literals : List Lit) (i : ℕ) → node_at literals i ≢ 0 → i < length literals
+pub is_there : (literals : List Lit) (i : ℕ) → node_at literals i ≢ 0 → i < length literals
 is_there literals i some = elim (cases_lt i (length literals)) [
   | inl lt ↦ lt
   | inr ge ↦ absurd (some (ap node_of (get_or_past literals i constant ge)))
 ]
 
 -- the literal of a plan's literal stays where another is added
-for_pushed : (literals : List Lit) (l : Lit) (p : PLit) → node_of (literal_for literals p) ≢ 0 → literal_for (literals ++ l ∷ []) p ≡ literal_for literals p
+pub for_pushed : (literals : List Lit) (l : Lit) (p : PLit) → node_of (literal_for literals p) ≢ 0 → literal_for (literals ++ l ∷ []) p ≡ literal_for literals p
 for_pushed literals l p some =
     ap (λ (t : Lit). if p.0 % 2 == 0 then t else complement t) (get_or_append_left literals (l ∷ []) constant (index_of p) (is_there literals (index_of p) (λ e. some (for_node literals p ∙ e))))
 
@@ -102,7 +102,7 @@ pub record IsTold (first base : ℕ) (done : List (PLit × PLit)) (s : Searched)
       → (first ≤ node_of (literal_for s.literals (get_or done g d).0)) ⊎ (first ≤ node_of (literal_for s.literals (get_or done g d).1)) → first ≤ node_at s.literals (base + g)
 
 -- what holds of each gate, and of one more
-each_gate : (Q : ℕ → PLit × PLit → Type 0) (done : List (PLit × PLit)) (gate : PLit × PLit) → ((g : ℕ) (d : PLit × PLit) → g < length done → Q g (get_or done g d)) → Q (length done) gate
+pub each_gate : (Q : ℕ → PLit × PLit → Type 0) (done : List (PLit × PLit)) (gate : PLit × PLit) → ((g : ℕ) (d : PLit × PLit) → g < length done → Q g (get_or done g d)) → Q (length done) gate
     → (g : ℕ) (d : PLit × PLit) → g < length (done ++ gate ∷ []) → Q g (get_or (done ++ gate ∷ []) g d)
 each_gate Q done gate old here g d lt = elim (cases_lt g (length done)) [
   | inl less ↦ subst (Q g) (sym (get_or_append_left done (gate ∷ []) d g less)) (old g d less)
@@ -174,7 +174,7 @@ module _ (first base : ℕ) (done : List (PLit × PLit)) (s : Searched) (told : 
     }
 
 -- a gate that needs a row
-step : (rows : List Row) (root base : ℕ) (done : List (PLit × PLit)) (s : Searched) (gate : PLit × PLit) → root ≤ length rows → InOrder rows → IsTold (length rows) base done s
+pub step : (rows : List Row) (root base : ℕ) (done : List (PLit × PLit)) (s : Searched) (gate : PLit × PLit) → root ≤ length rows → InOrder rows → IsTold (length rows) base done s
     → simple_and (literal_for s.literals gate.0) (literal_for s.literals gate.1) ≡ None → IsTold (length rows) base (done ++ gate ∷ []) (search_gate rows root s gate)
 step rows root base done s gate low order told none =
     joined_by (λ j. IsTold first base (done ++ gate ∷ []) (with_pair s.literals j)) rows root s.extra a b
@@ -219,7 +219,7 @@ step rows root base done s gate low order told none =
         with_literal first base done s told gate (λ e. omega (arith, e, need.first)) (λ e. omega (arith, e, need.second))
 
 -- ---- all gates
-some_is : (s t : Searched) → Some s ≡ Some t → s ≡ t
+pub some_is : (s t : Searched) → Some s ≡ Some t → s ≡ t
 some_is s t e = ap (or_other s) e
   where
     or_other : Searched → Option Searched → Searched
@@ -230,7 +230,7 @@ needed : (o : Option Lit) (s t : Searched) → where_needed o s ≡ Some t → (
 needed None s t h = (refl, some_is s t h)
 needed (Some l) s t h = absurd (cc (h))
 
-then_some : (o : Option Searched) (next : Searched → Option Searched) (t : Searched) → and_then o next ≡ Some t → (s : Searched) × (o ≡ Some s) × (next s ≡ Some t)
+pub then_some : (o : Option Searched) (next : Searched → Option Searched) (t : Searched) → and_then o next ≡ Some t → (s : Searched) × (o ≡ Some s) × (next s ≡ Some t)
 then_some None next t h = absurd (cc (h))
 then_some (Some s) next t h = (s, refl, h)
 
@@ -247,7 +247,7 @@ gates_told rows root base (gate ∷ gates) done s last low order told h =
     (ap (λ (t : Searched). search_gates rows root t gates) need.1 ∙ rest.0, subst (λ (gs : List (PLit × PLit)). IsTold (length rows) base gs last) (append_assoc done (gate ∷ []) gates) rest.1)
 
 -- the constant and the leaves
-begun_told : (first root count : ℕ) (leaves : List ℕ) → 0 < root → root ≤ first → are_below root leaves ≡ true → IsTold first (length (constant ∷ leaf_literals count leaves)) [] (state (constant ∷ leaf_literals count leaves) [])
+pub begun_told : (first root count : ℕ) (leaves : List ℕ) → 0 < root → root ≤ first → are_below root leaves ≡ true → IsTold first (length (constant ∷ leaf_literals count leaves)) [] (state (constant ∷ leaf_literals count leaves) [])
 begun_told first root count leaves positive low under = record {
   long = omega arith;
   below = λ i. at_end (node_at (constant ∷ leaf_literals count leaves) i) (within.literals_before i);

@@ -6,4 +6,5 @@ pub mod PlansOf
 pub mod Prepared
 pub mod Carried
 pub mod Lean
+pub mod Apart
 pub mod Weighing

@@ -1,5 +1,5 @@
 -- What a plan becomes, told gate by gate as long as each needs a row.
-use Rattle.std.specs.Prelude.{◌≡◌, ℕ, ◌+◌, ◌<◌, ◌≤◌, ◌⊎◌, nat_lt, if◌then◌else◌, List, [], ◌∷◌, ◌++◌, length, take, slice_index_or, Option, Some, None}
+use Rattle.std.specs.Prelude.{◌≡◌, ℕ, ◌+◌, ◌<◌, ◌≤◌, ◌⊎◌, nat_le, nat_lt, if◌then◌else◌, List, [], ◌∷◌, ◌++◌, length, take, slice_index_or, Option, Some, None}
 use Rattle.syn_rows.specs.declared.Lit.{Lit}
 use Rattle.syn_rows.specs.declared.Row.{Row}
 use Rattle.syn_rows.specs.Rows.{node_of}
@@ -36,9 +36,19 @@ abbrev pub weigh_gates : List Row → ℕ → List (PLit × PLit) → Searched �
 weigh_gates rows node [] s = Some s
 weigh_gates rows node (gate ∷ gates) s = and_then (weigh_gate rows node s gate) (weigh_gates rows node gates)
 
+-- the same until so many new rows stand
+abbrev pub weigh_until : List Row → ℕ → ℕ → List (PLit × PLit) → Searched → Option Searched
+weigh_until rows node most [] s = Some s
+weigh_until rows node most (gate ∷ gates) s =
+    if nat_le most (length s.extra) then Some s else and_then (weigh_gate rows node s gate) (weigh_until rows node most gates)
+
 -- what the plan of a replacement becomes
 abbrev pub IsWeightOf : List Row → ℕ → Replacement → Searched → Type 0
 IsWeightOf rows node r s = weigh_gates rows node r.gates (state (constant ∷ leaf_literals r.count r.leaves) []) ≡ Some s
+
+-- what it becomes until so many new rows stand
+abbrev pub IsWeightUntil : List Row → ℕ → ℕ → Replacement → Searched → Type 0
+IsWeightUntil rows node most r s = weigh_until rows node most r.gates (state (constant ∷ leaf_literals r.count r.leaves) []) ≡ Some s
 
 -- the node of a literal behind others, where it was there
 abbrev pub with_old : ℕ → Lit → List ℕ → List ℕ

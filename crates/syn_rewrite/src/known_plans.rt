@@ -4,10 +4,12 @@ ghost use Rattle.std.specs.Prelude.{◌≡◌, true, All, IfSome, map};
 ghost use Rattle.syn_plan.specs.Naming.{built_of};
 ghost use Rattle.syn_library.specs.Fitting.{Computes};
 ghost use Rattle.syn_library.specs.Library.{NamesOwn};
+ghost use Rattle.syn_rewrite.specs.Apart.{AreApart};
 ghost use Rattle.syn_rewrite.specs.Lean.{IsLeanPlan};
 ghost use Rattle.syn_rewrite.specs.PlansOf.{ArePlansOf};
 ghost use Rattle.syn_rewrite.specs.Rewriting.{fitted_plans};
 
+use crate::apart::{Apart, told_of_each};
 use crate::lean::are_lean;
 use crate::plans::plans_of;
 use arrayvec::ArrayVec;
@@ -30,11 +32,14 @@ pub struct FunctionPlans {
     pub plans: ArrayVec<Plan, 4>,
     /// Whether none of them has a gate in vain.
     pub lean: bool,
+    /// What tells of each of them that its gates need rows, if they do.
+    pub apart: ArrayVec<Option<Apart>, 4>,
     ghost built: { map built_of plans.items ≡ fitted_plans function },
     ghost leaves: { All (λ p. p.leaves ≡ 4) plans.items },
     ghost values: { All (λ p. Computes p function) plans.items },
     ghost names: { All (λ p. NamesOwn p function) plans.items },
     ghost told: { lean ≡ true → All IsLeanPlan plans.items },
+    ghost stand: { AreApart plans.items apart.items },
 }
 
 impl FunctionPlans {
@@ -44,10 +49,12 @@ impl FunctionPlans {
     {
         let plans = plans_of(classes, function);
         let lean = are_lean(plans.as_slice());
+        let apart = told_of_each(&plans);
         FunctionPlans {
             function,
             plans,
             lean,
+            apart,
         }
     }
 
@@ -56,6 +63,7 @@ impl FunctionPlans {
     pub(crate) fn as_slice(&self) -> &[Plan]
         ensures plans { ArePlansOf self.now.function result.now }
         ensures lean { self.now.lean ≡ true → All IsLeanPlan result.now }
+        ensures apart { AreApart result.now self.now.apart.items }
     {
         self.plans.as_slice()
     }

@@ -1,6 +1,7 @@
 //! Rewriting: each node's cuts of at most four leaves, each cut's class, each of the class's plans.
 #![tactic(auto)]
 
+mod apart;
 mod carrying;
 mod completing;
 mod functions;

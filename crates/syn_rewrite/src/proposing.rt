@@ -1,6 +1,6 @@
 //! The proposer.
 
-ghost use Rattle.std.specs.Prelude.{◌≡◌, ◌<◌, ◌≤◌, ◌++◌, [], true, false, All, List, OnOk, IfNone, IfOk, IfSome, length, map};
+ghost use Rattle.std.specs.Prelude.{◌≡◌, ℕ, ◌<◌, ◌≤◌, ◌++◌, [], true, false, All, List, OnOk, IfNone, IfOk, IfSome, length, map};
 ghost use Rattle.syn_rows.specs.declared.Row.{Row};
 ghost use Rattle.syn_rows.specs.Rows.{row_at};
 ghost use Rattle.syn_rows.specs.Reach.{is_and};
@@ -12,10 +12,12 @@ ghost use Rattle.syn_gain.specs.Proposals.{replacement, replacement_of};
 ghost use Rattle.syn_gain.specs.Uses.{IsUsesOf};
 ghost use Rattle.syn_pool.specs.Closing.{IsFirst, SavesNothing};
 ghost use Rattle.syn_pool.specs.Sound.{IsSound};
+ghost use Rattle.syn_rewrite.specs.Apart.{are_apart};
 ghost use Rattle.syn_rewrite.specs.Functions.{IsFunctionOver};
 ghost use Rattle.syn_rewrite.specs.Prepared.{AreLeavesOf, ArePlansOf, IsPreparedFor};
 ghost use Rattle.syn_rewrite.specs.Rewriting.{cut_proposals, over, rewritings};
 
+use crate::apart::{are_apart, names_within};
 use crate::known_plans::{FunctionPlans, KnownPlans};
 use crate::plans::plans_of;
 use crate::prepared::{MOST_LEAVES, Prepared, cuts_of, prepare};
@@ -63,6 +65,7 @@ pub(crate) fn candidate<'a>(
     requires names { NamesOwn plan.now function }
     ensures root { result.root ≡ node }
     ensures leaves { result.leaves.now ≡ leaves.now }
+    ensures plan { result.plan.now ≡ plan.now }
     ensures few { length result.leaves.now ≤ 4 }
     ensures is { replacement_of result ≡ over node leaves.now (built_of plan.now) }
 {
@@ -118,6 +121,15 @@ fn bound_over(
     }
 }
 
+// Whether none of a node's leaves is made of others.
+fn leaves_apart(graph: &Graph, node: u32, leaves: &[u32]) -> bool
+    requires node { is_and (row_at graph.now.rows node) ≡ true }
+    requires leaves { AreLeavesOf graph.now.rows node leaves.now }
+    ensures { result ≡ true → (levels : ℕ) × (are_apart levels graph.now.rows leaves.now ≡ true) }
+{
+    are_apart(graph.rows.as_slice(), leaves)
+}
+
 // Whether one of the plans of a node's function over leaves saves, where no more than `most` ANDs go with the node's row.
 // Most plans add so many new rows that they aren't placed. An answer without a proposal is small: most cuts have none.
 fn some_saves(
@@ -138,11 +150,14 @@ fn some_saves(
     ensures none { IfOk result (λ some. some ≡ false → All (SavesNothing graph.now.rows graph.now.observed) (cut_proposals graph.now.rows node leaves.now)) }
 {
     let all = plans.as_slice();
+    let told = plans.apart.as_slice();
+    let leaves_apart = leaves_apart(graph, node, leaves);
     let mut counted = None;
     let mut weighed = Weighed::over(MOST_LEAVES, leaves);
-    for plan in all {
+    for (i, plan) in all.iter().enumerate() {
+        let apart = leaves_apart && names_within(told, i, leaves);
         let candidate = candidate(graph, node, leaves, plans.function, plan);
-        if plans.lean && saves_nothing(alloc, graph, uses, candidate, most, &mut weighed)? {
+        if plans.lean && saves_nothing(alloc, graph, uses, candidate, most, apart, &mut weighed)? {
             continue;
         }
         let bound = bound_over(alloc, graph, uses, node, leaves, counted)?;

@@ -192,7 +192,7 @@ fn weigh_gates(
     requires room { length weighed.old.literals.items + length gates.now ≤ MOST_INDEXES }
     requires small { length weighed.old.extra.items < length weighed.old.literals.items }
     requires placing { IsPlacing node (length rows.now) weighed.old.literals.items weighed.old.extra.items }
-    ensures told { result ≡ true → length weighed.new.extra.items < most → spec.weigh_gates rows.now node gates.now (spec.weight_of weighed.old) ≡ Some (spec.weight_of weighed.new) }
+    ensures told { result ≡ true → spec.weigh_until rows.now node most gates.now (spec.weight_of weighed.old) ≡ Some (spec.weight_of weighed.new) }
     ensures few { result ≡ true → length weighed.new.extra.items < MOST_INDEXES }
     ensures first { (n : ℕ) → n ≤ length weighed.old.literals.items → take n weighed.new.literals.items ≡ take n weighed.old.literals.items }
 {
@@ -239,7 +239,7 @@ pub(crate) fn weigh(
     requires leaves { candidate.root ≤ node }
     requires begins { spec.BeginsWith candidate.plan.now.leaves candidate.leaves.now weighed.old }
     ensures begins { spec.BeginsWith candidate.entry.plan.now.leaves candidate.entry.leaves.now weighed.new }
-    ensures told { result ≡ true → length weighed.new.extra.items < most → spec.IsWeightOf graph.now.rows node (replacement_of candidate.entry) (spec.weight_of weighed.new) }
+    ensures told { result ≡ true → spec.IsWeightUntil graph.now.rows node most (replacement_of candidate.entry) (spec.weight_of weighed.new) }
     ensures rows { result ≡ true → length weighed.new.extra.items < MOST_INDEXES }
     ensures few { result ≡ true → 1 + candidate.entry.plan.now.leaves + length candidate.entry.plan.now.gates.items ≤ MOST_INDEXES }
 {

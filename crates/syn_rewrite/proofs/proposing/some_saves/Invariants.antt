@@ -8,9 +8,9 @@ use Rattle.syn_rewrite.specs.Rewriting.{over}
 use Rattle.syn_rewrite.specs.Weighing.{BeginsWith}
 use Rattle.syn_rewrite.proofs.proposing.some_saves.Given as goal
 
-abbrev pub invariant-loop-plan : goal.invariant-loop-plan
-invariant-loop-plan l = record {
-  none : AllWithin (λ p. SavesNothing l.graph.rows l.graph.observed (over l.node l.leaves (built_of p))) l.all 0 l.plan-index;
+abbrev pub invariant-loop-i : goal.invariant-loop-i
+invariant-loop-i l = record {
+  none : AllWithin (λ p. SavesNothing l.graph.rows l.graph.observed (over l.node l.leaves (built_of p))) l.all 0 l.i;
   begins : BeginsWith 4 l.leaves l.weighed;
   counted : IfSome l.counted (IsMostLost l.graph.rows (count_in l.uses.counts.items) l.node l.leaves);
 }

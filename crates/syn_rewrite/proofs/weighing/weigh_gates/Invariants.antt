@@ -1,11 +1,11 @@
 use Rattle.std.proofs.Common.{◌≡◌, ℕ, ◌+◌, ◌<◌, ◌≤◌, drop, length, take}
 use Rattle.syn_gain.specs.Laws.{IsPlacing}
-use Rattle.syn_rewrite.specs.Weighing.{weigh_gates, weight_of}
+use Rattle.syn_rewrite.specs.Weighing.{weigh_until, weight_of}
 use Rattle.syn_rewrite.proofs.weighing.weigh_gates.Given as goal
 
 abbrev pub invariant-loop-gate : goal.invariant-loop-gate
 invariant-loop-gate l = record {
-  rest : weigh_gates l.rows l.node (drop l.gate-index l.gates) (weight_of l.weighed) ≡ weigh_gates l.rows l.node l.gates (weight_of l.initial.weighed);
+  rest : weigh_until l.rows l.node l.most (drop l.gate-index l.gates) (weight_of l.weighed) ≡ weigh_until l.rows l.node l.most l.gates (weight_of l.initial.weighed);
   first : (n : ℕ) → n ≤ length l.initial.weighed.literals.items → take n l.weighed.literals.items ≡ take n l.initial.weighed.literals.items;
   count : length l.weighed.literals.items ≡ length l.initial.weighed.literals.items + l.gate-index;
   small : length l.weighed.extra.items < length l.weighed.literals.items;

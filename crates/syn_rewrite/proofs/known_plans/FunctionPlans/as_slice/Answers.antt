@@ -1,5 +1,6 @@
 use Rattle.std.proofs.Common.{All, List, sym, subst}
 use Rattle.syn_plan.specs.declared.plan.Plan.{Plan}
+use Rattle.syn_rewrite.specs.Apart.{AreApart}
 use Rattle.syn_rewrite.specs.Lean.{IsLeanPlan}
 use Rattle.syn_rewrite.specs.PlansOf.{ArePlansOf}
 use Rattle.syn_rewrite.proofs.known_plans.FunctionPlans.as_slice.Goals as goal
@@ -11,3 +12,6 @@ returns-clause-plans c =
 
 pub returns-clause-lean : goal.returns-clause-lean
 returns-clause-lean c = λ h. subst (λ (ps : List Plan). All IsLeanPlan ps) (sym c.as_slice.ensures.value) (c.args.self.now.told h)
+
+pub returns-clause-apart : goal.returns-clause-apart
+returns-clause-apart c = subst (λ (ps : List Plan). AreApart ps c.args.self.now.apart.items) (sym c.as_slice.ensures.value) c.args.self.now.stand
