@@ -1,5 +1,5 @@
 -- Where leaves and gates stand apart, each gate needs a row of its own: so a plan goes on adding rows.
-use Rattle.std.proofs.Common.{◌≡◌, ◌≢◌, ◌⊎◌, ℕ, zero, suc, ◌+◌, ◌-◌, ◌*◌, ◌%◌, ◌/◌, ◌<◌, ◌≤◌, ◌&&◌, ◌||◌, ◌==◌, nat_le, nat_lt, not, if◌then◌else◌, Bool, true, false, List, [], ◌∷◌, ◌++◌, length, get_or, take, Option, Some, None, refl, sym, ap, ◌∙◌, subst, arith, inl, inr}
+use Rattle.std.proofs.Common.{◌≡◌, ◌≢◌, ◌⊎◌, ℕ, zero, suc, ◌+◌, ◌-◌, ◌*◌, ◌%◌, ◌<◌, ◌≤◌, ◌&&◌, ◌||◌, ◌==◌, nat_le, nat_lt, not, Bool, true, false, List, [], ◌∷◌, ◌++◌, length, get_or, take, Option, Some, None, refl, sym, ap, ◌∙◌, subst, arith, inl, inr}
 use Rattle.std.specs.List.{list_any}
 use Rattle.std.proofs.lemmas.Bool.{and_from, and_parts, cases_Bool, cases_eq, cases_lt, cond_both, cond-false, cond-true, or_cases, or_left, or_right, eq-eqb, eqb-true, le-leb, leb-true, lt-ltb, ltb-true}
 use Rattle.std.proofs.Math.Seq.{take-append_seam}
@@ -8,9 +8,10 @@ use Rattle.syn_rows.specs.declared.Lit.{Lit}
 use Rattle.syn_rows.specs.declared.Row.{Row}
 use Rattle.syn_rows.specs.declared.Row.TheVariants.{Free, Source, And, Alias}
 use Rattle.syn_rows.specs.Nodes.{has_node}
-use Rattle.syn_rows.specs.Rows.{AllRefs, InOrder, node_of, row_at}
+use Rattle.syn_rows.specs.Rows.{InOrder, node_of, row_at}
 use Rattle.syn_rows.specs.Joining.{complement, constant, is_and_of, lit_of, ordered_and, simple_and}
 use Rattle.syn_rows.proofs.JoinLaws.{needs_none, pair_cases}
+use Rattle.syn_rows.proofs.Nodes.{has_at}
 use Rattle.syn_fanout_free.proofs.Pointwise.{at_ref}
 use Rattle.syn_plan.specs.declared.PLit.{PLit}
 use Rattle.syn_plan.specs.Gates.{index_of}
@@ -51,11 +52,11 @@ pair_joins f x y (And a b) h first second = elim (pair_cases x y a b h) [
   | inr p ↦ and_from (f (node_of a)) (f (node_of b)) (ap (λ (l : Lit). f (node_of l)) (sym p.1) ∙ second) (ap (λ (l : Lit). f (node_of l)) (sym p.0) ∙ first)
 ]
 
--- what no item has, none has that is there
 both_false : (b c : Bool) → not (b || c) ≡ true → (b ≡ false) × (not c ≡ true)
 both_false true c h = absurd (cc (h))
 both_false false c h = (refl, h)
 
+-- what no node of a list has, none has that is there
 none_at : (f : ℕ → Bool) (xs : List ℕ) (n : ℕ) → not (list_any f xs) ≡ true → has_node xs n ≡ true → f n ≡ false
 none_at f [] n h there = absurd (cc (there))
 none_at f (x ∷ xs) n h there =
@@ -109,7 +110,7 @@ leaf_in_use named base count i positive le =
     or_left (nat_lt 0 i && nat_le i named) (nat_le base i && nat_lt i (base + count)) (and_from (nat_lt 0 i) (nat_le i named) (lt-ltb 0 i positive) (le-leb i named le))
 
 -- ---- gates over leaves that stand apart
-module _ (rows : List Row) (root : ℕ) (leaves : List ℕ) (named base : ℕ) (rep : ℕ → ℕ) (levels : ℕ) (positive : 0 < root) (low : root ≤ length rows) (order : InOrder rows) (few : named < base) (apart : are_apart levels rows leaves ≡ true) where
+module _ (rows : List Row) (root : ℕ) (leaves : List ℕ) (named base : ℕ) (becomes : ℕ → ℕ) (levels : ℕ) (positive : 0 < root) (low : root ≤ length rows) (order : InOrder rows) (few : named < base) (apart : are_apart levels rows leaves ≡ true) where
   abbrev first : ℕ
   first = length rows
 
@@ -119,7 +120,7 @@ module _ (rows : List Row) (root : ℕ) (leaves : List ℕ) (named base : ℕ) (
   abbrev least : ℕ
   least = get_or leaves 0 0
 
-  -- a node that is named may be made at any depth
+  -- a node that may be made of leaves, however many levels of rows are looked at
   record IsMade (n : ℕ) : Type 0 where
     least_first : least ≤ n
     each : (k : ℕ) → may_be_made rows leaves k n ≡ true
@@ -128,10 +129,10 @@ module _ (rows : List Row) (root : ℕ) (leaves : List ℕ) (named base : ℕ) (
   record IsSpread (done : List Gate) (s : Searched) : Type 0 where
     plain : (i : ℕ) → is_in_use named base (length done) i ≡ true → get_or s.literals i constant ≡ lit_of (node_at s.literals i)
     some : (i : ℕ) → is_in_use named base (length done) i ≡ true → node_at s.literals i ≢ 0
-    differ : (i j : ℕ) → is_in_use named base (length done) i ≡ true → is_in_use named base (length done) j ≡ true → node_at s.literals i ≡ node_at s.literals j → rep i ≡ rep j
+    differ : (i j : ℕ) → is_in_use named base (length done) i ≡ true → is_in_use named base (length done) j ≡ true → node_at s.literals i ≡ node_at s.literals j → becomes i ≡ becomes j
     made : (i : ℕ) → is_in_use named base (length done) i ≡ true → node_at s.literals i < first → IsMade (node_at s.literals i)
     leaf : (i : ℕ) → 0 < i → i ≤ named → (has_node leaves (node_at s.literals i) ≡ true) × (node_at s.literals i < first)
-    stand : (g : ℕ) (d : Gate) → g < length done → StandsApart named base rep (take g done) (get_or done g d)
+    stand : (g : ℕ) (d : Gate) → g < length done → StandsApart named base becomes (take g done) (get_or done g d)
     olds : (g : ℕ) (d : Gate) → g < length done → node_at s.literals (base + g) < first
         → is_and_of (literal_for s.literals (get_or done g d).0) (literal_for s.literals (get_or done g d).1) (row_at rows (node_at s.literals (base + g))) ≡ true
 
@@ -160,11 +161,11 @@ module _ (rows : List Row) (root : ℕ) (leaves : List ℕ) (named base : ℕ) (
     In i = is_in_use named base (length done) i ≡ true
 
     -- plan literals in use that became one literal are said to be one
-    one_literal : (p q : PLit) → In (index_of p) → In (index_of q) → literal_for s.literals p ≡ literal_for s.literals q → same_literal rep p q ≡ true
+    one_literal : (p q : PLit) → In (index_of p) → In (index_of q) → literal_for s.literals p ≡ literal_for s.literals q → same_literal becomes p q ≡ true
     one_literal p q p_in q_in same =
         let node = sym (for_node s.literals p) ∙ ap node_of same ∙ for_node s.literals q in
         let at = ap (λ (l : Lit). l.0) same in
-        and_from (rep (index_of p) == rep (index_of q)) (p.0 % 2 == q.0 % 2) (eq-eqb (rep (index_of p)) (rep (index_of q)) (spread.differ (index_of p) (index_of q) p_in q_in node))
+        and_from (becomes (index_of p) == becomes (index_of q)) (p.0 % 2 == q.0 % 2) (eq-eqb (becomes (index_of p)) (becomes (index_of q)) (spread.differ (index_of p) (index_of q) p_in q_in node))
         (eq-eqb (p.0 % 2) (q.0 % 2) (omega (arith, signed p p_in, signed q q_in, at, node)))
       where
         signed : (p : PLit) → In (index_of p) → (literal_for s.literals p).0 ≡ 2 * node_at s.literals (index_of p) + p.0 % 2
@@ -194,7 +195,7 @@ module _ (rows : List Row) (root : ℕ) (leaves : List ℕ) (named base : ℕ) (
     second_in : (g : ℕ) (d : Gate) → g < length done → In (index_of (get_or done g d).1)
     second_in g d lt = in_later named base (length (take g done)) (length done) (index_of (get_or done g d).1) (omega (arith, length-take-le g done)) (spread.stand g d lt).right
 
-    module _ (gate : Gate) (stand : StandsApart named base rep done gate) where
+    module _ (gate : Gate) (stand : StandsApart named base becomes done gate) where
       abbrev x : Lit
       x = literal_for s.literals gate.0
 
@@ -219,17 +220,17 @@ module _ (rows : List Row) (root : ℕ) (leaves : List ℕ) (named base : ℕ) (
 
       -- a gate before it that became the row of its pair is said to become the same
       one_gate : (g : ℕ) → g < length done → (row : Row) → is_and_of x y row ≡ true
-          → is_and_of (literal_for s.literals (get_or done g gate).0) (literal_for s.literals (get_or done g gate).1) row ≡ true → rep (base + g) ≡ rep (base + length done)
+          → is_and_of (literal_for s.literals (get_or done g gate).0) (literal_for s.literals (get_or done g gate).1) row ≡ true → becomes (base + g) ≡ becomes (base + length done)
       one_gate g lt row h k =
           let d = get_or done g gate in
           stand.once g gate lt
           (elim (one_pair x y (literal_for s.literals d.0) (literal_for s.literals d.1) row h k) [
             | inl p ↦
-                or_left (same_literal rep gate.0 d.0 && same_literal rep gate.1 d.1) (same_literal rep gate.0 d.1 && same_literal rep gate.1 d.0)
-                (and_from (same_literal rep gate.0 d.0) (same_literal rep gate.1 d.1) (one_literal gate.0 d.0 stand.left (first_in g gate lt) p.0) (one_literal gate.1 d.1 stand.right (second_in g gate lt) p.1))
+                or_left (same_literal becomes gate.0 d.0 && same_literal becomes gate.1 d.1) (same_literal becomes gate.0 d.1 && same_literal becomes gate.1 d.0)
+                (and_from (same_literal becomes gate.0 d.0) (same_literal becomes gate.1 d.1) (one_literal gate.0 d.0 stand.left (first_in g gate lt) p.0) (one_literal gate.1 d.1 stand.right (second_in g gate lt) p.1))
             | inr p ↦
-                or_right (same_literal rep gate.0 d.0 && same_literal rep gate.1 d.1) (same_literal rep gate.0 d.1 && same_literal rep gate.1 d.0)
-                (and_from (same_literal rep gate.0 d.1) (same_literal rep gate.1 d.0) (one_literal gate.0 d.1 stand.left (second_in g gate lt) p.0) (one_literal gate.1 d.0 stand.right (first_in g gate lt) p.1))
+                or_right (same_literal becomes gate.0 d.0 && same_literal becomes gate.1 d.1) (same_literal becomes gate.0 d.1 && same_literal becomes gate.1 d.0)
+                (and_from (same_literal becomes gate.0 d.1) (same_literal becomes gate.1 d.0) (one_literal gate.0 d.1 stand.left (second_in g gate lt) p.0) (one_literal gate.1 d.0 stand.right (first_in g gate lt) p.1))
           ])
 
       -- the row of its pair that was there
@@ -245,32 +246,32 @@ module _ (rows : List Row) (root : ℕ) (leaves : List ℕ) (named base : ℕ) (
         made_y : IsMade (node_of y)
         made_y = subst IsMade (sym (for_node s.literals gate.1)) (spread.made (index_of gate.1) stand.right (omega (arith, old, under.1, for_node s.literals gate.1)))
 
-        same_old : (i : ℕ) → In i → node_at s.literals i ≡ n → rep i ≡ rep (base + length done)
+        same_old : (i : ℕ) → In i → node_at s.literals i ≡ n → becomes i ≡ becomes (base + length done)
         same_old i i_in e = elim (in_parts named base (length done) i i_in) [
           | inl leaf ↦ absurd (no_leaf x y n h made_x made_y (subst (λ (m : ℕ). has_node leaves m ≡ true) e (spread.leaf i leaf.0 leaf.1).0))
           | inr (g, lt, is) ↦
               let at : node_at s.literals (base + g) ≡ n = ap (node_at s.literals) (sym is) ∙ e in
-              ap rep is
+              ap becomes is
               ∙ one_gate g lt (row_at rows n) h
               (subst (λ (m : ℕ). is_and_of (literal_for s.literals (get_or done g gate).0) (literal_for s.literals (get_or done g gate).1) (row_at rows m) ≡ true) at
               (spread.olds g gate lt (omega (arith, at, old))))
         ]
 
       -- a new row of its pair that was there
-      same_new : (k : ℕ) → is_and_of x y (row_at s.extra k) ≡ true → (i : ℕ) → In i → node_at s.literals i ≡ first + k → rep i ≡ rep (base + length done)
+      same_new : (k : ℕ) → is_and_of x y (row_at s.extra k) ≡ true → (i : ℕ) → In i → node_at s.literals i ≡ first + k → becomes i ≡ becomes (base + length done)
       same_new k h i i_in e = elim (in_parts named base (length done) i i_in) [
         | inl leaf ↦ absurd (omega (arith, e, (spread.leaf i leaf.0 leaf.1).1))
         | inr (g, lt, is) ↦
             let at : node_at s.literals (base + g) ≡ first + k = ap (node_at s.literals) (sym is) ∙ e in
             let place : node_at s.literals (base + g) - first ≡ k = omega (arith, at) in
-            ap rep is
+            ap becomes is
             ∙ one_gate g lt (row_at s.extra k) h
             (subst (λ (j : ℕ). is_and_of (literal_for s.literals (get_or done g gate).0) (literal_for s.literals (get_or done g gate).1) (row_at s.extra j) ≡ true) place
             (told.rows g gate lt (omega (arith, at))))
       ]
 
       -- one gate more, which became a node that is none in use but of those that are said to become the same
-      module _ (n : ℕ) (extra : List Row) (some : n ≢ 0) (fresh : (i : ℕ) → In i → node_at s.literals i ≡ n → rep i ≡ rep (base + length done)) (made : n < first → IsMade n) (old : n < first → is_and_of x y (row_at rows n) ≡ true) where
+      module _ (n : ℕ) (extra : List Row) (some : n ≢ 0) (fresh : (i : ℕ) → In i → node_at s.literals i ≡ n → becomes i ≡ becomes (base + length done)) (made : n < first → IsMade n) (old : n < first → is_and_of x y (row_at rows n) ≡ true) where
         abbrev now : List Lit
         now = s.literals ++ lit_of n ∷ []
 
@@ -303,15 +304,15 @@ module _ (rows : List Row) (root : ℕ) (leaves : List ℕ) (named base : ℕ) (
           | inr e ↦ some (sym (node_new i e) ∙ z)
         ]
 
-        now_differ : (i j : ℕ) → is_in_use named base (length longer) i ≡ true → is_in_use named base (length longer) j ≡ true → node_at now i ≡ node_at now j → rep i ≡ rep j
+        now_differ : (i j : ℕ) → is_in_use named base (length longer) i ≡ true → is_in_use named base (length longer) j ≡ true → node_at now i ≡ node_at now j → becomes i ≡ becomes j
         now_differ i j h k same = elim (either i h) [
           | inl i_in ↦ elim (either j k) [
             | inl j_in ↦ spread.differ i j i_in j_in (sym (ap node_of (at_old i i_in)) ∙ same ∙ ap node_of (at_old j j_in))
-            | inr e ↦ fresh i i_in (sym (ap node_of (at_old i i_in)) ∙ same ∙ node_new j e) ∙ ap rep (sym e)
+            | inr e ↦ fresh i i_in (sym (ap node_of (at_old i i_in)) ∙ same ∙ node_new j e) ∙ ap becomes (sym e)
           ]
           | inr e ↦ elim (either j k) [
-            | inl j_in ↦ sym (fresh j j_in (sym (ap node_of (at_old j j_in)) ∙ sym same ∙ node_new i e) ∙ ap rep (sym e))
-            | inr f ↦ ap rep (e ∙ sym f)
+            | inl j_in ↦ sym (fresh j j_in (sym (ap node_of (at_old j j_in)) ∙ sym same ∙ node_new i e) ∙ ap becomes (sym e))
+            | inr f ↦ ap becomes (e ∙ sym f)
           ]
         ]
 
@@ -349,9 +350,9 @@ module _ (rows : List Row) (root : ℕ) (leaves : List ℕ) (named base : ℕ) (
           differ = now_differ;
           made = now_made;
           leaf = λ i positive le. subst (λ (m : ℕ). (has_node leaves m ≡ true) × (m < first)) (sym (ap node_of (at_old i (leaf_in_use named base (length done) i positive le)))) (spread.leaf i positive le);
-          stand = each_gate (λ g h. StandsApart named base rep (take g longer) h) done gate
-              (λ g d lt. subst (λ (before : List Gate). StandsApart named base rep before (get_or done g d)) (sym (take-append-le g done (gate ∷ []) (omega (arith, lt)))) (spread.stand g d lt))
-              (subst (λ (before : List Gate). StandsApart named base rep before gate) (sym (take-append_seam done (gate ∷ []))) stand);
+          stand = each_gate (λ g h. StandsApart named base becomes (take g longer) h) done gate
+              (λ g d lt. subst (λ (before : List Gate). StandsApart named base becomes before (get_or done g d)) (sym (take-append-le g done (gate ∷ []) (omega (arith, lt)))) (spread.stand g d lt))
+              (subst (λ (before : List Gate). StandsApart named base becomes before gate) (sym (take-append_seam done (gate ∷ []))) stand);
           olds = now_olds;
         }
 
@@ -372,15 +373,15 @@ module _ (rows : List Row) (root : ℕ) (leaves : List ℕ) (named base : ℕ) (
           (subst (OfSome (λ (l : Lit). length s.extra ≤ length s.extra)) (sym needs_row) tt) (λ n lt h. omega arith) (λ i lt h. omega arith) (omega (arith, length_push s.extra (ordered_and x y)))
 
   abbrev AllStand : List Gate → List Gate → Type 0
-  AllStand done gates = (i : ℕ) (d : Gate) → i < length gates → StandsApart named base rep (done ++ take i gates) (get_or gates i d)
+  AllStand done gates = (i : ℕ) (d : Gate) → i < length gates → StandsApart named base becomes (done ++ take i gates) (get_or gates i d)
 
   -- so do the first of some gates, and those behind it
-  one_stands : (done gates : List Gate) (gate : Gate) → AllStand done (gate ∷ gates) → StandsApart named base rep done gate
-  one_stands done gates gate each = subst (λ (before : List Gate). StandsApart named base rep before gate) (append-nil done) (each 0 gate (omega arith))
+  one_stands : (done gates : List Gate) (gate : Gate) → AllStand done (gate ∷ gates) → StandsApart named base becomes done gate
+  one_stands done gates gate each = subst (λ (before : List Gate). StandsApart named base becomes before gate) (append-nil done) (each 0 gate (omega arith))
 
   more_stand : (done gates : List Gate) (gate : Gate) → AllStand done (gate ∷ gates) → AllStand (done ++ gate ∷ []) gates
   more_stand done gates gate each i d lt =
-      subst (λ (before : List Gate). StandsApart named base rep before (get_or gates i d)) (sym (append_assoc done (gate ∷ []) (take i gates))) (each (suc i) d (omega (arith, lt)))
+      subst (λ (before : List Gate). StandsApart named base becomes before (get_or gates i d)) (sym (append_assoc done (gate ∷ []) (take i gates))) (each (suc i) d (omega (arith, lt)))
 
   -- each of such gates needs a row
   goes_on : (gates done : List Gate) (s : Searched) → IsTold first base done s → IsSpread done s → AllStand done gates
@@ -446,11 +447,6 @@ each_is (suc n) f i lt = elim (cases_lt i n) [
   | inr ge ↦ let last : n ≡ i = omega (arith, lt, ge) in get_or_push (each_below n f) (f n) constant i (each_long n f ∙ last) ∙ ap f last
 ]
 
-has_at : (xs : List ℕ) (i : ℕ) → i < length xs → has_node xs (get_or xs i 0) ≡ true
-has_at [] i lt = absurd (omega (arith, lt))
-has_at (x ∷ xs) zero lt = or_left (x == x) (has_node xs x) (eq-eqb x x refl)
-has_at (x ∷ xs) (suc i) lt = or_right (x == get_or xs i 0) (has_node xs (get_or xs i 0)) (has_at xs i (omega (arith, lt)))
-
 above : (under : ℕ) (ns : List ℕ) → rise_above under ns ≡ true → (i : ℕ) → i < length ns → under < get_or ns i 0
 above under [] h i lt = absurd (omega (arith, lt))
 above under (n ∷ ns) h zero lt = ltb-true under n (and_parts (nat_lt under n) (rise_above n ns) h).0
@@ -464,7 +460,7 @@ rise under (n ∷ ns) h i zero less lt = absurd (omega (arith, less))
 rise under (n ∷ ns) h zero (suc j) less lt = above n ns (and_parts (nat_lt under n) (rise_above n ns) h).1 j (omega (arith, lt))
 rise under (n ∷ ns) h (suc i) (suc j) less lt = rise n ns (and_parts (nat_lt under n) (rise_above n ns) h).1 i j (omega (arith, less)) (omega (arith, lt))
 
-module _ (rows : List Row) (root : ℕ) (leaves : List ℕ) (named count : ℕ) (rep : ℕ → ℕ) (levels : ℕ) (positive : 0 < root) (low : root ≤ length rows) (order : InOrder rows) (few : named < 1 + count)
+module _ (rows : List Row) (root : ℕ) (leaves : List ℕ) (named count : ℕ) (becomes : ℕ → ℕ) (levels : ℕ) (positive : 0 < root) (low : root ≤ length rows) (order : InOrder rows) (few : named < 1 + count)
     (apart : are_apart levels rows leaves ≡ true) (rising : rise_above 0 leaves ≡ true) (under : are_below root leaves ≡ true) (there : named ≤ length leaves) where
   abbrev literals : List Lit
   literals = constant ∷ leaf_literals count leaves
@@ -485,31 +481,31 @@ module _ (rows : List Row) (root : ℕ) (leaves : List ℕ) (named count : ℕ) 
       plain_node : (n : ℕ) → node_of (lit_of n) ≡ n
       plain_node n = omega arith
 
-  begun_spread : IsSpread rows root leaves named (1 + count) rep levels positive low order few apart [] (state literals [])
+  begun_spread : IsSpread rows root leaves named (1 + count) becomes levels positive low order few apart [] (state literals [])
   begun_spread = record {
     plain = λ i h. let k = as_leaf i h in ap (λ (j : ℕ). get_or literals j constant) k.1 ∙ leaf_is k.0 k.2 ∙ ap lit_of (sym (node_is i k.0 k.1 k.2));
     some = λ i h z. let k = as_leaf i h in absurd (omega (arith, z, node_is i k.0 k.1 k.2, above 0 leaves rising k.0 (omega (arith, k.2, there))));
     differ = λ i j h g same. let k = as_leaf i h in let l = as_leaf j g in differ_by i j k l same;
-    made = λ i h lt. let k = as_leaf i h in subst (IsMade rows root leaves named (1 + count) rep levels positive low order few apart) (sym (node_is i k.0 k.1 k.2)) (leaf_made k.0 (omega (arith, k.2, there)));
+    made = λ i h lt. let k = as_leaf i h in subst (IsMade rows root leaves named (1 + count) becomes levels positive low order few apart) (sym (node_is i k.0 k.1 k.2)) (leaf_made k.0 (omega (arith, k.2, there)));
     leaf = λ i some le.
         let at : i - 1 < length leaves = omega (arith, some, le, there) in
-        subst (λ (m : ℕ). (has_node leaves m ≡ true) × (m < length rows)) (sym (node_is i (i - 1) (omega (arith, some)) (omega (arith, some, le)))) (has_at leaves (i - 1) at, omega (arith, below_each root leaves under (i - 1) at, low));
+        subst (λ (m : ℕ). (has_node leaves m ≡ true) × (m < length rows)) (sym (node_is i (i - 1) (omega (arith, some)) (omega (arith, some, le)))) (has_at leaves (i - 1) (get_or leaves (i - 1) 0) at refl, omega (arith, below_each root leaves under (i - 1) at, low));
     stand = λ g d lt. absurd (omega (arith, lt));
     olds = λ g d lt. absurd (omega (arith, lt));
   }
     where
-      differ_by : (i j : ℕ) → (k : ℕ) × (i ≡ suc k) × (k < named) → (l : ℕ) × (j ≡ suc l) × (l < named) → node_at literals i ≡ node_at literals j → rep i ≡ rep j
+      differ_by : (i j : ℕ) → (k : ℕ) × (i ≡ suc k) × (k < named) → (l : ℕ) × (j ≡ suc l) × (l < named) → node_at literals i ≡ node_at literals j → becomes i ≡ becomes j
       differ_by i j (k, i_is, k_in) (l, j_is, l_in) same =
           let nodes : get_or leaves k 0 ≡ get_or leaves l 0 = sym (node_is i k i_is k_in) ∙ same ∙ node_is j l j_is l_in in
           elim (cases_lt k l) [
             | inl less ↦ absurd (omega (arith, nodes, rise 0 leaves rising k l less (omega (arith, l_in, there))))
             | inr ge ↦ elim (cases_lt l k) [
               | inl less ↦ absurd (omega (arith, nodes, rise 0 leaves rising l k less (omega (arith, k_in, there))))
-              | inr le ↦ let one : i ≡ j = omega (arith, ge, le, i_is, j_is) in ap rep one
+              | inr le ↦ let one : i ≡ j = omega (arith, ge, le, i_is, j_is) in ap becomes one
             ]
           ]
 
-      leaf_made : (k : ℕ) → k < length leaves → IsMade rows root leaves named (1 + count) rep levels positive low order few apart (get_or leaves k 0)
+      leaf_made : (k : ℕ) → k < length leaves → IsMade rows root leaves named (1 + count) becomes levels positive low order few apart (get_or leaves k 0)
       leaf_made k lt = record { least_first = from_least k lt; each = each }
         where
           from_least : (k : ℕ) → k < length leaves → get_or leaves 0 0 ≤ get_or leaves k 0
@@ -521,17 +517,17 @@ module _ (rows : List Row) (root : ℕ) (leaves : List ℕ) (named count : ℕ) 
           each (suc d) =
               and_from (nat_le (get_or leaves 0 0) (get_or leaves k 0)) (has_node leaves (get_or leaves k 0) || joins (may_be_made rows leaves d) (row_at rows (get_or leaves k 0)))
               (le-leb (get_or leaves 0 0) (get_or leaves k 0) (from_least k lt))
-              (or_left (has_node leaves (get_or leaves k 0)) (joins (may_be_made rows leaves d) (row_at rows (get_or leaves k 0))) (has_at leaves k lt))
+              (or_left (has_node leaves (get_or leaves k 0)) (joins (may_be_made rows leaves d) (row_at rows (get_or leaves k 0))) (has_at leaves k (get_or leaves k 0) lt refl))
 
 -- Where leaves and gates stand apart, what a plan becomes until so many new rows stand goes on to what it becomes, with no fewer.
-pub weighed_on : (rows : List Row) (r : Replacement) (named : ℕ) (rep : ℕ → ℕ) (levels most : ℕ) (t : Searched) → 0 < r.root → r.root ≤ length rows → are_below r.root r.leaves ≡ true → InOrder rows
-    → named ≤ r.count → ((i : ℕ) (gate : PLit × PLit) → i < length r.gates → StandsApart named (1 + r.count) rep (take i r.gates) (get_or r.gates i gate))
+pub weighed_on : (rows : List Row) (r : Replacement) (named : ℕ) (becomes : ℕ → ℕ) (levels most : ℕ) (t : Searched) → 0 < r.root → r.root ≤ length rows → are_below r.root r.leaves ≡ true → InOrder rows
+    → named ≤ r.count → ((i : ℕ) (gate : PLit × PLit) → i < length r.gates → StandsApart named (1 + r.count) becomes (take i r.gates) (get_or r.gates i gate))
     → named ≤ length r.leaves → rise_above 0 r.leaves ≡ true → are_apart levels rows r.leaves ≡ true → IsWeightUntil rows r.root most r t
     → (u : Searched) × IsWeightOf rows r.root r u × (length t.extra ≤ length u.extra)
-weighed_on rows r named rep levels most t positive low below order le stand there rising apart h =
-    goes_on_from rows r.root r.leaves named (1 + r.count) rep levels positive low order (omega (arith, le)) apart most r.gates [] (state (constant ∷ leaf_literals r.count r.leaves) []) t
+weighed_on rows r named becomes levels most t positive low below order le stand there rising apart h =
+    goes_on_from rows r.root r.leaves named (1 + r.count) becomes levels positive low order (omega (arith, le)) apart most r.gates [] (state (constant ∷ leaf_literals r.count r.leaves) []) t
     (subst (λ (base : ℕ). IsTold (length rows) base [] (state (constant ∷ leaf_literals r.count r.leaves) [])) long (begun_told (length rows) r.root r.count r.leaves positive low below))
-    (begun_spread rows r.root r.leaves named r.count rep levels positive low order (omega (arith, le)) apart rising below there) stand h
+    (begun_spread rows r.root r.leaves named r.count becomes levels positive low order (omega (arith, le)) apart rising below there) stand h
   where
     long : length (constant ∷ leaf_literals r.count r.leaves) ≡ 1 + r.count
     long = omega (arith, each_long r.count (λ i. lit_of (get_or r.leaves i 0)))
