@@ -2,11 +2,4 @@ pub mod Choices
 pub mod Leastness
 pub mod Listed
 pub mod Labelling
-pub mod Matching
-pub mod Mapped
-pub mod Framed
-pub mod Fitting
-pub mod Counting
-pub mod Swept
-pub mod Numbered
-pub mod Assembled
+pub mod Fitted

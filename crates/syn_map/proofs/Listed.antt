@@ -1,10 +1,8 @@
 -- The cuts of a node but the last: an AND has one, and each rises, lies below the node and has 2 to k leaves.
 use Rattle.std.proofs.Common.{◌≡◌, ℕ, zero, suc, ◌+◌, ◌-◌, ◌<◌, ◌≤◌, nat_lt, nat_eq, Bool, true, false, if◌then◌else◌, All, List, [], ◌∷◌, ◌++◌, length, take, get_or, bytes_eq, refl, sym, ap, ap₂, ◌∙◌, subst, inl, inr, arith}
-use Rattle.std.specs.List.{list_all}
-use Rattle.std.proofs.lemmas.Bool.{cases_Bool, cases_lt, and_parts, and_from, both_ways, cond-true, cond-false, ltb-true, lt-ltb, le-leb}
+use Rattle.std.proofs.lemmas.Bool.{cases_Bool, cases_lt, both_ways, cond-true, cond-false, le-leb}
 use Rattle.std.proofs.lemmas.List.{length-append, length_push, length-take-le, get_or-take, get_or-append-add, get_or_default}
 use Rattle.std.proofs.lemmas.List.Elements.{All-nil, All-take, All-same}
-use Rattle.syn_rows.specs.declared.Lit.{Lit}
 use Rattle.syn_rows.specs.declared.Row.{Row}
 use Rattle.syn_rows.specs.declared.Row.TheVariants.{Free, Source, And, Alias}
 use Rattle.syn_rows.specs.Rows.{row_at, node_of}
@@ -12,32 +10,15 @@ use Rattle.syn_rows.specs.Reach.{is_and}
 use Rattle.syn_hashed.specs.Hashed.{is_gate, IsHashed}
 use Rattle.syn_shapes.proofs.Gates.{gate_parts, first_below}
 use Rattle.syn_cones.specs.Cones.{IsCut}
-use Rattle.syn_cones.specs.Leaves.{rise_above}
 use Rattle.syn_cuts.specs.Cuts.{union, comes_before, put, arranged, is_small, unions_with, unions, first_unions, row_cuts, listed_cuts}
 use Rattle.syn_cuts.specs.Laws.{IsListedCut}
 use Rattle.syn_cuts.specs.Lists.{list_at}
 use Rattle.syn_cuts.proofs.Cutting.{listed_at, listed_are_cuts}
 use Rattle.syn_hashed.proofs.Orders.{hashed_in_order}
 use Rattle.syn_cuts.proofs.Rising.{listed_cuts_rise}
-use Rattle.syn_lutshapes.specs.Luts.{rising}
 pub use Rattle.syn_lutshapes.proofs.Folding.{below, In}
 use Rattle.syn_map.specs.Labels.{but_last, choice, cuts_of, label_of, chosen}
 use Rattle.syn_map.proofs.Choices.{choice_is}
-
-all_above : (x y : ℕ) → x < y → (ys : List ℕ) → list_all (nat_lt y) ys ≡ true → list_all (nat_lt x) ys ≡ true
-all_above x y lt [] h = refl
-all_above x y lt (z ∷ zs) h =
-    let parts = and_parts (nat_lt y z) (list_all (nat_lt y) zs) h in
-    let less = ltb-true y z parts.0 in
-    and_from (nat_lt x z) (list_all (nat_lt x) zs) (lt-ltb x z (omega (arith, lt, less))) (all_above x y lt zs parts.1)
-
--- nodes that rise one by one rise
-rises : (low : ℕ) (c : List ℕ) → rise_above low c ≡ true → (list_all (nat_lt low) c ≡ true) × (rising c ≡ true)
-rises low [] h = (refl, refl)
-rises low (n ∷ ns) h =
-    let parts = and_parts (nat_lt low n) (rise_above n ns) h in
-    let rest = rises n ns parts.1 in
-    (and_from (nat_lt low n) (list_all (nat_lt low) ns) parts.0 (all_above low n (ltb-true low n parts.0) ns rest.0), and_from (list_all (nat_lt n) ns) (rising ns) rest.0 rest.1)
 
 take_front : (xs ys : List (List ℕ)) → take (length xs) (xs ++ ys) ≡ xs
 take_front [] ys = refl
@@ -163,7 +144,3 @@ module _ (count k : ℕ) (rows : List Row) (hashed : IsHashed count rows) (two :
   chosen_is_cut n lt a = choice_has (λ c. IsCut rows c n) (label_of k rows) (cuts_of k rows n)
       (subst (λ (cs : List (List ℕ)). 1 ≤ length (but_last cs)) (sym (listed_at k rows (hashed_in_order count rows hashed) n lt)) (row_filled n lt (row_at rows n) a (gate_at n lt a)))
       (All-take (λ c. IsCut rows c n) (length (list_at (listed_cuts k rows) n) - 1) (list_at (listed_cuts k rows) n) (listed_are_cuts k rows (hashed_in_order count rows hashed) n lt))
-
-  -- the chosen cut of an AND rises, and the constant is none of its leaves
-  pub chosen_rises : (n : ℕ) → n < length rows → is_and (row_at rows n) ≡ true → (list_all (nat_lt 0) (chosen k rows n) ≡ true) × (rising (chosen k rows n) ≡ true)
-  chosen_rises n lt a = rises 0 (chosen k rows n) (chosen_listed n lt a).rising

@@ -1,89 +1,21 @@
 -- LUT nets that are made of chosen cuts.
-use Rattle.std.specs.Prelude.{◌≡◌, ◌⊎◌, ℕ, suc, ◌+◌, ◌*◌, ◌%◌, ◌^◌, ◌<◌, ◌≤◌, ◌==◌, nat_lt, if◌then◌else◌, Bool, true, All, List, [], ◌∷◌, length, map, slice_index_or}
-use Rattle.std.specs.List.{list_all}
-use Rattle.syn_rows.specs.declared.Lit.{Lit}
+use Rattle.std.specs.Prelude.{ℕ, ◌≤◌, List}
 use Rattle.syn_rows.specs.declared.Row.{Row}
-use Rattle.syn_rows.specs.Rows.{node_of, row_at}
-use Rattle.syn_rows.specs.Values.{rows_function}
-use Rattle.syn_rows.specs.Reach.{is_and, Ands}
-use Rattle.syn_netlist.specs.Lists.{Frame, sources}
-use Rattle.syn_shapes.specs.Graphs.{IsGraph}
-use Rattle.syn_truth.specs.Truth.{AtEach}
-use Rattle.syn_rows.specs.Nodes.{has_node}
-use Rattle.syn_cones.specs.Cones.{FitsBetween}
-use Rattle.syn_lutshapes.specs.Luts.{Lut, ones_value, lut_at, rising, greatest, net_depth, luts_function, none_exceeds, IsLutNet}
+use Rattle.syn_hashed.specs.Hashed.{IsHashed}
+use Rattle.syn_graph.specs.declared.Graph.{Graph}
+use Rattle.syn_lutnet.specs.declared.nets.LutNet.{LutNet}
+use Rattle.syn_covering.specs.Cuts.{AreDepths, AreLutCuts}
+use Rattle.syn_covering.specs.Making.{IsMappedBy}
 use Rattle.syn_map.specs.Labels.{chosen, label_of}
 
--- The set has the observed ANDs,
-abbrev pub HasObservedAnds : List Row → List Lit → (ℕ → Bool) → Type 0
-HasObservedAnds rows lits set = All (λ l. is_and (row_at rows (node_of l)) ≡ true → set (node_of l) ≡ true) lits
+-- the LUT net has the LUTs of the graph's chosen cuts
+abbrev pub IsMapped : ℕ → Graph → LutNet → Type 0
+IsMapped k graph net = IsMappedBy (chosen k graph.rows) graph net
 
--- and with each node the leaves of its chosen cut that are ANDs.
-abbrev pub HasLeaves : ℕ → List Row → (ℕ → Bool) → Type 0
-HasLeaves k rows set = (n : ℕ) → set n ≡ true → All (λ m. is_and (row_at rows m) ≡ true → set m ≡ true) (chosen k rows n)
+-- In hashed rows the chosen cut of each AND is one of 2 to k leaves that a LUT may read,
+abbrev pub ChosenAreLutCuts : Type 0
+ChosenAreLutCuts = (k count : ℕ) (rows : List Row) → 2 ≤ k → IsHashed count rows → AreLutCuts k rows (chosen k rows)
 
--- a node needs a LUT: every such set has it
-abbrev pub IsNeeded : ℕ → List Row → List Lit → ℕ → Type 0
-IsNeeded k rows lits n = (set : ℕ → Bool) → HasLeaves k rows set → HasObservedAnds rows lits set → set n ≡ true
-
--- the node at a place
-abbrev pub node_at : List ℕ → ℕ → ℕ
-node_at nodes j = slice_index_or nodes j 0
-
--- the place of a node in a list, from 0
-abbrev pub place_of : ℕ → List ℕ → ℕ
-place_of n [] = 0
-place_of n (m ∷ ms) = if m == n then 0 else suc (place_of n ms)
-
--- the signal of a node: node 0 and the sources keep their numbers, then come the nodes with LUTs
-abbrev pub signal_of : ℕ → List ℕ → ℕ → ℕ
-signal_of count nodes n = if nat_lt n (count + 1) then n else count + 1 + place_of n nodes
-
--- the node has a signal
-abbrev pub HasSignal : ℕ → List ℕ → ℕ → Type 0
-HasSignal count nodes m = (m < count + 1) ⊎ (has_node nodes m ≡ true)
-
--- the literal of a node as that of its signal
-abbrev pub signal_lit : ℕ → List ℕ → Lit → Lit
-signal_lit count nodes l = record { 0 = 2 * signal_of count nodes (node_of l) + l.0 % 2 }
-
--- the minterms are those of a node's function over leaves
-abbrev pub AreOnesOver : List Row → List ℕ → ℕ → List ℕ → Type 0
-AreOnesOver rows leaves node ones = AtEach (length leaves) (λ xs. (v : ℕ → Bool) → FitsBetween rows leaves node v → map v leaves ≡ xs → v node ≡ ones_value ones xs)
-
--- The LUTs of a graph over so many sources: one for each node that needs one, in node order, of the node's function over its chosen cut.
-pub record IsMapping (k count : ℕ) (rows : List Row) (lits : List Lit) (nodes : List ℕ) (luts : List Lut) (outs : List Lit) : Type 0 where
-  pub rise : rising nodes ≡ true
-  pub needed : (n : ℕ) → has_node nodes n ≡ true → IsNeeded k rows lits n
-  pub all : (n : ℕ) → IsNeeded k rows lits n → has_node nodes n ≡ true
-  pub long : length luts ≡ length nodes
-  pub inputs : (j : ℕ) → j < length nodes → (lut_at luts j).inputs ≡ map (signal_of count nodes) (chosen k rows (node_at nodes j))
-  pub ones : (j : ℕ) → j < length nodes → AreOnesOver rows (chosen k rows (node_at nodes j)) (node_at nodes j) (lut_at luts j).ones
-  pub rising_ones : (j : ℕ) → j < length nodes → rising (lut_at luts j).ones ≡ true
-  pub small_ones : (j : ℕ) → j < length nodes → list_all (λ m. nat_lt m (2 ^ length (lut_at luts j).inputs)) (lut_at luts j).ones ≡ true
-  pub outs_are : outs ≡ map (signal_lit count nodes) lits
-
--- Of a graph such LUTs have the graph's function,
-abbrev pub MappingKeepsFunction : Type 0
-MappingKeepsFunction = (frame : Frame) (k : ℕ) (rows : List Row) (lits : List Lit) (nodes : List ℕ) (luts : List Lut) (outs : List Lit) → 2 ≤ k → IsGraph frame rows lits
-    → IsMapping k (length (sources frame)) rows lits nodes luts outs → (bits : List Bool) → length bits ≡ length (sources frame) → luts_function luts outs bits ≡ rows_function rows lits bits
-
--- their depth is the greatest label of an observed node,
-abbrev pub MappingHasDepth : Type 0
-MappingHasDepth = (frame : Frame) (k : ℕ) (rows : List Row) (lits : List Lit) (nodes : List ℕ) (luts : List Lut) (outs : List Lit) → 2 ≤ k → IsGraph frame rows lits
-    → IsMapping k (length (sources frame)) rows lits nodes luts outs → net_depth (length (sources frame)) luts ≡ greatest (label_of k rows) (map node_of lits)
-
--- they are a LUT net of the graph's frame,
-abbrev pub MappingIsNet : Type 0
-MappingIsNet = (frame : Frame) (k : ℕ) (rows : List Row) (lits : List Lit) (nodes : List ℕ) (luts : List Lut) (outs : List Lit) → 2 ≤ k → IsGraph frame rows lits
-    → IsMapping k (length (sources frame)) rows lits nodes luts outs → IsLutNet frame luts outs
-
--- none of them has more than k inputs,
-abbrev pub MappingFits : Type 0
-MappingFits = (frame : Frame) (k : ℕ) (rows : List Row) (lits : List Lit) (nodes : List ℕ) (luts : List Lut) (outs : List Lit) → 2 ≤ k → IsGraph frame rows lits
-    → IsMapping k (length (sources frame)) rows lits nodes luts outs → none_exceeds k luts ≡ true
-
--- and there are at most as many of them as reached ANDs.
-abbrev pub MappingIsSmall : Type 0
-MappingIsSmall = (frame : Frame) (k : ℕ) (rows : List Row) (lits : List Lit) (nodes : List ℕ) (luts : List Lut) (outs : List Lit) (ands : ℕ) → 2 ≤ k → IsGraph frame rows lits
-    → IsMapping k (length (sources frame)) rows lits nodes luts outs → Ands rows lits ands → length luts ≤ ands
+-- and the labels are the depths over the chosen cuts.
+abbrev pub LabelsAreDepths : Type 0
+LabelsAreDepths = (k count : ℕ) (rows : List Row) → IsHashed count rows → AreDepths rows (label_of k rows) (chosen k rows)

@@ -1,8 +1,6 @@
 //! Rows with the listed cuts and the labels of their nodes.
 
 ghost use Rattle.std.specs.Prelude.{◌≡◌, ◌+◌, ◌<◌, ◌≤◌, IfOk, length};
-ghost use Rattle.syn_rows.specs.declared.TheConstants.{NODE_LIMIT};
-ghost use Rattle.syn_hashed.specs.Hashed.{IsHashed};
 ghost use Rattle.syn_truth.specs.declared.TheConstants.{MOST_VARS};
 ghost use Rattle.syn_cuts.specs.Cuts.{listed_cuts};
 ghost use Rattle.syn_map.specs.Labels.{chosen, labels_of};
@@ -10,6 +8,7 @@ ghost use Rattle.syn_map.specs.Labels.{chosen, labels_of};
 use crate::labels::{cuts_of, first_at, labels, least};
 use std::alloc::{AllocError, Global};
 use std::thread::Threads;
+use syn_covering::Choice;
 use syn_cuts::CutLists;
 use syn_graph::Graph;
 use syn_rows::Row;
@@ -17,14 +16,10 @@ use syn_rows::Row;
 /// The rows of a graph with the listed cuts of each node, of at most `k` leaves, and the labels over them.
 #[derive(Drop)]
 pub(crate) struct Labelled<'a> {
-    pub(crate) rows: &'a [Row],
-    pub(crate) source_count: u32,
-    pub(crate) k: u8,
+    rows: &'a [Row],
+    k: u8,
     lists: CutLists,
     labels: Vec<u32>,
-    ghost hashed: { IsHashed source_count rows.now },
-    ghost few: { length rows.now < NODE_LIMIT },
-    ghost small: { k ≤ MOST_VARS },
     ghost lists_are: { lists ≡ listed_cuts k rows.now },
     ghost labels_are: { labels.items ≡ labels_of k rows.now },
 }
@@ -40,7 +35,6 @@ impl<'a> Labelled<'a> {
     ) -> Result<Labelled<'a>, AllocError>
         requires { k ≤ MOST_VARS }
         ensures rows { IfOk result (λ l. l.rows.now ≡ graph.now.rows) }
-        ensures sources { IfOk result (λ l. l.source_count ≡ graph.now.source_count) }
         ensures k { IfOk result (λ l. l.k ≡ k) }
     {
         let lists = syn_cuts::listed(rt, alloc, graph, k, workers)?;
@@ -48,20 +42,29 @@ impl<'a> Labelled<'a> {
         let labels = labels(alloc, rows, &lists)?;
         Ok(Labelled {
             rows,
-            source_count: graph.source_count,
             k,
             lists,
             labels,
         })
     }
 
-    /// The chosen cut of a node: the first whose greatest label of a leaf is least.
-    pub(crate) fn chosen(&self, node: u32) -> &[u32]
+    // The chosen cut of a node: the first whose greatest label of a leaf is least.
+    fn chosen(&self, node: u32) -> &[u32]
         requires { node < length self.now.rows.now }
         ensures { result.now ≡ chosen self.now.k self.now.rows.now node }
     {
         let cuts = cuts_of(&self.lists, node);
         let labels = self.labels.as_slice();
         first_at(labels, cuts, least(labels, cuts))
+    }
+}
+
+impl<'a> Choice for Labelled<'a> {
+    ghost leaves = { λ l. chosen l.k l.rows.now };
+
+    ghost count = { λ l. length l.rows.now };
+
+    fn cut(&self, node: u32) -> &[u32] {
+        self.chosen(node)
     }
 }

@@ -9,17 +9,14 @@ ghost use Rattle.syn_truth.specs.declared.TheConstants.{MOST_VARS};
 ghost use Rattle.syn_lutshapes.specs.Luts.{greatest, luts_function, net_depth, none_exceeds};
 ghost use Rattle.syn_lutnet.specs.Data.{luts_data};
 ghost use Rattle.syn_map.specs.Labels.{label_of};
-ghost use Rattle.syn_map.specs.Making.{IsMapped};
+ghost use Rattle.syn_map.specs.Mappings.{IsMapped};
 
 use crate::labelled::Labelled;
-use crate::making::{make_luts, signal_literals};
-use crate::needs::needed;
-use crate::numbering::number;
 use std::alloc::{AllocError, Global};
 use std::thread::Threads;
-use syn_graph::{Graph, copy_frame};
+use syn_covering::net_of;
+use syn_graph::Graph;
 use syn_lutnet::LutNet;
-use syn_netlist::Items;
 
 /// The LUTs, of at most `k` inputs, of a graph: of the observed ANDs, and again and again of the ANDs among the leaves of
 /// chosen cuts, in node order. The label of a source is 0, that of an AND one more than the least, over its listed cuts of
@@ -43,33 +40,6 @@ pub fn map<R: Threads + Sync>(
     ensures inputs { IfOk result (λ net. none_exceeds k (luts_data net.luts) ≡ true) }
     ensures count { IfOk result (λ net. length net.luts + (length (sources (frame_in graph.now.frame)) + 1) ≤ length graph.now.rows) }
 {
-    make_net(rt, alloc, graph, k, workers)
-}
-
-// The LUTs of a graph's chosen cuts.
-fn make_net<R: Threads + Sync>(
-    rt: &R,
-    alloc: Global,
-    graph: &Graph,
-    k: u8,
-    workers: u8,
-) -> Result<LutNet, AllocError>
-    requires many { 2 ≤ k }
-    requires few { k ≤ MOST_VARS }
-    ensures frame { IfOk result (λ net. frame_in net.frame ≡ frame_in graph.now.frame) }
-    ensures mapping { IfOk result (IsMapped k graph.now) }
-{
     let labelled = Labelled::of(rt, alloc, graph, k, workers)?;
-    let observed = graph.observed.as_slice();
-    let marks = needed(alloc, &labelled, observed)?;
-    let numbering = number(alloc, marks.as_slice(), graph.source_count)?;
-    let signals = numbering.signals.as_slice();
-    let luts = make_luts(alloc, &labelled, signals, numbering.nodes.as_slice())?;
-    let outs = signal_literals(alloc, signals, observed)?;
-    Ok(LutNet {
-        frame: copy_frame(alloc, &graph.frame)?,
-        source_count: graph.source_count,
-        luts: Items::of(luts),
-        observed: Items::of(outs),
-    })
+    net_of(alloc, graph, &labelled)
 }

@@ -1,35 +1,37 @@
-use Rattle.std.proofs.Common.{◌≡◌, ◌+◌, ◌≤◌, Bool, true, List, length, map}
+use Rattle.std.proofs.Common.{◌≡◌, ℕ, true, length, map}
 use Rattle.std.proofs.lemmas.Result.{IfOk-weaker}
 use Rattle.syn_rows.specs.Rows.{node_of}
-use Rattle.syn_rows.specs.Values.{rows_function}
 use Rattle.syn_netlist.specs.Frames.{frame_in}
 use Rattle.syn_netlist.specs.Lists.{sources}
-use Rattle.syn_lutshapes.specs.Luts.{greatest, luts_function, net_depth, none_exceeds}
+use Rattle.syn_truth.specs.declared.TheConstants.{MOST_VARS}
+use Rattle.syn_lutshapes.specs.Luts.{greatest, net_depth, none_exceeds}
 use Rattle.syn_lutnet.specs.Data.{luts_data}
-use Rattle.syn_map.specs.Labels.{label_of}
-use Rattle.syn_map.specs.Making.{IsMapped}
-use Rattle.syn_map.proofs.Assembled.{mapped_function, mapped_depth, mapped_inputs, mapped_count}
+use Rattle.syn_covering.specs.Cuts.{AreDepths, AreLutCuts}
+use Rattle.syn_covering.proofs.Assembled.{more_leaves}
+use Rattle.syn_map.specs.Labels.{chosen, label_of}
+use Rattle.syn_map.proofs.Fitted.{graph_deep, graph_fit, known}
 use Rattle.syn_map.proofs.mapping.map.Goals as goal
 
-pub returns-clause-function : goal.returns-clause-function
-returns-clause-function g c =
+pub net_of-requires-clause-cuts : goal.net_of-requires-clause-cuts
+net_of-requires-clause-cuts g c =
     let gr = c.args.graph.now in
-    IfOk-weaker c.make_net.result (IsMapped c.args.k gr)
-    (λ net. (bits : List Bool) → length bits ≡ length (sources (frame_in gr.frame)) → luts_function (luts_data net.luts) net.observed bits ≡ rows_function gr.rows gr.observed bits)
-    (λ net is. mapped_function c.args.k gr net c.requires.many is) c.make_net.ensures.mapping
+    let l = c.in_ok-labelled.labelled in
+    known (AreLutCuts MOST_VARS gr.rows) c.args.k l.k gr.rows l.rows.now c.in_ok-labelled.ensures.k c.in_ok-labelled.ensures.rows
+    (more_leaves c.args.k MOST_VARS (chosen c.args.k gr.rows) gr.rows c.requires.few (graph_fit gr c.args.k c.requires.many))
 
 pub returns-clause-depth : goal.returns-clause-depth
 returns-clause-depth g c =
     let gr = c.args.graph.now in
-    IfOk-weaker c.make_net.result (IsMapped c.args.k gr) (λ net. net_depth (length (sources (frame_in gr.frame))) (luts_data net.luts) ≡ greatest (label_of c.args.k gr.rows) (map node_of gr.observed))
-    (λ net is. mapped_depth c.args.k gr net c.requires.many is) c.make_net.ensures.mapping
+    let l = c.in_ok-labelled.labelled in
+    IfOk-weaker c.net_of.result (λ net. (label : ℕ → ℕ) → AreDepths gr.rows label (chosen l.k l.rows.now) → net_depth (length (sources (frame_in gr.frame))) (luts_data net.luts) ≡ greatest label (map node_of gr.observed))
+    (λ net. net_depth (length (sources (frame_in gr.frame))) (luts_data net.luts) ≡ greatest (label_of c.args.k gr.rows) (map node_of gr.observed))
+    (λ net is. is (label_of c.args.k gr.rows) (known (AreDepths gr.rows (label_of c.args.k gr.rows)) c.args.k l.k gr.rows l.rows.now c.in_ok-labelled.ensures.k c.in_ok-labelled.ensures.rows (graph_deep gr c.args.k)))
+    c.net_of.ensures.depth
 
 pub returns-clause-inputs : goal.returns-clause-inputs
 returns-clause-inputs g c =
     let gr = c.args.graph.now in
-    IfOk-weaker c.make_net.result (IsMapped c.args.k gr) (λ net. none_exceeds c.args.k (luts_data net.luts) ≡ true) (λ net is. mapped_inputs c.args.k gr net c.requires.many is) c.make_net.ensures.mapping
-
-pub returns-clause-count : goal.returns-clause-count
-returns-clause-count g c =
-    let gr = c.args.graph.now in
-    IfOk-weaker c.make_net.result (IsMapped c.args.k gr) (λ net. length net.luts + (length (sources (frame_in gr.frame)) + 1) ≤ length gr.rows) (λ net is. mapped_count c.args.k gr net is) c.make_net.ensures.mapping
+    let l = c.in_ok-labelled.labelled in
+    IfOk-weaker c.net_of.result (λ net. (k : ℕ) → AreLutCuts k gr.rows (chosen l.k l.rows.now) → none_exceeds k (luts_data net.luts) ≡ true) (λ net. none_exceeds c.args.k (luts_data net.luts) ≡ true)
+    (λ net is. is c.args.k (known (AreLutCuts c.args.k gr.rows) c.args.k l.k gr.rows l.rows.now c.in_ok-labelled.ensures.k c.in_ok-labelled.ensures.rows (graph_fit gr c.args.k c.requires.many)))
+    c.net_of.ensures.inputs

@@ -1,0 +1,9 @@
+pub mod Matching
+pub mod Mapped
+pub mod Depths
+pub mod Framed
+pub mod Fitting
+pub mod Counting
+pub mod Swept
+pub mod Numbered
+pub mod Assembled

@@ -1,0 +1,12 @@
+use Rattle.std.proofs.Common.{◌≡◌, ℕ, ◌&&◌, ◌||◌, length, map, drop}
+use Rattle.syn_rows.specs.Reach.{is_and}
+use Rattle.syn_rows.specs.Rows.{node_of, row_at}
+use Rattle.syn_rows.specs.Values.{value_in}
+use Rattle.syn_rows.specs.Nodes.{has_node}
+use Rattle.syn_covering.proofs.needs.mark_observed.Given as goal
+
+abbrev pub invariant-loop-lit : goal.invariant-loop-lit
+invariant-loop-lit l = record {
+  count : length l.marks ≡ length l.rows;
+  marks : (m : ℕ) → (value_in l.marks m || (has_node (map node_of (drop l.lit-index l.observed)) m && is_and (row_at l.rows m))) ≡ (value_in l.initial.marks m || (has_node (map node_of l.observed) m && is_and (row_at l.rows m)));
+}

@@ -1,0 +1,4 @@
+pub mod Cuts
+pub mod Mappings
+pub mod Needs
+pub mod Making

@@ -1,0 +1,28 @@
+//! Laws of LUT nets over cuts. Each function's clause is the law; it computes nothing.
+
+ghost use Rattle.syn_covering.specs.Mappings.{MappingFits, MappingHasDepth, MappingIsNet, MappingIsSmall, MappingKeepsFunction};
+
+/// The LUTs of a graph's cuts have the graph's function.
+pub fn mapping_keeps_function()
+    ensures { MappingKeepsFunction }
+{}
+
+/// Their depth is the greatest label of an observed node, where the labels are the depths over the cuts.
+pub fn mapping_has_depth()
+    ensures { MappingHasDepth }
+{}
+
+/// None of them has more inputs than a cut has leaves at most.
+pub fn mapping_fits()
+    ensures { MappingFits }
+{}
+
+/// There are at most as many of them as reached ANDs.
+pub fn mapping_is_small()
+    ensures { MappingIsSmall }
+{}
+
+/// They are a LUT net of the graph's frame.
+pub fn mapping_is_net()
+    ensures { MappingIsNet }
+{}

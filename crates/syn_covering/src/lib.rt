@@ -1,0 +1,16 @@
+//! LUT nets of graphs over one cut for each AND, whatever cut: which nodes need LUTs, the numbers of their signals, the LUTs,
+//! and how deep they lie.
+#![tactic(auto)]
+
+mod choice;
+mod laws;
+mod making;
+mod needs;
+mod nets;
+mod numbering;
+
+pub use choice::Choice;
+pub use laws::{
+    mapping_fits, mapping_has_depth, mapping_is_net, mapping_is_small, mapping_keeps_function,
+};
+pub use nets::net_of;
