@@ -15,10 +15,10 @@ ghost use Rattle.syn_graph.specs.Graphs as graphs;
 ghost use Rattle.syn_lutshapes.specs.Luts.{fold_luts, lut_gates, lut_value, luts_function, net_gates, ones_of, ones_value};
 ghost use Rattle.syn_lutnet.specs.Data.{lut_data, luts_data};
 ghost use Rattle.syn_lutnet.specs.Nets.{network_of};
-ghost use Rattle.syn_build_luts.specs.declared.luts.TheConstants.{MOST_GATES, MOST_INDEXES};
+ghost use Rattle.syn_build_luts.specs.declared.luts.TheConstants.{MOST_INDEXES};
 ghost use Rattle.syn_build_luts.specs.Building.{IsGraphOfLuts};
 ghost use Rattle.syn_build_luts.specs.Placing.{AllThere, opposite, plain_literals, ReadEarlier, reads_below, signed_by, stand_for};
-ghost use Rattle.syn_build_luts.specs.Refusals.{TellsFault};
+ghost use Rattle.syn_build_luts.specs.Refusals.{TellsFault, most_gates};
 
 use arrayvec::ArrayVec;
 use std::alloc::{AllocError, AllocFailed, Global};
@@ -244,12 +244,12 @@ fn build_net(alloc: Global, net: &LutNet) -> Result<Built, AllocError>
 ///
 /// A net that takes more than `MOST_GATES` gates is refused; the only other error is want of memory.
 pub fn build_luts(alloc: Global, net: &LutNet) -> Result<Graph, BuildFault>
-    requires room { length (sources (frame_in net.now.frame)) + 1 + MOST_GATES < NODE_LIMIT }
+    requires room { length (sources (frame_in net.now.frame)) + 1 + most_gates < NODE_LIMIT }
     ensures frame { IfOk result (λ graph. frame_in graph.frame ≡ frame_in net.now.frame) }
     ensures function { IfOk result (λ graph. (bits : List Bool) → length bits ≡ length (sources (frame_in net.now.frame)) → rows_function graph.rows graph.observed bits ≡ luts_function (luts_data net.now.luts) net.now.observed bits) }
     ensures network { IfOk result (λ graph. IsGraphOfLuts (network_of net.now) (graphs.network_of graph)) }
     ensures few { IfOk result (λ graph. length graph.rows ≤ length (sources (frame_in net.now.frame)) + 1 + net_gates (luts_data net.now.luts)) }
-    ensures within { IfOk result (λ graph. net_gates (luts_data net.now.luts) ≤ MOST_GATES) }
+    ensures within { IfOk result (λ graph. net_gates (luts_data net.now.luts) ≤ most_gates) }
     ensures fault { IfErr result (TellsFault (net_gates (luts_data net.now.luts))) }
 {
     syn_lutshapes::network_of_luts();
