@@ -1,7 +1,1 @@
-pub mod Sorted
-pub mod Replacing
-pub mod Choosing
-pub mod Grown
-pub mod Falling
-pub mod Inner
-pub mod Sound
+pub mod Factored

@@ -1,4 +1,1 @@
-pub mod Growing
-pub mod Cones
 pub mod Refactoring
-pub mod Laws

@@ -4,11 +4,8 @@ use Rattle.syn_rows.specs.declared.Row.{Row}
 use Rattle.syn_plan.specs.Factoring.{Built, factored, falling}
 use Rattle.syn_cones.specs.Values.{value_over}
 use Rattle.syn_gain.specs.Replacements.{Replacement}
-use Rattle.syn_refactor.specs.Growing.{cone_leaves}
-
--- a plan that has these leaves of a root, all of them
-abbrev pub over : ℕ → List ℕ → Built → Replacement
-over root leaves plan = record { root = root; leaves = leaves; count = length leaves; gates = plan.gates; out = plan.out }
+use Rattle.syn_growing.specs.Growing.{cone_leaves}
+use Rattle.syn_growing.specs.Plans.{over}
 
 -- the plan of a node's function over leaves, from the last leaf down
 abbrev pub factored_over : List Row → ℕ → List ℕ → Built

@@ -4,21 +4,17 @@ ghost use Rattle.std.specs.Prelude.{◌≡◌, ◌∷◌, [], true, IfOk, ⊤};
 ghost use Rattle.syn_rows.specs.Rows.{row_at};
 ghost use Rattle.syn_rows.specs.Reach.{is_and};
 ghost use Rattle.syn_gain.specs.Proposals.{replacement};
-ghost use Rattle.syn_gain.specs.Uses.{IsUsesOf};
 ghost use Rattle.syn_pool.specs.Sound.{IsSound};
 ghost use Rattle.syn_refactor.specs.Refactoring.{refactorings};
 
-use crate::growing::cone_leaves;
 use std::alloc::{AllocError, Global};
 use std::thread::Threads;
 use syn_cones::function;
-use syn_gain::{Proposal, Room, Uses, adds_fewer, lost_but};
+use syn_gain::{Proposal, Uses};
 use syn_graph::Graph;
+use syn_growing::{cone_leaves, may_save};
 use syn_plan::factor;
 use syn_pool::{Proposer, saves};
-
-// How many ANDs that go with a row are counted before its plan is looked at; no plan has as many gates.
-const MOST_COUNTED: u32 = 256;
 
 /// Proposes for each AND the factored plan of its function over the leaves of its cone.
 #[derive(Clone, Copy, Debug)]
@@ -36,32 +32,9 @@ fn proposal(alloc: Global, graph: &Graph, node: u32) -> Result<Proposal, AllocEr
     ensures sound { IfOk result (IsSound graph.now.rows) }
 {
     syn_gain::all_leaf_values();
-    let rows = graph.rows.as_slice();
-    let leaves = cone_leaves(rows, node);
-    let table = function(alloc, rows, node, leaves.as_slice())?;
+    let leaves = cone_leaves(graph, node);
+    let table = function(alloc, graph.rows.as_slice(), node, leaves.as_slice())?;
     Ok(Proposal::over(node, leaves, factor(table)))
-}
-
-// Whether a proposal may save on a shared table of the graph, or with `zero_gain` loses nothing: it adds fewer new rows than
-// go with the root's row where the leaves stay, or as many.
-fn is_promising(
-    alloc: Global,
-    graph: &Graph,
-    uses: &Uses,
-    proposal: &Proposal,
-    zero_gain: bool,
-) -> Result<bool, AllocError>
-    requires uses { IsUsesOf uses.now graph.now }
-    requires root { is_and (row_at graph.now.rows proposal.now.root) ≡ true }
-{
-    let leaves = proposal.leaves.as_slice();
-    let lost = lost_but(alloc, graph, uses, proposal.root, leaves, MOST_COUNTED)?;
-    let limit = lost.saturating_add(u32::from(zero_gain));
-    if proposal.plan.gates.len() < limit as usize {
-        return Ok(true);
-    }
-    let mut room = Room::new(alloc);
-    adds_fewer(graph, uses, proposal.borrow(), limit, &mut room)
 }
 
 impl Proposer for Cones {
@@ -120,7 +93,7 @@ impl Proposer for Cones {
     ) -> Result<Vec<Proposal>, AllocError> {
         let proposal = proposal(alloc, graph, node)?;
         let mut proposals = Vec::new(alloc);
-        if is_promising(alloc, graph, uses, &proposal, zero_gain)? {
+        if may_save(alloc, graph, uses, &proposal, zero_gain)? {
             proposals.push(proposal)?;
         }
         Ok(proposals)

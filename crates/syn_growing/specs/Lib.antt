@@ -1,0 +1,4 @@
+pub mod Growing
+pub mod Cones
+pub mod Laws
+pub mod Plans

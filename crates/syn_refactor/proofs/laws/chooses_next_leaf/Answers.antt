@@ -1,5 +1,0 @@
-use Rattle.syn_refactor.proofs.Choosing as choosing
-use Rattle.syn_refactor.proofs.laws.chooses_next_leaf.Goals as goal
-
-pub returns : goal.returns
-returns c = choosing.chooses_next_leaf

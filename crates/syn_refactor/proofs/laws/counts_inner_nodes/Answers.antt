@@ -1,5 +1,0 @@
-use Rattle.syn_refactor.proofs.Inner as inner
-use Rattle.syn_refactor.proofs.laws.counts_inner_nodes.Goals as goal
-
-pub returns : goal.returns
-returns c = inner.counts_inner_nodes

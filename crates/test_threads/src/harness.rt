@@ -1,0 +1,89 @@
+//! Small texts and their graphs, what workers tell, and a gate that counts.
+
+use std::alloc::{AllocError, Global};
+use std::sync::atomic::{AtomicU64, Ordering};
+use syn_build::build_checked;
+use syn_commit::{Gate, Moment};
+use syn_graph::Graph;
+use syn_pool::Report;
+use syn_reader::read_checked;
+
+/// A gate that counts the commits that were done.
+#[derive(Drop)]
+pub struct Counting {
+    done: AtomicU64,
+}
+
+impl Counting {
+    /// None yet.
+    pub fn new() -> Counting {
+        Counting {
+            done: AtomicU64::new(0),
+        }
+    }
+
+    /// How many it was told.
+    pub fn told(&self) -> u64 {
+        self.done.load(Ordering::SeqCst)
+    }
+}
+
+impl Gate for Counting {
+    fn at(&self, _worker: u8, moment: Moment) {
+        if moment == Moment::Answered(true) {
+            let _before = self.done.fetch_add(1, Ordering::SeqCst);
+        }
+    }
+}
+
+/// The graph of a text of at most 100,000 bytes.
+pub fn graph_of(alloc: Global, text: &[u8]) -> Option<Graph> {
+    if text.len() > 100_000 {
+        return None;
+    }
+    let netlist = read_checked(alloc, text).ok()?;
+    build_checked(alloc, netlist).ok()
+}
+
+/// What is told of workers: their report, how many ANDs are left, and how many done commits their gate was told.
+pub type Told = Option<(Report, u32, u64)>;
+
+/// So many commits done, and ANDs gained.
+pub fn report(done: u64, gained: u64) -> Report {
+    Report { done, gained }
+}
+
+/// The text of so many cones, each over three inputs of its own.
+pub fn cones(alloc: Global, count: u32) -> Result<String, AllocError> {
+    let mut text = String::from_str(alloc, ".model m\n")?;
+    for i in 0..count {
+        let names = format!(in alloc; ".inputs a{i} b{i} c{i}\n.outputs f{i}\n")?;
+        text.push_str(names.as_str())?;
+    }
+    for i in 0..count {
+        let table = format!(in alloc; ".names a{i} b{i} c{i} f{i}\n11- 1\n1-1 1\n")?;
+        text.push_str(table.as_str())?;
+    }
+    text.push_str(".end\n")?;
+    Ok(text)
+}
+
+/// The cone f = ab + ac over the nodes 1 to 3: node 4 is the AND of a and b, node 5 that of a and c, node 6 that of the
+/// complements of both; f is the complement of node 6.
+pub const CONE: &str = ".model m\n.inputs a b c\n.outputs f\n.names a b c f\n11- 1\n1-1 1\n.end\n";
+
+/// The NAND of two inputs.
+pub const NAND: &str = ".model m\n.inputs a b\n.outputs y\n.names a b y\n11 0\n.end\n";
+
+/// Two ANDs and the OR of both, all three observed.
+pub const OBSERVED: &str =
+    ".model m\n.inputs a b c\n.outputs f g h\n.names a b g\n11 1\n.names a c h\n11 1\n.names g h f\n1- 1\n-1 1\n.end\n";
+
+/// The numbers that stand for one worker.
+pub const ONE: [u8; 2] = [0, 1];
+
+/// Numbers of several workers: 200 counts as 16.
+pub const SEVERAL: [u8; 3] = [2, 4, 200];
+
+/// The numbers of workers that are tried.
+pub const WORKERS: [u8; 5] = [0, 1, 2, 4, 200];

@@ -1,0 +1,42 @@
+//! Tests of the shared table, of commits, and of rounds and passes of workers, on graphs that are read from small texts.
+//!
+//! Nothing here is for other crates: what calls answer, report and leave is compared with values worked by hand, and with
+//! what gates were told. Where commits of several workers may meet, only that is compared which holds whatever the schedule.
+#![tactic(auto)]
+
+#[cfg(test)]
+mod commits;
+#[cfg(test)]
+mod contending;
+#[cfg(test)]
+mod fresh;
+#[cfg(test)]
+mod harness;
+#[cfg(test)]
+mod hints;
+#[cfg(test)]
+mod keying;
+#[cfg(test)]
+mod meeting;
+#[cfg(test)]
+mod passes;
+#[cfg(test)]
+mod pinning;
+#[cfg(test)]
+mod pools;
+#[cfg(test)]
+mod repeating;
+#[cfg(test)]
+mod rewriting;
+#[cfg(test)]
+mod rounds;
+#[cfg(test)]
+mod steps;
+#[cfg(test)]
+mod tables;
+#[cfg(test)]
+mod turns;
+#[cfg(test)]
+mod worker_gates;
+#[cfg(test)]
+mod worker_rounds;
