@@ -71,7 +71,7 @@ any_weaker cs us (m ∷ ms) f h = elim (or_cases (has_node cs m) (list_any (has_
   | inr t ↦ or_right (has_node us m) (list_any (has_node us) ms) (any_weaker cs us ms f t)
 ]
 
-cut_union : (rows : List Row) (cs ds : List ℕ) (a b : Lit) (n : ℕ) → row_at rows n ≡ And a b → IsCut rows cs (node_of a) → IsCut rows ds (node_of b) → IsCut rows (union cs ds) n
+pub cut_union : (rows : List Row) (cs ds : List ℕ) (a b : Lit) (n : ℕ) → row_at rows n ≡ And a b → IsCut rows cs (node_of a) → IsCut rows ds (node_of b) → IsCut rows (union cs ds) n
 cut_union rows cs ds a b n e f g = λ path source. go path source
   where
     go : (path : List ℕ) → LeadsToSource rows n path → list_any (has_node (union cs ds)) (n ∷ path) ≡ true
@@ -83,7 +83,7 @@ cut_union rows cs ds a b n e f g = λ path source. go path source
           | inr t ↦ any_weaker ds (union cs ds) (m ∷ ms) (λ k h. union_right cs ds k h) (subst (IsCut rows ds) t g ms source.1)
         ])
 
-cut_alone : (rows : List Row) (n : ℕ) → IsCut rows (n ∷ []) n
+pub cut_alone : (rows : List Row) (n : ℕ) → IsCut rows (n ∷ []) n
 cut_alone rows n = λ path source. or_left (has_node (n ∷ []) n) (list_any (has_node (n ∷ [])) path) (has_here n [])
 
 -- and so is each that is listed

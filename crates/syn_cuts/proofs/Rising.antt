@@ -97,12 +97,12 @@ two_apart a b ne = go (nat_lt a b) (nat_eq a b) refl
 
 -- the listed cuts of a node that isn't the constant, the node alone among them
 
-record IsCutOf (m : ℕ) (c : List ℕ) : Type 0 where
-  rising : rise_above 0 c ≡ true
-  low : are_below (suc m) c ≡ true
-  sized : (c ≡ m ∷ []) ⊎ (2 ≤ length c)
+pub record IsCutOf (m : ℕ) (c : List ℕ) : Type 0 where
+  pub rising : rise_above 0 c ≡ true
+  pub low : are_below (suc m) c ≡ true
+  pub sized : (c ≡ m ∷ []) ⊎ (2 ≤ length c)
 
-alone_of : (m : ℕ) → 0 < m → IsCutOf m (m ∷ [])
+pub alone_of : (m : ℕ) → 0 < m → IsCutOf m (m ∷ [])
 alone_of m positive = record {
   rising = and_from (nat_lt 0 m) true (lt-ltb 0 m positive) refl;
   low = and_from (nat_lt m (suc m)) true (lt-ltb m (suc m) (omega arith)) refl;
@@ -115,10 +115,10 @@ lower m n (x ∷ xs) lt h =
     let parts = and_parts (nat_lt x (suc m)) (are_below (suc m) xs) h in
     and_from (nat_lt x n) (are_below n xs) (lt-ltb x n (omega (arith, ltb-true x (suc m) parts.0))) (lower m n xs lt parts.1)
 
-abbrev IsUnionOf : ℕ → List ℕ → Type 0
+abbrev pub IsUnionOf : ℕ → List ℕ → Type 0
 IsUnionOf n c = (rise_above 0 c ≡ true) × (are_below n c ≡ true) × (2 ≤ length c)
 
-union_of : (a b n : ℕ) (c d : List ℕ) → a ≢ b → a < n → b < n → IsCutOf a c → IsCutOf b d → IsUnionOf n (union c d)
+pub union_of : (a b n : ℕ) (c d : List ℕ) → a ≢ b → a < n → b < n → IsCutOf a c → IsCutOf b d → IsUnionOf n (union c d)
 union_of a b n c d ne la lb p q = (
   union_rises c d 0 p.rising q.rising,
   union_all (λ k. nat_lt k n) c d (lower a n c la p.low) (lower b n d lb q.low),
@@ -154,14 +154,14 @@ firsts k a b n cs ds ne la lb p q =
     (both (IsUnionOf n) (λ c. length c ≤ k) (unions k cs ds) (all_unions k (IsCutOf a) (IsCutOf b) (IsUnionOf n) cs ds (λ c d f g. union_of a b n c d ne la lb f g) p q) (unions_small k cs ds)))
 
 -- two fan-ins of a hashed AND
-record AreFanIns (n : ℕ) (a b : Lit) : Type 0 where
-  first : 0 < node_of a
-  second : 0 < node_of b
-  apart : node_of a ≢ node_of b
-  first_low : node_of a < n
-  second_low : node_of b < n
+pub record AreFanIns (n : ℕ) (a b : Lit) : Type 0 where
+  pub first : 0 < node_of a
+  pub second : 0 < node_of b
+  pub apart : node_of a ≢ node_of b
+  pub first_low : node_of a < n
+  pub second_low : node_of b < n
 
-fan_ins : (n : ℕ) (a b : Lit) → is_gate n (And a b) ≡ true → AreFanIns n a b
+pub fan_ins : (n : ℕ) (a b : Lit) → is_gate n (And a b) ≡ true → AreFanIns n a b
 fan_ins n a b h =
     let p = and_parts (nat_le 2 a.0) (nat_lt a.0 b.0 && (not (nat_eq (node_of a) (node_of b)) && nat_lt (node_of b) n)) h in
     let q = and_parts (nat_lt a.0 b.0) (not (nat_eq (node_of a) (node_of b)) && nat_lt (node_of b) n) p.1 in
@@ -178,16 +178,17 @@ and_cuts : (k count : ℕ) (rows : List Row) → IsHashed count rows → (n : �
     → All (λ c. IsUnionOf n c × (length c ≤ k)) (first_unions k (list_at (listed_cuts k rows) (node_of a)) (list_at (listed_cuts k rows) (node_of b)))
 and_cuts k count rows h n a b f p q = firsts k (node_of a) (node_of b) n (list_at (listed_cuts k rows) (node_of a)) (list_at (listed_cuts k rows) (node_of b)) f.apart f.first_low f.second_low p q
 
+-- what lies below a node lies below the next
+pub upper : (n : ℕ) (c : List ℕ) → are_below n c ≡ true → are_below (suc n) c ≡ true
+upper n [] h = refl
+upper n (x ∷ xs) h =
+    let parts = and_parts (nat_lt x n) (are_below n xs) h in
+    and_from (nat_lt x (suc n)) (are_below (suc n) xs) (lt-ltb x (suc n) (omega (arith, ltb-true x n parts.0))) (upper n xs parts.1)
+
 as_cut : (k n : ℕ) (cs : List (List ℕ)) → All (λ c. IsUnionOf n c × (length c ≤ k)) cs → All (IsCutOf n) cs
 as_cut k n cs h i d lt =
     let u = h i d lt in
     record { rising = u.0.0; low = upper n (get_or cs i d) u.0.1; sized = inr u.0.2 }
-  where
-    upper : (n : ℕ) (c : List ℕ) → are_below n c ≡ true → are_below (suc n) c ≡ true
-    upper n [] h = refl
-    upper n (x ∷ xs) h =
-        let parts = and_parts (nat_lt x n) (are_below n xs) h in
-        and_from (nat_lt x (suc n)) (are_below (suc n) xs) (lt-ltb x (suc n) (omega (arith, ltb-true x n parts.0))) (upper n xs parts.1)
 
 row_all : (k count : ℕ) (rows : List Row) → IsHashed count rows → (n : ℕ) → 0 < n → (row : Row) → ((count < n) → is_gate n row ≡ true) → (n < count + 1 → row ≡ Source)
     → ((m : ℕ) → 0 < m → m < n → All (IsCutOf m) (list_at (listed_cuts k rows) m)) → All (IsCutOf n) (row_cuts k (list_at (listed_cuts k rows)) n row)

@@ -22,4 +22,5 @@ pub use laws::{
 };
 pub use levels::{chunk_size, nodes_by_level};
 pub use lists::CutLists;
-pub use signatures::signature;
+pub use signatures::{least_leaves, signature, signatures_of};
+pub use unions::{KEPT, union};

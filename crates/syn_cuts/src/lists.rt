@@ -57,8 +57,8 @@ fn set_spans(spans: &mut [Span], entries: &[Entry], part: usize)
 }
 
 impl CutLists {
-    // Empty lists of so many nodes.
-    pub(crate) fn empty(alloc: Global, count: usize) -> Result<CutLists, AllocError>
+    /// Empty lists of so many nodes.
+    pub fn empty(alloc: Global, count: usize) -> Result<CutLists, AllocError>
         ensures { IfOk result (λ lists. lists ≡ replicate count []) }
     {
         let none = Span {
@@ -89,8 +89,8 @@ impl CutLists {
         self.parts[span.part].slice(span.start, span.len)
     }
 
-    // Sets the list of a node: these cuts, and the node alone.
-    pub(crate) fn set(&mut self, node: u32, kept: ArrayVec<Cut, KEPT>) -> Result<(), AllocError>
+    /// Sets the list of a node: these cuts, and the node alone.
+    pub fn set(&mut self, node: u32, kept: ArrayVec<Cut, KEPT>) -> Result<(), AllocError>
         requires { node < length self.old }
         ensures { OnOk result (self.new ≡ slice_set self.old node (leaves_of kept.items ++ (node ∷ []) ∷ [])) }
     {

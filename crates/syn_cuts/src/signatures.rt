@@ -24,7 +24,7 @@ pub fn signature(leaves: &[u32]) -> u64
 }
 
 /// The signatures of the first cuts of a list, as many as there is room for.
-pub(crate) fn signatures(cuts: &[Cut]) -> ArrayVec<u64, SIGNED>
+pub fn signatures_of(cuts: &[Cut]) -> ArrayVec<u64, SIGNED>
     ensures { AreSignatures result.items (leaves_of cuts.now) }
 {
     let mut words = ArrayVec::new();
@@ -39,7 +39,7 @@ pub(crate) fn signatures(cuts: &[Cut]) -> ArrayVec<u64, SIGNED>
 
 /// How many leaves the union of a cut and one of a list has at least.
 #[inline]
-pub(crate) fn least_leaves(bits: u64, words: &[u64], i: usize) -> usize
+pub fn least_leaves(bits: u64, words: &[u64], i: usize) -> usize
     ensures { (c : List ℕ) (ds : List (List ℕ)) → bits ≡ signature c → AreSignatures words.now ds → result ≤ length (union c (slice_index_or ds i [])) }
 {
     if i < words.len() {

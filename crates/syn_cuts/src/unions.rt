@@ -10,7 +10,7 @@ ghost use Rattle.syn_cuts.specs.Leaves.{leaves_of};
 ghost use Rattle.syn_cuts.specs.Signatures.{AreSignatures};
 
 use crate::Cut;
-use crate::signatures::{least_leaves, signature, signatures};
+use crate::signatures::{least_leaves, signature, signatures_of};
 use arrayvec::ArrayVec;
 
 /// How many unions are kept for a node.
@@ -38,8 +38,8 @@ fn first_node<'a>(left: &'a [u32], right: &'a [u32]) -> Option<(u32, &'a [u32], 
     }
 }
 
-// The union of two cuts, where it has at most k leaves.
-fn union(left: &[u32], right: &[u32], k: usize) -> Option<Cut>
+/// The union of two cuts, where it has at most k leaves.
+pub fn union(left: &[u32], right: &[u32], k: usize) -> Option<Cut>
     requires { k ≤ MOST_VARS }
     ensures some { IfSome result (λ c. (c.items ≡ union left.now right.now) × (length (union left.now right.now) ≤ k)) }
     ensures none { IfNone result (k < length (union left.now right.now)) }
@@ -210,7 +210,7 @@ pub(crate) fn first_unions(left: &[Cut], right: &[Cut], k: usize) -> ArrayVec<Cu
     requires { k ≤ MOST_VARS }
     ensures { leaves_of result.items ≡ first_unions k (leaves_of left.now) (leaves_of right.now) }
 {
-    let words = signatures(right);
+    let words = signatures_of(right);
     let mut kept = ArrayVec::new();
     for cut in left {
         keep_unions(&mut kept, cut.as_slice(), right, words.as_slice(), k);

@@ -1,0 +1,123 @@
+//! What is estimated of nodes.
+
+use syn_rows::Lit;
+
+/// One LUT, one input of one, or one reader, in the units of the estimates.
+pub(crate) const UNIT: u32 = 256;
+
+/// What is estimated of a node over the chosen cuts.
+#[derive(Clone, Copy, Debug, Default, PartialEq, Eq)]
+pub(crate) struct Figures {
+    /// How many LUTs lie on a longest path to it.
+    pub(crate) arrival: u32,
+    /// The share of one reader in its LUT and those below it, in units of 1/256 of a LUT.
+    pub(crate) flow: u32,
+    /// The same of their inputs.
+    pub(crate) edges: u32,
+    /// How many readers it is expected to have, in units of 1/256.
+    pub(crate) readers: u32,
+}
+
+/// What is estimated of a node, nothing past the end.
+#[inline]
+pub(crate) fn figures_at(figures: &[Figures], node: u32) -> Figures {
+    if (node as usize) < figures.len() {
+        figures[node as usize]
+    } else {
+        Figures::default()
+    }
+}
+
+/// What a LUT over these leaves costs: when it arrives, and its flows before they are shared among its readers.
+pub(crate) fn figures_over(figures: &[Figures], leaves: &[u32]) -> Figures {
+    let mut arrival = 0;
+    let mut flow = UNIT;
+    let mut edges = 0u32;
+    for leaf in leaves {
+        let below = figures_at(figures, *leaf);
+        arrival = later(arrival, below.arrival);
+        flow = flow.saturating_add(below.flow);
+        edges = edges.saturating_add(below.edges).saturating_add(UNIT);
+    }
+    Figures {
+        arrival: arrival.saturating_add(1),
+        flow,
+        edges,
+        readers: UNIT,
+    }
+}
+
+// The later of two arrivals.
+#[inline]
+fn later(a: u32, b: u32) -> u32 {
+    if a < b { b } else { a }
+}
+
+// A number of 64 bits as one of 32, the greatest where it is above.
+#[inline]
+fn clipped(number: u64) -> u32 {
+    if number < u32::MAX as u64 {
+        number as u32
+    } else {
+        u32::MAX
+    }
+}
+
+// The share of one reader, of so many that are expected, at least one.
+#[inline]
+fn share(amount: u32, readers: u32) -> u32 {
+    let readers = if readers < UNIT { UNIT } else { readers };
+    clipped(amount as u64 * UNIT as u64 / readers as u64)
+}
+
+/// Sets what is estimated of a node from what its LUT costs.
+pub(crate) fn set_figures(figures: &mut [Figures], node: u32, cost: Figures) {
+    if (node as usize) < figures.len() {
+        let readers = figures[node as usize].readers;
+        figures[node as usize] = Figures {
+            arrival: cost.arrival,
+            flow: share(cost.flow, readers),
+            edges: share(cost.edges, readers),
+            readers,
+        };
+    }
+}
+
+/// Expects of each node as many readers as it has.
+pub(crate) fn expect_first(figures: &mut [Figures], refs: &[u32]) {
+    for (n, refs) in refs.iter().enumerate() {
+        if n < figures.len() {
+            figures[n].readers = refs.saturating_mul(UNIT);
+        }
+    }
+}
+
+// How many readers are expected of a node next: the mean of those that were, and of those that it has, one of them twice.
+fn expected_next(readers: u32, refs: u32, slow: bool) -> u32 {
+    let before = readers as u64;
+    let now = UNIT as u64 * refs as u64;
+    if slow {
+        clipped((2 * before + now) / 3)
+    } else {
+        clipped((before + 2 * now) / 3)
+    }
+}
+
+/// Expects of each node readers between those that were expected and those that it has, nearer to the first where that is
+/// to go slowly.
+pub(crate) fn expect_again(figures: &mut [Figures], refs: &[u32], slow: bool) {
+    for (n, refs) in refs.iter().enumerate() {
+        if n < figures.len() {
+            figures[n].readers = expected_next(figures[n].readers, *refs, slow);
+        }
+    }
+}
+
+/// The greatest arrival of an observed node.
+pub(crate) fn depth_of(figures: &[Figures], observed: &[Lit]) -> u32 {
+    let mut depth = 0;
+    for lit in observed {
+        depth = later(depth, figures_at(figures, lit.node()).arrival);
+    }
+    depth
+}

@@ -1,0 +1,19 @@
+//! Mapping for few LUTs: a few good cuts are kept for each node, and round after round one of them is chosen, first for
+//! depth, then by area flow, then by exact local area, while no LUT on a longest path gets later (after Mishchenko, Cho,
+//! Chatterjee and Brayton, "Combinational and sequential mapping with priority cuts", ICCAD 2007; how many cuts are kept,
+//! their order and the rounds are this project's choice).
+//!
+//! The search keeps for each node its chosen cut, what is estimated of it (`figures`), and its place in the cover
+//! (`covers`). All are flat by node number. What is proved of the search is that each chosen cut is one that a LUT may
+//! read; that the net is no worse than that of `map` is seen by making both.
+#![tactic(auto)]
+
+mod candidates;
+mod chosen;
+mod costs;
+mod covers;
+mod figures;
+mod mapping;
+mod rounds;
+
+pub use mapping::map_for_area;
