@@ -19,6 +19,7 @@ use Rattle.syn_gain.specs.Replacements.{Replacement}
 use Rattle.syn_gen.specs.Generated.{generated}
 use Rattle.syn_refactor.specs.Refactoring.{refactorings}
 use Rattle.syn_rewrite.specs.Rewriting.{rewritings}
+use Rattle.syn_seq.specs.Sweeping.{IsSweepOf}
 use Rattle.syn_words.specs.declared.Command.{Command}
 use Rattle.syn_words.specs.declared.Command.TheVariants as commands
 use Rattle.syn_hierarchy.specs.declared.file_fault.FileFault.{FileFault}
@@ -117,6 +118,11 @@ pub record IsMappedTo (inputs : ℕ) (old new : Network) : Type 0 where
   pub depth : depth_of new.netlist ≡ greatest (label_of inputs (rows_of old.netlist)) (map node_of (observed_of old.netlist))
   pub fewer : count_of new.netlist ≤ length (and_tables old.netlist)
 
+-- What sweeping makes of a graph: one with the same outputs over every sequence of inputs, in which no latch is left that no output needs, and no two that can be one.
+pub record IsSweptTo (old new : Network) : Type 0 where
+  pub graph : new.mapped ≡ false
+  pub sweep : IsSweepOf old.netlist new.netlist
+
 -- What a command on graphs makes of a network by its mark: of a net of LUTs what it makes of the graph that hashing made of that before.
 abbrev pub OnGraph : (Network → Network → Type 0) → Bool → Network → Network → Type 0
 OnGraph makes false old new = makes old new
@@ -129,6 +135,7 @@ Makes commands.Balance old new = OnGraph IsBalanced old.mapped old new
 Makes (commands.Rewrite zero workers) old new = OnGraph (IsClosedFor rewritings) old.mapped old new
 Makes (commands.Refactor zero workers) old new = OnGraph (IsClosedFor refactorings) old.mapped old new
 Makes (commands.Map inputs) old new = OnGraph (IsMappedTo inputs) old.mapped old new
+Makes commands.Sweep old new = OnGraph IsSweptTo old.mapped old new
 Makes other old new = new ≡ old
 
 -- There is a network, not too many gates make it a graph, and the command makes another of it.
