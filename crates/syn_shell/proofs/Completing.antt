@@ -13,7 +13,7 @@ use Rattle.syn_words.specs.Scripts.{IsScript}
 use Rattle.syn_words.proofs.Deciding.{script_has_no_fault}
 use Rattle.syn_shell.specs.declared.refusal.Refusal.{Refusal}
 use Rattle.syn_shell.specs.declared.refusal.Refusal.TheVariants.{Script, Read, FileTooLong, LineTooLong, TooManyGates, NoNetwork, GetFailed, PutFailed, LineFailed, SinkFailed, NoMemory}
-use Rattle.syn_build_luts.specs.declared.luts.TheConstants.{MOST_GATES}
+use Rattle.syn_build_luts.specs.Refusals.{most_gates}
 use Rattle.syn_shell.specs.Networks.{Network, gates_in}
 use Rattle.syn_shell.specs.Outside.{State, script_limit}
 use Rattle.syn_shell.specs.Lines.{refusal_status}
@@ -96,7 +96,7 @@ write_fine m name before after other needs why = absurd why
 
 -- not too many gates make the network a graph
 abbrev IsGraphable : Option Network → Type 0
-IsGraphable m = IsSomeAnd m (λ net. gates_in net ≤ MOST_GATES)
+IsGraphable m = IsSomeAnd m (λ net. gates_in net ≤ most_gates)
 
 there_is_a_graph : (m : Option Network) → IsGraphable m → m ≡ None → ⊥
 there_is_a_graph None needs none = needs

@@ -11,3 +11,4 @@ mod Wording
 mod Counting
 pub mod Concluding
 mod Completing
+mod Keeping

@@ -20,8 +20,9 @@ use Rattle.syn_map.specs.Labels.{label_of}
 use Rattle.syn_words.specs.declared.Command.{Command}
 use Rattle.syn_words.specs.declared.Command.TheVariants as commands
 use Rattle.syn_reader.specs.Limits.{most_sources}
+use Rattle.syn_seq.proofs.Fewer.{fewer_sources}
 use Rattle.syn_shell.specs.Networks.{Network, graph_network, mapped_network, HasFewSources}
-use Rattle.syn_shell.specs.Steps.{IsMappedTo, IsRemade, Makes, Making, OnGraph, kind_of}
+use Rattle.syn_shell.specs.Steps.{IsMappedTo, IsRemade, IsSweptTo, Makes, Making, OnGraph, kind_of}
 
 -- LUTs of the function of rows, as deep as the greatest label, and no more of them than rows
 mapped_in : NetworkOfGraph → GraphHasFunction → NetworkOfLuts → LutsHaveFunction → SameFromFunction → (k : ℕ) (frame : Frame) (rows : List Row) (lits : List Lit) (luts : List Lut) (outs : List Lit)
@@ -82,25 +83,34 @@ behind_hashing transitive commands.Balance making m graph new is made = (graph_n
 behind_hashing transitive (commands.Rewrite zero workers) making m graph new is made = (graph_network graph, is, made)
 behind_hashing transitive (commands.Refactor zero workers) making m graph new is made = (graph_network graph, is, made)
 behind_hashing transitive (commands.Map inputs) making m graph new is made = (graph_network graph, is, made)
+behind_hashing transitive commands.Sweep making m graph new is made = (graph_network graph, is, made)
 behind_hashing transitive (commands.Read name) making m graph new is made = absurd (cc)
 behind_hashing transitive (commands.Write name) making m graph new is made = absurd (cc)
 behind_hashing transitive commands.Stats making m graph new is made = absurd (cc)
 behind_hashing transitive (commands.Generate seed size) making m graph new is made = absurd (cc)
 
--- the frame stays
+-- no source is added: the frame stays, or latches go
 
-on_graph_frame : (makes : Network → Network → Type 0) → ((old new : Network) → makes old new → new.netlist.frame ≡ old.netlist.frame) → (mark : Bool) (old new : Network) → OnGraph makes mark old new → new.netlist.frame ≡ old.netlist.frame
-on_graph_frame makes kept false old new made = kept old new made
-on_graph_frame makes kept true old new (graph, is, made) = kept graph new made ∙ sym is.same.frame
+swept_fewer : (old new : Network) → IsSweptTo old new → length (sources new.netlist.frame) ≤ length (sources old.netlist.frame)
+swept_fewer old new made = fewer_sources old.netlist new.netlist made.sweep.same
 
-frame_kept : (c : Command) (old new : Network) → Makes c old new → new.netlist.frame ≡ old.netlist.frame
-frame_kept commands.Strash old new made = sym made.same.frame
-frame_kept commands.Balance old new made = on_graph_frame _ (λ a b h. sym h.remade.same.frame) old.mapped old new made
-frame_kept (commands.Rewrite zero workers) old new made = on_graph_frame _ (λ a b h. sym h.remade.same.frame) old.mapped old new made
-frame_kept (commands.Refactor zero workers) old new made = on_graph_frame _ (λ a b h. sym h.remade.same.frame) old.mapped old new made
-frame_kept (commands.Map inputs) old new made = on_graph_frame _ (λ a b h. sym h.same.frame) old.mapped old new made
-frame_kept other old new made = ap (λ (n : Network). n.netlist.frame) made
+same_fewer : (old new : Network) → old.netlist.frame ≡ new.netlist.frame → length (sources new.netlist.frame) ≤ length (sources old.netlist.frame)
+same_fewer old new same = omega (arith, ap (λ (f : Frame). length (sources f)) same)
+
+fewer_on_graph : (makes : Network → Network → Type 0) → ((old new : Network) → makes old new → length (sources new.netlist.frame) ≤ length (sources old.netlist.frame)) → (mark : Bool) (old new : Network)
+    → OnGraph makes mark old new → length (sources new.netlist.frame) ≤ length (sources old.netlist.frame)
+fewer_on_graph makes fewer false old new made = fewer old new made
+fewer_on_graph makes fewer true old new (graph, is, made) = omega (arith, fewer graph new made, same_fewer old graph is.same.frame)
+
+fewer_behind : (c : Command) (old new : Network) → Makes c old new → length (sources new.netlist.frame) ≤ length (sources old.netlist.frame)
+fewer_behind commands.Strash old new made = same_fewer old new made.same.frame
+fewer_behind commands.Balance old new made = fewer_on_graph _ (λ a b h. same_fewer a b h.remade.same.frame) old.mapped old new made
+fewer_behind (commands.Rewrite zero workers) old new made = fewer_on_graph _ (λ a b h. same_fewer a b h.remade.same.frame) old.mapped old new made
+fewer_behind (commands.Refactor zero workers) old new made = fewer_on_graph _ (λ a b h. same_fewer a b h.remade.same.frame) old.mapped old new made
+fewer_behind (commands.Map inputs) old new made = fewer_on_graph _ (λ a b h. same_fewer a b h.same.frame) old.mapped old new made
+fewer_behind commands.Sweep old new made = fewer_on_graph _ swept_fewer old.mapped old new made
+fewer_behind other old new made = omega (arith, ap (λ (n : Network). length (sources n.netlist.frame)) made)
 
 -- so few sources stay few
 pub few_sources_kept : (c : Command) (old new : Network) → Makes c old new → HasFewSources old → HasFewSources new
-few_sources_kept c old new made few = subst (λ (f : Frame). length (sources f) ≤ most_sources) (sym (frame_kept c old new made)) few
+few_sources_kept c old new made few = omega (arith, fewer_behind c old new made, few)

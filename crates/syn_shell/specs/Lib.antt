@@ -7,5 +7,6 @@ pub mod Scripts
 pub mod LineMode
 pub mod Counts
 pub mod Runs
+pub mod Origins
 pub mod Readiness
 pub mod Stopping

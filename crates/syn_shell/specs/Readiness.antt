@@ -5,7 +5,7 @@ use Rattle.syn_io.specs.Outside.{Disk, Input, Screen, file_at, next_line}
 use Rattle.syn_netlist.specs.Lists.{Netlist}
 use Rattle.syn_hierarchy.specs.Limits.{Within}
 use Rattle.syn_hierarchy.specs.Reading.{Reads}
-use Rattle.syn_build_luts.specs.declared.luts.TheConstants.{MOST_GATES}
+use Rattle.syn_build_luts.specs.Refusals.{most_gates}
 use Rattle.syn_words.specs.declared.Command.{Command}
 use Rattle.syn_words.specs.Scripts.{IsScript}
 use Rattle.syn_shell.specs.Networks.{gates_in}
@@ -27,7 +27,7 @@ Needs (Reading name) before = IsReadable name before.files
 Needs (Generating seed size) before = ⊤
 Needs Printing before = IsSome before.network
 Needs (Writing name) before = IsSome before.network
-Needs Making before = IsSomeAnd before.network (λ net. gates_in net ≤ MOST_GATES)
+Needs Making before = IsSomeAnd before.network (λ net. gates_in net ≤ most_gates)
 
 -- What each command that was run needs is there.
 abbrev pub CommandsReady : (commands : List Command) (before : State) (outcome : Option Refused) (after : State) → RunsCommands commands before outcome after → Type 0

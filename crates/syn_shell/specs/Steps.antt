@@ -13,12 +13,13 @@ use Rattle.syn_shapes.specs.Printed.{printed}
 use Rattle.syn_lutshapes.specs.Luts.{greatest}
 use Rattle.syn_lutshapes.specs.LutShape.{LutShape, count_of, depth_of, gates_of}
 use Rattle.syn_map.specs.Labels.{label_of}
-use Rattle.syn_build_luts.specs.declared.luts.TheConstants.{MOST_GATES}
+use Rattle.syn_build_luts.specs.Refusals.{most_gates}
 use Rattle.syn_pool.specs.Closing.{Closed}
 use Rattle.syn_gain.specs.Replacements.{Replacement}
 use Rattle.syn_gen.specs.Generated.{generated}
 use Rattle.syn_refactor.specs.Refactoring.{refactorings}
 use Rattle.syn_rewrite.specs.Rewriting.{rewritings}
+use Rattle.syn_seq.specs.Sweeping.{IsSweepOf}
 use Rattle.syn_words.specs.declared.Command.{Command}
 use Rattle.syn_words.specs.declared.Command.TheVariants as commands
 use Rattle.syn_hierarchy.specs.declared.file_fault.FileFault.{FileFault}
@@ -117,6 +118,11 @@ pub record IsMappedTo (inputs : ℕ) (old new : Network) : Type 0 where
   pub depth : depth_of new.netlist ≡ greatest (label_of inputs (rows_of old.netlist)) (map node_of (observed_of old.netlist))
   pub fewer : count_of new.netlist ≤ length (and_tables old.netlist)
 
+-- What sweeping makes of a graph: one with the same outputs over every sequence of inputs, in which no latch is left that no output needs, and no two that can be one.
+pub record IsSweptTo (old new : Network) : Type 0 where
+  pub graph : new.mapped ≡ false
+  pub sweep : IsSweepOf old.netlist new.netlist
+
 -- What a command on graphs makes of a network by its mark: of a net of LUTs what it makes of the graph that hashing made of that before.
 abbrev pub OnGraph : (Network → Network → Type 0) → Bool → Network → Network → Type 0
 OnGraph makes false old new = makes old new
@@ -129,16 +135,17 @@ Makes commands.Balance old new = OnGraph IsBalanced old.mapped old new
 Makes (commands.Rewrite zero workers) old new = OnGraph (IsClosedFor rewritings) old.mapped old new
 Makes (commands.Refactor zero workers) old new = OnGraph (IsClosedFor refactorings) old.mapped old new
 Makes (commands.Map inputs) old new = OnGraph (IsMappedTo inputs) old.mapped old new
+Makes commands.Sweep old new = OnGraph IsSweptTo old.mapped old new
 Makes other old new = new ≡ old
 
 -- There is a network, not too many gates make it a graph, and the command makes another of it.
 abbrev pub Remakes : Command → Option Network → Option Network → Type 0
-Remakes command m m' = (old : Network) × (new : Network) × (m ≡ Some old) × (m' ≡ Some new) × (gates_in old ≤ MOST_GATES) × Makes command old new
+Remakes command m m' = (old : Network) × (new : Network) × (m ≡ Some old) × (m' ≡ Some new) × (gates_in old ≤ most_gates) × Makes command old new
 
 -- Why such a command is refused.
 abbrev pub MakingRefused : Option Network → Refusal → Type 0
 MakingRefused m NoNetwork = m ≡ None
-MakingRefused m (TooManyGates gates) = IsSomeAnd m (λ net. (gates ≡ gates_in net) × (MOST_GATES < gates))
+MakingRefused m (TooManyGates gates) = IsSomeAnd m (λ net. (gates ≡ gates_in net) × (most_gates < gates))
 MakingRefused m NoMemory = ⊤
 MakingRefused m other = ⊥
 

@@ -1,8 +1,20 @@
 //! What follows of a run.
 
 ghost use Rattle.syn_shell.specs.LineMode.{FewLines};
+ghost use Rattle.syn_shell.specs.Origins.{EachWriteKeeps};
 
 /// A run of lines runs at most 1,048,576 of them; one more is taken only to be refused.
 pub fn few_lines()
     ensures { FewLines }
 {}
+
+/// Each write of a run gives a netlist that means the same as the one that was read or generated last before it, which
+/// there is, that reads only earlier signals, and that reads back from the file. Where latches were swept since, it gives
+/// the same outputs over every sequence of inputs.
+pub fn each_write_keeps()
+    ensures { EachWriteKeeps }
+{
+    syn_netlist::same_is_transitive();
+    syn_seq::sequential_is_transitive();
+    syn_seq::same_meaning_is_sequential();
+}

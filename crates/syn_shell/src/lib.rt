@@ -13,7 +13,7 @@ mod scripts;
 mod session;
 mod whole_run;
 
-pub use laws::few_lines;
+pub use laws::{each_write_keeps, few_lines};
 pub use refusal::Refusal;
 pub use session::Session;
 pub use whole_run::run;

@@ -3,11 +3,11 @@
 ghost use Rattle.std.specs.Prelude.{◌≡◌, ◌≤◌, IfOk, IfErr, Some};
 ghost use Rattle.syn_graph.specs.Graphs as graphs;
 ghost use Rattle.syn_lutnet.specs.Nets as nets;
-ghost use Rattle.syn_build_luts.specs.declared.luts.TheConstants.{MOST_GATES};
+ghost use Rattle.syn_build_luts.specs.Refusals.{most_gates};
 ghost use Rattle.syn_refactor.specs.Refactoring.{refactorings};
 ghost use Rattle.syn_rewrite.specs.Rewriting.{rewritings};
 ghost use Rattle.syn_shell.specs.Networks.{gates_in, graph_network, HasFewSources, mapped_network, network_of};
-ghost use Rattle.syn_shell.specs.Steps.{IsBalanced, IsClosedFor, IsMappedTo, IsRemade, kind_of, Makes, Making, MakingRefused};
+ghost use Rattle.syn_shell.specs.Steps.{IsBalanced, IsClosedFor, IsMappedTo, IsRemade, IsSweptTo, kind_of, Makes, Making, MakingRefused};
 
 use crate::network::Kept;
 use crate::refusal::Refusal;
@@ -107,6 +107,17 @@ fn mapped<R: Threads + Sync>(
     }
 }
 
+// A graph without the latches that no output needs, and with one for those that load alike; refused, the graph as it was.
+fn swept(alloc: Global, graph: Graph) -> Result<Kept, (Graph, Refusal)>
+    ensures swept { IfOk result (λ new. IsSweptTo (graph_network (graphs.network_of graph)) (network_of new)) }
+    ensures refused { IfErr result (λ back. (graphs.network_of back.0 ≡ graphs.network_of graph) × (back.1 ≡ Refusal.NoMemory)) }
+{
+    match syn_seq::sweep(alloc, graph) {
+        Ok(new) => Ok(Kept::Graph(new)),
+        Err((graph, _)) => Err((graph, Refusal::NoMemory)),
+    }
+}
+
 // The number of workers of a command: the one that it names, else the session's.
 fn workers_of(named: Option<u8>, workers: u8) -> u8 {
     match named {
@@ -139,6 +150,7 @@ fn remake_graph<R: Threads + Sync, G: Gate>(
             workers: named,
         } => refactored(rt, alloc, graph, workers_of(*named, workers), *zero, gate),
         Command::Map(inputs) => mapped(rt, alloc, graph, inputs, workers),
+        Command::Sweep => swept(alloc, graph),
         Command::Read(_) | Command::Generate { .. } | Command::Stats | Command::Write(_) => {
             Ok(Kept::Graph(graph))
         }
@@ -149,7 +161,7 @@ fn remake_graph<R: Threads + Sync, G: Gate>(
 fn graph_of(alloc: Global, net: &LutNet) -> Result<Graph, Refusal>
     requires { HasFewSources (mapped_network (nets.network_of net.now)) }
     ensures graph { IfOk result (λ graph. IsRemade (mapped_network (nets.network_of net.now)) (graph_network (graphs.network_of graph))) }
-    ensures gates { IfOk result (λ graph. gates_in (mapped_network (nets.network_of net.now)) ≤ MOST_GATES) }
+    ensures gates { IfOk result (λ graph. gates_in (mapped_network (nets.network_of net.now)) ≤ most_gates) }
     ensures refused { IfErr result (MakingRefused (Some (mapped_network (nets.network_of net.now)))) }
 {
     syn_lutshapes::network_of_luts();
@@ -172,7 +184,7 @@ fn remake_luts<R: Threads + Sync, G: Gate>(
     requires making { kind_of command.now ≡ Making }
     requires sources { HasFewSources (mapped_network (nets.network_of net.now)) }
     ensures made { IfOk result (λ new. Makes command.now (mapped_network (nets.network_of net.now)) (network_of new)) }
-    ensures gates { IfOk result (λ new. gates_in (mapped_network (nets.network_of net.now)) ≤ MOST_GATES) }
+    ensures gates { IfOk result (λ new. gates_in (mapped_network (nets.network_of net.now)) ≤ most_gates) }
     ensures refused { IfErr result (MakingRefused (Some (mapped_network (nets.network_of net.now)))) }
 {
     syn_netlist::same_is_transitive();
@@ -196,7 +208,7 @@ pub(crate) fn remake<R: Threads + Sync, G: Gate>(
     requires making { kind_of command.now ≡ Making }
     requires sources { HasFewSources (network_of network) }
     ensures made { IfOk result (λ new. Makes command.now (network_of network) (network_of new)) }
-    ensures gates { IfOk result (λ new. gates_in (network_of network) ≤ MOST_GATES) }
+    ensures gates { IfOk result (λ new. gates_in (network_of network) ≤ most_gates) }
     ensures sources { IfOk result (λ new. HasFewSources (network_of new)) }
     ensures refused { IfErr result (λ back. (network_of back.0 ≡ network_of network) × MakingRefused (Some (network_of network)) back.1) }
 {

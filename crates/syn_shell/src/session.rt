@@ -214,7 +214,8 @@ impl Session {
             | Command::Balance
             | Command::Rewrite { .. }
             | Command::Refactor { .. }
-            | Command::Map(_) => self.make(rt, alloc, command, gate),
+            | Command::Map(_)
+            | Command::Sweep => self.make(rt, alloc, command, gate),
         }
     }
 }

@@ -33,6 +33,7 @@ names =
     ∷ (codes "if", keywords.Map)
     ∷ (codes "resyn2", keywords.Resyn2)
     ∷ (codes "gen", keywords.Generate)
+    ∷ (codes "scl", keywords.Sweep)
     ∷ []
 
 -- What a word names, if anything.
@@ -70,6 +71,7 @@ form_of keywords.RefactorZero = with_workers None
 form_of keywords.Map = with_inputs
 form_of keywords.Resyn2 = words_alone operands.Nothing
 form_of keywords.Generate = seed_and_size
+form_of keywords.Sweep = words_alone operands.Nothing
 
 -- A number of workers, 16 at most; the form lets no greater one through.
 abbrev pub workers_of : ℕ → ℕ
@@ -117,6 +119,7 @@ commands_of keywords.RefactorZero given = commands.Refactor true (option_map wor
 commands_of keywords.Map given = commands.Map (given_inputs given.number) ∷ []
 commands_of keywords.Resyn2 given = resyn2
 commands_of keywords.Generate given = commands.Generate given.numbers.0 (size_of given.numbers.1) ∷ []
+commands_of keywords.Sweep given = commands.Sweep ∷ []
 
 -- What a phrase says by what its name is: the commands that it spells, or its first fault.
 abbrev pub said_by : Option Keyword → Phrase → Result (List Command) ScriptFault

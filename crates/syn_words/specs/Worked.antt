@@ -3,7 +3,7 @@ use Rattle.std.specs.Prelude.{◌≡◌, true, false, ℕ, List, [], ◌∷◌, 
 use Rattle.syn_words.specs.Words.{words_at}
 use Rattle.syn_words.specs.Forms.{given_by}
 use Rattle.syn_words.specs.Scripts.{IsScript, IsFirstFault}
-use Rattle.syn_words.specs.declared.Command.TheVariants.{Read, Write, Stats, Strash, Balance, Rewrite, Refactor, Map, Generate}
+use Rattle.syn_words.specs.declared.Command.TheVariants.{Read, Write, Stats, Strash, Balance, Rewrite, Refactor, Map, Generate, Sweep}
 use Rattle.syn_words.specs.declared.ScriptFault.{ScriptFault}
 use Rattle.syn_words.specs.declared.ScriptFault.TheVariants.{BadByte, UnknownCommand, MissingWord, ExtraWord, BadNumber, OutOfRange}
 use Rattle.syn_words.specs.declared.forms.Form.{Form}
@@ -42,8 +42,10 @@ pub record WorkedScripts : Type 0 where
   pub ten_commands : IsScript (codes "resyn2")
       (Balance ∷ Rewrite false None ∷ Refactor false None ∷ Balance ∷ Rewrite false None ∷ Rewrite true None ∷ Balance ∷ Refactor true None ∷ Rewrite true None ∷ Balance ∷ [])
   pub generated : IsScript (codes "gen 18446744073709551615 32768; ps") (Generate 18446744073709551615 32768 ∷ Stats ∷ [])
+  pub sweeping : IsScript (codes "read_blif a; scl; ps") (Read (codes "a") ∷ Sweep ∷ Stats ∷ [])
   pub zero_refactored_already : IsFirstFault (codes "rfz -z") (ExtraWord 4)
   pub option_of_resyn2 : IsFirstFault (codes "resyn2 -z") (ExtraWord 7)
+  pub option_of_sweeping : IsFirstFault (codes "scl -z") (ExtraWord 4)
   pub no_tables : IsFirstFault (codes "gen 1 0") (OutOfRange 6)
   pub size_no_number : IsFirstFault (codes "gen 1 x") (BadNumber 6)
   pub seed_too_great : IsFirstFault (codes "gen 18446744073709551616 1") (OutOfRange 4)

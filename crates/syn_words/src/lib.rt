@@ -69,6 +69,8 @@ pub enum Command {
         /// The number of tables.
         size: u16,
     },
+    /// `scl`: drops latches that no output needs, and makes one of latches that always hold the same.
+    Sweep,
 }
 
 /// Why a text is no script. A place is an offset in bytes, from 0.

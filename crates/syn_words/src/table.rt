@@ -27,6 +27,7 @@ pub enum Keyword {
     Map,
     Resyn2,
     Generate,
+    Sweep,
 }
 
 // The keyword that a word names.
@@ -57,6 +58,8 @@ fn keyword_of(word: &[u8]) -> Option<Keyword>
         Some(Keyword::Resyn2)
     } else if b"gen".as_slice() == word {
         Some(Keyword::Generate)
+    } else if b"scl".as_slice() == word {
+        Some(Keyword::Sweep)
     } else {
         None
     }
@@ -134,9 +137,11 @@ fn form_of(keyword: Keyword) -> Form
 {
     match keyword {
         Keyword::ReadBlif | Keyword::WriteBlif => words_alone(Operands::Name),
-        Keyword::PrintStats | Keyword::Strash | Keyword::Balance | Keyword::Resyn2 => {
-            words_alone(Operands::Nothing)
-        }
+        Keyword::PrintStats
+        | Keyword::Strash
+        | Keyword::Balance
+        | Keyword::Resyn2
+        | Keyword::Sweep => words_alone(Operands::Nothing),
         Keyword::Rewrite | Keyword::Refactor => with_workers(Some(b'z')),
         Keyword::RewriteZero | Keyword::RefactorZero => with_workers(None),
         Keyword::Map => with_inputs(),
@@ -273,6 +278,7 @@ fn commands_of(
                 size: size_of(given.numbers.1),
             },
         ),
+        Keyword::Sweep => one(alloc, Command::Sweep),
     }
 }
 

@@ -1,0 +1,114 @@
+-- What a session's network came from, along a run: the netlist that was read or generated last. What the network keeps of it, and so what each write gives, is said here in one piece.
+use Rattle.std.specs.Prelude.{◌≡◌, ℕ, ◌+◌, Bool, true, false, List, [], ◌∷◌, ◌++◌, Option, Some, None, Result, Ok, Err}
+use mathlib.Core.Logic.{inl, inr}
+use Rattle.syn_io.specs.Outside.{Disk, Input, Screen}
+use Rattle.syn_netlist.specs.Lists.{Netlist}
+use Rattle.syn_netlist.specs.Meaning.{SameMeaning}
+use Rattle.syn_netlist.specs.Order.{Ordered}
+use Rattle.syn_shapes.specs.Printed.{printed}
+use Rattle.syn_gen.specs.Generated.{generated}
+use Rattle.syn_hierarchy.specs.Reading.{Reads}
+use Rattle.syn_seq.specs.Sequential.{SameSequentially}
+use Rattle.syn_words.specs.declared.Command.{Command}
+use Rattle.syn_words.specs.declared.Command.TheVariants as commands
+use Rattle.syn_shell.specs.declared.refusal.Refusal.{Refusal}
+use Rattle.syn_shell.specs.Networks.{Network}
+use Rattle.syn_shell.specs.Outside.{State, FileIs}
+use Rattle.syn_shell.specs.Steps.{SessionStep}
+use Rattle.syn_shell.specs.Scripts.{Refused, RunsCommands, RunsScript}
+use Rattle.syn_shell.specs.LineMode.{RunsLines}
+use Rattle.syn_shell.specs.Usage.{Usage, OneScript, EachLine, Faulty, usage_of}
+use Rattle.syn_shell.specs.Runs.{Ran, RunsUsage, RunsWords}
+
+-- A command that was run, with its answer, from the state before it to the one after it.
+pub record Step : Type 0 where
+  pub command : Command
+  pub before : State
+  pub answer : Result (Unit {0}) Refusal
+  pub after : State
+
+-- the steps of commands that were run one after the other: the accepted ones, and the one that was refused
+abbrev pub steps_of_commands : (commands : List Command) (before : State) (outcome : Option Refused) (after : State) → RunsCommands commands before outcome after → List Step
+steps_of_commands [] before outcome after runs = []
+steps_of_commands (c ∷ cs) before outcome after (inl (between, step, more)) = record { command = c; before = before; answer = Ok tt; after = between } ∷ steps_of_commands cs between outcome after more
+steps_of_commands (c ∷ cs) before outcome after (inr (cause, is, step)) = record { command = c; before = before; answer = Err cause; after = after } ∷ []
+
+-- those of a script: none where it was refused before any of its commands ran
+abbrev pub steps_of_script : (text : List ℕ) (before : State) (outcome : Option Refused) (after : State) → RunsScript text before outcome after → List Step
+steps_of_script text before outcome after (inl refused) = []
+steps_of_script text before outcome after (inr (commands, short, script, runs)) = steps_of_commands commands before outcome after runs
+
+-- those of lines, one script after the other
+abbrev pub steps_of_lines : (lines : List (List ℕ)) (taken : ℕ) (before : State) (i : Input) (refusals : List Refused) (after : State) (i' : Input) → RunsLines lines taken before i refusals after i' → List Step
+steps_of_lines [] taken before i refusals after i' runs = []
+steps_of_lines (line ∷ lines) taken before i refusals after i' (j, outcome, done, lt, gave, runs, inl (told, more, on, is, rest)) =
+    steps_of_script line before outcome done runs ++ steps_of_lines lines (taken + 1) told j more after i' rest
+steps_of_lines (line ∷ lines) taken before i refusals after i' (j, outcome, done, lt, gave, runs, inr ends) = steps_of_script line before outcome done runs
+
+-- those of what words ask for
+abbrev pub steps_of_usage : (usage : Usage) (before : State) (i : Input) (refusals : List Refused) (after : State) (i' : Input) → RunsUsage usage before i refusals after i' → List Step
+steps_of_usage (OneScript text) before i refusals after i' ((outcome, done, runs, is, ends), same) = steps_of_script text before outcome done runs
+steps_of_usage EachLine before i refusals after i' (lines, runs) = steps_of_lines lines 0 before i refusals after i' runs
+steps_of_usage Faulty before i refusals after i' runs = []
+
+-- those of words: none where memory was refused before
+abbrev pub steps_of_words : (words : List (List ℕ)) (before : State) (i : Input) (refusals : List Refused) (after : State) (i' : Input) → RunsWords words before i refusals after i' → List Step
+steps_of_words words before i refusals after i' (inl runs) = steps_of_usage (usage_of words) before i refusals after i' runs
+steps_of_words words before i refusals after i' (inr nothing) = []
+
+-- Where a netlist comes from: a file of that name, as the files were when it was read; or it was generated, from a seed and a size.
+pub data Place : Type 0 where
+  OfFile : List ℕ → Disk → Place
+  OfSeed : ℕ → ℕ → Place
+
+-- The netlist is the one that comes from there: the file's bytes read as it, or it is the generated one.
+abbrev pub ComesFrom : Place → Netlist → Type 0
+ComesFrom (OfFile name files) n = (bytes : List ℕ) × FileIs name files bytes × Reads bytes n
+ComesFrom (OfSeed seed size) n = n ≡ generated seed size
+
+-- Where a network came from, and whether its latches were swept since.
+pub record Origin : Type 0 where
+  pub place : Place
+  pub swept : Bool
+
+-- a network that comes from there, as it was read or generated
+abbrev pub fresh : Place → Option Origin
+fresh place = Some (record { place = place; swept = false })
+
+-- the same, with latches swept
+abbrev pub swept_since : Option Origin → Option Origin
+swept_since None = None
+swept_since (Some origin) = Some (record { place = origin.place; swept = true })
+
+-- where the network comes from behind a command that was accepted: from what it reads or generates, else from where it came before
+abbrev pub origin_by : Command → Disk → Option Origin → Option Origin
+origin_by (commands.Read name) files origin = fresh (OfFile name files)
+origin_by (commands.Generate seed size) files origin = fresh (OfSeed seed size)
+origin_by commands.Sweep files origin = swept_since origin
+origin_by other files origin = origin
+
+-- the same behind a command, accepted or refused: one that is refused leaves the network
+abbrev pub origin_behind : Command → Disk → Result (Unit {0}) Refusal → Option Origin → Option Origin
+origin_behind c files (Ok done) origin = origin_by c files origin
+origin_behind c files (Err cause) origin = origin
+
+-- the same behind steps: that of the last accepted read or generation
+abbrev pub origin_after : List Step → Option Origin → Option Origin
+origin_after [] origin = origin
+origin_after (s ∷ ss) origin = origin_after ss (origin_behind s.command s.before.files s.answer origin)
+
+-- What a netlist is to one before it: it means the same; where latches were swept between, it gives the same outputs over every sequence of inputs.
+abbrev pub IsSameBy : Bool → Netlist → Netlist → Type 0
+IsSameBy false n m = SameMeaning n m
+IsSameBy true n m = SameSequentially n m
+
+-- A netlist keeps what came from there: it is the same as the netlist that did, and reads only earlier signals.
+abbrev pub Keeps : Origin → Netlist → Type 0
+Keeps origin m = (n : Netlist) × ComesFrom origin.place n × IsSameBy origin.swept n m × Ordered m
+
+-- What each write of a run gives: behind an accepted write, whatever steps were before and after it, the file is the printed form of a netlist that reads back from it and keeps what was read or generated last before the write, which there is.
+abbrev pub EachWriteKeeps : Type 0
+EachWriteKeeps =
+    (words : List (List ℕ)) (d : Disk) (s : Screen) (i : Input) (d' : Disk) (s' : Screen) (i' : Input) (status : ℕ) (ran : Ran words d s i d' s' i' status)
+    (front back : List Step) (write : Step) (name : List ℕ) → steps_of_words words _ i ran.refusals _ i' ran.runs ≡ front ++ write ∷ back → write.command ≡ commands.Write name → write.answer ≡ Ok tt
+    → (origin : Origin) × (m : Netlist) × (origin_after front None ≡ Some origin) × FileIs name write.after.files (printed m) × Reads (printed m) m × Keeps origin m
