@@ -19,6 +19,7 @@ pub mod Moving
 pub mod Placed
 pub mod Targets
 pub mod Remade
+pub mod Merged
 pub mod Fewer
 pub mod Loading
 pub mod Seen

@@ -1,6 +1,6 @@
 -- What equal keys of latches say: by numbers, and in the words of a netlist.
 use Rattle.std.proofs.Common.{◌≡◌, ℕ, ◌+◌, ◌<◌, Bool, true, false, List, [], ◌∷◌, ◌++◌, length, map, flat_map, get_or, refl, sym, ap, ap₂, ◌∙◌, subst, Option, Some, None, arith}
-use Rattle.std.proofs.lemmas.Bool.{and_parts, both_ways, cond-true}
+use Rattle.std.proofs.lemmas.Bool.{and_parts, cond-true}
 use Rattle.std.proofs.lemmas.List.{get_or-append-add, get_or-map, length-append, length-map}
 use Rattle.syn_rows.specs.declared.Lit.{Lit}
 use Rattle.syn_rows.specs.Rows.{node_of}
@@ -26,7 +26,7 @@ use Rattle.syn_seq.specs.declared.keys.Trigger.{Trigger}
 use Rattle.syn_seq.specs.declared.keys.Trigger.TheVariants as triggers
 use Rattle.syn_seq.specs.Code.{AreLits, lit_in}
 use Rattle.syn_seq.specs.Keys.{control_in, key_by, trigger_in, trigger_of}
-use Rattle.syn_seq.specs.Rounds.{AreAlike, Fate, KindsAlike, latch_at, latch_node}
+use Rattle.syn_seq.specs.Rounds.{AreAlike, Fate, latch_at, latch_node}
 use Rattle.syn_seq.specs.Runs.{free_signals}
 use Rattle.syn_seq.specs.Sweeping.{CanMerge, kind_in}
 use Rattle.syn_seq.proofs.Alike.{among_firsts, sources_are}
@@ -88,7 +88,7 @@ keys_are g lits k j lt =
     ∙ ap (λ (ks : List Key). get_or ks j some) all
     ∙ get_or-map (key_in n) n.frame.latches j _ some inside
 
-is_typed : Trigger → Bool
+unfoldable pub is_typed : Trigger → Bool
 is_typed triggers.Untyped = false
 is_typed triggers.Fe = true
 is_typed triggers.Re = true
@@ -96,7 +96,7 @@ is_typed triggers.Ah = true
 is_typed triggers.Al = true
 is_typed triggers.As = true
 
-typed : (k : LatchKind) → is_typed (trigger_of k) ≡ true
+pub typed : (k : LatchKind) → is_typed (trigger_of k) ≡ true
 unfolding is_typed
 typed Fe = refl
 typed Re = refl
@@ -120,33 +120,19 @@ back Ah = refl
 back Al = refl
 back As = refl
 
-kind_same : (a b : LatchKind) → trigger_of a ≡ trigger_of b → a ≡ b
+pub kind_same : (a b : LatchKind) → trigger_of a ≡ trigger_of b → a ≡ b
 kind_same a b e = sym (back a) ∙ ap kind_back e ∙ back b
 
-abbrev is_some : Option Lit → Bool
+abbrev pub is_some : Option Lit → Bool
 is_some None = false
 is_some (Some l) = true
 
-abbrev lit_out : Option Lit → Lit
+abbrev pub lit_out : Option Lit → Lit
 lit_out None = record { 0 = 0 }
 lit_out (Some l) = l
 
 pub alike : GraphHasFunction → (n : Netlist) → Ordered n → GraphShape n → (fates : List Fate) (a b : List ℕ) → has_word (observed n.frame) a ≡ true → has_word (observed n.frame) b ≡ true → lit_of n a ≡ lit_of n b → AreAlike n fates a b
 alike law n o s fates a b ta tb e v cv held = observed_value law n o s v cv a ta ∙ ap (value_at n v) e ∙ sym (observed_value law n o s v cv b tb)
-
-pub kinds_alike : (n : Netlist) (fates : List Fate) → ((a b : List ℕ) → has_word (observed n.frame) a ≡ true → has_word (observed n.frame) b ≡ true → lit_of n a ≡ lit_of n b → AreAlike n fates a b) → (k l : Option (LatchKind × Option (List ℕ)))
-    → ((w : List ℕ) → has_word (control_of k) w ≡ true → has_word (observed n.frame) w ≡ true) → ((w : List ℕ) → has_word (control_of l) w ≡ true → has_word (observed n.frame) w ≡ true)
-    → trigger_in k ≡ trigger_in l → control_in (lit_of n) k ≡ control_in (lit_of n) l → KindsAlike n fates k l
-unfolding is_typed
-kinds_alike n fates h None None hk hl t c = tt
-kinds_alike n fates h None (Some (b, None)) hk hl t c = absurd (both_ways (is_typed (trigger_of b)) (ap is_typed (sym t)) (typed b))
-kinds_alike n fates h None (Some (b, Some y)) hk hl t c = absurd (both_ways (is_typed (trigger_of b)) (ap is_typed (sym t)) (typed b))
-kinds_alike n fates h (Some (a, None)) None hk hl t c = absurd (both_ways (is_typed (trigger_of a)) (ap is_typed t) (typed a))
-kinds_alike n fates h (Some (a, None)) (Some (b, None)) hk hl t c = kind_same a b t
-kinds_alike n fates h (Some (a, None)) (Some (b, Some y)) hk hl t c = absurd (both_ways false refl (ap is_some c))
-kinds_alike n fates h (Some (a, Some x)) None hk hl t c = absurd (both_ways false refl (sym (ap is_some c)))
-kinds_alike n fates h (Some (a, Some x)) (Some (b, None)) hk hl t c = absurd (both_ways false refl (sym (ap is_some c)))
-kinds_alike n fates h (Some (a, Some x)) (Some (b, Some y)) hk hl t c = (kind_same a b t, h x y (hk x (has_head x [])) (hl y (has_head y [])) (ap lit_out c))
 
 -- the key follows from what two latches must have alike
 trigger_of_kind : (n : Netlist) (kind : Option (LatchKind × Option (List ℕ))) → trigger_in (kind_in n kind) ≡ trigger_in kind

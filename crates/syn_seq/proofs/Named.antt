@@ -11,13 +11,11 @@ use Rattle.syn_netlist.specs.Words.{distinct, has_word}
 use Rattle.syn_netlist.proofs.Places.{below_at, below_parts, one_number}
 use Rattle.syn_netlist.proofs.Sets.{has_head, has_left, has_tail, same_word}
 use Rattle.syn_shapes.specs.GraphShape.{lit_of}
-use Rattle.syn_shapes.specs.Spelling.{NetworkOfGraph}
 use Rattle.syn_graph.specs.declared.Graph.{Graph}
 use Rattle.syn_graph.specs.Graphs.{network_of}
-use Rattle.syn_seq.specs.Code.{AreLits, lit_in}
+use Rattle.syn_seq.specs.Code.{AreLits, AreLitsBy, lit_in}
 use Rattle.syn_seq.specs.Sweeping.{output_lits}
 use Rattle.syn_seq.proofs.Alike.{among_firsts}
-use Rattle.syn_seq.proofs.Sweeps.{spells}
 
 abbrev no_lit : Lit
 no_lit = record { 0 = 0 }
@@ -34,13 +32,11 @@ placed f numbers lits found i b lt e h k lk = elim (eqb_tells (get_or numbers k 
   ]
 ]
 
-pub known : NetworkOfGraph → (g : Graph) (numbers : List ℕ) → words_at g.frame.names numbers ≡ observed (frame_in g.frame) → (i : ℕ) → i < length numbers → get_or g.observed i no_lit ≡ lit_of (network_of g) (word_at g.frame.names (get_or numbers i 0))
-known law g numbers e i lt =
-    let n : Netlist = network_of g in
-    let names : List (List ℕ) = g.frame.names in
-    let all : g.observed ≡ map (lit_of n) (map (word_at names) numbers) = sym (spells law g).same_lits ∙ ap (map (lit_of n)) (sym e) in
+pub known : (lit : List ℕ → Lit) (lits : List Lit) (names : List (List ℕ)) (words : List (List ℕ)) (numbers : List ℕ) → lits ≡ map lit words → words_at names numbers ≡ words → (i : ℕ) → i < length numbers → get_or lits i no_lit ≡ lit (word_at names (get_or numbers i 0))
+known lit lits names words numbers l e i lt =
+    let all : lits ≡ map lit (map (word_at names) numbers) = l ∙ ap (map lit) (sym e) in
     let inside : i < length (map (word_at names) numbers) = omega (arith, length-map numbers (word_at names), lt) in
-    ap (λ (l : List Lit). get_or l i no_lit) all ∙ get_or-map (lit_of n) (map (word_at names) numbers) i [] no_lit inside ∙ ap (lit_of n) (get_or-map (word_at names) numbers i 0 [] lt)
+    ap (λ (ls : List Lit). get_or ls i no_lit) all ∙ get_or-map lit (map (word_at names) numbers) i [] no_lit inside ∙ ap lit (get_or-map (word_at names) numbers i 0 [] lt)
 
 -- a word among those of numbers has its place
 record FoundAt (names : List (List ℕ)) (numbers : List ℕ) (w : List ℕ) : Type 0 where
@@ -55,13 +51,13 @@ found_at names (n ∷ ns) w h = elim (or_cases (bytes_eq (word_at names n) w) (h
   | inr e ↦ let f = found_at names ns w e in record { place = suc f.place; inside = omega (arith, f.inside); is = f.is }
 ]
 
-pub lits_are : (g : Graph) (numbers : List ℕ) (found : List Lit) → words_at g.frame.names numbers ≡ observed (frame_in g.frame) → all_below (length g.frame.names) numbers ≡ true → distinct g.frame.names ≡ true
-    → ((k : ℕ) → k < length numbers → lit_in found (get_or numbers k 0) ≡ lit_of (network_of g) (word_at g.frame.names (get_or numbers k 0))) → AreLits (network_of g) g.frame.names found
-lits_are g numbers found e b d h i lt t =
+pub lits_are : (lit : List ℕ → Lit) (g : Graph) (numbers : List ℕ) (found : List Lit) → words_at g.frame.names numbers ≡ observed (frame_in g.frame) → all_below (length g.frame.names) numbers ≡ true → distinct g.frame.names ≡ true
+    → ((k : ℕ) → k < length numbers → lit_in found (get_or numbers k 0) ≡ lit (word_at g.frame.names (get_or numbers k 0))) → AreLitsBy lit (network_of g) g.frame.names found
+lits_are lit g numbers found e b d h i lt t =
     let names : List (List ℕ) = g.frame.names in
     let f = found_at names numbers (word_at names i) (subst (λ (ws : List (List ℕ)). has_word ws (word_at names i) ≡ true) (sym e) t) in
     let same : get_or numbers f.place 0 ≡ i = one_number names (get_or numbers f.place 0) i d (below_at (length names) numbers f.place b f.inside) lt f.is in
-    subst (λ (m : ℕ). lit_in found m ≡ lit_of (network_of g) (word_at names m)) same (h f.place f.inside)
+    subst (λ (m : ℕ). lit_in found m ≡ lit (word_at names m)) same (h f.place f.inside)
 
 pub each_lit : (n : Netlist) (names : List (List ℕ)) (lits : List Lit) → AreLits n names lits → (is : List ℕ) → all_below (length names) is ≡ true → ((w : List ℕ) → has_word (words_at names is) w ≡ true → has_word (observed n.frame) w ≡ true)
     → map (lit_in lits) is ≡ map (lit_of n) (words_at names is)

@@ -12,11 +12,11 @@ kept_before [] j = 0
 kept_before (f ∷ fs) zero = 0
 kept_before (f ∷ fs) (suc j) = next_after 0 f + kept_before fs j
 
-length-up_to : (n : ℕ) → length (up_to n) ≡ n
+pub length-up_to : (n : ℕ) → length (up_to n) ≡ n
 length-up_to zero = refl
 length-up_to (suc n) = length_push (up_to n) n ∙ omega (arith, length-up_to n)
 
-at_up_to : (n k : ℕ) → k < n → get_or (up_to n) k 0 ≡ k
+pub at_up_to : (n k : ℕ) → k < n → get_or (up_to n) k 0 ≡ k
 at_up_to zero k lt = absurd (omega (arith, lt))
 at_up_to (suc n) k lt = elim (cases_lt k n) [
   | inl less ↦ get_or_append_left (up_to n) (n ∷ []) 0 k (omega (arith, less, length-up_to n)) ∙ at_up_to n k less

@@ -41,7 +41,7 @@ use Rattle.syn_seq.proofs.Sweeps.{graphs_have_functions, spells}
 use Rattle.syn_seq.proofs.Targets.{fates_few, moved_count, is_merged, kept_by_most, targets_small}
 use Rattle.syn_seq.proofs.Within.{lit_within}
 
-many_sources : (f : Frame) → length (sources f) ≡ length (free_signals f) + length f.latches
+pub many_sources : (f : Frame) → length (sources f) ≡ length (free_signals f) + length f.latches
 many_sources f =
     ap length (sym (sources_are f)) ∙ length-append (free_signals f) (map latch_output f.latches) ∙ ap (λ (k : ℕ). length (free_signals f) + k) (length-map f.latches latch_output)
 
@@ -84,7 +84,7 @@ value_free v f i lt =
     ap (λ (ws : List (List ℕ)). get_or (map v ws) i false) (sym (sources_are f)) ∙ ap (λ (bs : List Bool). get_or bs i false) (map-append v (free_signals f) (map latch_output f.latches))
     ∙ get_or_append_left (map v (free_signals f)) (map v (map latch_output f.latches)) false i (omega (arith, lt, length-map (free_signals f) v))
 
-value_latch : (v : List ℕ → Bool) (f : Frame) (j k : ℕ) → j < length f.latches → k ≡ length (free_signals f) + 1 + j → given_by (map v (sources f)) k ≡ v (get_or f.latches j no_latch).output
+pub value_latch : (v : List ℕ → Bool) (f : Frame) (j k : ℕ) → j < length f.latches → k ≡ length (free_signals f) + 1 + j → given_by (map v (sources f)) k ≡ v (get_or f.latches j no_latch).output
 value_latch v f j k lt e =
     let at : k ≡ suc (length (map v (free_signals f)) + j) = omega (arith, e, length-map (free_signals f) v) in
     let inside : j < length (map latch_output f.latches) = omega (arith, lt, length-map f.latches latch_output) in
@@ -208,7 +208,7 @@ lits_within law g fates = All-from_get_or (λ l. node_of l < length g.rows) (lit
     subst (λ (l : Lit). node_of l < length g.rows) (sym at) (lit_within law g (word_at ws i) (observed_before (network_of g).frame fates (word_at ws i) (has_at ws i inside))))
 
 -- the values of observed signals by nodes
-node_values : Graph → (List ℕ → Bool) → ℕ → Bool
+pub node_values : Graph → (List ℕ → Bool) → ℕ → Bool
 node_values g v = value_in (values_of (given_by (map v (sources (network_of g).frame))) g.rows)
 
 in_order_of : NetworkOfGraph → (g : Graph) → InOrder g.rows
@@ -217,29 +217,29 @@ in_order_of law g = let s = spells law g in subst InOrder s.same_rows (graphs_ha
 one_of : NetworkOfGraph → (g : Graph) (v : List ℕ → Bool) → OneValuation g.rows (given_by (map v (sources (network_of g).frame)))
 one_of law g v = one_valuation_is g.rows (given_by (map v (sources (network_of g).frame))) (in_order_of law g) refl
 
-source_value : NetworkOfGraph → (g : Graph) (v : List ℕ → Bool) (k : ℕ) → k < g.source_count + 1 → given_by (map v (sources (network_of g).frame)) k ≡ node_values g v k
+pub source_value : NetworkOfGraph → (g : Graph) (v : List ℕ → Bool) (k : ℕ) → k < g.source_count + 1 → given_by (map v (sources (network_of g).frame)) k ≡ node_values g v k
 unfolding node_values
 source_value law g v k lt =
     let inside : k < length g.rows = omega (arith, lt, g.source_count_is, g.graph.hashed.there) in
     let front : row_at g.rows k ≡ Source = g.graph.hashed.front k (omega (arith, lt, g.source_count_is)) in
     sym ((one_of law g v).1 k inside (ap is_open front))
 
-observed_by_nodes : NetworkOfGraph → (g : Graph) (v : List ℕ → Bool) → Consistent (network_of g) v → (x : List ℕ) → has_word (observed (network_of g).frame) x ≡ true → v x ≡ lit_value (node_values g v) (lit_of (network_of g) x)
+pub observed_by_nodes : NetworkOfGraph → (g : Graph) (v : List ℕ → Bool) → Consistent (network_of g) v → (x : List ℕ) → has_word (observed (network_of g).frame) x ≡ true → v x ≡ lit_value (node_values g v) (lit_of (network_of g) x)
 unfolding node_values
 observed_by_nodes law g v c x t =
     let s = spells law g in
     observed_value graphs_have_functions (network_of g) s.ordered s.shape v c x t
     ∙ ap (λ (rows : List Row). lit_value (value_in (values_of (given_by (map v (sources (network_of g).frame))) rows)) (lit_of (network_of g) x)) s.same_rows
 
-values_of_words : (v : List ℕ → Bool) (value : Lit → Bool) (lit : List ℕ → Lit) (ws : List (List ℕ)) → ((x : List ℕ) → has_word ws x ≡ true → v x ≡ value (lit x)) → map v ws ≡ map value (map lit ws)
+pub values_of_words : (v : List ℕ → Bool) (value : Lit → Bool) (lit : List ℕ → Lit) (ws : List (List ℕ)) → ((x : List ℕ) → has_word ws x ≡ true → v x ≡ value (lit x)) → map v ws ≡ map value (map lit ws)
 values_of_words v value lit [] h = refl
 values_of_words v value lit (w ∷ ws) h = ap₂ (λ (b : Bool) (bs : List Bool). b ∷ bs) (h w (has_head w ws)) (values_of_words v value lit ws (λ x t. h x (has_tail w x ws t)))
 
-values_moved : (value moved_value : Lit → Bool) (move : Lit → Lit) (ls : List Lit) → ((l : Lit) → moved_value (move l) ≡ value l) → map value ls ≡ map moved_value (map move ls)
+pub values_moved : (value moved_value : Lit → Bool) (move : Lit → Lit) (ls : List Lit) → ((l : Lit) → moved_value (move l) ≡ value l) → map value ls ≡ map moved_value (map move ls)
 values_moved value after move [] h = refl
 values_moved value after move (l ∷ ls) h = ap₂ (λ (b : Bool) (bs : List Bool). b ∷ bs) (sym (h l)) (values_moved value after move ls h)
 
-fits_nodes : NetworkOfGraph → (g : Graph) (v : List ℕ → Bool) → Fits g.rows (node_values g v)
+pub fits_nodes : NetworkOfGraph → (g : Graph) (v : List ℕ → Bool) → Fits g.rows (node_values g v)
 unfolding node_values
 fits_nodes law g v = (one_of law g v).0
 

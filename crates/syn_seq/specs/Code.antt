@@ -1,5 +1,5 @@
 -- What the sweep's parts compute, by numbers of names and nodes.
-use Rattle.std.specs.Prelude.{◌≡◌, ℕ, zero, suc, ◌+◌, ◌*◌, ◌-◌, ◌%◌, ◌<◌, ◌≤◌, nat_lt, if◌then◌else◌, Bool, true, false, List, [], ◌∷◌, ◌++◌, length, map, take, drop, replicate, slice_index_or, Option, Some, None}
+use Rattle.std.specs.Prelude.{◌≡◌, ℕ, zero, suc, ◌+◌, ◌*◌, ◌-◌, ◌%◌, ◌<◌, ◌≤◌, nat_lt, ◌&&◌, if◌then◌else◌, Bool, true, false, List, [], ◌∷◌, ◌++◌, length, map, take, drop, replicate, slice_index_or, Option, Some, None}
 use Rattle.std.specs.List.{list_all}
 use Rattle.syn_rows.specs.declared.Lit.{Lit}
 use Rattle.syn_rows.specs.declared.Row.{Row}
@@ -17,14 +17,23 @@ use Rattle.syn_graph.specs.Graphs.{network_of}
 use Rattle.syn_seq.specs.Runs.{free_signals}
 use Rattle.syn_seq.specs.Sequential.{SameSequentially}
 use Rattle.syn_seq.specs.Sweeping.{IsSwept}
-use Rattle.syn_seq.specs.Rounds.{Dropped, Fate, HasFate, Kept, Merged, fate_at, kept_by, swept_frame}
+use Rattle.syn_seq.specs.Rounds.{AreAlike, Dropped, Fate, HasFate, Kept, Merged, fate_at, kept_by, swept_frame}
 
 abbrev pub lit_in : List Lit → ℕ → Lit
 lit_in lits i = slice_index_or lits i (record { 0 = 0 })
 
 -- the list has the literal of each observed signal at its number
+abbrev pub AreLitsBy : (List ℕ → Lit) → Netlist → List (List ℕ) → List Lit → Type 0
+AreLitsBy lit n names lits = (i : ℕ) → i < length names → has_word (observed n.frame) (word_at names i) ≡ true → lit_in lits i ≡ lit (word_at names i)
+
 abbrev pub AreLits : Netlist → List (List ℕ) → List Lit → Type 0
-AreLits n names lits = (i : ℕ) → i < length names → has_word (observed n.frame) (word_at names i) ≡ true → lit_in lits i ≡ lit_of n (word_at names i)
+AreLits n names lits = AreLitsBy (lit_of n) n names lits
+
+-- observed signals with equal literals have one value wherever merged latches have one
+abbrev pub AreAlikeLits : Netlist → List Fate → List (List ℕ) → List Lit → Type 0
+AreAlikeLits n fates names lits =
+    (a b : ℕ) → a < length names → b < length names → has_word (observed n.frame) (word_at names a) ≡ true → has_word (observed n.frame) (word_at names b) ≡ true → lit_in lits a ≡ lit_in lits b
+    → AreAlike n fates (word_at names a) (word_at names b)
 
 -- what a latch needs, by the literals of numbers
 abbrev pub needs_by : List Lit → ℕ → List ℕ → Row
@@ -136,3 +145,26 @@ lits_of g fates = map (lit_of (network_of g)) (observed (swept_of g fates))
 
 abbrev pub lits_left : Graph → List Fate → List Lit
 lits_left g fates = map (moved (places_of g fates)) (lits_of g fates)
+
+-- a latch that is merged is so into an earlier one that is kept
+abbrev pub is_target : List Fate → ℕ → Fate → Bool
+is_target fates number Kept = true
+is_target fates number (Merged i) = nat_lt i number && is_kept (fate_at fates i)
+is_target fates number Dropped = true
+
+abbrev pub AreTargets : List Fate → Type 0
+AreTargets fates = (j i : ℕ) → fate_at fates j ≡ Merged i → (i < j) × (fate_at fates i ≡ Kept)
+
+-- the node that stands for a latch where merged latches are one
+abbrev pub merged_place : ℕ → ℕ → Fate → ℕ
+merged_place first number Kept = first + number
+merged_place first number (Merged i) = first + i
+merged_place first number Dropped = first + number
+
+abbrev pub merged_from : ℕ → ℕ → List Fate → List ℕ
+merged_from first number [] = []
+merged_from first number (fate ∷ fates) = merged_place first number fate ∷ merged_from first (number + 1) fates
+
+-- the nodes that stand for node 0 and the sources
+abbrev pub merged_places : ℕ → List Fate → List ℕ
+merged_places first fates = up_to first ++ merged_from first 0 fates

@@ -93,8 +93,8 @@ fn moved_row(places: &[u32], row: Row) -> Row
     }
 }
 
-// The rows over so many sources that are left: no row at the nodes of the others, and each gate at its node.
-fn moved_rows(
+/// The rows over so many sources that are left: no row at the nodes of the others, and each gate at its node.
+pub(crate) fn moved_rows(
     alloc: Global,
     rows: &[Row],
     places: &[u32],
@@ -112,6 +112,18 @@ fn moved_rows(
     moved.extend_from_slice(&none)?;
     moved.extend_from_slice(&gates)?;
     Ok(moved)
+}
+
+/// The literals, moved.
+pub(crate) fn moved_all(alloc: Global, places: &[u32], lits: &[Lit]) -> Result<Vec<Lit>, AllocError>
+    requires { All (λ p. p < 2 ^ 29) places.now }
+    ensures { IfOk result (λ v. v.items ≡ map (moved places.now) lits.now) }
+{
+    let mut found = Vec::new(alloc);
+    for lit in lits {
+        found.push(moved(places, *lit))?;
+    }
+    Ok(found)
 }
 
 // The literals of numbers, moved.

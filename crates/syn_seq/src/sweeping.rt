@@ -1,21 +1,52 @@
 //! The sweep of latches.
 
-ghost use Rattle.std.specs.Prelude.{◌≡◌, ◌≤◌, length, IfErr, IfOk};
+ghost use Rattle.std.specs.Prelude.{◌≡◌, ◌≤◌, length, IfErr, IfOk, false};
 ghost use Rattle.syn_netlist.specs.Frames.{frame_in};
 ghost use Rattle.syn_netlist.specs.Lists.{own_names};
 ghost use Rattle.syn_graph.specs.Graphs.{network_of};
-ghost use Rattle.syn_seq.specs.Code.{Answers, IsPartOf};
-ghost use Rattle.syn_seq.specs.Sweeping.{IsSwept, IsSweepOf};
+ghost use Rattle.syn_rows.specs.Reach.{IsReachedSet};
+ghost use Rattle.syn_rows.specs.Values.{value_in};
+ghost use Rattle.syn_seq.specs.Code.{Answers, AreLits, IsPartOf, all_kept};
+ghost use Rattle.syn_seq.specs.Rounds.{AreFates};
+ghost use Rattle.syn_seq.specs.Sweeping.{IsSwept, IsSweepOf, needing_rows, output_lits};
 
+use crate::Fate;
+use crate::checks::are_right;
 use crate::fates::{all_kept, fates};
+use crate::guesses::guessed;
 use crate::needs::needed;
 use crate::remaking::remade;
 use crate::signals::literals;
 use std::alloc::{AllocError, Global};
 use syn_graph::Graph;
+use syn_rows::Lit;
+
+// Guessed fates of all rounds together where they are right and not all latches are kept, else the given ones.
+fn further(
+    alloc: Global,
+    graph: &Graph,
+    lits: &[Lit],
+    needed: &[bool],
+    fates: Vec<Fate>,
+) -> Result<Vec<Fate>, AllocError>
+    requires count { length lits.now ≡ length graph.now.frame.names }
+    requires lits { AreLits (network_of graph.now) graph.now.frame.names lits.now }
+    requires length { length needed.now ≡ length graph.now.rows }
+    requires needed { IsReachedSet (needing_rows (network_of graph.now)) (output_lits (network_of graph.now)) (value_in needed.now) }
+    requires fates { AreFates (network_of graph.now) fates.items }
+    requires some { all_kept fates.items ≡ false }
+    ensures fates { IfOk result (λ v. AreFates (network_of graph.now) v.items) }
+    ensures some { IfOk result (λ v. all_kept v.items ≡ false) }
+{
+    let guess = guessed(alloc, graph, lits, needed)?;
+    if !all_kept(guess.as_slice()) && are_right(alloc, graph, guess.as_slice(), needed)? {
+        return Ok(guess);
+    }
+    Ok(fates)
+}
 
 #[tactic(auto, using(crate::proofs::Sweeps::is_round))]
-// One round: none where nothing is left to sweep.
+// One round, with what later ones would do of the same: none where nothing is left to sweep.
 fn round(alloc: Global, graph: &Graph) -> Result<Option<Graph>, AllocError>
     ensures { IfOk result (Answers graph.now) }
 {
@@ -26,6 +57,7 @@ fn round(alloc: Global, graph: &Graph) -> Result<Option<Graph>, AllocError>
     if all_kept(fates.as_slice()) {
         return Ok(None);
     }
+    let fates = further(alloc, graph, lits.as_slice(), needed.as_slice(), fates)?;
     let next = remade(alloc, graph, lits.as_slice(), fates.as_slice())?;
     Ok(Some(next))
 }

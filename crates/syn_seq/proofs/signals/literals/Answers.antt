@@ -1,33 +1,8 @@
-use Rattle.std.proofs.Common.{◌≡◌, ℕ, List, length, get_or, ap, ◌∙◌, arith, true}
-use Rattle.std.proofs.lemmas.List.{length-set}
-use Rattle.syn_rows.specs.declared.Lit.{Lit}
-use Rattle.syn_graph.specs.declared.Graph.{Graph}
+use Rattle.std.proofs.Common.{sym, ◌∙◌}
 use Rattle.syn_graph.specs.Graphs.{network_of}
-use Rattle.syn_netlist.specs.Frames.{frame_in}
-use Rattle.syn_netlist.specs.Lists.{observed}
-use Rattle.syn_netlist.specs.Numbers.{all_below, word_at, words_at}
 use Rattle.syn_shapes.specs.GraphShape.{lit_of}
-use Rattle.syn_seq.proofs.Named.{known, lits_are, placed}
+use Rattle.syn_seq.proofs.Sweeps.{spells}
 use Rattle.syn_seq.proofs.signals.literals.Goals as goal
 
-pub loop-i-preserved : goal.loop-i-preserved
-loop-i-preserved c =
-    let g : Graph = c.args.graph.now in
-    let numbers : List ℕ = c.as_slice-numbers.result.now in
-    let words : words_at g.frame.names numbers ≡ observed (frame_in g.frame) = ap (words_at g.frame.names) c.as_slice-numbers.ensures.value ∙ c.in_ok-numbers.ensures.words in
-    let below : all_below (length g.frame.names) numbers ≡ true = ap (all_below (length g.frame.names)) c.as_slice-numbers.ensures.value ∙ c.in_ok-numbers.ensures.below in
-    record {
-      count = length-set c.loop-i.found.items _ _ ∙ c.loop-i.invariant.count;
-      lits = placed (λ m. lit_of (network_of g) (word_at g.frame.names m)) numbers c.as_slice-lits.result.now c.loop-i.found.items c.loop-i.i
-          (ap (λ (k : ℕ). all_below k numbers) c.loop-i.invariant.count ∙ below) c.loop-i-test.true
-          (ap (λ (l : List Lit). get_or l c.loop-i.i (record { 0 = 0 })) c.as_slice-lits.ensures ∙ known c.network_of_graph.ensures g numbers words c.loop-i.i c.loop-i-test.true)
-          c.loop-i.invariant.lits;
-    }
-
 pub returns-clause-lits : goal.returns-clause-lits
-returns-clause-lits c =
-    let g : Graph = c.args.graph.now in
-    let numbers : List ℕ = c.as_slice-numbers.result.now in
-    let words : words_at g.frame.names numbers ≡ observed (frame_in g.frame) = ap (words_at g.frame.names) c.as_slice-numbers.ensures.value ∙ c.in_ok-numbers.ensures.words in
-    let below : all_below (length g.frame.names) numbers ≡ true = ap (all_below (length g.frame.names)) c.as_slice-numbers.ensures.value ∙ c.in_ok-numbers.ensures.below in
-    lits_are g numbers c.loop-i.found.items words below c.len.ensures.distinct (λ k lt. c.loop-i.invariant.lits k (omega (arith, lt)))
+returns-clause-lits c = c.in_ok-found.ensures.lits (lit_of (network_of c.args.graph.now)) (c.as_slice.ensures ∙ sym (spells c.network_of_graph.ensures c.args.graph.now).same_lits)
