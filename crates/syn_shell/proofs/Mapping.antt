@@ -17,26 +17,40 @@ use Rattle.syn_lutshapes.specs.Luts.{Lut, IsLutNet, greatest, luts_function, net
 use Rattle.syn_lutshapes.specs.LutShape.{LutsHaveFunction, observed_of}
 use Rattle.syn_lutshapes.specs.LutSpelling.{NetworkOfLuts, NetworkSpellsLuts, lut_network}
 use Rattle.syn_map.specs.Labels.{label_of}
+use Rattle.syn_area.specs.Plain.{AreNeeded}
 use Rattle.syn_words.specs.declared.Command.{Command}
 use Rattle.syn_words.specs.declared.Command.TheVariants as commands
 use Rattle.syn_reader.specs.Limits.{most_sources}
 use Rattle.syn_seq.proofs.Fewer.{fewer_sources}
 use Rattle.syn_shell.specs.Networks.{Network, graph_network, mapped_network, HasFewSources}
-use Rattle.syn_shell.specs.Steps.{IsMappedTo, IsRemade, IsSweptTo, Makes, Making, OnGraph, kind_of}
+use Rattle.syn_shell.specs.Steps.{IsInLuts, IsMappedForArea, IsMappedTo, IsRemade, IsSweptTo, Makes, Making, OnGraph, kind_of}
 
--- LUTs of the function of rows, as deep as the greatest label, and no more of them than rows
-mapped_in : NetworkOfGraph → GraphHasFunction → NetworkOfLuts → LutsHaveFunction → SameFromFunction → (k : ℕ) (frame : Frame) (rows : List Row) (lits : List Lit) (luts : List Lut) (outs : List Lit)
-    → distinct frame.clocks ≡ true → distinct (sources frame) ≡ true → IsGraph frame rows lits → IsLutNet frame luts outs → none_exceeds k luts ≡ true
-    → ((bits : List Bool) → length bits ≡ length (sources frame) → luts_function luts outs bits ≡ rows_function rows lits bits)
-    → net_depth (length (sources frame)) luts ≡ greatest (label_of k rows) (map node_of lits) → length luts + (length (sources frame) + 1) ≤ length rows
-    → IsMappedTo k (graph_network (network frame rows lits)) (mapped_network (lut_network frame luts outs))
-mapped_in of_graph graph_has of_luts luts_have same_meaning k frame rows lits luts outs clocks once graph net small same depth few = record {
-  same = same_meaning old new (rows_function rows lits) refl from to;
+-- the laws that say what a graph and a net of LUTs are as netlists
+pub record SpellingLaws : Type 0 where
+  pub of_graph : NetworkOfGraph
+  pub graph_has : GraphHasFunction
+  pub of_luts : NetworkOfLuts
+  pub luts_have : LutsHaveFunction
+  pub same_meaning : SameFromFunction
+
+-- LUTs of the function of rows, and no more of them than rows
+pub record AreLutsOf (k : ℕ) (frame : Frame) (rows : List Row) (lits : List Lit) (luts : List Lut) (outs : List Lit) : Type 0 where
+  pub clocks : distinct frame.clocks ≡ true
+  pub once : distinct (sources frame) ≡ true
+  pub graph : IsGraph frame rows lits
+  pub net : IsLutNet frame luts outs
+  pub small : none_exceeds k luts ≡ true
+  pub same : (bits : List Bool) → length bits ≡ length (sources frame) → luts_function luts outs bits ≡ rows_function rows lits bits
+  pub few : length luts + (length (sources frame) + 1) ≤ length rows
+
+in_luts : SpellingLaws → (k : ℕ) (frame : Frame) (rows : List Row) (lits : List Lit) (luts : List Lut) (outs : List Lit) → AreLutsOf k frame rows lits luts outs
+    → IsInLuts k (graph_network (network frame rows lits)) (mapped_network (lut_network frame luts outs))
+in_luts laws k frame rows lits luts outs h = record {
+  same = laws.same_meaning old new (rows_function rows lits) refl from to;
   ordered = l.ordered;
   mapped = refl;
-  shape = l.shape k small;
-  depth = l.depth ∙ depth ∙ sym (ap₂ (λ (rs : List Row) (ls : List Lit). greatest (label_of k rs) (map node_of ls)) s.same_rows s.same_lits);
-  fewer = omega (arith, l.count, s.ands, length-drop (length (sources frame) + 1) rows, few);
+  shape = l.shape k h.small;
+  fewer = omega (arith, l.count, s.ands, length-drop (length (sources frame) + 1) rows, h.few);
 }
   where
     old : Netlist
@@ -46,29 +60,46 @@ mapped_in of_graph graph_has of_luts luts_have same_meaning k frame rows lits lu
     new = lut_network frame luts outs
 
     s : NetworkSpells frame rows lits
-    s = of_graph frame rows lits clocks once graph
+    s = laws.of_graph frame rows lits h.clocks h.once h.graph
 
     l : NetworkSpellsLuts frame luts outs
-    l = of_luts frame luts outs clocks once net
+    l = laws.of_luts frame luts outs h.clocks h.once h.net
 
     from : HasFunction old (rows_function rows lits)
-    from = subst (λ (ls : List Lit). HasFunction old (rows_function rows ls)) s.same_lits (subst (λ (rs : List Row). HasFunction old (rows_function rs (graph_shape.observed_of old))) s.same_rows (graph_has old s.shape s.ordered).1)
+    from = subst (λ (ls : List Lit). HasFunction old (rows_function rows ls)) s.same_lits (subst (λ (rs : List Row). HasFunction old (rows_function rs (graph_shape.observed_of old))) s.same_rows (laws.graph_has old s.shape s.ordered).1)
 
     own : HasFunction new (luts_function luts outs)
-    own = subst (λ (ls : List Lit). HasFunction new (luts_function luts ls)) l.same_lits (subst (λ (xs : List Lut). HasFunction new (luts_function xs (observed_of new))) l.same_luts (luts_have new k (l.shape k small) l.ordered))
+    own = subst (λ (ls : List Lit). HasFunction new (luts_function luts ls)) l.same_lits (subst (λ (xs : List Lut). HasFunction new (luts_function xs (observed_of new))) l.same_luts (laws.luts_have new k (l.shape k h.small) l.ordered))
 
     to : HasFunction new (rows_function rows lits)
-    to = record { total = own.total; value = λ v c. own.value v c ∙ same (map v (sources frame)) (length-map (sources frame) v) }
+    to = record { total = own.total; value = λ v c. own.value v c ∙ h.same (map v (sources frame)) (length-map (sources frame) v) }
 
--- the same, of a frame that is known to be the same
-pub mapped_to : NetworkOfGraph → GraphHasFunction → NetworkOfLuts → LutsHaveFunction → SameFromFunction → (k : ℕ) (frame new_frame : Frame) (rows : List Row) (lits : List Lit) (luts : List Lut) (outs : List Lit) → new_frame ≡ frame
-    → distinct frame.clocks ≡ true → distinct (sources frame) ≡ true → IsGraph frame rows lits → IsLutNet new_frame luts outs → none_exceeds k luts ≡ true
-    → ((bits : List Bool) → length bits ≡ length (sources frame) → luts_function luts outs bits ≡ rows_function rows lits bits)
-    → net_depth (length (sources frame)) luts ≡ greatest (label_of k rows) (map node_of lits) → length luts + (length (sources frame) + 1) ≤ length rows
+-- as deep as the greatest label; of a frame that is known to be the same
+pub mapped_to : SpellingLaws → (k : ℕ) (frame new_frame : Frame) (rows : List Row) (lits : List Lit) (luts : List Lut) (outs : List Lit) → new_frame ≡ frame → AreLutsOf k frame rows lits luts outs
+    → net_depth (length (sources frame)) luts ≡ greatest (label_of k rows) (map node_of lits)
     → IsMappedTo k (graph_network (network frame rows lits)) (mapped_network (lut_network new_frame luts outs))
-mapped_to of_graph graph_has of_luts luts_have same_meaning k frame new_frame rows lits luts outs same_frame clocks once graph net small same depth few =
-    subst (λ (f : Frame). IsLutNet f luts outs → IsMappedTo k (graph_network (network frame rows lits)) (mapped_network (lut_network f luts outs))) (sym same_frame)
-    (λ n. mapped_in of_graph graph_has of_luts luts_have same_meaning k frame rows lits luts outs clocks once graph n small same depth few) net
+mapped_to laws k frame new_frame rows lits luts outs same_frame h depth =
+    let s : NetworkSpells frame rows lits = laws.of_graph frame rows lits h.clocks h.once h.graph in
+    let l : NetworkSpellsLuts frame luts outs = laws.of_luts frame luts outs h.clocks h.once h.net in
+    subst (λ (f : Frame). IsMappedTo k (graph_network (network frame rows lits)) (mapped_network (lut_network f luts outs))) (sym same_frame) (record {
+      luts = in_luts laws k frame rows lits luts outs h;
+      depth = l.depth ∙ depth ∙ sym (ap₂ (λ (rs : List Row) (ls : List Lit). greatest (label_of k rs) (map node_of ls)) s.same_rows s.same_lits);
+    })
+
+-- no deeper than the greatest label, and no more of them than mapping makes; likewise
+pub mapped_for_area : SpellingLaws → (k : ℕ) (frame new_frame : Frame) (rows : List Row) (lits : List Lit) (luts : List Lut) (outs : List Lit) → new_frame ≡ frame → AreLutsOf k frame rows lits luts outs
+    → net_depth (length (sources frame)) luts ≤ greatest (label_of k rows) (map node_of lits) → ((nodes : List ℕ) → AreNeeded k rows lits nodes → length luts ≤ length nodes)
+    → IsMappedForArea k (graph_network (network frame rows lits)) (mapped_network (lut_network new_frame luts outs))
+mapped_for_area laws k frame new_frame rows lits luts outs same_frame h depth few =
+    let old : Netlist = network frame rows lits in
+    let s : NetworkSpells frame rows lits = laws.of_graph frame rows lits h.clocks h.once h.graph in
+    let l : NetworkSpellsLuts frame luts outs = laws.of_luts frame luts outs h.clocks h.once h.net in
+    let most = ap₂ (λ (rs : List Row) (ls : List Lit). greatest (label_of k rs) (map node_of ls)) s.same_rows s.same_lits in
+    subst (λ (f : Frame). IsMappedForArea k (graph_network old) (mapped_network (lut_network f luts outs))) (sym same_frame) (record {
+      luts = in_luts laws k frame rows lits luts outs h;
+      depth = omega (arith, l.depth, depth, most);
+      fewest = λ nodes are. omega (arith, l.count, few nodes (subst (λ (rs : List Row). AreNeeded k rs lits nodes) s.same_rows (subst (λ (ls : List Lit). AreNeeded k (graph_shape.rows_of old) ls nodes) s.same_lits are)));
+    })
 
 -- what a command makes of a net's graph it makes of the net
 pub behind_hashing : SameIsTransitive → (c : Command) → kind_of c ≡ Making → (m graph : Netlist) (new : Network) → IsRemade (mapped_network m) (graph_network graph) → Makes c (graph_network graph) new → Makes c (mapped_network m) new
@@ -82,7 +113,8 @@ behind_hashing transitive commands.Strash making m graph new is made = record {
 behind_hashing transitive commands.Balance making m graph new is made = (graph_network graph, is, made)
 behind_hashing transitive (commands.Rewrite zero workers) making m graph new is made = (graph_network graph, is, made)
 behind_hashing transitive (commands.Refactor zero workers) making m graph new is made = (graph_network graph, is, made)
-behind_hashing transitive (commands.Map inputs) making m graph new is made = (graph_network graph, is, made)
+behind_hashing transitive (commands.Map false inputs) making m graph new is made = (graph_network graph, is, made)
+behind_hashing transitive (commands.Map true inputs) making m graph new is made = (graph_network graph, is, made)
 behind_hashing transitive commands.Sweep making m graph new is made = (graph_network graph, is, made)
 behind_hashing transitive (commands.Read name) making m graph new is made = absurd (cc)
 behind_hashing transitive (commands.Write name) making m graph new is made = absurd (cc)
@@ -107,7 +139,8 @@ fewer_behind commands.Strash old new made = same_fewer old new made.same.frame
 fewer_behind commands.Balance old new made = fewer_on_graph _ (λ a b h. same_fewer a b h.remade.same.frame) old.mapped old new made
 fewer_behind (commands.Rewrite zero workers) old new made = fewer_on_graph _ (λ a b h. same_fewer a b h.remade.same.frame) old.mapped old new made
 fewer_behind (commands.Refactor zero workers) old new made = fewer_on_graph _ (λ a b h. same_fewer a b h.remade.same.frame) old.mapped old new made
-fewer_behind (commands.Map inputs) old new made = fewer_on_graph _ (λ a b h. same_fewer a b h.same.frame) old.mapped old new made
+fewer_behind (commands.Map false inputs) old new made = fewer_on_graph _ (λ a b h. same_fewer a b h.luts.same.frame) old.mapped old new made
+fewer_behind (commands.Map true inputs) old new made = fewer_on_graph _ (λ a b h. same_fewer a b h.luts.same.frame) old.mapped old new made
 fewer_behind commands.Sweep old new made = fewer_on_graph _ swept_fewer old.mapped old new made
 fewer_behind other old new made = omega (arith, ap (λ (n : Network). length (sources n.netlist.frame)) made)
 

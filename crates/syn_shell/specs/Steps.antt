@@ -13,6 +13,7 @@ use Rattle.syn_shapes.specs.Printed.{printed}
 use Rattle.syn_lutshapes.specs.Luts.{greatest}
 use Rattle.syn_lutshapes.specs.LutShape.{LutShape, count_of, depth_of, gates_of}
 use Rattle.syn_map.specs.Labels.{label_of}
+use Rattle.syn_area.specs.Plain.{AreNeeded}
 use Rattle.syn_build_luts.specs.Refusals.{most_gates}
 use Rattle.syn_pool.specs.Closing.{Closed}
 use Rattle.syn_gain.specs.Replacements.{Replacement}
@@ -109,14 +110,24 @@ pub record IsClosedFor (proposals : List Row → ℕ → List Replacement) (old 
   pub remade : IsRemade old new
   pub closed : Closed (rows_of new.netlist) (observed_of new.netlist) (proposals (rows_of new.netlist))
 
--- What mapping makes of a graph, a net of LUTs: it means the same, reads only earlier signals, and has the shape of LUTs of so many inputs at most; it is as deep as the greatest label of an observed node, by the rows that the graph spells, and has no more LUTs than the graph has ANDs.
-pub record IsMappedTo (inputs : ℕ) (old new : Network) : Type 0 where
+-- What any mapping makes of a graph, a net of LUTs: it means the same, reads only earlier signals, has the shape of LUTs of so many inputs at most, and has no more LUTs than the graph has ANDs.
+pub record IsInLuts (inputs : ℕ) (old new : Network) : Type 0 where
   pub same : SameMeaning old.netlist new.netlist
   pub ordered : Ordered new.netlist
   pub mapped : new.mapped ≡ true
   pub shape : LutShape new.netlist inputs
-  pub depth : depth_of new.netlist ≡ greatest (label_of inputs (rows_of old.netlist)) (map node_of (observed_of old.netlist))
   pub fewer : count_of new.netlist ≤ length (and_tables old.netlist)
+
+-- What mapping makes of a graph: a net of LUTs that is as deep as the greatest label of an observed node, by the rows that the graph spells.
+pub record IsMappedTo (inputs : ℕ) (old new : Network) : Type 0 where
+  pub luts : IsInLuts inputs old new
+  pub depth : depth_of new.netlist ≡ greatest (label_of inputs (rows_of old.netlist)) (map node_of (observed_of old.netlist))
+
+-- What mapping for few LUTs makes of a graph: a net of LUTs that is no deeper than what mapping makes, and has no more LUTs than nodes need one over the chosen cuts, by the rows that the graph spells; mapping makes one LUT of each of these.
+pub record IsMappedForArea (inputs : ℕ) (old new : Network) : Type 0 where
+  pub luts : IsInLuts inputs old new
+  pub depth : depth_of new.netlist ≤ greatest (label_of inputs (rows_of old.netlist)) (map node_of (observed_of old.netlist))
+  pub fewest : (nodes : List ℕ) → AreNeeded inputs (rows_of old.netlist) (observed_of old.netlist) nodes → count_of new.netlist ≤ length nodes
 
 -- What sweeping makes of a graph: one with the same outputs over every sequence of inputs, in which no latch is left that no output needs, and no two that can be one.
 pub record IsSweptTo (old new : Network) : Type 0 where
@@ -134,7 +145,8 @@ Makes commands.Strash old new = IsRemade old new
 Makes commands.Balance old new = OnGraph IsBalanced old.mapped old new
 Makes (commands.Rewrite zero workers) old new = OnGraph (IsClosedFor rewritings) old.mapped old new
 Makes (commands.Refactor zero workers) old new = OnGraph (IsClosedFor refactorings) old.mapped old new
-Makes (commands.Map inputs) old new = OnGraph (IsMappedTo inputs) old.mapped old new
+Makes (commands.Map false inputs) old new = OnGraph (IsMappedTo inputs) old.mapped old new
+Makes (commands.Map true inputs) old new = OnGraph (IsMappedForArea inputs) old.mapped old new
 Makes commands.Sweep old new = OnGraph IsSweptTo old.mapped old new
 Makes other old new = new ≡ old
 

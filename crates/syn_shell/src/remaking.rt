@@ -7,7 +7,7 @@ ghost use Rattle.syn_build_luts.specs.Refusals.{most_gates};
 ghost use Rattle.syn_refactor.specs.Refactoring.{refactorings};
 ghost use Rattle.syn_rewrite.specs.Rewriting.{rewritings};
 ghost use Rattle.syn_shell.specs.Networks.{gates_in, graph_network, HasFewSources, mapped_network, network_of};
-ghost use Rattle.syn_shell.specs.Steps.{IsBalanced, IsClosedFor, IsMappedTo, IsRemade, IsSweptTo, kind_of, Makes, Making, MakingRefused};
+ghost use Rattle.syn_shell.specs.Steps.{IsBalanced, IsClosedFor, IsMappedForArea, IsMappedTo, IsRemade, IsSweptTo, kind_of, Makes, Making, MakingRefused};
 
 use crate::network::Kept;
 use crate::refusal::Refusal;
@@ -118,6 +118,28 @@ fn swept(alloc: Global, graph: Graph) -> Result<Kept, (Graph, Refusal)>
     }
 }
 
+// A graph, mapped to few LUTs of so many inputs, with cuts that so many workers list; refused, the graph as it was.
+fn mapped_for_area<R: Threads + Sync>(
+    rt: &R,
+    alloc: Global,
+    graph: Graph,
+    inputs: &LutInputs,
+    workers: u8,
+) -> Result<Kept, (Graph, Refusal)>
+    ensures mapped { IfOk result (λ new. IsMappedForArea inputs.now (graph_network (graphs.network_of graph)) (network_of new)) }
+    ensures refused { IfErr result (λ back. (graphs.network_of back.0 ≡ graphs.network_of graph) × (back.1 ≡ Refusal.NoMemory)) }
+{
+    syn_shapes::network_of_graph();
+    syn_shapes::graph_has_function();
+    syn_lutshapes::network_of_luts();
+    syn_lutshapes::luts_have_function();
+    syn_netlist::same_from_function();
+    match syn_area::map_for_area(rt, alloc, &graph, inputs.number(), workers) {
+        Ok(net) => Ok(Kept::Luts(net)),
+        Err(_) => Err((graph, Refusal::NoMemory)),
+    }
+}
+
 // The number of workers of a command: the one that it names, else the session's.
 fn workers_of(named: Option<u8>, workers: u8) -> u8 {
     match named {
@@ -149,7 +171,11 @@ fn remake_graph<R: Threads + Sync, G: Gate>(
             zero,
             workers: named,
         } => refactored(rt, alloc, graph, workers_of(*named, workers), *zero, gate),
-        Command::Map(inputs) => mapped(rt, alloc, graph, inputs, workers),
+        Command::Map {
+            area: false,
+            inputs,
+        } => mapped(rt, alloc, graph, inputs, workers),
+        Command::Map { area: true, inputs } => mapped_for_area(rt, alloc, graph, inputs, workers),
         Command::Sweep => swept(alloc, graph),
         Command::Read(_) | Command::Generate { .. } | Command::Stats | Command::Write(_) => {
             Ok(Kept::Graph(graph))

@@ -214,7 +214,7 @@ impl Session {
             | Command::Balance
             | Command::Rewrite { .. }
             | Command::Refactor { .. }
-            | Command::Map(_)
+            | Command::Map { .. }
             | Command::Sweep => self.make(rt, alloc, command, gate),
         }
     }

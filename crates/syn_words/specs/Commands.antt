@@ -49,15 +49,15 @@ words_alone words = record { flag = None; numbered = None; operands = words }
 abbrev pub with_workers : Option ℕ → Form
 with_workers flag = record { flag = flag; numbered = Some (record { letter = 119; range = record { least = 1; most = 16 } }); operands = operands.Nothing }
 
--- An option alone: `-K` with a number of inputs from 2 to 8.
-abbrev pub with_inputs : Form
-with_inputs = record { flag = None; numbered = Some (record { letter = 75; range = record { least = 2; most = 8 } }); operands = operands.Nothing }
+-- Options alone: one without a number, where there is one, and `-K` with a number of inputs from 2 to 8.
+abbrev pub with_inputs : Option ℕ → Form
+with_inputs flag = record { flag = flag; numbered = Some (record { letter = 75; range = record { least = 2; most = 8 } }); operands = operands.Nothing }
 
 -- Two numbers alone: a seed of 64 bits, and a number of tables from 1 to 32768.
 abbrev pub seed_and_size : Form
 seed_and_size = words_alone (operands.TwoNumbers (record { least = 0; most = 18446744073709551615 }) (record { least = 1; most = 32768 }))
 
--- What may stand behind a name. The option without a number of `rewrite` and `refactor` is `-z`; `rwz` and `rfz` have it set.
+-- What may stand behind a name. The option without a number of `rewrite` and `refactor` is `-z`; `rwz` and `rfz` have it set. That of `if` is `-a`.
 abbrev pub form_of : Keyword → Form
 form_of keywords.ReadBlif = words_alone operands.Name
 form_of keywords.WriteBlif = words_alone operands.Name
@@ -68,7 +68,7 @@ form_of keywords.Rewrite = with_workers (Some 122)
 form_of keywords.RewriteZero = with_workers None
 form_of keywords.Refactor = with_workers (Some 122)
 form_of keywords.RefactorZero = with_workers None
-form_of keywords.Map = with_inputs
+form_of keywords.Map = with_inputs (Some 97)
 form_of keywords.Resyn2 = words_alone operands.Nothing
 form_of keywords.Generate = seed_and_size
 form_of keywords.Sweep = words_alone operands.Nothing
@@ -116,7 +116,7 @@ commands_of keywords.Rewrite given = commands.Rewrite given.flag (option_map wor
 commands_of keywords.RewriteZero given = commands.Rewrite true (option_map workers_of given.number) ∷ []
 commands_of keywords.Refactor given = commands.Refactor given.flag (option_map workers_of given.number) ∷ []
 commands_of keywords.RefactorZero given = commands.Refactor true (option_map workers_of given.number) ∷ []
-commands_of keywords.Map given = commands.Map (given_inputs given.number) ∷ []
+commands_of keywords.Map given = commands.Map given.flag (given_inputs given.number) ∷ []
 commands_of keywords.Resyn2 given = resyn2
 commands_of keywords.Generate given = commands.Generate given.numbers.0 (size_of given.numbers.1) ∷ []
 commands_of keywords.Sweep given = commands.Sweep ∷ []

@@ -60,8 +60,13 @@ pub enum Command {
         /// The number of workers, where one is named.
         workers: Option<u8>,
     },
-    /// `if [-K n]`: maps the network to LUTs of so many inputs at most.
-    Map(LutInputs),
+    /// `if [-a] [-K n]`: maps the network to LUTs of so many inputs at most.
+    Map {
+        /// Whether few LUTs are looked for.
+        area: bool,
+        /// The most inputs of a LUT.
+        inputs: LutInputs,
+    },
     /// `gen SEED SIZE`: the graph of the netlist that is generated from a seed becomes the network.
     Generate {
         /// The seed.

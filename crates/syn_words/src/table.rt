@@ -120,12 +120,12 @@ fn with_workers(flag: Option<u8>) -> Form
     }
 }
 
-// A number of inputs.
-fn with_inputs() -> Form
-    ensures { result ≡ with_inputs }
+// An option without a number, where it has one, and a number of inputs.
+fn with_inputs(flag: Option<u8>) -> Form
+    ensures { result ≡ with_inputs flag }
 {
     Form {
-        flag: None,
+        flag,
         numbered: Some(INPUTS),
         operands: Operands::Nothing,
     }
@@ -144,7 +144,7 @@ fn form_of(keyword: Keyword) -> Form
         | Keyword::Sweep => words_alone(Operands::Nothing),
         Keyword::Rewrite | Keyword::Refactor => with_workers(Some(b'z')),
         Keyword::RewriteZero | Keyword::RefactorZero => with_workers(None),
-        Keyword::Map => with_inputs(),
+        Keyword::Map => with_inputs(Some(b'a')),
         Keyword::Generate => words_alone(Operands::TwoNumbers(SEEDS, SIZES)),
     }
 }
@@ -269,7 +269,13 @@ fn commands_of(
                 workers,
             },
         ),
-        Keyword::Map => one(alloc, Command::Map(LutInputs::of(given.number))),
+        Keyword::Map => one(
+            alloc,
+            Command::Map {
+                area: given.flag,
+                inputs: LutInputs::of(given.number),
+            },
+        ),
         Keyword::Resyn2 => resyn2(alloc),
         Keyword::Generate => one(
             alloc,
