@@ -1,0 +1,4 @@
+pub mod Numbers
+pub mod Bodies
+pub mod Written
+pub mod Counts

@@ -1,0 +1,9 @@
+pub mod Texts
+pub mod Files
+pub mod Parts
+pub mod Symbols
+pub mod Spelling
+pub mod Printed
+pub mod Laws
+pub mod Literals
+pub mod Inputs
