@@ -15,8 +15,8 @@ use Rattle.syn_aiger_files.specs.Symbols.{begins_comments, count_of, is_at, lett
 use Rattle.syn_aiger_files.specs.Spelling.{aig_by, are_enough, are_further, format_of, header_by, header_in, header_of, most_variables, spelled, spelled_by}
 use Rattle.syn_aiger_files.specs.Printed.{body_of, decimals, first_line_of, format_word, printed, symbol_line}
 use Rattle.syn_aiger_files.specs.Laws.{IsNormal, are_symbols, count_in}
-use Rattle.syn_aiger_files.proofs.Numbers.{Above, AllShort, AllWords, above_decimal, all_words_decimals, behind_line, behind_text, first_line_line, front_text, line_cut, lines_at_text, above_line, number_of_decimal, numbers_of_decimals, words_of_line}
-use Rattle.syn_aiger_files.proofs.Bodies.{entries, entry_part, header_for, inputs_of_entries, latches_of_entries, outputs_of_entries, ands_of_entries, parts_of_body}
+use Rattle.syn_aiger_files.proofs.PrintedNumbers.{Above, AllShort, AllWords, above_decimal, all_words_decimals, behind_line, behind_text, first_line_line, front_text, line_cut, lines_at_text, above_line, number_of_decimal, numbers_of_decimals, words_of_line}
+use Rattle.syn_aiger_files.proofs.PrintedBodies.{entries, entry_part, header_for, inputs_of_entries, latches_of_entries, outputs_of_entries, ands_of_entries, parts_of_body}
 
 -- symbols
 

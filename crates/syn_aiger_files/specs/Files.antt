@@ -1,20 +1,12 @@
 -- What an AIGER file says, as plain data (AIGER 1.9). A variable is a number, variable 0 the constant; a literal is twice a variable, plus 1 where it is complemented.
-use Rattle.std.specs.Prelude.{ℕ, ◌/◌, Bool}
+use Rattle.std.specs.Prelude.{ℕ, ◌/◌}
 pub use Rattle.syn_aiger_files.specs.declared.files.Aig.{Aig}
 pub use Rattle.syn_aiger_files.specs.declared.files.AigAnd.{AigAnd}
 pub use Rattle.syn_aiger_files.specs.declared.files.AigLatch.{AigLatch}
+pub use Rattle.syn_aiger_files.specs.declared.files.Header.{Header}
 pub use Rattle.syn_aiger_files.specs.declared.files.Place.{Place}
 pub use Rattle.syn_aiger_files.specs.declared.files.Place.TheVariants.{Input as OfInput, Latch as OfLatch, Output as OfOutput}
 pub use Rattle.syn_aiger_files.specs.declared.files.Symbol.{Symbol}
-
--- The first line: the format, the greatest variable, and how many inputs, latches, outputs and ANDs there are.
-pub record Header : Type 0 where
-  pub ascii : Bool
-  pub variables : ℕ
-  pub inputs : ℕ
-  pub latches : ℕ
-  pub outputs : ℕ
-  pub ands : ℕ
 
 abbrev pub latch_literal : AigLatch → ℕ
 latch_literal latch = latch.literal

@@ -7,3 +7,8 @@ pub mod Printed
 pub mod Laws
 pub mod Literals
 pub mod Inputs
+pub mod Cuts
+pub mod Shown
+pub mod Seen
+pub mod Headers
+pub mod Gathered

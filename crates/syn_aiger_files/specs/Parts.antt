@@ -5,23 +5,11 @@ use Rattle.syn_aiger_files.specs.declared.fault.AigFault.{AigFault}
 use Rattle.syn_aiger_files.specs.declared.fault.AigFault.TheVariants as faults
 use Rattle.syn_aiger_files.specs.Texts.{behind, delta, numbers_on}
 use Rattle.syn_aiger_files.specs.Files.{AigLatch, AigAnd, Header}
+pub use Rattle.syn_aiger_files.specs.declared.files.Part.{Part}
+pub use Rattle.syn_aiger_files.specs.declared.files.Part.TheVariants.{Input, Latched, Output, Gate}
+pub use Rattle.syn_aiger_files.specs.declared.files.Wanted.{Wanted}
+pub use Rattle.syn_aiger_files.specs.declared.files.Wanted.TheVariants.{InputLine, LatchLine, NextLine, OutputLine, AndLine, PairOf}
 use Rattle.syn_aiger_files.specs.Literals.{literals_from}
-
--- What comes next: lines of an ASCII file, lines of a binary one, whose latches have literals that follow from their number, and a pair for each AND, whose literal does.
-pub data Wanted : Type 0 where
-  InputLine : Wanted
-  LatchLine : Wanted
-  NextLine : ℕ → Wanted
-  OutputLine : Wanted
-  AndLine : Wanted
-  PairOf : ℕ → Wanted
-
--- What it says.
-pub data Part : Type 0 where
-  Input : ℕ → Part
-  Latched : AigLatch → Part
-  Output : ℕ → Part
-  Gate : AigAnd → Part
 
 -- what the body has, by the format
 abbrev pub wanted_by : Bool → Header → List Wanted

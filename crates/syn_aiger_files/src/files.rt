@@ -1,6 +1,6 @@
 //! What an AIGER file says, in numbers: its literals and its names.
 
-ghost use Rattle.std.specs.Prelude.{◌≡◌, length, IfNone, IfSome};
+ghost use Rattle.std.specs.Prelude.{◌≡◌, ◌<◌, ◌^◌, length, IfNone, IfSome};
 ghost use Rattle.syn_aiger_files.specs.Literals.{literals_from};
 
 use std::marker::Model;
@@ -36,6 +36,37 @@ pub struct Symbol {
     pub place: Place,
     pub index: u32,
     pub name: Items<u8>,
+}
+
+/// The first line: the format, the greatest variable, and how many inputs, latches, outputs and ANDs there are.
+#[derive(Debug, Clone, Copy)]
+pub struct Header {
+    pub ascii: bool,
+    pub variables: u32,
+    pub inputs: u32,
+    pub latches: u32,
+    pub outputs: u32,
+    pub ands: u32,
+}
+
+/// What comes next in a body: lines of an ASCII file; lines of a binary one, whose latches have literals that follow from their number; and pairs of numbers for its ANDs, whose literals do too.
+#[derive(Debug, Clone, Copy)]
+pub enum Wanted {
+    InputLine,
+    LatchLine,
+    NextLine(u32),
+    OutputLine,
+    AndLine,
+    PairOf(u32),
+}
+
+/// What a line or a pair of numbers says.
+#[derive(Debug, Clone, Copy)]
+pub enum Part {
+    Input(u32),
+    Latched(AigLatch),
+    Output(u32),
+    Gate(AigAnd),
 }
 
 // Literals that are listed, or the first so many plain ones.
@@ -93,10 +124,14 @@ impl Inputs {
     pub fn as_listed(&self) -> Option<&[u32]>
         ensures listed { IfSome result (λ literals. literals.now ≡ self.now) }
         ensures first { IfNone result (self.now ≡ literals_from 1 (length self.now)) }
+        ensures few { IfNone result (length self.now < 2 ^ 32) }
     {
         match &self.listing {
             Listing::Listed(literals) => Some(literals.as_slice()),
-            Listing::First(_) => None,
+            Listing::First(count) => {
+                let _few = *count;
+                None
+            }
         }
     }
 }

@@ -3,10 +3,16 @@
 
 ghost use Rattle.syn_aiger_files.specs.Laws.{PrintedSays};
 
+mod bodies;
+mod cuts;
 mod fault;
 mod files;
+mod header;
+mod numbers;
 mod parsing;
 mod printing;
+mod sets;
+mod symbols;
 
 pub use fault::{AigFault, MOST_GATES};
 pub use files::{Aig, AigAnd, AigLatch, Inputs, Place, Symbol};

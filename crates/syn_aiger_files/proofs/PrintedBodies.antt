@@ -12,7 +12,7 @@ use Rattle.syn_aiger_files.specs.Parts.{AndLine, Gate, Input, InputLine, LatchLi
 use Rattle.syn_aiger_files.specs.Printed.{ascii_and, ascii_latch, binary_and, binary_latch, body_of, grouped, number_line, reset_of, single}
 use Rattle.syn_aiger_files.specs.Laws.{IsNormal, and_is_normal, latch_is_normal}
 use Rattle.syn_aiger_files.specs.Spelling.{most_variables}
-use Rattle.syn_aiger_files.proofs.Numbers.{AllShort, IsShort, behind_numbers, delta_of, numbers_on_line}
+use Rattle.syn_aiger_files.proofs.PrintedNumbers.{AllShort, IsShort, behind_numbers, delta_of, numbers_on_line}
 
 -- What is wanted, the bytes that say it, and what they say.
 pub record Entry : Type 0 where
