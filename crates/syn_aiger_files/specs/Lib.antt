@@ -12,3 +12,4 @@ pub mod Shown
 pub mod Seen
 pub mod Headers
 pub mod Gathered
+pub mod Worked

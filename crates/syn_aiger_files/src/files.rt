@@ -129,6 +129,7 @@ impl Inputs {
         match &self.listing {
             Listing::Listed(literals) => Some(literals.as_slice()),
             Listing::First(count) => {
+                // Read, so that it is known to be a `u32`.
                 let _few = *count;
                 None
             }
