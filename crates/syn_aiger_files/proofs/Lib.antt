@@ -1,0 +1,14 @@
+pub mod PrintedNumbers
+pub mod PrintedBodies
+pub mod Written
+pub mod Counts
+pub mod Cutting
+pub mod Gathering
+pub mod Saying
+pub mod Parsed
+pub mod Reading
+pub mod OnLines
+pub mod FirstLines
+pub mod Naming
+pub mod Pushing
+pub mod Pairing

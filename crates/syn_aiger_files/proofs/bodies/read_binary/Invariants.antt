@@ -1,0 +1,10 @@
+use Rattle.std.proofs.Common.{◌≡◌, ◌≤◌, ◌*◌, ◌+◌, ℕ, List, drop, length, false}
+use Rattle.syn_aiger_files.specs.Gathered.{body_by, gathered, lists_of}
+use Rattle.syn_aiger_files.specs.Parts.{parts_of, wanted_by}
+use Rattle.syn_aiger_files.proofs.bodies.read_binary.Given as goal
+
+abbrev pub invariant-loop-k : goal.invariant-loop-k
+invariant-loop-k l = record {
+  within : length l.rest ≤ l.total;
+  left : (ls : List ℕ) × (gathered (lists_of l.body) (parts_of l.total (2 * l.h.variables + 1) ls (drop l.k (wanted_by false l.h)) l.rest) ≡ body_by false l.h l.total l.bytes);
+}

@@ -1,0 +1,15 @@
+pub mod Texts
+pub mod Files
+pub mod Parts
+pub mod Symbols
+pub mod Spelling
+pub mod Printed
+pub mod Laws
+pub mod Literals
+pub mod Inputs
+pub mod Cuts
+pub mod Shown
+pub mod Seen
+pub mod Headers
+pub mod Gathered
+pub mod Worked

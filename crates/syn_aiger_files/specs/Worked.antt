@@ -1,0 +1,44 @@
+-- Worked files, computed from the definitions.
+use Rattle.std.specs.Prelude.{◌≡◌, [], ◌∷◌, ◌++◌, codes, Ok, Err}
+use Rattle.syn_aiger_files.specs.declared.fault.AigFault.TheVariants as faults
+use Rattle.syn_aiger_files.specs.Files.{Aig, OfInput, OfOutput}
+use Rattle.syn_aiger_files.specs.Spelling.{spelled}
+
+-- the three ANDs of `a b or a c`
+abbrev pub or_of_ands : Aig
+or_of_ands = record {
+  variables = 6;
+  inputs = 2 ∷ 4 ∷ 6 ∷ [];
+  latches = [];
+  outputs = 13 ∷ [];
+  ands = record { literal = 8; first = 4; second = 2 } ∷ record { literal = 10; first = 6; second = 2 } ∷ record { literal = 12; first = 11; second = 9 } ∷ [];
+  symbols = record { place = OfInput; index = 0; name = codes "a" } ∷ record { place = OfInput; index = 1; name = codes "b" } ∷ record { place = OfInput; index = 2; name = codes "c" } ∷ record { place = OfOutput; index = 0; name = codes "f" } ∷ [];
+}
+
+-- a latch of any value that loads the complement of the input, and is the output
+abbrev pub free_latch : Aig
+free_latch = record {
+  variables = 2;
+  inputs = 2 ∷ [];
+  latches = record { literal = 4; next = 3; reset = 4 } ∷ [];
+  outputs = 4 ∷ [];
+  ands = [];
+  symbols = [];
+}
+
+-- Both files are said in both formats, with a CR before the LF and without the last LF too; and the faults of a first line, a line, a pair and a symbol have their places.
+pub record WorkedFiles : Type 0 where
+  pub ascii : spelled (codes "aag 6 3 0 1 3\n2\n4\n6\n13\n8 4 2\n10 6 2\n12 11 9\ni0 a\ni1 b\ni2 c\no0 f\n") ≡ Ok or_of_ands
+  pub binary : spelled (codes "aig 6 3 0 1 3\n13\n" ++ (4 ∷ 2 ∷ 4 ∷ 4 ∷ 1 ∷ 2 ∷ []) ++ codes "i0 a\ni1 b\ni2 c\no0 f\nc\nany text") ≡ Ok or_of_ands
+  pub latch : spelled (codes "aag 2 1 1 1 0\r\n2\r\n4 3 4\r\n4") ≡ Ok free_latch
+  pub header : spelled (codes "aag 1 1 0 0\n") ≡ Err faults.Header
+  pub line : spelled (codes "aag 1 1 0 0 0\n3\n") ≡ Err (faults.Line 14)
+  pub pair : spelled (codes "aig 2 1 0 0 1\n" ++ (5 ∷ 0 ∷ [])) ≡ Err (faults.Pair 14)
+  pub symbol : spelled (codes "aag 1 1 0 0 0\n2\ni1 a\n") ≡ Err (faults.Symbol 16)
+
+-- A first difference of 0, one above the literal, one that is cut off, and one of more than five groups are faults of the pair.
+pub record WorkedPairs : Type 0 where
+  pub none : spelled (codes "aig 1 0 0 0 1\n" ++ (0 ∷ 0 ∷ [])) ≡ Err (faults.Pair 14)
+  pub above : spelled (codes "aig 1 0 0 0 1\n" ++ (3 ∷ 0 ∷ [])) ≡ Err (faults.Pair 14)
+  pub cut : spelled (codes "aig 1 0 0 0 1\n" ++ (1 ∷ 129 ∷ [])) ≡ Err (faults.Pair 14)
+  pub long : spelled (codes "aig 1 0 0 0 1\n" ++ (129 ∷ 128 ∷ 128 ∷ 128 ∷ 128 ∷ 0 ∷ 0 ∷ [])) ≡ Err (faults.Pair 14)
