@@ -1,0 +1,11 @@
+pub mod Tops
+pub mod Paths
+pub mod LeastCuts
+pub mod Walking
+pub mod Checking
+pub mod Searching
+pub mod Augmenting
+pub mod Adding
+pub mod Listing
+pub mod Rooms
+pub mod Outcomes
