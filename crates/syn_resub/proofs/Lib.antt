@@ -1,0 +1,13 @@
+pub mod Listed
+pub mod Scanned
+pub mod InGraph
+pub mod Places
+pub mod Dividing
+pub mod Valued
+pub mod Found
+pub mod Needing
+pub mod Gated
+pub mod Made
+pub mod Planned
+pub mod Tabled
+pub mod Proposed

@@ -1,0 +1,12 @@
+use Rattle.std.proofs.Common.{List, length, ap, ◌∙◌, arith}
+use Rattle.syn_resub.specs.declared.forms.Form.{Form}
+use Rattle.syn_resub.proofs.Proposed.{form_found}
+use Rattle.syn_resub.proofs.proposing.DivisorsProposer.promising.Goals as goal
+
+pub push_promising-requires-clause-made : goal.push_promising-requires-clause-made
+push_promising-requires-clause-made c =
+    (form_found c.args.graph.now.rows c.args.node c.in_ok-divided.divided c.as_slice.result.now c.loop-place.place c.form_at-form.result c.in_ok-divided.ensures (c.as_slice.ensures.value ∙ c.found_forms-forms.ensures) (let long = ap (λ (l : List Form). length l) c.as_slice.ensures.value in omega (arith, c.loop-place-test.true, c.len-place-end.ensures.value, long)) c.form_at-form.ensures).0
+
+pub push_promising-requires-clause-stands : goal.push_promising-requires-clause-stands
+push_promising-requires-clause-stands c =
+    (form_found c.args.graph.now.rows c.args.node c.in_ok-divided.divided c.as_slice.result.now c.loop-place.place c.form_at-form.result c.in_ok-divided.ensures (c.as_slice.ensures.value ∙ c.found_forms-forms.ensures) (let long = ap (λ (l : List Form). length l) c.as_slice.ensures.value in omega (arith, c.loop-place-test.true, c.len-place-end.ensures.value, long)) c.form_at-form.ensures).1

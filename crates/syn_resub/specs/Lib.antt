@@ -1,0 +1,9 @@
+pub mod FanOuts
+pub mod Divisors
+pub mod Forms
+pub mod Resubstitution
+pub mod Laws
+pub mod Scanning
+pub mod Divided
+pub mod Sides
+pub mod Needed
