@@ -19,6 +19,7 @@ use Rattle.syn_pool.specs.Closing.{Closed}
 use Rattle.syn_gain.specs.Replacements.{Replacement}
 use Rattle.syn_gen.specs.Generated.{generated}
 use Rattle.syn_refactor.specs.Refactoring.{refactorings}
+use Rattle.syn_resub.specs.Resubstitution.{resubstitutions}
 use Rattle.syn_rewrite.specs.Rewriting.{rewritings}
 use Rattle.syn_seq.specs.Sweeping.{IsSweepOf}
 use Rattle.syn_words.specs.declared.Command.{Command}
@@ -105,7 +106,7 @@ pub record IsBalanced (old new : Network) : Type 0 where
   pub remade : IsRemade old new
   pub levels : (i : ℕ) → i < length (observed_of new.netlist) → level_at new.netlist i ≤ level_at old.netlist i
 
--- What rewriting and refactoring make of a graph, each for its proposals: it is remade, and no proposal for any of its ANDs saves one, by the rows that it spells.
+-- What rewriting, refactoring and resubstitution make of a graph, each for its proposals: it is remade, and no proposal for any of its ANDs saves one, by the rows that it spells.
 pub record IsClosedFor (proposals : List Row → ℕ → List Replacement) (old new : Network) : Type 0 where
   pub remade : IsRemade old new
   pub closed : Closed (rows_of new.netlist) (observed_of new.netlist) (proposals (rows_of new.netlist))
@@ -145,6 +146,7 @@ Makes commands.Strash old new = IsRemade old new
 Makes commands.Balance old new = OnGraph IsBalanced old.mapped old new
 Makes (commands.Rewrite zero workers) old new = OnGraph (IsClosedFor rewritings) old.mapped old new
 Makes (commands.Refactor zero workers) old new = OnGraph (IsClosedFor refactorings) old.mapped old new
+Makes (commands.Resubstitute zero workers) old new = OnGraph (IsClosedFor resubstitutions) old.mapped old new
 Makes (commands.Map false inputs) old new = OnGraph (IsMappedTo inputs) old.mapped old new
 Makes (commands.Map true inputs) old new = OnGraph (IsMappedForArea inputs) old.mapped old new
 Makes commands.Sweep old new = OnGraph IsSweptTo old.mapped old new

@@ -5,6 +5,7 @@ ghost use Rattle.syn_graph.specs.Graphs as graphs;
 ghost use Rattle.syn_lutnet.specs.Nets as nets;
 ghost use Rattle.syn_build_luts.specs.Refusals.{most_gates};
 ghost use Rattle.syn_refactor.specs.Refactoring.{refactorings};
+ghost use Rattle.syn_resub.specs.Resubstitution.{resubstitutions};
 ghost use Rattle.syn_rewrite.specs.Rewriting.{rewritings};
 ghost use Rattle.syn_shell.specs.Networks.{gates_in, graph_network, HasFewSources, mapped_network, network_of};
 ghost use Rattle.syn_shell.specs.Steps.{IsBalanced, IsClosedFor, IsMappedForArea, IsMappedTo, IsRemade, IsSweptTo, kind_of, Makes, Making, MakingRefused};
@@ -80,6 +81,27 @@ fn refactored<R: Threads + Sync, G: Gate>(
     syn_shapes::graph_has_function();
     syn_netlist::same_from_function();
     match syn_refactor::refactor(rt, alloc, graph, workers, zero, gate) {
+        Ok(new) => Ok(Kept::Graph(new)),
+        Err((graph, _)) => Err((graph, Refusal::NoMemory)),
+    }
+}
+
+// A graph, resubstituted in by so many workers; refused, the graph as it was.
+fn resubstituted<R: Threads + Sync, G: Gate>(
+    rt: &R,
+    alloc: Global,
+    graph: Graph,
+    workers: u8,
+    zero: bool,
+    gate: &G,
+) -> Result<Kept, (Graph, Refusal)>
+    ensures resubstituted { IfOk result (λ new. IsClosedFor resubstitutions (graph_network (graphs.network_of graph)) (network_of new)) }
+    ensures refused { IfErr result (λ back. (graphs.network_of back.0 ≡ graphs.network_of graph) × (back.1 ≡ Refusal.NoMemory)) }
+{
+    syn_shapes::network_of_graph();
+    syn_shapes::graph_has_function();
+    syn_netlist::same_from_function();
+    match syn_resub::resub(rt, alloc, graph, workers, zero, gate) {
         Ok(new) => Ok(Kept::Graph(new)),
         Err((graph, _)) => Err((graph, Refusal::NoMemory)),
     }
@@ -171,6 +193,10 @@ fn remake_graph<R: Threads + Sync, G: Gate>(
             zero,
             workers: named,
         } => refactored(rt, alloc, graph, workers_of(*named, workers), *zero, gate),
+        Command::Resubstitute {
+            zero,
+            workers: named,
+        } => resubstituted(rt, alloc, graph, workers_of(*named, workers), *zero, gate),
         Command::Map {
             area: false,
             inputs,

@@ -179,7 +179,8 @@ impl Session {
         }
     }
 
-    /// Does one command. Refused, it leaves the network. The gate is told of each commit of rewriting and refactoring.
+    /// Does one command. Refused, it leaves the network. The gate is told of each commit of rewriting, refactoring
+    /// and resubstitution.
     pub fn step<R: Threads + Sync, F: Files, O: Sink, G: Gate>(
         &mut self,
         rt: &R,
@@ -214,6 +215,7 @@ impl Session {
             | Command::Balance
             | Command::Rewrite { .. }
             | Command::Refactor { .. }
+            | Command::Resubstitute { .. }
             | Command::Map { .. }
             | Command::Sweep => self.make(rt, alloc, command, gate),
         }

@@ -34,6 +34,9 @@ names =
     ∷ (codes "resyn2", keywords.Resyn2)
     ∷ (codes "gen", keywords.Generate)
     ∷ (codes "scl", keywords.Sweep)
+    ∷ (codes "resub", keywords.Resubstitute)
+    ∷ (codes "rs", keywords.Resubstitute)
+    ∷ (codes "rsz", keywords.ResubstituteZero)
     ∷ []
 
 -- What a word names, if anything.
@@ -57,7 +60,7 @@ with_inputs flag = record { flag = flag; numbered = Some (record { letter = 75; 
 abbrev pub seed_and_size : Form
 seed_and_size = words_alone (operands.TwoNumbers (record { least = 0; most = 18446744073709551615 }) (record { least = 1; most = 32768 }))
 
--- What may stand behind a name. The option without a number of `rewrite` and `refactor` is `-z`; `rwz` and `rfz` have it set. That of `if` is `-a`.
+-- What may stand behind a name. The option without a number of `rewrite`, `refactor` and `resub` is `-z`; `rwz`, `rfz` and `rsz` have it set. That of `if` is `-a`.
 abbrev pub form_of : Keyword → Form
 form_of keywords.ReadBlif = words_alone operands.Name
 form_of keywords.WriteBlif = words_alone operands.Name
@@ -72,6 +75,8 @@ form_of keywords.Map = with_inputs (Some 97)
 form_of keywords.Resyn2 = words_alone operands.Nothing
 form_of keywords.Generate = seed_and_size
 form_of keywords.Sweep = words_alone operands.Nothing
+form_of keywords.Resubstitute = with_workers (Some 122)
+form_of keywords.ResubstituteZero = with_workers None
 
 -- A number of workers, 16 at most; the form lets no greater one through.
 abbrev pub workers_of : ℕ → ℕ
@@ -120,6 +125,8 @@ commands_of keywords.Map given = commands.Map given.flag (given_inputs given.num
 commands_of keywords.Resyn2 given = resyn2
 commands_of keywords.Generate given = commands.Generate given.numbers.0 (size_of given.numbers.1) ∷ []
 commands_of keywords.Sweep given = commands.Sweep ∷ []
+commands_of keywords.Resubstitute given = commands.Resubstitute given.flag (option_map workers_of given.number) ∷ []
+commands_of keywords.ResubstituteZero given = commands.Resubstitute true (option_map workers_of given.number) ∷ []
 
 -- What a phrase says by what its name is: the commands that it spells, or its first fault.
 abbrev pub said_by : Option Keyword → Phrase → Result (List Command) ScriptFault

@@ -3,7 +3,7 @@ use Rattle.std.specs.Prelude.{◌≡◌, true, false, ℕ, List, [], ◌∷◌, 
 use Rattle.syn_words.specs.Words.{words_at}
 use Rattle.syn_words.specs.Forms.{given_by}
 use Rattle.syn_words.specs.Scripts.{IsScript, IsFirstFault}
-use Rattle.syn_words.specs.declared.Command.TheVariants.{Read, Write, Stats, Strash, Balance, Rewrite, Refactor, Map, Generate, Sweep}
+use Rattle.syn_words.specs.declared.Command.TheVariants.{Read, Write, Stats, Strash, Balance, Rewrite, Refactor, Map, Generate, Sweep, Resubstitute}
 use Rattle.syn_words.specs.declared.ScriptFault.{ScriptFault}
 use Rattle.syn_words.specs.declared.ScriptFault.TheVariants.{BadByte, UnknownCommand, MissingWord, ExtraWord, BadNumber, OutOfRange}
 use Rattle.syn_words.specs.declared.forms.Form.{Form}
@@ -44,7 +44,9 @@ pub record WorkedScripts : Type 0 where
       (Balance ∷ Rewrite false None ∷ Refactor false None ∷ Balance ∷ Rewrite false None ∷ Rewrite true None ∷ Balance ∷ Refactor true None ∷ Rewrite true None ∷ Balance ∷ [])
   pub generated : IsScript (codes "gen 18446744073709551615 32768; ps") (Generate 18446744073709551615 32768 ∷ Stats ∷ [])
   pub sweeping : IsScript (codes "read_blif a; scl; ps") (Read (codes "a") ∷ Sweep ∷ Stats ∷ [])
+  pub resubstitution : IsScript (codes "rs; resub -w 4 -z; rsz -w 2") (Resubstitute false None ∷ Resubstitute true (Some 4) ∷ Resubstitute true (Some 2) ∷ [])
   pub zero_refactored_already : IsFirstFault (codes "rfz -z") (ExtraWord 4)
+  pub zero_resubstituted_already : IsFirstFault (codes "rsz -z") (ExtraWord 4)
   pub option_of_resyn2 : IsFirstFault (codes "resyn2 -z") (ExtraWord 7)
   pub option_of_sweeping : IsFirstFault (codes "scl -z") (ExtraWord 4)
   pub no_tables : IsFirstFault (codes "gen 1 0") (OutOfRange 6)

@@ -76,6 +76,13 @@ pub enum Command {
     },
     /// `scl`: drops latches that no output needs, and makes one of latches that always hold the same.
     Sweep,
+    /// `resub [-z] [-w N]`, `rs`; `rsz` has `-z` set: expresses nodes by others that are there, until no such replacement saves a node.
+    Resubstitute {
+        /// Whether a replacement that saves nothing may be made too.
+        zero: bool,
+        /// The number of workers, where one is named.
+        workers: Option<u8>,
+    },
 }
 
 /// Why a text is no script. A place is an offset in bytes, from 0.

@@ -28,6 +28,8 @@ pub enum Keyword {
     Resyn2,
     Generate,
     Sweep,
+    Resubstitute,
+    ResubstituteZero,
 }
 
 // The keyword that a word names.
@@ -60,6 +62,10 @@ fn keyword_of(word: &[u8]) -> Option<Keyword>
         Some(Keyword::Generate)
     } else if b"scl".as_slice() == word {
         Some(Keyword::Sweep)
+    } else if b"resub".as_slice() == word || b"rs".as_slice() == word {
+        Some(Keyword::Resubstitute)
+    } else if b"rsz".as_slice() == word {
+        Some(Keyword::ResubstituteZero)
     } else {
         None
     }
@@ -142,8 +148,10 @@ fn form_of(keyword: Keyword) -> Form
         | Keyword::Balance
         | Keyword::Resyn2
         | Keyword::Sweep => words_alone(Operands::Nothing),
-        Keyword::Rewrite | Keyword::Refactor => with_workers(Some(b'z')),
-        Keyword::RewriteZero | Keyword::RefactorZero => with_workers(None),
+        Keyword::Rewrite | Keyword::Refactor | Keyword::Resubstitute => with_workers(Some(b'z')),
+        Keyword::RewriteZero | Keyword::RefactorZero | Keyword::ResubstituteZero => {
+            with_workers(None)
+        }
         Keyword::Map => with_inputs(Some(b'a')),
         Keyword::Generate => words_alone(Operands::TwoNumbers(SEEDS, SIZES)),
     }
@@ -285,6 +293,20 @@ fn commands_of(
             },
         ),
         Keyword::Sweep => one(alloc, Command::Sweep),
+        Keyword::Resubstitute => one(
+            alloc,
+            Command::Resubstitute {
+                zero: given.flag,
+                workers,
+            },
+        ),
+        Keyword::ResubstituteZero => one(
+            alloc,
+            Command::Resubstitute {
+                zero: true,
+                workers,
+            },
+        ),
     }
 }
 
