@@ -63,6 +63,7 @@ made_kept laws (commands.Refactor zero workers) old new making made = kept_on_gr
 made_kept laws (commands.Resubstitute zero workers) old new making made = kept_on_graph laws false _ (λ a b h. (h.remade.same, h.remade.ordered)) old.mapped old new made
 made_kept laws (commands.Map false inputs) old new making made = kept_on_graph laws false _ (λ a b h. (h.luts.same, h.luts.ordered)) old.mapped old new made
 made_kept laws (commands.Map true inputs) old new making made = kept_on_graph laws false _ (λ a b h. (h.luts.same, h.luts.ordered)) old.mapped old new made
+made_kept laws (commands.MapByFlow inputs) old new making made = kept_on_graph laws false _ (λ a b h. (h.luts.same, h.luts.ordered)) old.mapped old new made
 made_kept laws commands.Sweep old new making made = kept_on_graph laws true IsSweptTo (λ a b h. (h.sweep.same, h.sweep.ordered)) old.mapped old new made
 made_kept laws (commands.Read name) old new making made = absurd (cc)
 made_kept laws (commands.Write name) old new making made = absurd (cc)
@@ -112,6 +113,7 @@ accepted_kept laws commands.Balance before after origin (made, files, sink) kept
 accepted_kept laws (commands.Rewrite zero workers) before after origin (made, files, sink) kept = remade_kept laws (commands.Rewrite zero workers) origin before.network after.network refl made kept
 accepted_kept laws (commands.Refactor zero workers) before after origin (made, files, sink) kept = remade_kept laws (commands.Refactor zero workers) origin before.network after.network refl made kept
 accepted_kept laws (commands.Resubstitute zero workers) before after origin (made, files, sink) kept = remade_kept laws (commands.Resubstitute zero workers) origin before.network after.network refl made kept
+accepted_kept laws (commands.MapByFlow inputs) before after origin (made, files, sink) kept = remade_kept laws (commands.MapByFlow inputs) origin before.network after.network refl made kept
 accepted_kept laws (commands.Map area inputs) before after origin (made, files, sink) kept = remade_kept laws (commands.Map area inputs) origin before.network after.network refl made kept
 
 step_kept : AreLaws → (c : Command) (before : State) (answer : Result (Unit {0}) Refusal) (after : State) (origin : Option Origin) → SessionStep c before answer after → IsKept origin before.network

@@ -16,6 +16,7 @@ use Rattle.syn_shapes.specs.Spelling.{NetworkOfGraph, NetworkSpells, network}
 use Rattle.syn_lutshapes.specs.Luts.{Lut, IsLutNet, greatest, luts_function, net_depth, none_exceeds}
 use Rattle.syn_lutshapes.specs.LutShape.{LutsHaveFunction, observed_of}
 use Rattle.syn_lutshapes.specs.LutSpelling.{NetworkOfLuts, NetworkSpellsLuts, lut_network}
+use Rattle.syn_flow.specs.Coverings.{IsLeastDepth}
 use Rattle.syn_map.specs.Labels.{label_of}
 use Rattle.syn_area.specs.Plain.{AreNeeded}
 use Rattle.syn_words.specs.declared.Command.{Command}
@@ -23,7 +24,7 @@ use Rattle.syn_words.specs.declared.Command.TheVariants as commands
 use Rattle.syn_reader.specs.Limits.{most_sources}
 use Rattle.syn_seq.proofs.Fewer.{fewer_sources}
 use Rattle.syn_shell.specs.Networks.{Network, graph_network, mapped_network, HasFewSources}
-use Rattle.syn_shell.specs.Steps.{IsInLuts, IsMappedForArea, IsMappedTo, IsRemade, IsSweptTo, Makes, Making, OnGraph, kind_of}
+use Rattle.syn_shell.specs.Steps.{IsInLuts, IsLeastMappedTo, IsMappedForArea, IsMappedTo, IsRemade, IsSweptTo, Makes, Making, OnGraph, kind_of}
 
 -- the laws that say what a graph and a net of LUTs are as netlists
 pub record SpellingLaws : Type 0 where
@@ -101,6 +102,21 @@ mapped_for_area laws k frame new_frame rows lits luts outs same_frame h depth fe
       fewest = λ nodes are. omega (arith, l.count, few nodes (subst (λ (rs : List Row). AreNeeded k rs lits nodes) s.same_rows (subst (λ (ls : List Lit). AreNeeded k (graph_shape.rows_of old) ls nodes) s.same_lits are)));
     })
 
+-- no deeper than any covering; likewise
+pub least_mapped_to : SpellingLaws → (k : ℕ) (frame new_frame : Frame) (rows : List Row) (lits : List Lit) (luts : List Lut) (outs : List Lit) → new_frame ≡ frame → AreLutsOf k frame rows lits luts outs
+    → IsLeastDepth k frame rows lits (net_depth (length (sources frame)) luts)
+    → IsLeastMappedTo k (graph_network (network frame rows lits)) (mapped_network (lut_network new_frame luts outs))
+least_mapped_to laws k frame new_frame rows lits luts outs same_frame h least =
+    let old : Netlist = network frame rows lits in
+    let s : NetworkSpells frame rows lits = laws.of_graph frame rows lits h.clocks h.once h.graph in
+    let l : NetworkSpellsLuts frame luts outs = laws.of_luts frame luts outs h.clocks h.once h.net in
+    subst (λ (f : Frame). IsLeastMappedTo k (graph_network old) (mapped_network (lut_network f luts outs))) (sym same_frame) (record {
+      luts = in_luts laws k frame rows lits luts outs h;
+      least = subst (λ (d : ℕ). IsLeastDepth k frame (graph_shape.rows_of old) (graph_shape.observed_of old) d) (sym l.depth)
+          (subst (λ (ls : List Lit). IsLeastDepth k frame (graph_shape.rows_of old) ls (net_depth (length (sources frame)) luts)) (sym s.same_lits)
+          (subst (λ (rs : List Row). IsLeastDepth k frame rs lits (net_depth (length (sources frame)) luts)) (sym s.same_rows) least));
+    })
+
 -- what a command makes of a net's graph it makes of the net
 pub behind_hashing : SameIsTransitive → (c : Command) → kind_of c ≡ Making → (m graph : Netlist) (new : Network) → IsRemade (mapped_network m) (graph_network graph) → Makes c (graph_network graph) new → Makes c (mapped_network m) new
 behind_hashing transitive commands.Strash making m graph new is made = record {
@@ -116,6 +132,7 @@ behind_hashing transitive (commands.Refactor zero workers) making m graph new is
 behind_hashing transitive (commands.Resubstitute zero workers) making m graph new is made = (graph_network graph, is, made)
 behind_hashing transitive (commands.Map false inputs) making m graph new is made = (graph_network graph, is, made)
 behind_hashing transitive (commands.Map true inputs) making m graph new is made = (graph_network graph, is, made)
+behind_hashing transitive (commands.MapByFlow inputs) making m graph new is made = (graph_network graph, is, made)
 behind_hashing transitive commands.Sweep making m graph new is made = (graph_network graph, is, made)
 behind_hashing transitive (commands.Read name) making m graph new is made = absurd (cc)
 behind_hashing transitive (commands.Write name) making m graph new is made = absurd (cc)
@@ -143,6 +160,7 @@ fewer_behind (commands.Refactor zero workers) old new made = fewer_on_graph _ (�
 fewer_behind (commands.Resubstitute zero workers) old new made = fewer_on_graph _ (λ a b h. same_fewer a b h.remade.same.frame) old.mapped old new made
 fewer_behind (commands.Map false inputs) old new made = fewer_on_graph _ (λ a b h. same_fewer a b h.luts.same.frame) old.mapped old new made
 fewer_behind (commands.Map true inputs) old new made = fewer_on_graph _ (λ a b h. same_fewer a b h.luts.same.frame) old.mapped old new made
+fewer_behind (commands.MapByFlow inputs) old new made = fewer_on_graph _ (λ a b h. same_fewer a b h.luts.same.frame) old.mapped old new made
 fewer_behind commands.Sweep old new made = fewer_on_graph _ swept_fewer old.mapped old new made
 fewer_behind other old new made = omega (arith, ap (λ (n : Network). length (sources n.netlist.frame)) made)
 

@@ -17,6 +17,7 @@ use Rattle.syn_area.specs.Plain.{AreNeeded}
 use Rattle.syn_build_luts.specs.Refusals.{most_gates}
 use Rattle.syn_pool.specs.Closing.{Closed}
 use Rattle.syn_gain.specs.Replacements.{Replacement}
+use Rattle.syn_flow.specs.Coverings.{IsLeastDepth}
 use Rattle.syn_gen.specs.Generated.{generated}
 use Rattle.syn_refactor.specs.Refactoring.{refactorings}
 use Rattle.syn_resub.specs.Resubstitution.{resubstitutions}
@@ -130,6 +131,11 @@ pub record IsMappedForArea (inputs : ℕ) (old new : Network) : Type 0 where
   pub depth : depth_of new.netlist ≤ greatest (label_of inputs (rows_of old.netlist)) (map node_of (observed_of old.netlist))
   pub fewest : (nodes : List ℕ) → AreNeeded inputs (rows_of old.netlist) (observed_of old.netlist) nodes → count_of new.netlist ≤ length nodes
 
+-- What mapping by flow makes of a graph: a net of LUTs, and no covering of the graph by LUTs of so many inputs at most is shallower, by the rows that it spells.
+pub record IsLeastMappedTo (inputs : ℕ) (old new : Network) : Type 0 where
+  pub luts : IsInLuts inputs old new
+  pub least : IsLeastDepth inputs old.netlist.frame (rows_of old.netlist) (observed_of old.netlist) (depth_of new.netlist)
+
 -- What sweeping makes of a graph: one with the same outputs over every sequence of inputs, in which no latch is left that no output needs, and no two that can be one.
 pub record IsSweptTo (old new : Network) : Type 0 where
   pub graph : new.mapped ≡ false
@@ -149,6 +155,7 @@ Makes (commands.Refactor zero workers) old new = OnGraph (IsClosedFor refactorin
 Makes (commands.Resubstitute zero workers) old new = OnGraph (IsClosedFor resubstitutions) old.mapped old new
 Makes (commands.Map false inputs) old new = OnGraph (IsMappedTo inputs) old.mapped old new
 Makes (commands.Map true inputs) old new = OnGraph (IsMappedForArea inputs) old.mapped old new
+Makes (commands.MapByFlow inputs) old new = OnGraph (IsLeastMappedTo inputs) old.mapped old new
 Makes commands.Sweep old new = OnGraph IsSweptTo old.mapped old new
 Makes other old new = new ≡ old
 

@@ -8,7 +8,7 @@ ghost use Rattle.syn_refactor.specs.Refactoring.{refactorings};
 ghost use Rattle.syn_resub.specs.Resubstitution.{resubstitutions};
 ghost use Rattle.syn_rewrite.specs.Rewriting.{rewritings};
 ghost use Rattle.syn_shell.specs.Networks.{gates_in, graph_network, HasFewSources, mapped_network, network_of};
-ghost use Rattle.syn_shell.specs.Steps.{IsBalanced, IsClosedFor, IsMappedForArea, IsMappedTo, IsRemade, IsSweptTo, kind_of, Makes, Making, MakingRefused};
+ghost use Rattle.syn_shell.specs.Steps.{IsBalanced, IsClosedFor, IsLeastMappedTo, IsMappedForArea, IsMappedTo, IsRemade, IsSweptTo, kind_of, Makes, Making, MakingRefused};
 
 use crate::network::Kept;
 use crate::refusal::Refusal;
@@ -162,6 +162,22 @@ fn mapped_for_area<R: Threads + Sync>(
     }
 }
 
+// A graph, mapped to LUTs of so many inputs at the least depth that there is; refused, the graph as it was.
+fn mapped_by_flow(alloc: Global, graph: Graph, inputs: &LutInputs) -> Result<Kept, (Graph, Refusal)>
+    ensures mapped { IfOk result (λ new. IsLeastMappedTo inputs.now (graph_network (graphs.network_of graph)) (network_of new)) }
+    ensures refused { IfErr result (λ back. (graphs.network_of back.0 ≡ graphs.network_of graph) × (back.1 ≡ Refusal.NoMemory)) }
+{
+    syn_shapes::network_of_graph();
+    syn_shapes::graph_has_function();
+    syn_lutshapes::network_of_luts();
+    syn_lutshapes::luts_have_function();
+    syn_netlist::same_from_function();
+    match syn_flow::flow(alloc, &graph, inputs.number()) {
+        Ok((net, _proof)) => Ok(Kept::Luts(net)),
+        Err(_) => Err((graph, Refusal::NoMemory)),
+    }
+}
+
 // The number of workers of a command: the one that it names, else the session's.
 fn workers_of(named: Option<u8>, workers: u8) -> u8 {
     match named {
@@ -202,6 +218,7 @@ fn remake_graph<R: Threads + Sync, G: Gate>(
             inputs,
         } => mapped(rt, alloc, graph, inputs, workers),
         Command::Map { area: true, inputs } => mapped_for_area(rt, alloc, graph, inputs, workers),
+        Command::MapByFlow(inputs) => mapped_by_flow(alloc, graph, inputs),
         Command::Sweep => swept(alloc, graph),
         Command::Read(_) | Command::Generate { .. } | Command::Stats | Command::Write(_) => {
             Ok(Kept::Graph(graph))

@@ -217,6 +217,7 @@ impl Session {
             | Command::Refactor { .. }
             | Command::Resubstitute { .. }
             | Command::Map { .. }
+            | Command::MapByFlow(_)
             | Command::Sweep => self.make(rt, alloc, command, gate),
         }
     }

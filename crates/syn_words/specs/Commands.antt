@@ -37,6 +37,7 @@ names =
     ∷ (codes "resub", keywords.Resubstitute)
     ∷ (codes "rs", keywords.Resubstitute)
     ∷ (codes "rsz", keywords.ResubstituteZero)
+    ∷ (codes "flowmap", keywords.MapByFlow)
     ∷ []
 
 -- What a word names, if anything.
@@ -77,6 +78,7 @@ form_of keywords.Generate = seed_and_size
 form_of keywords.Sweep = words_alone operands.Nothing
 form_of keywords.Resubstitute = with_workers (Some 122)
 form_of keywords.ResubstituteZero = with_workers None
+form_of keywords.MapByFlow = with_inputs None
 
 -- A number of workers, 16 at most; the form lets no greater one through.
 abbrev pub workers_of : ℕ → ℕ
@@ -127,6 +129,7 @@ commands_of keywords.Generate given = commands.Generate given.numbers.0 (size_of
 commands_of keywords.Sweep given = commands.Sweep ∷ []
 commands_of keywords.Resubstitute given = commands.Resubstitute given.flag (option_map workers_of given.number) ∷ []
 commands_of keywords.ResubstituteZero given = commands.Resubstitute true (option_map workers_of given.number) ∷ []
+commands_of keywords.MapByFlow given = commands.MapByFlow (given_inputs given.number) ∷ []
 
 -- What a phrase says by what its name is: the commands that it spells, or its first fault.
 abbrev pub said_by : Option Keyword → Phrase → Result (List Command) ScriptFault

@@ -3,7 +3,7 @@ use Rattle.std.specs.Prelude.{◌≡◌, true, false, ℕ, List, [], ◌∷◌, 
 use Rattle.syn_words.specs.Words.{words_at}
 use Rattle.syn_words.specs.Forms.{given_by}
 use Rattle.syn_words.specs.Scripts.{IsScript, IsFirstFault}
-use Rattle.syn_words.specs.declared.Command.TheVariants.{Read, Write, Stats, Strash, Balance, Rewrite, Refactor, Map, Generate, Sweep, Resubstitute}
+use Rattle.syn_words.specs.declared.Command.TheVariants.{Read, Write, Stats, Strash, Balance, Rewrite, Refactor, Map, Generate, Sweep, Resubstitute, MapByFlow}
 use Rattle.syn_words.specs.declared.ScriptFault.{ScriptFault}
 use Rattle.syn_words.specs.declared.ScriptFault.TheVariants.{BadByte, UnknownCommand, MissingWord, ExtraWord, BadNumber, OutOfRange}
 use Rattle.syn_words.specs.declared.forms.Form.{Form}
@@ -40,6 +40,7 @@ pub record WorkedScripts : Type 0 where
   pub refactoring : IsScript (codes "rf; refactor -w 4 -z; rfz -w 2") (Refactor false None ∷ Refactor true (Some 4) ∷ Refactor true (Some 2) ∷ [])
   pub mapping : IsScript (codes "if; if -K 2; if -K 008") (Map false 6 ∷ Map false 2 ∷ Map false 8 ∷ [])
   pub mapping_for_area : IsScript (codes "if -a; if -a -K 4; if -K 4 -a") (Map true 6 ∷ Map true 4 ∷ Map true 4 ∷ [])
+  pub mapping_by_flow : IsScript (codes "flowmap; flowmap -K 2; flowmap -K 8") (MapByFlow 6 ∷ MapByFlow 2 ∷ MapByFlow 8 ∷ [])
   pub ten_commands : IsScript (codes "resyn2")
       (Balance ∷ Rewrite false None ∷ Refactor false None ∷ Balance ∷ Rewrite false None ∷ Rewrite true None ∷ Balance ∷ Refactor true None ∷ Rewrite true None ∷ Balance ∷ [])
   pub generated : IsScript (codes "gen 18446744073709551615 32768; ps") (Generate 18446744073709551615 32768 ∷ Stats ∷ [])
@@ -57,6 +58,8 @@ pub record WorkedScripts : Type 0 where
   pub too_many_workers : IsFirstFault (codes "rw -w 17") (OutOfRange 6)
   pub no_number_of_workers : IsFirstFault (codes "rw -w") (MissingWord 5)
   pub too_many_inputs : IsFirstFault (codes "if -K 9") (OutOfRange 6)
+  pub too_many_inputs_by_flow : IsFirstFault (codes "flowmap -K 9") (OutOfRange 11)
+  pub area_by_flow : IsFirstFault (codes "flowmap -a") (ExtraWord 8)
   pub too_few_inputs : IsFirstFault (codes "if -K 1") (OutOfRange 6)
   pub inputs_no_number : IsFirstFault (codes "if -K x") (BadNumber 6)
   pub no_number_of_inputs : IsFirstFault (codes "if -K") (MissingWord 5)

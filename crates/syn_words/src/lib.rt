@@ -67,6 +67,8 @@ pub enum Command {
         /// The most inputs of a LUT.
         inputs: LutInputs,
     },
+    /// `flowmap [-K n]`: maps the network to LUTs of so many inputs at most, at the least depth that there is.
+    MapByFlow(LutInputs),
     /// `gen SEED SIZE`: the graph of the netlist that is generated from a seed becomes the network.
     Generate {
         /// The seed.

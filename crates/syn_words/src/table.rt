@@ -30,6 +30,7 @@ pub enum Keyword {
     Sweep,
     Resubstitute,
     ResubstituteZero,
+    MapByFlow,
 }
 
 // The keyword that a word names.
@@ -66,6 +67,8 @@ fn keyword_of(word: &[u8]) -> Option<Keyword>
         Some(Keyword::Resubstitute)
     } else if b"rsz".as_slice() == word {
         Some(Keyword::ResubstituteZero)
+    } else if b"flowmap".as_slice() == word {
+        Some(Keyword::MapByFlow)
     } else {
         None
     }
@@ -153,6 +156,7 @@ fn form_of(keyword: Keyword) -> Form
             with_workers(None)
         }
         Keyword::Map => with_inputs(Some(b'a')),
+        Keyword::MapByFlow => with_inputs(None),
         Keyword::Generate => words_alone(Operands::TwoNumbers(SEEDS, SIZES)),
     }
 }
@@ -293,6 +297,7 @@ fn commands_of(
             },
         ),
         Keyword::Sweep => one(alloc, Command::Sweep),
+        Keyword::MapByFlow => one(alloc, Command::MapByFlow(LutInputs::of(given.number))),
         Keyword::Resubstitute => one(
             alloc,
             Command::Resubstitute {
