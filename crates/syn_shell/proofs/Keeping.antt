@@ -203,5 +203,5 @@ pub each_write : SameIsTransitive → SequentialIsTransitive → SameMeaningIsSe
 each_write means runs weaker words d s i d' s' i' status ran front back write name are command accepted =
     let laws : AreLaws = record { means = means; runs = runs; weaker = weaker } in
     let leads = words_lead words _ i ran.refusals _ i' ran.runs in
-    let there = step_among laws front back write None _ leads.0 refl (subst (λ (ss : List Step). Leads _ ss leads.0) are leads.1) in
+    let there = step_among laws front back write None _ leads.0 refl (subst (λ (ss : List Step). Leads None ss leads.0) are leads.1) in
     write_among (origin_after front None) name write.command write.before write.answer write.after command accepted there.0 there.1
