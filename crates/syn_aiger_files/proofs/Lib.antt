@@ -12,3 +12,4 @@ pub mod FirstLines
 pub mod Naming
 pub mod Pushing
 pub mod Pairing
+pub mod Spelled

@@ -29,6 +29,7 @@ mod symbols;
 
 pub use fault::{AigFault, MOST_GATES};
 pub use files::{Aig, AigAnd, AigLatch, Inputs, Place, Symbol};
+pub use numbers::number_of;
 pub use parsing::parse;
 pub use printing::print;
 

@@ -11,6 +11,7 @@ ghost use Rattle.syn_rows.specs.declared.TheConstants.{NODE_LIMIT};
 ghost use Rattle.syn_netlist.specs.Frames.{frame_in};
 ghost use Rattle.syn_gain.specs.Proposals.{replacement_of};
 ghost use Rattle.syn_gain.specs.Replacements.{SavedBy, rows_after_by};
+ghost use Rattle.syn_levels.specs.Levels.{IsNoDeeper, keeps_level};
 ghost use Rattle.syn_apply.specs.Sound.{IsSoundBy};
 
 pub use remaking::applied_together;
@@ -32,7 +33,8 @@ fn rows_after(alloc: Global, graph: &Graph, candidate: Candidate) -> Result<Vec<
 }
 
 /// The graph after a sound proposal for one of a graph's nodes, beside that graph: the same frame, the same values of the
-/// observed signals, and fewer ANDs by at least what the proposal saves. The only error is want of memory.
+/// observed signals, and fewer ANDs by at least what the proposal saves; where it keeps the level of its root, no observed
+/// signal is deeper. The only error is want of memory.
 pub fn applied(alloc: Global, graph: &Graph, candidate: Candidate) -> Result<Graph, AllocError>
     requires sound { IsSoundBy graph.now.rows (replacement_of candidate) }
     requires few { length (rows_after_by graph.now.rows (replacement_of candidate)) < NODE_LIMIT }
@@ -40,6 +42,7 @@ pub fn applied(alloc: Global, graph: &Graph, candidate: Candidate) -> Result<Gra
     ensures names { IfOk result (λ g. g.frame.names ≡ graph.now.frame.names) }
     ensures values { IfOk result (λ g. (bits : List Bool) → rows_function g.rows g.observed bits ≡ rows_function graph.now.rows graph.now.observed bits) }
     ensures count { IfOk result (λ g. (s : ℤ) → SavedBy graph.now.rows graph.now.observed (replacement_of candidate.entry) s → (pos (length g.rows) +ℤ s) ≤ℤ pos (length graph.now.rows)) }
+    ensures levels { IfOk result (λ g. keeps_level graph.now.rows (replacement_of candidate.entry) ≡ true → IsNoDeeper graph.now g) }
 {
     let _count = graph.count();
     let after = rows_after(alloc, graph, candidate)?;

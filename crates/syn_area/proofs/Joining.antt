@@ -1,5 +1,5 @@
 -- Unions of kept cuts of the fan-ins of an AND are cuts of it that a LUT may read, and so are the fan-ins.
-use Rattle.std.proofs.Common.{◌≡◌, ℕ, ◌+◌, ◌<◌, ◌≤◌, ◌&&◌, nat_eq, nat_le, nat_lt, true, false, All, List, [], ◌∷◌, length, map, refl, sym, ap, ◌∙◌, subst, inl, inr, not, arith}
+use Rattle.std.proofs.Common.{◌≡◌, ℕ, ◌+◌, ◌<◌, ◌≤◌, ◌&&◌, nat_eq, nat_le, nat_lt, true, false, List, [], ◌∷◌, length, map, refl, sym, ap, ◌∙◌, subst, inl, inr, not, arith}
 use Rattle.std.proofs.lemmas.Bool.{cases_lt, and_parts, and_from, both_ways, ltb-true, lt-ltb}
 use Rattle.std.proofs.lemmas.List.{get_or-map, get_or_past}
 use Rattle.syn_rows.specs.declared.Lit.{Lit}
@@ -12,13 +12,12 @@ use Rattle.syn_cones.proofs.Swapping.{fan_ins_are_cut}
 use Rattle.syn_netlist.specs.Frames.{frame_in}
 use Rattle.syn_netlist.specs.Lists.{sources}
 use Rattle.syn_graph.specs.declared.Graph.{Graph}
-use Rattle.syn_cuts.specs.Lists.{list_at}
 use Rattle.syn_cuts.proofs.Cutting.{cut_union}
-use Rattle.syn_cuts.proofs.Rising.{AreFanIns, IsCutOf, fan_ins, union_of, upper}
+use Rattle.syn_cuts.proofs.Rising.{IsCutOf, fan_ins, union_of, upper}
 use Rattle.syn_covering.specs.Cuts.{AreLutCuts, IsLutCut}
 use Rattle.syn_area.specs.Kept as kept
-use Rattle.syn_area.specs.Kept.{AreCandidates, AreVisited, IsKept, Joins, cut_in}
-use Rattle.syn_area.specs.declared.candidates.Candidate.{Candidate}
+use Rattle.syn_area.specs.Kept.{AreCandidates, AreListed, AreVisited, IsKept, Joins, cut_in}
+use Rattle.syn_area.specs.declared.lists.Listed.{Listed}
 
 -- an AND of hashed rows is a gate
 gate_of : (count : ℕ) (rows : List Row) → IsHashed count rows → (n : ℕ) (a b : Lit) → row_at rows n ≡ And a b → n < length rows → is_gate n (And a b) ≡ true
@@ -26,9 +25,6 @@ gate_of count rows hashed n a b e lt = subst (λ (r : Row). is_gate n r ≡ true
   where
     above : count < n
     above = elim (cases_lt n (count + 1)) [ inl low ↦ absurd (both_ways (is_and (row_at rows n)) (ap is_and (hashed.front n low)) (ap is_and e)) | inr ge ↦ omega (arith, ge) ]
-
-pub fan_ins_of : (gr : Graph) (n : ℕ) (a b : Lit) → row_at gr.rows n ≡ And a b → n < length gr.rows → AreFanIns n a b
-fan_ins_of gr n a b e lt = fan_ins n a b (gate_of (length (sources (frame_in gr.frame))) gr.rows gr.graph.hashed n a b e lt)
 
 as_cut : (rows : List Row) (m : ℕ) (c : List ℕ) → IsKept rows m c → IsCutOf m c
 as_cut rows m c p = record { rising = p.rising; low = p.low; sized = p.sized }
@@ -39,16 +35,14 @@ joins k count rows hashed n a b e lt c d p q few =
     let u = union_of (node_of a) (node_of b) n c d f.apart f.first_low f.second_low (as_cut rows (node_of a) c p) (as_cut rows (node_of b) d q) in
     record { cut = cut_union rows c d a b n e p.cut q.cut; rising = u.0; below = u.1; two = u.2; few = few }
 
--- the candidates of an AND whose fan-ins are visited
-pub joined : (gr : Graph) (k n : ℕ) (a b : Lit) (left right : ℕ) (lists : List (List (List ℕ))) (chosen : List (List ℕ)) (kept : List Candidate) → row_at gr.rows n ≡ And a b → n < length gr.rows → left ≡ node_of a → right ≡ node_of b → AreVisited k gr.rows n lists chosen
-    → ((rows : List Row) → Joins k rows left right n → All (IsKept rows left) (list_at lists left) → All (IsKept rows right) (list_at lists right) → IsLutCut k rows n (cut_in chosen n) → AreCandidates k rows n kept)
+-- the candidates of an AND
+pub joined : (gr : Graph) (k n : ℕ) (a b : Lit) (left right : ℕ) (listed : List Listed) (chosen kept : List (List ℕ)) → row_at gr.rows n ≡ And a b → n < length gr.rows → left ≡ node_of a → right ≡ node_of b → AreVisited k gr.rows listed chosen
+    → ((rows : List Row) → Joins k rows left right n → AreListed rows listed → IsLutCut k rows n (cut_in chosen n) → AreCandidates k rows n kept)
     → AreCandidates k gr.rows n kept
-joined gr k n a b left right lists chosen kept e lt is_a is_b before have =
-    let f = fan_ins_of gr n a b e lt in
+joined gr k n a b left right listed chosen kept e lt is_a is_b before have =
     have gr.rows
     (subst (λ x. Joins k gr.rows x right n) (sym is_a) (subst (λ y. Joins k gr.rows (node_of a) y n) (sym is_b) (joins k (length (sources (frame_in gr.frame))) gr.rows gr.graph.hashed n a b e lt)))
-    (subst (λ x. All (IsKept gr.rows x) (list_at lists x)) (sym is_a) (before.kept (node_of a) f.first f.first_low))
-    (subst (λ x. All (IsKept gr.rows x) (list_at lists x)) (sym is_b) (before.kept (node_of b) f.second f.second_low))
+    before.kept
     (before.fit n (ap is_and e))
 
 -- a cut that a LUT may read is kept as it is

@@ -1,4 +1,3 @@
 mod Joining
-mod Keeping
 mod Visiting
 mod Counting

@@ -1,19 +1,18 @@
 -- A round over the nodes.
-use Rattle.std.proofs.Common.{◌≡◌, ℕ, ◌+◌, ◌<◌, All, List, [], ◌∷◌, ◌++◌, length, map, get_or, replicate, sym, ap, ◌∙◌, subst, inl, inr, arith}
+use Rattle.std.proofs.Common.{◌≡◌, ℕ, ◌<◌, All, List, [], ◌∷◌, ◌++◌, length, get_or, take, drop, sym, ap, ◌∙◌, subst, inl, inr, arith}
 use Rattle.std.proofs.Math.ListN.{set, length-set}
 use Rattle.std.proofs.lemmas.Bool.Decides.{eqb_tells}
 use Rattle.std.proofs.lemmas.Grind.{get_or-set_at}
-use Rattle.std.proofs.lemmas.List.{get_or-map, get_or-set_other, length-map, length-replicate}
-use Rattle.std.proofs.lemmas.List.Elements.{All-nil, All-cons, All-append, All-map, All-weaker, All-same}
+use Rattle.std.proofs.lemmas.List.{get_or-map, get_or-set_other, length-map, map-append}
+use Rattle.std.proofs.lemmas.List.Elements.{All-nil, All-cons, All-append, All-take, All-drop, All-weaker, All-same}
 use Rattle.arrayvec.specs.ArrayVec.{ArrayVec}
 use Rattle.syn_rows.specs.declared.Row.{Row}
 use Rattle.syn_cuts.specs.Leaves.{leaves, leaves_of}
-use Rattle.syn_cuts.specs.Lists.{list_at}
 use Rattle.syn_cuts.proofs.Cutting.{cut_alone}
 use Rattle.syn_cuts.proofs.Rising.{alone_of}
 use Rattle.syn_covering.specs.Cuts.{AreLutCuts, IsLutCut}
-use Rattle.syn_area.specs.declared.candidates.Candidate.{Candidate}
-use Rattle.syn_area.specs.Kept.{AreCandidates, AreVisited, IsKept, cut_in, cut_of}
+use Rattle.syn_area.specs.Kept.{AreCandidates, AreListed, AreVisited, IsKept, cut_in}
+use Rattle.syn_area.specs.declared.lists.Listed.{Listed}
 use Rattle.syn_area.proofs.Joining.{as_kept}
 
 -- a cut in its list, by the place
@@ -36,45 +35,38 @@ chosen_set k rows old new node c e lt is fit n a = elim (eqb_tells n node) [
 pub length_set : (old new : List (List ℕ)) (node : ℕ) (c : List ℕ) → new ≡ set old node c → length new ≡ length old
 length_set old new node c e = ap length e ∙ length-set old node c
 
--- the cuts of candidates are kept
-pub candidates_kept : (k : ℕ) (rows : List Row) (node : ℕ) (kept : List Candidate) (cuts : List (List ℕ)) → cuts ≡ map cut_of kept → AreCandidates k rows node kept → All (IsKept rows node) cuts
-candidates_kept k rows node kept cuts e a =
-    All-same (IsKept rows node) cuts (map cut_of kept) e
-    (All-map (IsKept rows node) cut_of kept (All-weaker (λ c. IsLutCut k rows node (cut_of c)) (λ c. IsKept rows node (cut_of c)) (λ c is. as_kept k rows node (cut_of c) is) kept a))
+-- candidates are kept
+pub candidates_kept : (k : ℕ) (rows : List Row) (node : ℕ) (kept : List (List ℕ)) → AreCandidates k rows node kept → All (IsKept rows node) kept
+candidates_kept k rows node kept a = All-weaker (IsLutCut k rows node) (IsKept rows node) (as_kept k rows node) kept a
 
-alone_kept : (rows : List Row) (n : ℕ) → 0 < n → IsKept rows n (n ∷ [])
+-- a cut after others
+pub candidates_push : (k : ℕ) (rows : List Row) (node : ℕ) (old new : List (ArrayVec ℕ)) (cut : ArrayVec ℕ) → new ≡ old ++ cut ∷ [] → AreCandidates k rows node (leaves_of old) → IsLutCut k rows node cut.items → AreCandidates k rows node (leaves_of new)
+candidates_push k rows node old new cut e all is =
+    All-same (IsLutCut k rows node) (leaves_of new) (leaves_of old ++ cut.items ∷ []) (ap leaves_of e ∙ map-append leaves old (cut ∷ []))
+    (All-append (IsLutCut k rows node) (leaves_of old) (cut.items ∷ []) all (All-cons (IsLutCut k rows node) cut.items [] is (All-nil (IsLutCut k rows node))))
+
+-- the node alone
+pub alone_kept : (rows : List Row) (n : ℕ) → 0 < n → IsKept rows n (n ∷ [])
 alone_kept rows n positive =
     let is = alone_of n positive in
     record { cut = cut_alone rows n; rising = is.rising; low = is.low; sized = is.sized }
 
--- the list of one node more
-pub visited : (k : ℕ) (rows : List Row) (n : ℕ) (lists new : List (List (List ℕ))) (chosen after : List (List ℕ)) (cuts : List (List ℕ)) → AreVisited k rows n lists chosen → n < length rows
-    → new ≡ set lists n (cuts ++ (n ∷ []) ∷ []) → All (IsKept rows n) cuts → length after ≡ length chosen → AreLutCuts k rows (cut_in after) → AreVisited k rows (n + 1) new after
-visited k rows n lists new chosen after cuts before lt e all same fit =
-    let list = cuts ++ (n ∷ []) ∷ [] in
-    let inside : n < length lists = omega (arith, lt, before.lists_count) in
-    record {
-      lists_count = ap length e ∙ length-set lists n (cuts ++ (n ∷ []) ∷ []) ∙ before.lists_count;
-      chosen_count = same ∙ before.chosen_count;
-      kept = λ m positive less. elim (eqb_tells m n) [
-        | inl p ↦
-            let here : list_at new m ≡ cuts ++ (n ∷ []) ∷ [] = ap (λ (l : List (List (List ℕ))). list_at l m) e ∙ get_or-set_at lists n m (cuts ++ (n ∷ []) ∷ []) [] p.1 inside in
-            let there : 0 < n = subst (λ j. 0 < j) p.1 positive in
-            subst (λ j. All (IsKept rows j) (list_at new m)) (sym p.1)
-            (All-same (IsKept rows n) (list_at new m) (cuts ++ (n ∷ []) ∷ []) here
-            (All-append (IsKept rows n) cuts ((n ∷ []) ∷ []) all (All-cons (IsKept rows n) (n ∷ []) [] (alone_kept rows n there) (All-nil (IsKept rows n)))))
-        | inr p ↦
-            let other : list_at new m ≡ list_at lists m = ap (λ (l : List (List (List ℕ))). list_at l m) e ∙ get_or-set_other lists n m (cuts ++ (n ∷ []) ∷ []) [] p.1 in
-            All-same (IsKept rows m) (list_at new m) (list_at lists m) other (before.kept m positive (omega (arith, less, p.1)))
-      ];
-      fit = fit;
-    }
+-- a listed cut, by the place
+pub listed_at : (rows : List Row) (listed : List Listed) (i : ℕ) (l : Listed) → AreListed rows listed → i < length listed → l ≡ get_or listed i l → IsKept rows l.node l.cut.items
+listed_at rows listed i l all lt is = subst (λ (x : Listed). IsKept rows x.node x.cut.items) (sym is) (all i l lt)
 
--- before any node
-pub none_visited : (k : ℕ) (rows : List Row) (lists : List (List (List ℕ))) (chosen : List (List ℕ)) (count : ℕ) → count ≡ length rows → lists ≡ replicate count [] → length chosen ≡ length rows → AreLutCuts k rows (cut_in chosen) → AreVisited k rows 1 lists chosen
-none_visited k rows lists chosen count c e same fit = record {
-  lists_count = ap length e ∙ length-replicate count [] ∙ c;
-  chosen_count = same;
-  kept = λ m positive less. absurd (omega (arith, positive, less));
-  fit = fit;
-}
+-- a cut is listed after others
+pub listed_push : (rows : List Row) (old new : List Listed) (l : Listed) → new ≡ old ++ l ∷ [] → AreListed rows old → IsKept rows l.node l.cut.items → AreListed rows new
+listed_push rows old new l e all is =
+    let P : Listed → Type 0 = λ x. IsKept rows x.node x.cut.items in
+    All-same P new (old ++ l ∷ []) e (All-append P old (l ∷ []) all (All-cons P l [] is (All-nil P)))
+
+-- some of the listed cuts, one after the other
+pub listed_part : (rows : List Row) (listed part : List Listed) (start len : ℕ) → part ≡ take len (drop start listed) → AreListed rows listed → AreListed rows part
+listed_part rows listed part start len e all =
+    let P : Listed → Type 0 = λ x. IsKept rows x.node x.cut.items in
+    All-same P part (take len (drop start listed)) e (All-take P len (drop start listed) (All-drop P start listed all))
+
+-- one node more
+pub visited : (k : ℕ) (rows : List Row) (listed new : List Listed) (chosen after : List (List ℕ)) → AreVisited k rows listed chosen → AreListed rows new → length after ≡ length chosen → AreLutCuts k rows (cut_in after) → AreVisited k rows new after
+visited k rows listed new chosen after before all same fit = record { count = same ∙ before.count; kept = all; fit = fit }

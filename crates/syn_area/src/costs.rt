@@ -1,11 +1,15 @@
 //! What cuts cost, and the order in which they are kept.
 
-ghost use Rattle.std.specs.Prelude.{◌<◌, ◌≤◌, ◌^◌, length};
-ghost use Rattle.syn_truth.specs.declared.TheConstants.{MOST_VARS};
+ghost use Rattle.std.specs.Prelude.{◌<◌, ◌^◌, length};
 
 use crate::chosen::Chosen;
-use crate::covers::Cover;
-use crate::figures::{Figures, depth_of, expect_again, expect_first, figures_over, set_figures};
+use crate::covers::{Cover, MOST_FOLLOWED};
+use crate::figures::{
+    Figures, at_least, depth_of, expect_again, expect_first, figures_over, set_figures,
+};
+use crate::lists::Listed;
+use crate::near::{Near, Part};
+use crate::picks::{Origin, Pick, Picks};
 use std::alloc::{AllocError, Global};
 use syn_graph::Graph;
 use syn_rows::Lit;
@@ -23,13 +27,25 @@ pub(crate) enum Aim {
     Area,
 }
 
-/// What a cut is compared by, the first that differs; less is better.
-#[derive(Clone, Copy, Debug, Default, PartialEq, Eq, PartialOrd, Ord)]
-pub(crate) struct Rank {
-    first: u32,
-    second: u32,
-    third: u32,
-    fourth: u32,
+/// What a cut is compared by: four numbers of 32 bits, the first the highest; less is better.
+pub(crate) type Rank = u128;
+
+// The rank of cuts that arrive too late.
+const LATE: Rank = u128::MAX;
+
+// One of the first number.
+const FIRST: Rank = 1 << 96;
+
+// One of the second.
+const SECOND: Rank = 1 << 64;
+
+// One of the third.
+const THIRD: Rank = 1 << 32;
+
+// The rank of four numbers.
+#[inline]
+fn rank_of(first: u32, second: u32, third: u32, fourth: u32) -> Rank {
+    first as u128 * FIRST + second as u128 * SECOND + third as u128 * THIRD + fourth as u128
 }
 
 /// What is estimated of nodes, the cover, and the aim of the round.
@@ -38,6 +54,12 @@ pub(crate) struct Costs {
     aim: Aim,
     figures: Vec<Figures>,
     cover: Cover,
+    near: Near,
+    picks: Picks,
+    /// The leaves near the node at hand whose LUTs aren't in the cover.
+    unread: u64,
+    /// When the node at hand has to arrive at the latest.
+    required: u32,
     /// The depth that no observed node exceeds.
     depth: u32,
 }
@@ -58,6 +80,10 @@ impl Costs {
             aim: Aim::Depth,
             figures,
             cover: Cover::empty(alloc, count, graph.source_count)?,
+            near: Near::none(alloc, count)?,
+            picks: Picks::none(),
+            unread: 0,
+            required: u32::MAX,
             depth: 0,
         })
     }
@@ -109,43 +135,151 @@ impl Costs {
         if self.is_lifted(node) {
             self.cover.undo_remove();
             if before != chosen.of(node) {
-                self.cover.add(chosen, chosen.of(node))?;
+                self.cover.add(chosen, chosen.of(node), MOST_FOLLOWED)?;
                 self.cover.remove(chosen, before)?;
             }
         }
         Ok(())
     }
 
-    // How many LUTs a LUT over these leaves adds to the cover beside itself.
-    fn added(&mut self, chosen: &Chosen, leaves: &[u32]) -> Result<u32, AllocError> {
-        let luts = self.cover.add(chosen, leaves)?;
+    // The leaves near the node at hand whose LUTs aren't in the cover.
+    fn unread_near(&self) -> u64 {
+        let mut unread = 0;
+        let mut bit = 1;
+        for leaf in self.near.leaves() {
+            if self.cover.is_missing(leaf.node) {
+                unread |= bit;
+            }
+            bit <<= 1;
+        }
+        unread
+    }
+
+    // How many LUTs a LUT over these leaves adds to the cover beside itself; more than so many are so many.
+    fn added(&mut self, chosen: &Chosen, leaves: u64, most: u32) -> Result<u32, AllocError> {
+        let unread = leaves & self.unread;
+        if unread == 0 {
+            return Ok(0);
+        }
+        let nodes = self.near.nodes(unread);
+        let luts = self.cover.add(chosen, nodes.as_slice(), most)?;
         self.cover.undo_add();
         Ok(luts)
     }
 
-    /// The rank of a cut of a node; none where it arrives too late.
-    pub(crate) fn rank(
+    // The rank of a cut of so many leaves that adds so many LUTs.
+    #[inline]
+    fn rank(&self, cost: &Figures, len: u32, luts: u32) -> Rank {
+        match self.aim {
+            Aim::Depth => rank_of(cost.arrival, len, cost.flow, 0),
+            Aim::DepthThenFlow => rank_of(cost.arrival, cost.flow, cost.edges, len),
+            Aim::Flow | Aim::Area if cost.arrival > self.required => LATE,
+            Aim::Flow => rank_of(cost.flow, cost.edges, cost.arrival, len),
+            Aim::Area => rank_of(luts, cost.edges, cost.arrival, len),
+        }
+    }
+
+    // Picks a cut that costs so much, where it arrives in time, contains no picked one and is one of the best.
+    fn consider(
+        &mut self,
+        chosen: &Chosen,
+        leaves: u64,
+        cost: &Figures,
+        origin: Origin,
+    ) -> Result<(), AllocError> {
+        let len = leaves.count_ones();
+        let mut rank = self.rank(cost, len, 0);
+        if rank >= self.picks.bound() || self.picks.are_in(leaves) {
+            return Ok(());
+        }
+        if self.aim == Aim::Area {
+            let most = ((self.picks.bound() / FIRST) as u32).saturating_add(1);
+            let luts = self.added(chosen, leaves, most)?;
+            rank = self.rank(cost, len, luts);
+            if rank >= self.picks.bound() {
+                return Ok(());
+            }
+        }
+        self.picks.put(Pick {
+            rank,
+            leaves,
+            origin,
+        });
+        Ok(())
+    }
+
+    // Whether no cut of at most k leaves with all these, and perhaps more, is one of the best.
+    #[inline]
+    fn is_bad(&self, leaves: u64, cost: &Figures, k: u8) -> bool {
+        let len = leaves.count_ones();
+        len > k as u32 || self.rank(cost, len, 0) >= self.picks.bound()
+    }
+
+    // Considers the union of a cut of each fan-in, where it has at most k leaves and may be one of the best.
+    #[inline]
+    fn consider_union(
+        &mut self,
+        chosen: &Chosen,
+        left: &Part,
+        right: &Part,
+        k: u8,
+    ) -> Result<(), AllocError> {
+        let leaves = left.leaves | right.leaves;
+        if self.is_bad(leaves, &at_least(left.cost, right.cost), k) {
+            return Ok(());
+        }
+        let cost = self
+            .near
+            .with_leaves(left.cost, right.leaves & !left.leaves);
+        let origin = Origin::Union(left.place, right.place);
+        self.consider(chosen, leaves, &cost, origin)
+    }
+
+    /// Picks the best cuts of an AND whose fan-ins have these: of its chosen cut, and of the unions of a cut of each fan-in
+    /// that have at most k leaves.
+    pub(crate) fn pick(
         &mut self,
         chosen: &Chosen,
         node: u32,
-        leaves: &[u32],
-    ) -> Result<Option<Rank>, AllocError>
-        requires { length leaves.now ≤ MOST_VARS }
-    {
-        let cost = figures_over(self.figures.as_slice(), leaves);
-        let len = leaves.len() as u32;
-        let (first, second, third, fourth) = match self.aim {
-            Aim::Depth => (cost.arrival, len, cost.flow, 0),
-            Aim::DepthThenFlow => (cost.arrival, cost.flow, cost.edges, len),
-            Aim::Flow | Aim::Area if cost.arrival > self.cover.required(node) => return Ok(None),
-            Aim::Flow => (cost.flow, cost.edges, cost.arrival, len),
-            Aim::Area => (self.added(chosen, leaves)?, cost.edges, cost.arrival, len),
-        };
-        Ok(Some(Rank {
-            first,
-            second,
-            third,
-            fourth,
-        }))
+        left: &[Listed],
+        right: &[Listed],
+        k: u8,
+    ) -> Result<(), AllocError> {
+        let figures = self.figures.as_slice();
+        self.near.clear();
+        let own = self.near.part(figures, chosen.of(node), 0);
+        let left = self.near.parts(figures, left);
+        let right = self.near.parts(figures, right);
+        self.required = self.cover.required(node);
+        if self.aim == Aim::Area {
+            self.unread = self.unread_near();
+        }
+        self.picks.clear();
+        self.consider(chosen, own.leaves, &own.cost, Origin::Chosen)?;
+        for first in left.as_slice() {
+            if !self.is_bad(first.leaves, &first.cost, k) {
+                self.consider_unions(chosen, first, right.as_slice(), k)?;
+            }
+        }
+        Ok(())
+    }
+
+    // Considers the unions of a cut of a fan-in with each of the other's.
+    fn consider_unions(
+        &mut self,
+        chosen: &Chosen,
+        left: &Part,
+        others: &[Part],
+        k: u8,
+    ) -> Result<(), AllocError> {
+        for right in others {
+            self.consider_union(chosen, left, right, k)?;
+        }
+        Ok(())
+    }
+
+    /// The cuts that were picked last, the best first.
+    pub(crate) fn picks(&self) -> &[Pick] {
+        self.picks.as_slice()
     }
 }

@@ -22,8 +22,8 @@ pub(crate) struct Cover {
     removed: Vec<u32>,
 }
 
-// So many LUTs are followed at most below a cut that is added or taken out, so that each node takes so much time at most.
-const MOST_FOLLOWED: u32 = 32;
+/// So many LUTs are followed at most below a cut that is added or taken out, so that each node takes so much time at most.
+pub(crate) const MOST_FOLLOWED: u32 = 32;
 
 // So many times a number.
 fn numbers(alloc: Global, count: usize, number: u32) -> Result<Vec<u32>, AllocError> {
@@ -94,6 +94,12 @@ impl Cover {
         number_at(self.refs.as_slice(), node) > 0
     }
 
+    /// Whether a node is an AND whose LUT isn't in the cover.
+    #[inline]
+    pub(crate) fn is_missing(&self, node: u32) -> bool {
+        node > self.source_count && !self.is_read(node)
+    }
+
     /// When a node has to arrive at the latest.
     pub(crate) fn required(&self, node: u32) -> u32 {
         number_at(self.required.as_slice(), node)
@@ -126,18 +132,29 @@ impl Cover {
         Ok(())
     }
 
-    /// Adds a LUT over these leaves to the cover, and those that it needs: how many they are, as far as they are followed.
-    pub(crate) fn add(&mut self, chosen: &Chosen, leaves: &[u32]) -> Result<u32, AllocError> {
+    /// Adds a LUT over these leaves to the cover, and those that it needs: how many they are, as far as they are followed,
+    /// at most so many.
+    pub(crate) fn add(
+        &mut self,
+        chosen: &Chosen,
+        leaves: &[u32],
+        most: u32,
+    ) -> Result<u32, AllocError> {
+        let most = if most < MOST_FOLLOWED {
+            most
+        } else {
+            MOST_FOLLOWED
+        };
         self.added.clear();
         self.waiting.clear();
         self.read_leaves(leaves)?;
-        for luts in 0..MOST_FOLLOWED {
+        for luts in 0..most {
             let Some(node) = self.waiting.pop() else {
                 return Ok(luts);
             };
             self.read_leaves(chosen.of(node))?;
         }
-        Ok(MOST_FOLLOWED)
+        Ok(most)
     }
 
     /// Takes what was added last out again.

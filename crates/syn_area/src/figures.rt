@@ -28,28 +28,48 @@ pub(crate) fn figures_at(figures: &[Figures], node: u32) -> Figures {
     }
 }
 
-/// What a LUT over these leaves costs: when it arrives, and its flows before they are shared among its readers.
-pub(crate) fn figures_over(figures: &[Figures], leaves: &[u32]) -> Figures {
-    let mut arrival = 0;
-    let mut flow = UNIT;
-    let mut edges = 0u32;
-    for leaf in leaves {
-        let below = figures_at(figures, *leaf);
-        arrival = later(arrival, below.arrival);
-        flow = flow.saturating_add(below.flow);
-        edges = edges.saturating_add(below.edges).saturating_add(UNIT);
-    }
+/// What a LUT costs to which no leaf is added yet.
+pub(crate) const NO_LEAF: Figures = Figures {
+    arrival: 1,
+    flow: UNIT,
+    edges: 0,
+    readers: UNIT,
+};
+
+/// What a LUT costs with one leaf more: when it arrives, and its flows before they are shared among its readers.
+#[inline]
+pub(crate) fn with_leaf(cost: Figures, leaf: Figures) -> Figures {
     Figures {
-        arrival: arrival.saturating_add(1),
-        flow,
-        edges,
-        readers: UNIT,
+        arrival: greater(cost.arrival, leaf.arrival.saturating_add(1)),
+        flow: cost.flow.saturating_add(leaf.flow),
+        edges: cost.edges.saturating_add(leaf.edges).saturating_add(UNIT),
+        readers: cost.readers,
     }
 }
 
-// The later of two arrivals.
+/// What a LUT over these leaves costs.
+pub(crate) fn figures_over(figures: &[Figures], leaves: &[u32]) -> Figures {
+    let mut cost = NO_LEAF;
+    for leaf in leaves {
+        cost = with_leaf(cost, figures_at(figures, *leaf));
+    }
+    cost
+}
+
+/// What a LUT costs at least that reads the leaves of two others.
 #[inline]
-fn later(a: u32, b: u32) -> u32 {
+pub(crate) fn at_least(a: Figures, b: Figures) -> Figures {
+    Figures {
+        arrival: greater(a.arrival, b.arrival),
+        flow: greater(a.flow, b.flow),
+        edges: greater(a.edges, b.edges),
+        readers: a.readers,
+    }
+}
+
+// The greater of two numbers.
+#[inline]
+fn greater(a: u32, b: u32) -> u32 {
     if a < b { b } else { a }
 }
 
@@ -117,7 +137,7 @@ pub(crate) fn expect_again(figures: &mut [Figures], refs: &[u32], slow: bool) {
 pub(crate) fn depth_of(figures: &[Figures], observed: &[Lit]) -> u32 {
     let mut depth = 0;
     for lit in observed {
-        depth = later(depth, figures_at(figures, lit.node()).arrival);
+        depth = greater(depth, figures_at(figures, lit.node()).arrival);
     }
     depth
 }

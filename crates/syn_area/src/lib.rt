@@ -4,16 +4,19 @@
 //! their order and the rounds are this project's choice).
 //!
 //! The search keeps for each node its chosen cut, what is estimated of it (`figures`), and its place in the cover
-//! (`covers`). All are flat by node number. What is proved of the search is that each chosen cut is one that a LUT may
-//! read; that the net is no worse than that of `map` is seen by making both.
+//! (`covers`). All are flat by node number. While the cuts of a node are picked (`picks`), the leaves near it are bits of a
+//! word (`near`), and cuts are made of the picks alone. What is proved of the search is that each chosen cut is one that a
+//! LUT may read; that the net is no worse than that of `map` is seen by making both.
 #![tactic(auto)]
 
-mod candidates;
 mod chosen;
 mod costs;
 mod covers;
 mod figures;
+mod lists;
 mod mapping;
+mod near;
+mod picks;
 mod rounds;
 
 pub use mapping::map_for_area;

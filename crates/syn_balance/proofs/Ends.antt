@@ -16,6 +16,7 @@ use Rattle.syn_hashed.proofs.Rising.{source_value}
 use Rattle.syn_hashed.proofs.LevelLaws.{source_level}
 use Rattle.syn_balance.specs.Roots.{HasRoots}
 use Rattle.syn_balance.specs.Leaves.{StandFor, plain, joins_of}
+use Rattle.syn_balance.specs.Rule.{AreBalanced, AreByRule}
 use Rattle.syn_balance.specs.Balancing.{IsBalancing}
 use Rattle.syn_balance.proofs.Standing.{StandsFor, one_leaf, one_parts, signed, signed_stands, plain_is, plain_level}
 
@@ -51,6 +52,14 @@ some_none l e = cc
 pub begins : (count : ℕ) (rows new : List Row) (roots : List Bool) (literals : List (Option Lit)) (waiting : List (List Lit)) → IsHashed count rows → IsHashed count new → length new ≡ count + 1 → FirstsOf count (length rows) literals → waiting ≡ replicate (length rows) []
     → IsBalancing count rows roots (count + 1) literals waiting new
 begins count rows new roots literals waiting h g size firsts empty = record {
+  leaves = replicate (length rows) [];
+  rule = subst (λ (k : ℕ). AreBalanced count rows roots k (record { new = new; literals = literals; leaves = replicate (length rows) [] })) (let e : 0 ≡ count + 1 - (count + 1) = omega arith in e) (record {
+    few = size;
+    sources = g.front;
+    literals = firsts;
+    leaves = refl;
+  });
+  all_leaves = length-replicate (length rows) [];
   all = firsts.all;
   all_wait = ap length empty ∙ length-replicate (length rows) [];
   front = front;
@@ -141,3 +150,15 @@ made_again count rows lits roots literals waiting new found g s e = record {
   where
     st : (lit x : Lit) → literal_of literals lit ≡ Some x → StandsFor rows new lit x
     st lit x h = stands count rows roots (length rows) literals waiting new lit x s h
+
+-- and made by the rule
+pub made_by_rule : (count : ℕ) (rows : List Row) (lits : List Lit) (roots : List Bool) (literals : List (Option Lit)) (waiting : List (List Lit)) (new : List Row) (found : List Lit) → HasRoots rows lits roots → IsBalancing count rows roots (length rows) literals waiting new
+    → map (λ l. Some l) found ≡ map (literal_of literals) lits → AreByRule count rows lits new found
+made_by_rule count rows lits roots literals waiting new found r s e = record {
+  roots = roots;
+  marked = r;
+  s = record { new = new; literals = literals; leaves = s.leaves };
+  balanced = s.rule;
+  made = refl;
+  found = e;
+}

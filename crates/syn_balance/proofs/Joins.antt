@@ -1,25 +1,29 @@
 -- The two leaves of least level are joined.
-use Rattle.std.proofs.Common.{◌≡◌, ℕ, ◌+◌, ◌<◌, ◌≤◌, ◌&&◌, ◌||◌, not, Bool, true, false, All, List, [], ◌∷◌, length, map, get_or, refl, sym, ap, ap₂, ◌∙◌, subst, arith}
+use Rattle.std.proofs.Common.{◌≡◌, ℕ, ◌+◌, ◌<◌, ◌≤◌, ◌⊎◌, ◌&&◌, ◌||◌, not, Bool, true, false, All, List, [], ◌∷◌, length, map, get_or, refl, sym, ap, ap₂, ◌∙◌, subst, arith, inl, inr}
 use Rattle.std.specs.List.{list_all, list_any}
 use Rattle.std.specs.List.Sorted.{IsPermutation}
 use Rattle.std.specs.BinaryHeap.{IsUpperBound}
-use Rattle.std.specs.Ordering.{is_lt, nat_cmp, ordering_then}
+use Rattle.std.specs.Ordering.{is_lt, nat_cmp, ordering_then, MatchOrdering}
 use Rattle.std.specs.declared.cmp.Ordering.{Ordering}
 use Rattle.std.specs.declared.cmp.Ordering.TheVariants.{Less, Equal, Greater}
 use Rattle.std.specs.declared.cmp.Reverse.{Reverse}
+use Rattle.std.proofs.lemmas.Bool.{both_ways}
+use Rattle.std.proofs.lemmas.Cmp.{ranked}
 use Rattle.std.proofs.lemmas.List.Elements.{All-head, All-tail, All-nil, All-cons}
 use Rattle.std.proofs.lemmas.List.Sums.{sum_by-cons}
-use Rattle.std.proofs.lemmas.List.Sorted.{All-permutation, IsPermutation-map, IsPermutation-sym, length_permutation, list_any-IsPermutation, sum_by-IsPermutation, le_from_greatest}
+use Rattle.std.proofs.lemmas.List.Sorted.{All-permutation, IsPermutation-cons, IsPermutation-map, IsPermutation-sym, IsPermutation-trans, length_permutation, list_any-IsPermutation, sum_by-IsPermutation, le_from_greatest}
 use Rattle.syn_rows.specs.declared.Lit.{Lit}
 use Rattle.syn_rows.specs.declared.Row.{Row}
 use Rattle.syn_rows.specs.Rows.{node_of}
 use Rattle.syn_rows.specs.Levels.{level_in, levels_of}
 use Rattle.syn_shapes.specs.Graphs.{IsHashed}
 use Rattle.syn_hashed.specs.Growing.{Extends, IsAnd, IsJoin, value_by, level_by}
-use Rattle.syn_hashed.proofs.Rising.{extends_longer, extends_itself}
+use Rattle.syn_hashed.specs.Joined.{joined_lit, joined_rows}
+use Rattle.syn_hashed.proofs.Rising.{extends_longer, extends_itself, extends_through}
 use Rattle.syn_hashed.proofs.LevelLaws.{level_kept, join_level}
 use Rattle.syn_balance.specs.Leaves.{weight}
 use Rattle.syn_balance.specs.Joining.{IsJoining}
+use Rattle.syn_balance.specs.Rule.{ComesFirst, JoinsLeast}
 use Rattle.syn_balance.specs.Heaps.{AreLeaves, leaf, leaf_order, literal_in, level_of}
 use Rattle.syn_balance.proofs.Powers.{multiple, two_least}
 use Rattle.syn_balance.proofs.Standing.{values_kept, weights_kept, there_kept}
@@ -90,6 +94,16 @@ two_joined count old new ls ls1 ls2 ls3 a b l hashed first second last inside ab
     back : (given : ℕ → Bool) → given 0 ≡ false → IsPermutation ls3 (l ∷ ls2)
     back given at_0 = IsPermutation-sym (l ∷ ls2) ls3 last
 
+-- one step after others
+pub joining_through : (first old new : List Row) (before ls left : List Lit) → IsJoining first before old ls → IsJoining old ls new left → IsJoining first before new left
+joining_through first old new before ls left s t = record {
+  grows = extends_through first old new s.grows t.grows;
+  there = t.there;
+  value = λ given at_0. t.value given at_0 ∙ s.value given at_0;
+  fits = λ height h. t.fits height (s.fits height h);
+  few = (let p = s.few in let q = t.few in omega (arith, p, q));
+}
+
 -- what the order of leaves says of levels
 first_not_less : (a b : Ordering) → is_lt (ordering_then a b) ≡ false → is_lt a ≡ false
 first_not_less Less b e = e
@@ -102,6 +116,34 @@ at_most p q e = All-head (λ (y : ℕ). y ≤ p) q [] (le_from_greatest p (q ∷
 least_level : (x : Reverse (ℕ × Lit)) (hs : List (Reverse (ℕ × Lit))) → IsUpperBound leaf_order x hs → All (λ e. level_of x ≤ level_of e) hs
 least_level x [] h = All-nil (λ (e : Reverse (ℕ × Lit)). level_of x ≤ level_of e)
 least_level x (y ∷ ys) h = All-cons (λ (e : Reverse (ℕ × Lit)). level_of x ≤ level_of e) y ys (at_most (level_of y) (level_of x) (first_not_less _ _ h.0)) (least_level x ys h.1)
+
+-- and of leaves
+order_of : (p q r s : ℕ) (o m : Ordering) → MatchOrdering o (p < q) (p ≡ q) (q < p) → MatchOrdering m (r < s) (r ≡ s) (s < r) → is_lt (ordering_then o m) ≡ false → (q < p) ⊎ ((q ≡ p) × (s ≤ r))
+order_of p q r s Less m h k e = absurd (both_ways true e refl)
+order_of p q r s Equal Less h k e = absurd (both_ways true e refl)
+order_of p q r s Equal Equal h k e = inr (sym h, omega (arith, k))
+order_of p q r s Equal Greater h k e = inr (sym h, omega (arith, k))
+order_of p q r s Greater m h k e = inl h
+
+-- the leaf comes first, by the levels that stand beside the literals
+abbrev pub GoesFirst : Reverse (ℕ × Lit) → Reverse (ℕ × Lit) → Type 0
+GoesFirst x y = (level_of x < level_of y) ⊎ ((level_of x ≡ level_of y) × ((literal_in x).0 ≤ (literal_in y).0))
+
+least_leaf : (x : Reverse (ℕ × Lit)) (hs : List (Reverse (ℕ × Lit))) → IsUpperBound leaf_order x hs → All (GoesFirst x) hs
+least_leaf x [] h = All-nil (GoesFirst x)
+least_leaf x (y ∷ ys) h =
+    All-cons (GoesFirst x) y ys
+    (order_of (level_of y) (level_of x) (literal_in y).0 (literal_in x).0 _ _ (ranked (level_of y) (level_of x) _ refl) (ranked (literal_in y).0 (literal_in x).0 _ refl) h.0) (least_leaf x ys h.1)
+
+comes_first : (rows : List Row) (x : Reverse (ℕ × Lit)) (hs : List (Reverse (ℕ × Lit))) → level_of x ≡ level_by rows (literal_in x) → AreLeaves rows hs → All (GoesFirst x) hs → All (ComesFirst rows (literal_in x)) (map literal_in hs)
+comes_first rows x [] e leaves h = All-nil (ComesFirst rows (literal_in x))
+comes_first rows x (y ∷ ys) e leaves h =
+    All-cons (ComesFirst rows (literal_in x)) (literal_in y) (map literal_in ys)
+    (let at = (All-head (λ (z : Reverse (ℕ × Lit)). (node_of (literal_in z) < length rows) × (level_of z ≡ level_by rows (literal_in z))) y ys leaves).1 in elim (All-head (GoesFirst x) y ys h) [
+      | inl less ↦ inl (omega (arith, e, at, less))
+      | inr same ↦ inr (sym e ∙ (same.0 ∙ at), same.1)
+    ])
+    (comes_first rows x ys e (All-tail (λ (z : Reverse (ℕ × Lit)). (node_of (literal_in z) < length rows) × (level_of z ≡ level_by rows (literal_in z))) y ys leaves) (All-tail (GoesFirst x) y ys h))
 
 leaves_there : (rows : List Row) (hs : List (Reverse (ℕ × Lit))) → AreLeaves rows hs → All (λ k. node_of k < length rows) (map literal_in hs)
 leaves_there rows [] h = All-nil (λ (k : Lit). node_of k < length rows)
@@ -126,6 +168,8 @@ pub record AreLeast (old : List Row) (hs hs2 : List (Reverse (ℕ × Lit))) (a b
   pub inside_b : node_of b < length old
   pub ordered : level_by old a ≤ level_by old b
   pub above : All (λ k. level_by old b ≤ level_by old k) (map literal_in hs2)
+  pub first_a : All (ComesFirst old a) (b ∷ map literal_in hs2)
+  pub first_b : All (ComesFirst old b) (map literal_in hs2)
   pub rest : AreLeaves old hs2
   pub two : length hs ≡ length hs2 + 2
 
@@ -140,6 +184,8 @@ least_two old hs hs1 hs2 x y leaves first least second next = record {
   inside_b = fy.0;
   ordered = (let low = All-head (λ (e : Reverse (ℕ × Lit)). level_of x ≤ level_of e) y hs2 (All-permutation (λ (e : Reverse (ℕ × Lit)). level_of x ≤ level_of e) hs1 (y ∷ hs2) second (least_level x hs1 least)) in let p = fx.1 in let q = fy.1 in omega (arith, low, p, q));
   above = subst (λ k. All (λ (m : Lit). k ≤ level_by old m) (map literal_in hs2)) fy.1 (levels_there old (level_of y) hs2 all2 (least_level y hs2 next));
+  first_a = comes_first old x (y ∷ hs2) fx.1 all_y (All-permutation (GoesFirst x) hs1 (y ∷ hs2) second (least_leaf x hs1 least));
+  first_b = comes_first old y hs2 fy.1 all2 (least_leaf y hs2 next);
   rest = all2;
   two = (let p = length_permutation hs (x ∷ hs1) first in let q = length_permutation hs1 (y ∷ hs2) second in omega (arith, p, q));
 }
@@ -180,6 +226,19 @@ pub least_joined : (count : ℕ) (old new : List Row) (hs hs2 hs3 : List (Revers
 least_joined count old new hs hs2 hs3 a b z s hashed last e few there is join =
     two_joined count old new (map literal_in hs) s.ls1 (map literal_in hs2) (map literal_in hs3) a b (literal_in z) hashed s.first s.second (IsPermutation-map literal_in (z ∷ hs2) hs3 last) s.inside s.ordered s.above e few there is join
 
+pub least_rule : (old new : List Row) (hs hs2 hs3 : List (Reverse (ℕ × Lit))) (a b : Lit) (z : Reverse (ℕ × Lit)) → AreLeast old hs hs2 a b → IsPermutation (z ∷ hs2) hs3 → literal_in z ≡ joined_lit old a b → new ≡ joined_rows old a b
+    → JoinsLeast old (map literal_in hs) new (map literal_in hs3)
+least_rule old new hs hs2 hs3 a b z s last is rows = record {
+  a = a;
+  b = b;
+  others = map literal_in hs2;
+  among = IsPermutation-trans (map literal_in hs) (a ∷ s.ls1) (a ∷ b ∷ map literal_in hs2) s.first (IsPermutation-cons a s.ls1 (b ∷ map literal_in hs2) s.second);
+  first = s.first_a;
+  second = s.first_b;
+  made = rows;
+  remain = subst (λ (l : Lit). IsPermutation (l ∷ map literal_in hs2) (map literal_in hs3)) is (IsPermutation-map literal_in (z ∷ hs2) hs3 last);
+}
+
 -- leaves with their levels
 pub leaves_are : (rows : List Row) (levels : List ℕ) (ls : List Lit) → levels ≡ levels_of rows → All (λ l. node_of l < length rows) ls → AreLeaves rows (map (leaf levels) ls)
 leaves_are rows levels [] e h = All-nil (λ (x : Reverse (ℕ × Lit)). (node_of (literal_in x) < length rows) × (level_of x ≡ level_by rows (literal_in x)))
@@ -203,9 +262,10 @@ joining_permuted rows xs ys p h = record {
 }
 
 pub heap_begins : (rows : List Row) (levels : List ℕ) (ls : List Lit) (hs : List (Reverse (ℕ × Lit))) → levels ≡ levels_of rows → All (λ l. node_of l < length rows) ls → IsPermutation (map (leaf levels) ls) hs
-    → AreLeaves rows hs × IsJoining rows ls rows (map literal_in hs)
+    → AreLeaves rows hs × IsJoining rows ls rows (map literal_in hs) × IsPermutation ls (map literal_in hs)
 heap_begins rows levels ls hs e h p = (
   All-permutation (λ (x : Reverse (ℕ × Lit)). (node_of (literal_in x) < length rows) × (level_of x ≡ level_by rows (literal_in x))) (map (leaf levels) ls) hs p (leaves_are rows levels ls e h),
   subst (λ (k : List Lit). IsJoining rows k rows (map literal_in hs)) (literals_back levels ls)
       (joining_permuted rows (map literal_in (map (leaf levels) ls)) (map literal_in hs) (IsPermutation-map literal_in (map (leaf levels) ls) hs p) (leaves_there rows (map (leaf levels) ls) (leaves_are rows levels ls e h))),
+  subst (λ (k : List Lit). IsPermutation k (map literal_in hs)) (literals_back levels ls) (IsPermutation-map literal_in (map (leaf levels) ls) hs p),
 )

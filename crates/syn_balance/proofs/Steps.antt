@@ -1,8 +1,10 @@
 -- One node after the other is balanced.
-use Rattle.std.proofs.Common.{◌≡◌, ◌≢◌, ℕ, zero, suc, ◌+◌, ◌*◌, ◌%◌, ◌<◌, ◌≤◌, ◌⊎◌, nat_eq, Bool, true, false, List, [], ◌∷◌, length, set, refl, sym, ap, ◌∙◌, subst, arith, inl, inr, Option, Some, None, IsSome}
+use Rattle.std.proofs.Common.{◌≡◌, ◌≢◌, ℕ, zero, suc, ◌+◌, ◌-◌, ◌*◌, ◌%◌, ◌<◌, ◌≤◌, ◌⊎◌, nat_eq, Bool, true, false, List, [], ◌∷◌, ◌++◌, length, set, refl, sym, ap, ◌∙◌, subst, subst₂, arith, inl, inr, Option, Some, None, IsSome}
 use Rattle.std.specs.List.{sum_by}
+use Rattle.std.specs.List.Sorted.{IsPermutation}
 use Rattle.std.proofs.lemmas.Bool.{cases_lt, cases_eq, cond-true, eq-eqb, both_ways, false_from_ne_true}
 use Rattle.std.proofs.lemmas.List.{get_or-set_same, get_or-set_other, length-set}
+use Rattle.std.proofs.lemmas.List.Sorted.{IsPermutation-refl, IsPermutation-trans}
 use Rattle.std.proofs.lemmas.List.Sums.{sum_by-set}
 use Rattle.syn_rows.specs.declared.Lit.{Lit}
 use Rattle.syn_rows.specs.declared.Row.{Row}
@@ -13,7 +15,8 @@ use Rattle.syn_hashed.specs.Growing.{Extends}
 use Rattle.syn_hashed.specs.Visiting.{visited, with_sign, literal_of}
 use Rattle.syn_balance.specs.Roots.{mark_at, refs_before, HasRoots}
 use Rattle.syn_balance.specs.Leaves.{StandFor, plain, waiting_at, leaves_where, leaves_of, left_where, left_by, joins_of}
-use Rattle.syn_balance.specs.Balancing.{IsBalancing}
+use Rattle.syn_balance.specs.Rule.{Balanced, BalancesNode, AreBalanced, AreJoined, AreOne}
+use Rattle.syn_balance.specs.Balancing.{IsBalancing, WaitFor}
 use Rattle.syn_balance.proofs.Standing.{one_leaf, one_parts, stand_kept, signed, signed_stands}
 
 -- references
@@ -78,7 +81,19 @@ leaves_stand count rows roots n literals waiting new lit s lt r = go (visited li
     go : (o : Option Lit) → visited literals (node_of lit) ≡ o → StandFor rows new lit (leaves_where (with_sign lit o) (waiting_at waiting (node_of lit)))
     go (Some l) e = one_leaf rows new lit (signed lit l) (signed_stands rows new lit l (one_parts rows new (plain (node_of lit)) l (s.made (node_of lit) l e)))
     go None e = elim (s.waits (node_of lit) lt e) [
-      | inl w ↦ subst (λ (x : Lit). StandFor rows new x (waiting_at waiting (node_of lit))) (number_is lit (r e).plain) w
+      | inl w ↦ subst (λ (x : Lit). StandFor rows new x (waiting_at waiting (node_of lit))) (number_is lit (r e).plain) w.0
+      | inr taken ↦ absurd (let l = (r e).left in omega (arith, l))
+    ]
+
+-- and are those that the rule gives it
+pub leaves_match : (count : ℕ) (rows : List Row) (roots : List Bool) (n : ℕ) (literals : List (Option Lit)) (waiting : List (List Lit)) (new : List Row) (lit : Lit)
+    → (s : IsBalancing count rows roots n literals waiting new) → node_of lit < n → (visited literals (node_of lit) ≡ None → IsReady rows n lit) → IsPermutation (leaves_of literals s.leaves lit) (leaves_of literals waiting lit)
+leaves_match count rows roots n literals waiting new lit s lt r = go (visited literals (node_of lit)) refl
+  where
+    go : (o : Option Lit) → visited literals (node_of lit) ≡ o → IsPermutation (leaves_where (with_sign lit o) (waiting_at s.leaves (node_of lit))) (leaves_where (with_sign lit o) (waiting_at waiting (node_of lit)))
+    go (Some l) e = IsPermutation-refl (signed lit l ∷ [])
+    go None e = elim (s.waits (node_of lit) lt e) [
+      | inl w ↦ w.1
       | inr taken ↦ absurd (let l = (r e).left in omega (arith, l))
     ]
 
@@ -121,32 +136,53 @@ referred rows n m a b is (inl e) = subst (λ k. 0 < refs_before (suc n) rows k) 
 referred rows n m a b is (inr e) = subst (λ k. 0 < refs_before (suc n) rows k) (sym e) (let h = (refers rows n a b is).1 in let z : 0 < refs_before n rows (node_of b) + refs (node_of b) (row_at rows n) = omega (arith, h) in z)
 
 still_open : (count : ℕ) (rows : List Row) (roots : List Bool) (n : ℕ) (literals : List (Option Lit)) (waiting left : List (List Lit)) (new : List Row) (a b : Lit) (joins : ℕ)
-    → IsBalancing count rows roots n literals waiting new → AreTaken rows n a b waiting left joins → row_at rows n ≡ And a b → (m : ℕ) → m < n → visited literals m ≡ None
-    → StandFor rows new (plain m) (waiting_at left m) ⊎ (0 < refs_before (suc n) rows m)
+    → (s : IsBalancing count rows roots n literals waiting new) → AreTaken rows n a b waiting left joins → row_at rows n ≡ And a b → (m : ℕ) → m < n → visited literals m ≡ None
+    → WaitFor rows new m (waiting_at s.leaves m) (waiting_at left m) ⊎ (0 < refs_before (suc n) rows m)
 still_open count rows roots n literals waiting left new a b joins s t is m lt e = elim (cases_eq m (node_of a)) [
   | inl same ↦ inr (referred rows n m a b is (inl same))
   | inr ma ↦ elim (cases_eq m (node_of b)) [
     | inl same ↦ inr (referred rows n m a b is (inr same))
     | inr mb ↦ elim (s.waits m lt e) [
-      | inl w ↦ inl (subst (StandFor rows new (plain m)) (sym (t.others m ma mb)) w)
+      | inl w ↦ inl (subst (WaitFor rows new m (waiting_at s.leaves m)) (sym (t.others m ma mb)) w)
       | inr taken ↦ inr (let less : refs_before n rows m ≤ refs_before (suc n) rows m = refs_rise rows m n (suc n) (omega arith) in omega (arith, less, taken))
     ]
   ]
 ]
 
+-- one AND more is balanced by the rule
+one_more : (count : ℕ) (rows : List Row) (roots : List Bool) (n : ℕ) (old s : Balanced) → count < n → AreBalanced count rows roots (n - (count + 1)) old → BalancesNode rows roots n old s → AreBalanced count rows roots (suc n - (count + 1)) s
+one_more count rows roots n old s above done step =
+    subst (λ (k : ℕ). AreBalanced count rows roots k s) (let e : suc (n - (count + 1)) ≡ suc n - (count + 1) = omega (arith, above) in e)
+    (old, done, subst (λ (k : ℕ). BalancesNode rows roots k old s) (let e : n ≡ count + 1 + (n - (count + 1)) = omega (arith, above) in e) step)
+
+joined_permuted : (times : ℕ) (rows new : List Row) (xs ys left : List Lit) → IsPermutation xs ys → AreJoined times rows ys new left → AreJoined times rows xs new left
+joined_permuted zero rows new xs ys left p j = (j.0, IsPermutation-trans xs ys left p j.1)
+joined_permuted (suc times) rows new xs ys left p j = (j.0, j.1, joined_permuted times rows j.0 xs ys j.1 p j.2, j.3)
+
 -- leaves wait at the next node
 pub wait_next : (count : ℕ) (rows : List Row) (roots : List Bool) (n : ℕ) (literals : List (Option Lit)) (waiting left : List (List Lit)) (new : List Row) (a b : Lit) (joins : ℕ) (leaves : List Lit)
-    → IsBalancing count rows roots n literals waiting new → AreTaken rows n a b waiting left joins → n < length rows → row_at rows n ≡ And a b → mark_at roots n ≡ false
-    → StandFor rows new (plain n) leaves → joins_of leaves ≤ joins + 1 → IsBalancing count rows roots (suc n) literals (set left n leaves) new
-wait_next count rows roots n literals waiting left new a b joins leaves s t lt is off stand few = record {
+    → (s : IsBalancing count rows roots n literals waiting new) → AreTaken rows n a b waiting left joins → count < n → n < length rows → row_at rows n ≡ And a b → mark_at roots n ≡ false
+    → StandFor rows new (plain n) leaves → IsPermutation (leaves_of literals s.leaves a ++ leaves_of literals s.leaves b) leaves → joins_of leaves ≤ joins + 1 → IsBalancing count rows roots (suc n) literals (set left n leaves) new
+wait_next count rows roots n literals waiting left new a b joins leaves s t above lt is off stand same few = record {
+  leaves = set s.leaves n by_rule;
+  rule = one_more count rows roots n (record { new = new; literals = literals; leaves = s.leaves }) (record { new = new; literals = literals; leaves = set s.leaves n by_rule }) above s.rule (record {
+    a = a;
+    b = b;
+    is = is;
+    leaves = refl;
+    marked = λ on. absurd (both_ways (mark_at roots n) off on);
+    unmarked = λ u. (refl, refl);
+  });
+  all_leaves = length-set s.leaves n by_rule ∙ s.all_leaves;
   all = s.all;
   all_wait = length-set left n leaves ∙ (t.size ∙ s.all_wait);
   front = s.front;
   made = s.made;
   waits = λ m less e. elim (cases_eq m n) [
-    | inl same ↦ inl (subst (λ k. StandFor rows new (plain k) (waiting_at (set left n leaves) k)) (sym same) (subst (StandFor rows new (plain n)) (sym (get_or-set_same left n leaves [] inside)) stand))
+    | inl here ↦ inl (subst (λ k. WaitFor rows new k (waiting_at (set s.leaves n by_rule) k) (waiting_at (set left n leaves) k)) (sym here)
+        (subst₂ (WaitFor rows new n) (sym (get_or-set_same s.leaves n by_rule [] (let e = s.all_leaves in omega (arith, e, lt)))) (sym (get_or-set_same left n leaves [] inside)) (stand, same)))
     | inr ne ↦ elim (still_open count rows roots n literals waiting left new a b joins s t is m (omega arith) e) [
-      | inl w ↦ inl (subst (StandFor rows new (plain m)) (sym (get_or-set_other left n m leaves [] ne)) w)
+      | inl w ↦ inl (subst₂ (WaitFor rows new m) (sym (get_or-set_other s.leaves n m by_rule [] ne)) (sym (get_or-set_other left n m leaves [] ne)) w)
       | inr taken ↦ inr taken
     ]
   ];
@@ -161,14 +197,27 @@ wait_next count rows roots n literals waiting left new a b joins leaves s t lt i
       omega (arith, e, j, f, few));
 }
   where
+    by_rule : List Lit
+    by_rule = leaves_of literals s.leaves a ++ leaves_of literals s.leaves b
+
     inside : n < length left
     inside = let x = t.size in let y = s.all_wait in omega (arith, x, y)
 
 -- the next node has its literal
-pub root_next : (count : ℕ) (rows : List Row) (roots : List Bool) (n : ℕ) (literals : List (Option Lit)) (waiting left : List (List Lit)) (new more : List Row) (a b l : Lit) (joins : ℕ)
-    → IsBalancing count rows roots n literals waiting new → AreTaken rows n a b waiting left joins → count < n → n < length rows → row_at rows n ≡ And a b
-    → Extends new more → StandFor rows more (plain n) (l ∷ []) → length more ≤ length new + (joins + 1) → IsBalancing count rows roots (suc n) (set literals n (Some l)) left more
-root_next count rows roots n literals waiting left new more a b l joins s t above lt is grows stand few = record {
+pub root_next : (count : ℕ) (rows : List Row) (roots : List Bool) (n : ℕ) (literals : List (Option Lit)) (waiting left : List (List Lit)) (new more : List Row) (a b l : Lit) (joins : ℕ) (leaves : List Lit)
+    → (s : IsBalancing count rows roots n literals waiting new) → AreTaken rows n a b waiting left joins → count < n → n < length rows → row_at rows n ≡ And a b → mark_at roots n ≡ true
+    → Extends new more → StandFor rows more (plain n) (l ∷ []) → IsPermutation (leaves_of literals s.leaves a ++ leaves_of literals s.leaves b) leaves → AreOne new leaves more l → length more ≤ length new + (joins + 1) → IsBalancing count rows roots (suc n) (set literals n (Some l)) left more
+root_next count rows roots n literals waiting left new more a b l joins leaves s t above lt is on grows stand same one few = record {
+  leaves = set s.leaves n by_rule;
+  rule = one_more count rows roots n (record { new = new; literals = literals; leaves = s.leaves }) (record { new = more; literals = set literals n (Some l); leaves = set s.leaves n by_rule }) above s.rule (record {
+    a = a;
+    b = b;
+    is = is;
+    leaves = refl;
+    marked = λ m. (l, refl, (one.0, joined_permuted one.0 new more (waiting_at (set s.leaves n by_rule) n) leaves (l ∷ []) mine one.1));
+    unmarked = λ u. absurd (both_ways (mark_at roots n) u on);
+  });
+  all_leaves = length-set s.leaves n by_rule ∙ s.all_leaves;
   all = length-set literals n (Some l) ∙ s.all;
   all_wait = t.size ∙ s.all_wait;
   front = λ m low. get_or-set_other literals n m (Some l) None (λ e. omega arith) ∙ s.front m low;
@@ -181,7 +230,7 @@ root_next count rows roots n literals waiting left new more a b l joins s t abov
   waits = λ m less e. elim (cases_eq m n) [
     | inl same ↦ absurd (some_none l (sym (here m same) ∙ e))
     | inr ne ↦ elim (still_open count rows roots n literals waiting left new a b joins s t is m (omega arith) (sym (get_or-set_other literals n m (Some l) None ne) ∙ e)) [
-      | inl w ↦ inl (stand_kept rows new more (plain m) (waiting_at left m) grows w)
+      | inl w ↦ inl (stand_kept rows new more (plain m) (waiting_at left m) grows w.0, subst (λ (xs : List Lit). IsPermutation xs (waiting_at left m)) (sym (get_or-set_other s.leaves n m by_rule [] ne)) w.1)
       | inr taken ↦ inr taken
     ]
   ];
@@ -192,6 +241,12 @@ root_next count rows roots n literals waiting left new more a b l joins s t abov
   few = (let j = t.joins_left in let f = s.few in omega (arith, j, f, few));
 }
   where
+    by_rule : List Lit
+    by_rule = leaves_of literals s.leaves a ++ leaves_of literals s.leaves b
+
+    mine : IsPermutation (waiting_at (set s.leaves n by_rule) n) leaves
+    mine = subst (λ (xs : List Lit). IsPermutation xs leaves) (sym (get_or-set_same s.leaves n by_rule [] (let e = s.all_leaves in omega (arith, e, lt)))) same
+
     inside : n < length literals
     inside = let x = s.all in omega (arith, x)
 

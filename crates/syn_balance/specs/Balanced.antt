@@ -1,8 +1,12 @@
 -- What balancing gives.
 use Rattle.std.specs.Prelude.{◌≡◌, ℕ, ◌<◌, ◌≤◌, Bool, List, length}
+use Rattle.syn_rows.specs.declared.Lit.{Lit}
+use Rattle.syn_rows.specs.declared.Row.{Row}
 use Rattle.syn_rows.specs.Values.{rows_function}
 use Rattle.syn_shapes.specs.Graphs.{lit_at}
 use Rattle.syn_hashed.specs.Growing.{level_by}
+use Rattle.syn_hashed.specs.Compacting.{IsCompaction}
+use Rattle.syn_balance.specs.Rule.{AreByRule}
 use Rattle.syn_graph.specs.declared.Graph.{Graph}
 
 -- The new graph has the old one's frame and its function; it has no more ANDs, and no observed literal lies higher.
@@ -11,3 +15,10 @@ pub record IsBalanced (old new : Graph) : Type 0 where
   pub function : (bits : List Bool) → rows_function new.rows new.observed bits ≡ rows_function old.rows old.observed bits
   pub count : length new.rows ≤ length old.rows
   pub levels : (i : ℕ) → i < length old.observed → level_by new.rows (lit_at new.observed i) ≤ level_by old.rows (lit_at old.observed i)
+
+-- The new rows and literals are those that the rule makes of the old ones, compacted.
+pub record FollowsRule (count : ℕ) (rows : List Row) (lits : List Lit) (new_rows : List Row) (new_lits : List Lit) : Type 0 where
+  pub mid_rows : List Row
+  pub mid_lits : List Lit
+  pub made : AreByRule count rows lits mid_rows mid_lits
+  pub compact : IsCompaction count mid_rows mid_lits new_rows new_lits

@@ -10,38 +10,75 @@ ghost use Rattle.syn_hashed.specs.Visiting.{first_literal, FirstsOf, IsRebuilt, 
 ghost use Rattle.syn_balance.specs.Balancing.{IsBalancing};
 ghost use Rattle.syn_balance.specs.Leaves.{leaves_of, left_by, TakesBoth, waiting_at};
 ghost use Rattle.syn_balance.specs.Roots.{HasRoots};
+ghost use Rattle.syn_balance.specs.Rule.{AreByRule};
 
 use crate::joining::join;
 use crate::roots::roots;
+use smallvec::SmallVec;
 use std::alloc::{AllocError, Global};
+use std::marker::Model;
 use std::mem;
 use syn_hashed::{HashedRows, Rows, first_literals, literal_of, literals_of};
-use syn_netlist::Items;
 use syn_rows::{Lit, Row};
 
+// How many leaves of a node stand inline.
+const INLINE_LEAVES: usize = 4;
+
+// Leaves of a node. Contracts see the list.
+#[derive(Drop)]
+struct Leaves {
+    lits: SmallVec<Lit, INLINE_LEAVES>,
+}
+
+impl Model for Leaves {
+    ghost use Rattle.std.specs.Prelude.{List};
+    ghost use Rattle.syn_rows.specs.declared.Lit.{Lit};
+
+    ghost Value = { List Lit };
+
+    ghost view = { λ l. l.lits.items };
+}
+
+impl Leaves {
+    // These leaves.
+    fn of(lits: SmallVec<Lit, INLINE_LEAVES>) -> Leaves
+        ensures { result ≡ lits.items }
+    {
+        Leaves { lits }
+    }
+
+    // The list of the leaves again.
+    fn into_lits(self) -> SmallVec<Lit, INLINE_LEAVES>
+        ensures { result.items ≡ self }
+    {
+        let Leaves { lits } = self;
+        lits
+    }
+}
+
 // Takes the leaves that wait at a node.
-fn take_waiting(alloc: Global, waiting: &mut [Items<Lit>], node: usize) -> Vec<Lit>
+fn take_waiting(alloc: Global, waiting: &mut [Leaves], node: usize) -> SmallVec<Lit, INLINE_LEAVES>
     requires { node < length waiting.old }
     ensures leaves { result.items ≡ waiting_at waiting.old node }
     ensures left { waiting.new ≡ set waiting.old node [] }
 {
-    mem::replace(&mut waiting[node], Items::of(Vec::new(alloc))).into_vec()
+    mem::replace(&mut waiting[node], Leaves::of(SmallVec::new(alloc))).into_lits()
 }
 
 // The leaves of a literal: the one that stands for it, or those that wait at its node, which are taken.
 fn take_leaves(
     alloc: Global,
     literals: &[Option<Lit>],
-    waiting: &mut [Items<Lit>],
+    waiting: &mut [Leaves],
     lit: Lit,
-) -> Result<Vec<Lit>, AllocError>
+) -> Result<SmallVec<Lit, INLINE_LEAVES>, AllocError>
     requires { node_of lit < length waiting.old }
     ensures leaves { IfOk result (λ v. v.items ≡ leaves_of literals.now waiting.old lit) }
     ensures left { OnOk result (waiting.new ≡ left_by literals.now waiting.old lit) }
 {
     match literal_of(literals, lit) {
         Some(literal) => {
-            let mut leaves = Vec::new(alloc);
+            let mut leaves = SmallVec::new(alloc);
             leaves.push(literal)?;
             Ok(leaves)
         }
@@ -50,7 +87,10 @@ fn take_leaves(
 }
 
 // Both lists in one; the shorter is put behind the longer.
-fn concatenated(mut first: Vec<Lit>, mut second: Vec<Lit>) -> Result<Vec<Lit>, AllocError>
+fn concatenated(
+    mut first: SmallVec<Lit, INLINE_LEAVES>,
+    mut second: SmallVec<Lit, INLINE_LEAVES>,
+) -> Result<SmallVec<Lit, INLINE_LEAVES>, AllocError>
     ensures { IfOk result (λ v. (v.items ≡ first.items ++ second.items) ⊎ (v.items ≡ second.items ++ first.items)) }
 {
     if first.len() < second.len() {
@@ -66,10 +106,10 @@ fn concatenated(mut first: Vec<Lit>, mut second: Vec<Lit>) -> Result<Vec<Lit>, A
 fn take_both(
     alloc: Global,
     literals: &[Option<Lit>],
-    waiting: &mut [Items<Lit>],
+    waiting: &mut [Leaves],
     a: Lit,
     b: Lit,
-) -> Result<Vec<Lit>, AllocError>
+) -> Result<SmallVec<Lit, INLINE_LEAVES>, AllocError>
     requires first { node_of a < length waiting.old }
     requires second { node_of b < length waiting.old }
     ensures { IfOk result (λ v. TakesBoth literals.now waiting.old a b v.items waiting.new) }
@@ -85,7 +125,7 @@ fn balance_node(
     hashed: &mut HashedRows,
     levels: &mut Vec<u32>,
     literals: &mut [Option<Lit>],
-    waiting: &mut [Items<Lit>],
+    waiting: &mut [Leaves],
     rows: &[Row],
     roots: &[bool],
     node: usize,
@@ -109,7 +149,7 @@ fn balance_node(
         let literal = join(alloc, hashed, levels, leaves.as_slice())?;
         literals[node] = Some(literal);
     } else {
-        waiting[node] = Items::of(leaves);
+        waiting[node] = Leaves::of(leaves);
     }
     Ok(())
 }
@@ -120,7 +160,7 @@ fn balance_nodes(
     hashed: &mut HashedRows,
     levels: &mut Vec<u32>,
     literals: &mut [Option<Lit>],
-    waiting: &mut [Items<Lit>],
+    waiting: &mut [Leaves],
     rows: &[Row],
     roots: &[bool],
 ) -> Result<(), AllocError>
@@ -139,12 +179,12 @@ fn balance_nodes(
 }
 
 // No leaves at each of so many nodes.
-fn nothing_waiting(alloc: Global, count: usize) -> Result<Vec<Items<Lit>>, AllocError>
+fn nothing_waiting(alloc: Global, count: usize) -> Result<Vec<Leaves>, AllocError>
     ensures { IfOk result (λ waiting. waiting.items ≡ replicate count []) }
 {
     let mut waiting = Vec::new(alloc);
     for _ in 0..count {
-        waiting.push(Items::of(Vec::new(alloc)))?;
+        waiting.push(Leaves::of(SmallVec::new(alloc)))?;
     }
     Ok(waiting)
 }
@@ -160,7 +200,8 @@ pub fn made_again(
     requires order { in_order_from 0 rows.now ≡ true }
     requires within { All (λ l. node_of l < length rows.now) observed.now }
     requires few { length rows.now < NODE_LIMIT }
-    ensures { IfOk result (λ r. IsRebuilt source_count rows.now observed.now r.rows.items r.observed.items) }
+    ensures rebuilt { IfOk result (λ r. IsRebuilt source_count rows.now observed.now r.rows.items r.observed.items) }
+    ensures rule { IfOk result (λ r. AreByRule source_count rows.now observed.now r.rows.items r.observed.items) }
 {
     let roots = roots(alloc, rows, observed)?;
     let mut hashed = HashedRows::new(alloc, source_count as usize)?;

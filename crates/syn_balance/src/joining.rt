@@ -9,7 +9,9 @@ ghost use Rattle.syn_rows.specs.Rows.{node_of, row_at};
 ghost use Rattle.syn_balance.specs.Heaps.{AreLeaves, leaf, leaf_order, literal_in, level_of};
 ghost use Rattle.syn_balance.specs.Joining.{IsJoining};
 ghost use Rattle.syn_balance.specs.Leaves.{weight};
+ghost use Rattle.syn_balance.specs.Rule.{AreOne, JoinsLeast};
 ghost use Rattle.syn_hashed.specs.Growing.{Extends, IsAnd, IsJoin, level_by, value_by};
+ghost use Rattle.syn_hashed.specs.Joined.{joined_lit, joined_rows};
 
 use std::alloc::{AllocError, Global};
 use std::cmp::Reverse;
@@ -30,6 +32,8 @@ fn and(hashed: &mut HashedRows, levels: &mut Vec<u32>, a: Lit, b: Lit) -> Result
     ensures there { IfOk result (λ l. node_of l < length hashed.new.rows.items) }
     ensures value { IfOk result (λ l. IsAnd hashed.old.rows.items a b hashed.new.rows.items l) }
     ensures joined { IfOk result (λ l. IsJoin hashed.new.rows.items a b l) }
+    ensures literal { IfOk result (λ l. l ≡ joined_lit hashed.old.rows.items a b) }
+    ensures rows { OnOk result (hashed.new.rows.items ≡ joined_rows hashed.old.rows.items a b) }
 {
     let literal = hashed.and(a, b)?;
     if levels.len() < hashed.rows.len() {
@@ -57,6 +61,7 @@ fn join_least(
     ensures order { OnOk result (IsHeap leaf_order (heap_items heap.new)) }
     ensures fewer { OnOk result (heap_len heap.new + 1 ≡ heap_len heap.old) }
     ensures joining { OnOk result (IsJoining hashed.old.rows.items (map literal_in (heap_items heap.old)) hashed.new.rows.items (map literal_in (heap_items heap.new))) }
+    ensures least { OnOk result (JoinsLeast hashed.old.rows.items (map literal_in (heap_items heap.old)) hashed.new.rows.items (map literal_in (heap_items heap.new))) }
 {
     let Some(Reverse((_, first))) = heap.pop() else {
         unreachable()
@@ -100,6 +105,7 @@ pub fn join(
     ensures sources { hashed.new.source_count ≡ hashed.old.source_count }
     ensures levels { OnOk result (levels.new.items ≡ levels_of hashed.new.rows.items) }
     ensures joining { IfOk result (λ l. IsJoining hashed.old.rows.items leaves.now hashed.new.rows.items (l ∷ [])) }
+    ensures one { IfOk result (λ l. AreOne hashed.old.rows.items leaves.now hashed.new.rows.items l) }
 {
     let entries = with_levels(alloc, levels.as_slice(), leaves)?;
     let mut heap = BinaryHeap::from(entries);

@@ -3,7 +3,7 @@
 
 ghost use Rattle.std.specs.Prelude.{◌≡◌, IfErr, IfOk};
 ghost use Rattle.syn_hashed.specs.Compacting.{IsCompaction};
-ghost use Rattle.syn_balance.specs.Balanced.{IsBalanced};
+ghost use Rattle.syn_balance.specs.Balanced.{FollowsRule, IsBalanced};
 
 mod balancing;
 mod joining;
@@ -19,6 +19,7 @@ use syn_hashed::{Rows, compact_hashed};
 /// and the function stay; the number of ANDs and the levels of the observed literals don't rise. Refused, the graph comes back.
 pub fn balance(alloc: Global, graph: Graph) -> Result<Graph, (Graph, AllocError)>
     ensures balanced { IfOk result (λ new. IsBalanced graph new) }
+    ensures rule { IfOk result (λ new. FollowsRule graph.source_count graph.rows graph.observed new.rows new.observed) }
     ensures refused { IfErr result (λ e. e.0 ≡ graph) }
 {
     match balanced(alloc, &graph) {
@@ -29,7 +30,8 @@ pub fn balance(alloc: Global, graph: Graph) -> Result<Graph, (Graph, AllocError)
 
 // The balanced rows, compacted.
 fn balanced(alloc: Global, graph: &Graph) -> Result<Rows, AllocError>
-    ensures { IfOk result (λ r. IsCompaction graph.now.source_count graph.now.rows graph.now.observed r.rows.items r.observed.items) }
+    ensures compact { IfOk result (λ r. IsCompaction graph.now.source_count graph.now.rows graph.now.observed r.rows.items r.observed.items) }
+    ensures rule { IfOk result (λ r. FollowsRule graph.now.source_count graph.now.rows graph.now.observed r.rows.items r.observed.items) }
 {
     let count = graph.source_count;
     let made = made_again(
@@ -44,8 +46,10 @@ fn balanced(alloc: Global, graph: &Graph) -> Result<Rows, AllocError>
 
 // The graph with other rows.
 fn with_rows(graph: Graph, rows: Rows) -> Graph
-    requires { IsCompaction graph.source_count graph.rows graph.observed rows.rows.items rows.observed.items }
-    ensures { IsBalanced graph result }
+    requires compact { IsCompaction graph.source_count graph.rows graph.observed rows.rows.items rows.observed.items }
+    requires rule { FollowsRule graph.source_count graph.rows graph.observed rows.rows.items rows.observed.items }
+    ensures balanced { IsBalanced graph result }
+    ensures rule { FollowsRule graph.source_count graph.rows graph.observed result.rows result.observed }
 {
     let Rows { rows, observed } = rows;
     graph.with_rows(rows, observed)

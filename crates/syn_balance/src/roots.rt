@@ -1,9 +1,9 @@
 //! The nodes that keep a node of their own.
 
-ghost use Rattle.std.specs.Prelude.{◌≡◌, ℕ, ◌+◌, ◌<◌, All, Bool, IfOk, List, false, length, replicate, set, true};
+ghost use Rattle.std.specs.Prelude.{◌≡◌, ℕ, ◌+◌, ◌<◌, ◌⊎◌, All, Bool, IfOk, List, false, length, replicate, set, true};
 ghost use Rattle.syn_rows.specs.References.{refs};
 ghost use Rattle.syn_rows.specs.Rows.{AllRefs, in_order_from, node_of};
-ghost use Rattle.syn_balance.specs.Roots.{AreRead, ComplementsOf, HasRoots, IsCounted, IsRead, mark_at};
+ghost use Rattle.syn_balance.specs.Roots.{AreRead, complements, ComplementsOf, HasRoots, IsCounted, IsObserved, IsRead, mark_at};
 
 use std::alloc::{AllocError, Global};
 use syn_rows::{Lit, Row};
@@ -34,7 +34,7 @@ fn read_row(row: Row, seen: &mut [bool], marks: &mut [bool])
     ensures sizes { (length seen.new ≡ length seen.old) × (length marks.new ≡ length marks.old) }
     ensures kept { (m : ℕ) → mark_at marks.old m ≡ true → mark_at marks.new m ≡ true }
     ensures complements { ComplementsOf row marks.new }
-    ensures counted { (f : ℕ → ℕ) → IsCounted (length seen.old) f seen.old marks.old → IsCounted (length seen.old) (λ m. f m + refs m row) seen.new marks.new }
+    ensures counted { (f g : ℕ → ℕ) → IsCounted (length seen.old) f g seen.old marks.old → IsCounted (length seen.old) (λ m. f m + refs m row) (λ m. g m + complements m row) seen.new marks.new }
 {
     match row {
         Row::And(a, b) => {
@@ -52,6 +52,7 @@ fn mark_observed(observed: &[Lit], marks: &mut [bool])
     ensures size { length marks.new ≡ length marks.old }
     ensures kept { (m : ℕ) → mark_at marks.old m ≡ true → mark_at marks.new m ≡ true }
     ensures all { All (λ l. mark_at marks.new (node_of l) ≡ true) observed.now }
+    ensures only { (m : ℕ) → mark_at marks.new m ≡ true → (mark_at marks.old m ≡ true) ⊎ IsObserved observed.now m }
 {
     for lit in observed {
         marks[lit.node() as usize] = true;

@@ -27,6 +27,7 @@ use syn_hashed::HashedRows;
 use syn_lutnet::{Lut, LutNet};
 use syn_plan::{MOST_LEAVES, PLit};
 use syn_rows::{FALSE, Lit};
+use thiserror::Error;
 
 /// The most gates of a LUT net that is made a graph.
 pub const MOST_GATES: u64 = 4_194_304;
@@ -35,11 +36,13 @@ pub const MOST_GATES: u64 = 4_194_304;
 const MOST_INDEXES: usize = 1 + MOST_LEAVES as usize + syn_plan::MOST_GATES;
 
 /// Why a LUT net is not made a graph.
-#[derive(Clone, Copy, Debug, PartialEq, Eq)]
+#[derive(Clone, Copy, Debug, PartialEq, Eq, Error)]
 pub enum BuildFault {
     /// Factoring its LUTs takes so many gates, more than `MOST_GATES`.
+    #[error("too many gates: {0}")]
     TooManyGates(u64),
     /// Memory was refused.
+    #[error("out of memory")]
     NoMemory,
 }
 

@@ -1,5 +1,5 @@
 -- A commit that gave up has stored what each answer but `Done` stores.
-use Rattle.std.proofs.Common.{◌≡◌, ℕ, ◌+◌, List, refl, subst, arith, pos, ◌+ℤ◌}
+use Rattle.std.proofs.Common.{◌≡◌, ℕ, ◌+◌, List, [], refl, sym, ◌∙◌, subst, arith, append-nil, pos, ◌+ℤ◌}
 use Rattle.syn_core_laws.specs.declared.View.{View}
 use Rattle.syn_decide.specs.declared.decisions.Outcome.{Outcome}
 use Rattle.syn_decide.specs.declared.decisions.Outcome.TheVariants as outcome
@@ -23,11 +23,13 @@ no_gain_told (outcome.NoGap node low need high) other gain e = cc
 no_gain_told (outcome.NoRoom need have) other gain e = cc
 
 -- it stored nothing
-unstored : (nodes : ℕ) (t : Task) (s : State) (answer : Answer) (start : View) (pool : List ℕ) (v : View) (grown : List ℕ) (h : HasStoredNone s start pool v grown) → Stores nodes t s answer pool pool h.changes → 0 ≡ gain_of answer
-    → IsBooked nodes t s answer start pool v grown
-unstored nodes t s answer start pool v grown h stored gain = record {
+unstored : (t : Task) (s : State) (answer : Answer) (start : View) (pool : List ℕ) (v : View) (grown : List ℕ) (h : HasStoredNone s start pool v grown) → Stores t s answer pool pool [] h.changes → 0 ≡ gain_of answer
+    → IsBooked t s answer start pool v grown
+unstored t s answer start pool v grown h stored gain = record {
+  makes = [];
   changes = h.changes;
   kept = pool;
+  made = h.made ∙ sym (append-nil start.makes);
   since = h.since;
   stored = stored;
   joined = h.joined;
@@ -35,13 +37,13 @@ unstored nodes t s answer start pool v grown h stored gain = record {
 }
 
 -- a commit that gave up has stored what each answer but `Done` stores
-pub none_booked : (nodes : ℕ) (t : Task) (s : State) (answer : Answer) (start : View) (pool : List ℕ) (v : View) (grown : List ℕ) → ((gain : ℕ) → answer ≡ Done gain → ⊥) → HasStoredNone s start pool v grown
-    → IsBooked nodes t s answer start pool v grown
-none_booked nodes t s (Done gain) start pool v grown other h = absurd (other gain refl)
-none_booked nodes t s (Busy node) start pool v grown other h = unstored nodes t s (Busy node) start pool v grown h (record { taken = refl; none = h.none }) refl
-none_booked nodes t s (Reach node) start pool v grown other h = unstored nodes t s (Reach node) start pool v grown h (record { taken = refl; none = h.none }) refl
-none_booked nodes t s (Wide node) start pool v grown other h = unstored nodes t s (Wide node) start pool v grown h (record { taken = refl; none = h.none }) refl
-none_booked nodes t s (Differs was now) start pool v grown other h = unstored nodes t s (Differs was now) start pool v grown h (record { taken = refl; none = h.none }) refl
-none_booked nodes t s (NoGain freed added) start pool v grown other h = unstored nodes t s (NoGain freed added) start pool v grown h (record { taken = refl; none = h.none }) refl
-none_booked nodes t s (NoGap node low need high) start pool v grown other h = unstored nodes t s (NoGap node low need high) start pool v grown h (record { taken = refl; none = h.none }) refl
-none_booked nodes t s (NoRoom need have) start pool v grown other h = unstored nodes t s (NoRoom need have) start pool v grown h (record { taken = refl; none = h.none }) refl
+pub none_booked : (t : Task) (s : State) (answer : Answer) (start : View) (pool : List ℕ) (v : View) (grown : List ℕ) → ((gain : ℕ) → answer ≡ Done gain → ⊥) → HasStoredNone s start pool v grown
+    → IsBooked t s answer start pool v grown
+none_booked t s (Done gain) start pool v grown other h = absurd (other gain refl)
+none_booked t s (Busy node) start pool v grown other h = unstored t s (Busy node) start pool v grown h (record { makes_none = refl; taken = refl; none = h.none }) refl
+none_booked t s (Reach node) start pool v grown other h = unstored t s (Reach node) start pool v grown h (record { makes_none = refl; taken = refl; none = h.none }) refl
+none_booked t s (Wide node) start pool v grown other h = unstored t s (Wide node) start pool v grown h (record { makes_none = refl; taken = refl; none = h.none }) refl
+none_booked t s (Differs was now) start pool v grown other h = unstored t s (Differs was now) start pool v grown h (record { makes_none = refl; taken = refl; none = h.none }) refl
+none_booked t s (NoGain freed added) start pool v grown other h = unstored t s (NoGain freed added) start pool v grown h (record { makes_none = refl; taken = refl; none = h.none }) refl
+none_booked t s (NoGap node low need high) start pool v grown other h = unstored t s (NoGap node low need high) start pool v grown h (record { makes_none = refl; taken = refl; none = h.none }) refl
+none_booked t s (NoRoom need have) start pool v grown other h = unstored t s (NoRoom need have) start pool v grown h (record { makes_none = refl; taken = refl; none = h.none }) refl

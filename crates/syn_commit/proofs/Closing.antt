@@ -1,5 +1,5 @@
 -- What a commit that stored leaves behind: what it met stays as it was, and its changes are the root's and the frees.
-use Rattle.std.proofs.Common.{◌≡◌, ℕ, ◌+◌, ◌&&◌, nat_lt, true, if◌then◌else◌, List, [], ◌∷◌, ◌++◌, length, reverse, refl, sym, ap, ◌∙◌, subst, append_assoc}
+use Rattle.std.proofs.Common.{◌≡◌, ℕ, ◌+◌, ◌≤◌, ◌&&◌, nat_lt, true, if◌then◌else◌, List, [], ◌∷◌, ◌++◌, get_or, length, reverse, arith, refl, sym, ap, ◌∙◌, subst, append_assoc}
 use Rattle.std.proofs.lemmas.List.{append_cancel_left}
 use Rattle.arrayvec.specs.ArrayVec.{ArrayVec}
 use Rattle.syn_rows.specs.declared.Row.{Row}
@@ -15,16 +15,17 @@ use Rattle.syn_decide.specs.Tasks.{Task}
 use Rattle.syn_decide.specs.Walk.{nodes_of}
 use Rattle.syn_commit_laws.specs.Freeing.{redefines}
 use Rattle.syn_commit_laws.specs.Turning.{TurnsAll}
-use Rattle.syn_commit.specs.Committed.{IsBooked, pool_with}
+use Rattle.syn_commit.specs.Committed.{IsBooked, old_row, pool_with}
 use Rattle.syn_commit.specs.Counts.{dying_by}
 use Rattle.syn_commit.specs.Finishing.{FellByGain, HasStored, new_row, root_change}
 use Rattle.syn_commit.specs.Giving.{HasGivenUp, pool_after_all}
 use Rattle.syn_commit.specs.Making.{HasMade}
-use Rattle.syn_commit.specs.Storing.{RedefinesRow, key_at, makes_row, makes_rows, pins_of}
+use Rattle.syn_commit.specs.Storing.{RedefinesRow, key_at, keyed_rows, makes_row, makes_rows, pins_of}
 use Rattle.syn_commit.specs.Walks.{IsOfReads}
-use Rattle.syn_commit.proofs.Handing.{reads_stay}
+use Rattle.syn_commit.proofs.Handing.{makes_stay, reads_stay}
 use Rattle.syn_commit.proofs.Joined.{gives_joined}
 use Rattle.syn_commit.proofs.Joining.{gate_no_free}
+use Rattle.syn_commit.proofs.Listed.{root_makes, rows_make}
 
 -- ---- stores meet nothing
 abbrev MeetsNothing : View → View → Type 0
@@ -75,24 +76,27 @@ reads_at_end t s nodes n made row start counted w v x pool grown o m redefines g
 root_no_free : (pool : List ℕ) (root : ℕ) (old new : Row) (changes : List Change) → is_derived new ≡ true → pool_with pool (root_change root old new ∷ changes) ≡ pool_with pool changes
 root_no_free pool root old new changes gate = ap (λ b. pool_with (if b && nat_lt (length pool) 512 then pool ++ root ∷ [] else pool) changes) (gate_no_free new gate)
 
-pub booked : (nodes n : ℕ) (t : Task) (s : State) (gain : ℕ) (start counted w v x : View) (made : List NodeRow) (old row : Row) (size : ℕ) (pool kept grown : List ℕ) → counted.changes ≡ start.changes → counted.difference ≡ start.difference
-    → n ≡ t.proposal.root → row ≡ new_row t s made → is_derived row ≡ true → HasMade nodes t s made counted w → pool ≡ kept ++ reverse (nodes_of made) → HasStored nodes n (dying_by s) counted old row size gain v
-    → HasGivenUp nodes v kept x grown → FellByGain n (dying_by s) counted old row gain x → IsBooked nodes t s (Done gain) start pool x grown
-booked nodes n t s gain start counted w v x made old row size pool kept grown same_changes same_difference root same gate m taken stored given gained = record {
+-- the row that the walk met first is the first inner row's
+pub old_is : (inner : List NodeRow) (first : NodeRow) → 1 ≤ length inner → first ≡ get_or inner 0 first → first.row ≡ old_row inner
+old_is [] first some is = absurd (omega (arith, some))
+old_is (r ∷ inner) first some is = ap (λ (x : NodeRow). x.row) is
+
+pub booked : (nodes n : ℕ) (t : Task) (s : State) (gain : ℕ) (start counted w v x : View) (made : List NodeRow) (old row : Row) (size : ℕ) (pool kept grown : List ℕ) → counted.makes ≡ start.makes → counted.changes ≡ start.changes → counted.difference ≡ start.difference
+    → n ≡ t.proposal.root → old ≡ old_row s.inner → row ≡ new_row t s made → is_derived row ≡ true → HasMade nodes t s made counted w → RedefinesRow nodes w n row v → pool ≡ kept ++ reverse (nodes_of made) → HasStored nodes n (dying_by s) counted old row size gain v
+    → HasGivenUp nodes v kept x grown → FellByGain n (dying_by s) counted old row gain x → IsBooked t s (Done gain) start pool x grown
+booked nodes n t s gain start counted w v x made old row size pool kept grown same_makes same_changes same_difference root was same gate m redefined taken stored given gained = record {
+  makes = keyed_rows s.low m.step 0 made;
   changes = gained.0;
   kept = kept;
+  made = makes_stay v x nodes kept grown given ∙ (root_makes nodes w v n row redefined ∙ (rows_make nodes s.low m.step 0 counted w made m.makes ∙ ap (λ ms. ms ++ keyed_rows s.low m.step 0 made) same_makes));
   since = gained.1 ∙ ap (λ cs. cs ++ gained.0) same_changes;
   stored = record {
     made = made;
+    makes_these = ap (λ k. keyed_rows s.low k 0 made) m.even;
     taken = taken;
     count = m.rows.count;
     rows = m.rows.are_made.stored;
-    step = m.step;
-    before = counted;
-    after = w;
-    makes = m.makes;
-    old = old;
-    root = gained.2 ∙ (ap (λ k. root_change k old row ∷ []) root ∙ ap (λ new. root_change t.proposal.root old new ∷ []) same);
+    root = gained.2 ∙ (ap (λ k. root_change k old row ∷ []) root ∙ (ap (λ o. root_change t.proposal.root o row ∷ []) was ∙ ap (λ new. root_change t.proposal.root (old_row s.inner) new ∷ []) same));
   };
   joined = given.1.2 ∙ (joins.3 ∙ (sym (root_no_free kept n old row joins.0 gate) ∙ ap (pool_with kept) (sym changes_are)));
   fell = gained.3 ∙ same_difference;

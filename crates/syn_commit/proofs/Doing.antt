@@ -24,7 +24,7 @@ use Rattle.syn_commit_laws.proofs.Gains.{done_tells_gain}
 use Rattle.syn_commit.specs.Counts.{CountsAreLoaded, dying_by}
 use Rattle.syn_commit.specs.Finishing.{HasStored, new_row}
 use Rattle.syn_commit.specs.Keyed.{AreAllKeyed, IsKeyedSoFar, KeyedAt}
-use Rattle.syn_commit.specs.Making.{HasMade, IsReady}
+use Rattle.syn_commit.specs.Making.{HasMade, IsReady, step_now}
 use Rattle.syn_commit.specs.Readying.{IsReadyFor}
 use Rattle.syn_commit.specs.Stages.{IsTrying}
 use Rattle.syn_commit.specs.Storing.{AreMade, AreNewRows, KeepsKnown, RedefinesRow, makes_rows, node_at}
@@ -84,10 +84,11 @@ module _ (t : Task) (start v : View) (pool pins : List ℕ) (s : State) (gain : 
       h.spare.free (node_at made i) (subst (λ ns. has_node ns (node_at made i) ≡ true) (sym taken) (has_right kept (reverse (nodes_of made)) (node_at made i) (has_turned (nodes_of made) (node_at made i) there)))
 
   pub has_made : (nodes : ℕ) (rows : List Row) (need low step : ℕ) (made : List NodeRow) (kept : List ℕ) (w : View) → rows ≡ (placed_now t s).extra → need ≡ rows_needed t (placed_now t s) → low ≡ s.low
-      → 1 ≤ step → low + need * step < s.high → pool ≡ kept ++ reverse (nodes_of made) → length made ≡ need → AreMade low step rows made w → KeepsKnown v w → TurnsAll nodes v (makes_rows low step 0 made) w
+      → 1 ≤ step → step ≡ step_now t s → low + need * step < s.high → pool ≡ kept ++ reverse (nodes_of made) → length made ≡ need → AreMade low step rows made w → KeepsKnown v w → TurnsAll nodes v (makes_rows low step 0 made) w
       → HasMade nodes t s made v w
-  has_made nodes rows need low step made kept w same_rows same_need same_low some below taken count are keeps turns = record {
+  has_made nodes rows need low step made kept w same_rows same_need same_low some even below taken count are keeps turns = record {
     step = step;
+    even = even;
     rows = record {
       count = count ∙ same_need;
       spare = spare_before kept made taken;

@@ -1,5 +1,5 @@
 -- A seat gives back its pins, and frees what nobody refers to any more.
-use Rattle.std.proofs.Common.{◌≡◌, ◌≢◌, ℕ, zero, suc, ◌+◌, ◌<◌, ◌≤◌, ◌==◌, ◌&&◌, not, nat_lt, Bool, true, false, if◌then◌else◌, List, [], ◌∷◌, ◌++◌, length, get_or, take, drop, Option, Some, None, IsTrue, ◌↔◌, refl, sym, ap, ◌∙◌, subst, arith, inl, inr, length-append}
+use Rattle.std.proofs.Common.{◌≡◌, ◌≢◌, ℕ, zero, suc, ◌+◌, ◌<◌, ◌≤◌, ◌==◌, ◌&&◌, not, nat_lt, Bool, true, false, if◌then◌else◌, List, [], ◌∷◌, ◌++◌, length, get_or, take, drop, Option, Some, None, refl, sym, ap, ◌∙◌, subst, arith, inl, inr, length-append}
 use Rattle.std.specs.List.{AllByRecursion}
 use Rattle.std.proofs.lemmas.Bool.{cases_eq, eq-eqb, ne_eqb}
 use Rattle.syn_rows.specs.declared.Row.{Row}
@@ -21,10 +21,7 @@ use Rattle.syn_decide.specs.declared.decisions.NodeRow.{NodeRow}
 use Rattle.syn_decide.specs.Walk.{nodes_of}
 use Rattle.syn_decide.specs.Walked.{AreGates}
 use Rattle.syn_decide.proofs.Walking.{distinct_more, nodes_more}
-use Rattle.syn_table.specs.declared.Known.{Known}
-use Rattle.syn_table.specs.Steps.{IsAlone, Unpins}
-use Rattle.syn_commit_laws.specs.Turning.{IsUnpin, Turns}
-use Rattle.syn_commit_laws.proofs.Giving.{frees_turn}
+use Rattle.syn_commit_laws.specs.Turning.{Turns}
 use Rattle.syn_commit.specs.declared.leaving.TheConstants.{MOST_HELD}
 use Rattle.syn_commit.specs.Pools.{KeepsPool}
 use Rattle.syn_commit.specs.Walks.{AreKnown}
@@ -195,16 +192,6 @@ module _ (nodes : ℕ) (pool pins : List ℕ) (gates idle : List NodeRow) (v : V
           let m = times_more n idle e in
           omega (arith, a, b, c, m)
 
--- what the table tells of it
-pub unpin_is : (nodes : ℕ) (k new : Known) (n : ℕ) (last : Bool) → length k.opening ≡ nodes → has_node k.core.pins n ≡ true → Unpins k n last new → (has_node k.core.sole n ≡ true → IsTrue last ↔ IsAlone new n) → IsUnpin nodes k.core n last new.core
-unpin_is nodes k new n last opening own u sole =
-    let same : length new.opening ≡ nodes = ap (λ (x : Known). length x.opening) u.2 ∙ opening in
-    record {
-      own = own;
-      found = (u.0, u.1, ap (λ (x : Known). x.core) u.2);
-      sole = λ h. subst (λ m. IsTrue last ↔ ((own_refs m new.core n ≡ 0) × (own_pins new.core n ≡ 0))) same (sole h);
-    }
-
 -- ---- a gate of the zero list is freed
 module _ (nodes : ℕ) (pool : List ℕ) (gates idle : List NodeRow) (e : NodeRow) (v : View) (shown : IsShown nodes v) (g : IsGiving pool [] gates (idle ++ e ∷ []) v) where
   abbrev n : ℕ
@@ -362,13 +349,10 @@ module _ (nodes : ℕ) (pool : List ℕ) (gates idle : List NodeRow) (e : NodeRo
           go false false p q = refl
 
   -- either way it gave back
-  pub frees_give : (w : View) (grown : List ℕ) → w ≡ (if nat_lt (length pool) 512 then free_now else released free_now e.node) → grown ≡ (if nat_lt (length pool) 512 then pool ++ e.node ∷ [] else pool)
+  pub frees_give : (w : View) (grown : List ℕ) → Turns nodes v (Kind.Free e.node) free_now → w ≡ (if nat_lt (length pool) 512 then free_now else released free_now e.node) → grown ≡ (if nat_lt (length pool) 512 then pool ++ e.node ∷ [] else pool)
       → IsGiving grown (refs_of e.row) gates idle w × Gives nodes v pool w grown
-  frees_give w grown view more = go (nat_lt (length pool) 512) refl view more
+  frees_give w grown turns view more = go (nat_lt (length pool) 512) refl view more
     where
-      turns : Turns nodes v (Kind.Free e.node) free_now
-      turns = frees_turn nodes v e.node e.row shown free_idle free_known
-
       go : (b : Bool) → nat_lt (length pool) 512 ≡ b → w ≡ (if b then free_now else released free_now e.node) → grown ≡ (if b then pool ++ e.node ∷ [] else pool) → IsGiving grown (refs_of e.row) gates idle w × Gives nodes v pool w grown
       go true is f h = (
         subst (IsGiving grown (refs_of e.row) gates idle) (sym f) (subst (λ p. IsGiving p (refs_of e.row) gates idle free_now) (sym h) freed_joins),
@@ -457,7 +441,7 @@ module _ (nodes : ℕ) (pool : List ℕ) (gates : List NodeRow) (e : NodeRow) (v
   }
 
 pub let_go_none : (v : View) → IsLetGo v v
-let_go_none v = record { number = refl; reads = refl; misses = refl; changes = refl; difference = refl }
+let_go_none v = record { number = refl; reads = refl; misses = refl; makes = refl; changes = refl; difference = refl }
 
 pub let_go_on : (v w : View) (n : ℕ) → IsLetGo v w → IsLetGo v (released w n)
-let_go_on v w n l = record { number = l.number; reads = l.reads; misses = l.misses; changes = l.changes; difference = l.difference }
+let_go_on v w n l = record { number = l.number; reads = l.reads; misses = l.misses; makes = l.makes; changes = l.changes; difference = l.difference }

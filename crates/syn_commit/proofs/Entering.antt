@@ -161,7 +161,7 @@ walk_begins t v pool s keeps alone e = subst (IsWalking t v pool v) (sym e) reco
   hits = refl;
   counts = refl;
   keys = tt;
-  rest = record { number = refl; pins = refl; idle = refl; changes = refl; difference = refl };
+  rest = record { number = refl; pins = refl; idle = refl; makes = refl; changes = refl; difference = refl };
 }
 
 pub fits_begins : (t : Task) (s : State) → s ≡ begin t → wants s ≡ Unfit → ⊥
@@ -217,7 +217,7 @@ module _ (t : Task) (start v : View) (pool : List ℕ) (s : State) (h : IsWalkin
           hits = ap (λ (y : State). y.hits) (e ∙ miss_read t s n waiting stage) ∙ h.hits;
           counts = ap (λ (y : State). y.counts) (e ∙ miss_read t s n waiting stage) ∙ h.counts;
           keys = subst (λ (y : State). KeysWait t y.stage) (sym (e ∙ miss_read t s n waiting stage)) tt;
-          rest = rest_on start v (views.missed v n) h.rest (record { number = refl; pins = refl; idle = refl; changes = refl; difference = refl });
+          rest = rest_on start v (views.missed v n) h.rest (record { number = refl; pins = refl; idle = refl; makes = refl; changes = refl; difference = refl });
         }
 
     swap : (a p i : Bool) → (a || (p || i)) ≡ (p || (i || (a || false)))
@@ -244,7 +244,7 @@ module _ (t : Task) (start v : View) (pool : List ℕ) (s : State) (h : IsWalkin
       hits = ap (λ (y : State). y.hits) (e ∙ row_read t s n waiting r stage) ∙ (hits_after t s n waiting r ∙ h.hits);
       counts = ap (λ (y : State). y.counts) (e ∙ row_read t s n waiting r stage) ∙ (counts_after t s n waiting r ∙ h.counts);
       keys = subst (λ (y : State). KeysWait t y.stage) (sym (e ∙ row_read t s n waiting r stage)) (keys_after t s n waiting r);
-      rest = rest_on start v (views.row_loaded (views.claimed v n) n r) h.rest (record { number = refl; pins = refl; idle = refl; changes = refl; difference = refl });
+      rest = rest_on start v (views.row_loaded (views.claimed v n) n r) h.rest (record { number = refl; pins = refl; idle = refl; makes = refl; changes = refl; difference = refl });
     }
 
     other_on : (r : Row) (z : State) → z ≡ read_one t s (seen.Row n r) → z.inner ≡ s.inner → IsWalking t start pool (views.released (views.row_loaded (views.claimed v n) n r) n) z
@@ -257,7 +257,7 @@ module _ (t : Task) (start v : View) (pool : List ℕ) (s : State) (h : IsWalkin
       hits = ap (λ (y : State). y.hits) (e ∙ row_read t s n waiting r stage) ∙ (hits_after t s n waiting r ∙ h.hits);
       counts = ap (λ (y : State). y.counts) (e ∙ row_read t s n waiting r stage) ∙ (counts_after t s n waiting r ∙ h.counts);
       keys = subst (λ (y : State). KeysWait t y.stage) (sym (e ∙ row_read t s n waiting r stage)) (keys_after t s n waiting r);
-      rest = rest_on start v (views.released (views.row_loaded (views.claimed v n) n r) n) h.rest (record { number = refl; pins = refl; idle = refl; changes = refl; difference = refl });
+      rest = rest_on start v (views.released (views.row_loaded (views.claimed v n) n r) n) h.rest (record { number = refl; pins = refl; idle = refl; makes = refl; changes = refl; difference = refl });
     }
 
     pub walk_goes_on : (nodes numbers : ℕ) (w : View) (z : State) → IsEntered t nodes numbers n v s w z → IsWalking t start pool w z

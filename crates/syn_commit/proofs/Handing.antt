@@ -147,6 +147,7 @@ record IsQuiet (v w : View) : Type 0 where
   number : w.number ≡ v.number
   reads : w.reads ≡ v.reads
   misses : w.misses ≡ v.misses
+  makes : w.makes ≡ v.makes
 
 record IsToldFrees (start w : View) : Type 0 where
   changes : List Change
@@ -154,13 +155,14 @@ record IsToldFrees (start w : View) : Type 0 where
   alone : redefines changes ≡ []
 
 quiet_all : (nodes : ℕ) (v w : View) (es : List EventKind) → GivesBackAll nodes v es w → IsQuiet v w
-quiet_all nodes v w [] e = record { number = ap (λ (x : View). x.number) e; reads = ap (λ (x : View). x.reads) e; misses = ap (λ (x : View). x.misses) e }
+quiet_all nodes v w [] e = record { number = ap (λ (x : View). x.number) e; reads = ap (λ (x : View). x.reads) e; misses = ap (λ (x : View). x.misses) e; makes = ap (λ (x : View). x.makes) e }
 quiet_all nodes v w (Kind.Claim n ∷ es) e = absurd e.2
 quiet_all nodes v w (Kind.ClaimFailed n ∷ es) e = absurd e.2
 quiet_all nodes v w (Kind.Release n ∷ es) e = let q = quiet_all nodes e.0 w es e.3 in record {
   number = q.number ∙ ap (λ (x : View). x.number) e.1;
   reads = q.reads ∙ ap (λ (x : View). x.reads) e.1;
   misses = q.misses ∙ ap (λ (x : View). x.misses) e.1;
+  makes = q.makes ∙ ap (λ (x : View). x.makes) e.1;
 }
 quiet_all nodes v w (Kind.LoadRow n ∷ es) e = absurd e.2
 quiet_all nodes v w (Kind.Pin n ∷ es) e = absurd e.2
@@ -168,6 +170,7 @@ quiet_all nodes v w (Kind.Unpin n ∷ es) e = let q = quiet_all nodes e.0 w es e
   number = q.number ∙ ap (λ (x : View). x.number) u;
   reads = q.reads ∙ ap (λ (x : View). x.reads) u;
   misses = q.misses ∙ ap (λ (x : View). x.misses) u;
+  makes = q.makes ∙ ap (λ (x : View). x.makes) u;
 }
 quiet_all nodes v w (Kind.LoadCount n ∷ es) e = absurd e.2
 quiet_all nodes v w (Kind.LoadKey n ∷ es) e = absurd e.2
@@ -178,6 +181,7 @@ quiet_all nodes v w (Kind.Free n ∷ es) e = let q = quiet_all nodes e.0 w es e.
   number = q.number ∙ ap (λ (x : View). x.number) u;
   reads = q.reads ∙ ap (λ (x : View). x.reads) u;
   misses = q.misses ∙ ap (λ (x : View). x.misses) u;
+  makes = q.makes ∙ ap (λ (x : View). x.makes) u;
 }
 
 told_all : (nodes : ℕ) (start v w : View) (changes : List Change) (es : List EventKind) → IsTold start 0 changes v → redefines changes ≡ [] → GivesBackAll nodes v es w → IsToldFrees start w
@@ -202,6 +206,10 @@ pub reads_stay : (t : Task) (start v w : View) (nodes : ℕ) (pool grown : List 
 reads_stay t start v w nodes pool grown s o g =
     let q = quiet_all nodes v g.0 g.1.0 g.1.1 in
     record { met = o.met; reads = g.2.reads ∙ (q.reads ∙ o.reads); misses = g.2.misses ∙ (q.misses ∙ o.misses); state = o.state }
+
+-- nor makes a row
+pub makes_stay : (v w : View) (nodes : ℕ) (pool grown : List ℕ) → HasGivenUp nodes v pool w grown → w.makes ≡ v.makes
+makes_stay v w nodes pool grown g = g.2.makes ∙ (quiet_all nodes v g.0 g.1.0 g.1.1).makes
 
 -- nothing was counted as dying: each AND that was freed is late
 pub fell_by_all : (start v w : View) (nodes : ℕ) (pool grown : List ℕ) → v.changes ≡ start.changes → v.difference ≡ start.difference → HasGivenUp nodes v pool w grown

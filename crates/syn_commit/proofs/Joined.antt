@@ -10,6 +10,7 @@ use Rattle.syn_decide.specs.Fold.{State}
 use Rattle.syn_commit_laws.specs.Freeing.{late, redefines}
 use Rattle.syn_commit.specs.Committed.{HasStoredNone, pool_with}
 use Rattle.syn_commit.specs.Counts.{dying_by}
+use Rattle.syn_commit.proofs.Handing.{makes_stay}
 use Rattle.syn_commit.specs.Giving.{FellByLate, GivesBackAll, HasGivenUp, pool_after, pool_after_all}
 
 pub gives_joined : (nodes : ℕ) (v w : View) (es : List EventKind) (pool : List ℕ) → GivesBackAll nodes v es w → (changes : List Change) × (w.changes ≡ v.changes ++ changes) × (redefines changes ≡ []) × (pool_after_all pool es ≡ pool_with pool changes)
@@ -31,11 +32,12 @@ gives_joined nodes v w (Kind.Free n ∷ es) pool e =
     (change ∷ rest.0, rest.1 ∙ (ap (λ (x : View). x.changes ++ rest.0) e.1.6 ∙ append_assoc v.changes (change ∷ []) rest.0), rest.2, rest.3)
 
 -- a commit that gave up: what it stored is told once for the pool and for the difference
-pub stored_none : (nodes : ℕ) (start v w : View) (pool grown : List ℕ) (s : State) → v.changes ≡ start.changes → HasGivenUp nodes v pool w grown → FellByLate start w s → HasStoredNone s start pool w grown
-stored_none nodes start v w pool grown s same g fell =
+pub stored_none : (nodes : ℕ) (start v w : View) (pool grown : List ℕ) (s : State) → v.makes ≡ start.makes → v.changes ≡ start.changes → HasGivenUp nodes v pool w grown → FellByLate start w s → HasStoredNone s start pool w grown
+stored_none nodes start v w pool grown s made same g fell =
     let j = gives_joined nodes v g.0 g.1.0 pool g.1.1 in
     let since : w.changes ≡ start.changes ++ j.0 = g.2.changes ∙ (j.1 ∙ ap (λ (cs : List Change). cs ++ j.0) same) in
     record {
+      made = makes_stay v w nodes pool grown g ∙ made;
       changes = j.0;
       since = since;
       none = j.2;

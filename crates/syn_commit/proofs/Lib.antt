@@ -4,6 +4,7 @@ mod Ranking
 mod Staging
 mod Loads
 mod Draining
+mod Happening
 mod Handing
 mod Meeting
 mod Meshing
@@ -19,6 +20,7 @@ mod Leaning
 mod Returning
 mod Ending
 mod Joining
+mod Listed
 mod Keyings
 mod Keeping
 mod Joined

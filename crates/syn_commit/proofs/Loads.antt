@@ -37,6 +37,7 @@ record IsBeside (v w : View) : Type 0 where
   rows : w.rows ≡ v.rows
   number : w.number ≡ v.number
   idle : v.idle ≡ [] → w.idle ≡ []
+  makes : w.makes ≡ v.makes
   changes : w.changes ≡ v.changes
   difference : w.difference ≡ v.difference
 
@@ -65,6 +66,7 @@ trying_on t start v w pool pins more s z h reads b inner hits pinned count root_
   count = count;
   number = b.number ∙ h.number;
   idle = b.idle h.idle;
+  makes = b.makes ∙ h.makes;
   changes = b.changes ∙ h.changes;
   difference = b.difference ∙ h.difference;
 }
@@ -84,6 +86,7 @@ walk_over t start v pool s h pins idle = record {
   count = ap length (h.rest.pins ∙ pins);
   number = h.rest.number;
   idle = h.rest.idle ∙ idle;
+  makes = h.rest.makes;
   changes = h.rest.changes;
   difference = h.rest.difference;
 }
@@ -214,12 +217,12 @@ module _ (t : Task) (start v : View) (pool pins : List ℕ) (s : State) (h : IsT
           subst (λ ps. IsTrying t start pool ps w z) (sym same) (subst (λ y. IsTrying t start pool pins y z) (sym view)
           (trying_on t start v (key_loaded v n k.0) pool pins pins s z h
           (reads_more t start v (key_loaded v n k.0) s z (seen.Key n k.0) h.reads refl (sym (append-nil v.misses)) read)
-          (record { held = refl; rows = refl; number = refl; idle = λ e. e; changes = refl; difference = refl }) inner hits h.pinned h.count h.root_out))
+          (record { held = refl; rows = refl; number = refl; idle = λ e. e; makes = refl; changes = refl; difference = refl }) inner hits h.pinned h.count h.root_out))
       go false is view same =
           subst (λ ps. IsTrying t start pool ps w z) (sym same) (subst (λ y. IsTrying t start pool (pins ++ n ∷ []) y z) (sym view)
           (trying_on t start v (key_loaded (pinned v n) n k.0) pool pins (pins ++ n ∷ []) s z h
           (reads_more t start v (key_loaded (pinned v n) n k.0) s z (seen.Key n k.0) h.reads refl (sym (append-nil v.misses)) read)
-          (record { held = refl; rows = refl; number = refl; idle = λ e. ap (only (differs n)) e; changes = refl; difference = refl }) inner hits
+          (record { held = refl; rows = refl; number = refl; idle = λ e. ap (only (differs n)) e; makes = refl; changes = refl; difference = refl }) inner hits
           (λ m. times_more m n v.pins pins (h.pinned m)) (ap suc h.count ∙ sym (length-append pins (n ∷ []) ∙ one (length pins))) (still_out t.proposal.root n pins h.root_out (λ e. let yes : (n == t.proposal.root) ≡ true = eq-eqb n t.proposal.root (sym e) in cc))))
         where
           one : (k : ℕ) → k + 1 ≡ suc k
@@ -377,7 +380,7 @@ module _ (t : Task) (start v : View) (pool pins : List ℕ) (s : State) (h : IsT
   count_goes_on nodes w z k = subst (λ y. IsTrying t start pool pins y z) (sym k.1)
       (trying_on t start v (count_loaded nodes v n k.0) pool pins pins s z h
       (reads_more t start v (count_loaded nodes v n k.0) s z (seen.Count n k.0 (own_pins v n)) h.reads refl (sym (append-nil v.misses)) k.2)
-      (record { held = refl; rows = refl; number = refl; idle = λ e. e; changes = refl; difference = refl })
+      (record { held = refl; rows = refl; number = refl; idle = λ e. e; makes = refl; changes = refl; difference = refl })
       (ap (λ (y : State). y.inner) (k.2 ∙ count_read k.0 (own_pins v n)) ∙ inner_counted (with_count s k.0 (own_pins v n)) a.first.1)
       (ap (λ (y : State). y.hits) (k.2 ∙ count_read k.0 (own_pins v n)) ∙ hits_counted (with_count s k.0 (own_pins v n)) a.first.1) h.pinned h.count h.root_out)
 

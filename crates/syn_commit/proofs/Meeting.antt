@@ -58,6 +58,7 @@ module _ (t : Task) (n : ℕ) (pair : Row) (v : View) (s : State) (open_now : Is
     held = refl;
     pins = refl;
     idle = refl;
+    makes = refl;
     changes = refl;
     difference = refl;
     others = λ m ne. look_there m n r v.rows ne;
@@ -105,6 +106,7 @@ module _ (t : Task) (n : ℕ) (pair : Row) (v : View) (s : State) (open_now : Is
         held = refl;
         pins = refl;
         idle = refl;
+        makes = refl;
         changes = refl;
         difference = refl;
         others = λ m ne. look_there m n r v.rows ne;

@@ -86,9 +86,9 @@ module _ (t : Task) (start v : View) (pool pins : List ℕ) (s : State) (h : IsT
       → ((m : ℕ) → has_node v.held m ≡ true → has_node w.held m ≡ true)
       → ((m : ℕ) (r : Row) → has_node v.held m ≡ true → known_row v m ≡ Some r → known_row w m ≡ Some r)
       → ((m : ℕ) → has_node w.held m ≡ (has_node pool m || (has_node (nodes_of s.inner) m || (has_node (nodes_of s.hits) m || ((n == m) || false)))))
-      → w.pins ≡ v.pins → w.idle ≡ v.idle → w.number ≡ v.number → w.changes ≡ v.changes → w.difference ≡ v.difference → n ≢ t.proposal.root
+      → w.pins ≡ v.pins → w.idle ≡ v.idle → w.number ≡ v.number → w.makes ≡ v.makes → w.changes ≡ v.changes → w.difference ≡ v.difference → n ≢ t.proposal.root
       → IsHinting t start pool (pins ++ n ∷ []) (pinned w n) z
-  hit_on w z reads inner hits stage own holds up held pins_same idle number changes difference no_root = record {
+  hit_on w z reads inner hits stage own holds up held pins_same idle number makes changes difference no_root = record {
     stage = stage;
     trying = record {
       reads = record { met = reads.met; reads = reads.reads; misses = reads.misses; state = reads.state };
@@ -109,6 +109,7 @@ module _ (t : Task) (start v : View) (pool pins : List ℕ) (s : State) (h : IsT
       count = ap (λ ps. suc (length ps)) pins_same ∙ (ap suc h.count ∙ sym (length-append pins (n ∷ []) ∙ one (length pins)));
       number = number ∙ h.number;
       idle = ap (λ ns. only (differs n) ns) (idle ∙ h.idle);
+      makes = makes ∙ h.makes;
       changes = changes ∙ h.changes;
       difference = difference ∙ h.difference;
     };
@@ -126,9 +127,9 @@ module _ (t : Task) (start v : View) (pool pins : List ℕ) (s : State) (h : IsT
   -- no hit, by what the view keeps
   miss_on : (w : View) (z : State) → IsOfReads t start w z → z.inner ≡ s.inner → z.hits ≡ s.hits → is_hinting z.stage ≡ true
       → ((m : ℕ) (r : Row) → has_node v.held m ≡ true → known_row v m ≡ Some r → known_row w m ≡ Some r)
-      → ((m : ℕ) → has_node w.held m ≡ has_node v.held m) → w.pins ≡ v.pins → w.idle ≡ v.idle → w.number ≡ v.number → w.changes ≡ v.changes → w.difference ≡ v.difference
+      → ((m : ℕ) → has_node w.held m ≡ has_node v.held m) → w.pins ≡ v.pins → w.idle ≡ v.idle → w.number ≡ v.number → w.makes ≡ v.makes → w.changes ≡ v.changes → w.difference ≡ v.difference
       → IsHinting t start pool pins w z
-  miss_on w z reads inner hits stage up held pins_same idle number changes difference = record {
+  miss_on w z reads inner hits stage up held pins_same idle number makes changes difference = record {
     stage = stage;
     trying = record {
       reads = reads;
@@ -148,6 +149,7 @@ module _ (t : Task) (start v : View) (pool pins : List ℕ) (s : State) (h : IsT
       count = ap length pins_same ∙ h.count;
       number = number ∙ h.number;
       idle = idle ∙ h.idle;
+      makes = makes ∙ h.makes;
       changes = changes ∙ h.changes;
       difference = difference ∙ h.difference;
     };
@@ -169,13 +171,13 @@ module _ (t : Task) (start v : View) (pool pins : List ℕ) (s : State) (h : IsT
   pub held_misses : (w : View) (z : State) (hit : Bool) → hit ≡ false → IsHint t n pair v s w z hit → IsHinting t start pool pins w z
   held_misses w z hit is i =
       miss_on w z (reads_on t start v w s z i.met h.reads i.reads i.misses i.claims i.state) i.inner (i.hits ∙ ap (hits_after s.hits n pair) is) i.stage (λ m r there k. held_up w z hit i m r k)
-      (λ m. ap (λ ns. has_node ns m) i.held) i.pins i.idle i.number i.changes i.difference
+      (λ m. ap (λ ns. has_node ns m) i.held) i.pins i.idle i.number i.makes i.changes i.difference
 
   pub held_hits : (w : View) (z : State) (hit : Bool) → hit ≡ true → n ≢ t.proposal.root → has_node (nodes_of s.inner) n ≡ true → IsHint t n pair v s w z hit → IsHinting t start pool (pins ++ n ∷ []) (pinned w n) z
   held_hits w z hit is no_root inner i =
       hit_on w z (reads_on t start v w s z i.met h.reads i.reads i.misses i.claims i.state) i.inner (i.hits ∙ ap (hits_after s.hits n pair) is) i.stage (i.own is)
       (λ m there. ap (λ ns. has_node ns m) i.held ∙ there) (λ m r there k. held_up w z hit i m r k)
-      (λ m. ap (λ ns. has_node ns m) i.held ∙ (h.held m ∙ ap (λ b. has_node pool m || b) (absorbs m (n == m) refl))) i.pins i.idle i.number i.changes i.difference no_root
+      (λ m. ap (λ ns. has_node ns m) i.held ∙ (h.held m ∙ ap (λ b. has_node pool m || b) (absorbs m (n == m) refl))) i.pins i.idle i.number i.makes i.changes i.difference no_root
     where
       absorbs : (m : ℕ) (b : Bool) → (n == m) ≡ b → (has_node (nodes_of s.inner) m || has_node (nodes_of s.hits) m) ≡ (has_node (nodes_of s.inner) m || (has_node (nodes_of s.hits) m || (b || false)))
       absorbs m true e = go (has_node (nodes_of s.inner) m) (has_node (nodes_of s.hits) m) (subst (λ k. has_node (nodes_of s.inner) k ≡ true) (same_node n m e) inner)
@@ -200,19 +202,19 @@ module _ (t : Task) (start v : View) (pool pins : List ℕ) (s : State) (h : IsT
         let stage = hinting_at s.stage open_now.stage in
         let now : z ≡ at s (Hinting None) = e ∙ ap (λ g. read_at t s g (seen.Miss n)) stage.1 in
         miss_on (missed v n) z (reads_more t start v (missed v n) s z (seen.Miss n) h.reads refl refl e) (ap (λ (y : State). y.inner) now) (ap (λ (y : State). y.hits) now) (ap (λ (y : State). is_hinting y.stage) now)
-        (λ m r there k. k) (λ m. refl) refl refl refl refl refl
+        (λ m r there k. k) (λ m. refl) refl refl refl refl refl refl
 
     pub other_misses : (w : View) (z : State) (hit : Bool) → hit ≡ false → IsHint t n pair (claimed v n) s w z hit → IsHinting t start pool pins (released w n) z
     other_misses w z hit is i =
         miss_on (released w n) z (let o = reads_on t start v w s z i.met h.reads i.reads i.misses i.claims i.state in record { met = o.met; reads = o.reads; misses = o.misses; state = o.state }) i.inner (i.hits ∙ ap (hits_after s.hits n pair) is) i.stage
         (λ m r there k. look_kept (differs n) m w.rows (ap not (ne_eqb m n (not_it m there))) ∙ (i.others m (not_it m there) ∙ k))
-        (λ m. ap (λ ns. has_node (only (differs n) ns) m) i.held ∙ held_stays v n pool none h.spare m) i.pins i.idle i.number i.changes i.difference
+        (λ m. ap (λ ns. has_node (only (differs n) ns) m) i.held ∙ held_stays v n pool none h.spare m) i.pins i.idle i.number i.makes i.changes i.difference
 
     pub other_hits : (w : View) (z : State) (hit : Bool) → hit ≡ true → n ≢ t.proposal.root → IsHint t n pair (claimed v n) s w z hit → IsHinting t start pool (pins ++ n ∷ []) (pinned w n) z
     other_hits w z hit is no_root i =
         hit_on w z (reads_on t start v w s z i.met h.reads i.reads i.misses i.claims i.state) i.inner (i.hits ∙ ap (hits_after s.hits n pair) is) i.stage (i.own is)
         (λ m there. ap (λ ns. has_node ns m) i.held ∙ or_right (n == m) (has_node v.held m) there) (λ m r there k. i.others m (not_it m there) ∙ k)
-        (λ m. ap (λ ns. has_node ns m) i.held ∙ (ap (λ b. (n == m) || b) (h.held m) ∙ swap (n == m) (has_node pool m) (has_node (nodes_of s.inner) m) (has_node (nodes_of s.hits) m))) i.pins i.idle i.number i.changes i.difference no_root
+        (λ m. ap (λ ns. has_node ns m) i.held ∙ (ap (λ b. (n == m) || b) (h.held m) ∙ swap (n == m) (has_node pool m) (has_node (nodes_of s.inner) m) (has_node (nodes_of s.hits) m))) i.pins i.idle i.number i.makes i.changes i.difference no_root
       where
         swap : (a p i h : Bool) → (a || (p || (i || h))) ≡ (p || (i || (h || (a || false))))
         swap true true i h = refl

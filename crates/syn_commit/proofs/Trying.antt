@@ -72,6 +72,7 @@ rest_on v w x r s = record {
   number = s.number ∙ r.number;
   pins = s.pins ∙ r.pins;
   idle = s.idle ∙ r.idle;
+  makes = s.makes ∙ r.makes;
   changes = s.changes ∙ r.changes;
   difference = s.difference ∙ r.difference;
 }
@@ -84,7 +85,7 @@ tried_none from v pool = record {
   misses = sym (append-nil v.misses);
   held = λ n. sym (or_none (has_node v.held n));
   rows = λ n h. refl;
-  rest = record { number = refl; pins = refl; idle = refl; changes = refl; difference = refl };
+  rest = record { number = refl; pins = refl; idle = refl; makes = refl; changes = refl; difference = refl };
 }
 
 pub tried_on : (from : ℕ) (v w x : View) (pool grown larger : List ℕ) (met more : List Seen) → AreTried from v pool met w grown → AreTried (from + length met) w grown more x larger → AreTried from v pool (met ++ more) x larger
@@ -174,7 +175,7 @@ module _ (v : View) (node : ℕ) (pool : List ℕ) (none : has_node v.held node 
     misses = refl;
     held = λ n. sym (or_none (has_node v.held n));
     rows = λ n h. refl;
-    rest = record { number = refl; pins = refl; idle = refl; changes = refl; difference = refl };
+    rest = record { number = refl; pins = refl; idle = refl; makes = refl; changes = refl; difference = refl };
   }
 
   pub missed_keeps : KeepsPool (missed v node) pool
@@ -191,7 +192,7 @@ module _ (v : View) (node : ℕ) (pool : List ℕ) (none : has_node v.held node 
     misses = sym (append-nil v.misses);
     held = λ n. or_swap (node == n) (has_node v.held n);
     rows = λ n h. look_there n node Free v.rows (other n h);
-    rest = record { number = refl; pins = refl; idle = refl; changes = refl; difference = refl };
+    rest = record { number = refl; pins = refl; idle = refl; makes = refl; changes = refl; difference = refl };
   }
 
   pub free_keeps : KeepsPool (row_loaded (claimed v node) node Free) (pool ++ node ∷ [])
@@ -227,7 +228,7 @@ module _ (v : View) (node : ℕ) (pool : List ℕ) (none : has_node v.held node 
         misses = sym (append-nil v.misses);
         held = λ n. held_stays n ∙ sym (ap (λ ns. has_node v.held n || has_node ns n) nothing ∙ or_none (has_node v.held n));
         rows = λ n h. row_stays r n (other n h);
-        rest = record { number = refl; pins = refl; idle = refl; changes = refl; difference = refl };
+        rest = record { number = refl; pins = refl; idle = refl; makes = refl; changes = refl; difference = refl };
       }
 
   pub used_keeps : (r : Row) → KeepsPool (released (row_loaded (claimed v node) node r) node) pool
@@ -263,7 +264,7 @@ emptied_none v = record {
   rows = λ n h. refl;
   reads = refl;
   misses = refl;
-  rest = record { number = refl; pins = refl; idle = refl; changes = refl; difference = refl };
+  rest = record { number = refl; pins = refl; idle = refl; makes = refl; changes = refl; difference = refl };
 }
   where
     and_true : (a : Bool) → (a && true) ≡ a
@@ -290,7 +291,7 @@ emptied_on v w done n e = record {
   rows = λ m h. let both = held_else w n m h in row_else w n m both.0 ∙ e.rows m both.1;
   reads = e.reads;
   misses = e.misses;
-  rest = record { number = e.rest.number; pins = e.rest.pins; idle = e.rest.idle; changes = e.rest.changes; difference = e.rest.difference };
+  rest = record { number = e.rest.number; pins = e.rest.pins; idle = e.rest.idle; makes = e.rest.makes; changes = e.rest.changes; difference = e.rest.difference };
 }
 
 pub kept_on : (w : View) (n : ℕ) (left : List ℕ) → KeepsPool w (n ∷ left) → KeepsPool (released w n) left

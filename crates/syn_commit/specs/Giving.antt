@@ -86,6 +86,7 @@ pub record IsLetGo (v w : View) : Type 0 where
   pub number : w.number ≡ v.number
   pub reads : w.reads ≡ v.reads
   pub misses : w.misses ≡ v.misses
+  pub makes : w.makes ≡ v.makes
   pub changes : w.changes ≡ v.changes
   pub difference : w.difference ≡ v.difference
 

@@ -33,6 +33,7 @@ pub record IsHint (t : Task) (n : ℕ) (pair : Row) (v : View) (s : State) (w : 
   pub held : w.held ≡ v.held
   pub pins : w.pins ≡ v.pins
   pub idle : w.idle ≡ v.idle
+  pub makes : w.makes ≡ v.makes
   pub changes : w.changes ≡ v.changes
   pub difference : w.difference ≡ v.difference
   -- other rows are known as before, and a row that was known stays

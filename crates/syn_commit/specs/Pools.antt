@@ -19,11 +19,12 @@ pub record KeepsPool (v : View) (pool : List ℕ) : Type 0 where
 abbrev pub HoldsNoneOf : View → ℕ → ℕ → Type 0
 HoldsNoneOf v from count = (n : ℕ) → from ≤ n → n < from + count → has_node v.held n ≡ false
 
--- what a call on a pool leaves of the seat's view: its number, pins, zero list, changes and difference
+-- what a call on a pool leaves of the seat's view: its number, pins, zero list, made rows, changes and difference
 pub record LeavesRest (v w : View) : Type 0 where
   pub number : w.number ≡ v.number
   pub pins : w.pins ≡ v.pins
   pub idle : w.idle ≡ v.idle
+  pub makes : w.makes ≡ v.makes
   pub changes : w.changes ≡ v.changes
   pub difference : w.difference ≡ v.difference
 

@@ -28,6 +28,7 @@ pub record IsTrying (t : Task) (start : View) (pool pins : List ℕ) (v : View) 
   pub count : length v.pins ≡ length pins
   pub number : v.number ≡ start.number
   pub idle : v.idle ≡ []
+  pub makes : v.makes ≡ start.makes
   pub changes : v.changes ≡ start.changes
   pub difference : v.difference ≡ start.difference
 

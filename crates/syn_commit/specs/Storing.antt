@@ -7,6 +7,7 @@ use Rattle.syn_rows.specs.declared.Row.{Row}
 use Rattle.syn_rows.specs.declared.Row.TheVariants.{Free, And}
 use Rattle.syn_rows.specs.Rows.{node_of, refs_of, row_at}
 use Rattle.syn_core_laws.specs.declared.View.{View}
+use Rattle.syn_core_laws.specs.declared.Made.{Made}
 use Rattle.syn_core_laws.specs.declared.EventKind.{EventKind}
 use Rattle.syn_core_laws.specs.declared.EventKind.TheVariants as Kind
 use Rattle.syn_core_laws.specs.Events.{KeyBelow, MayPin}
@@ -59,6 +60,15 @@ key_at low step i = low + (i + 1) * step
 abbrev pub makes_rows : ℕ → ℕ → ℕ → List NodeRow → List EventKind
 makes_rows low step i [] = []
 makes_rows low step i (r ∷ rs) = makes_row r.node r.row (key_at low step i) ++ makes_rows low step (i + 1) rs
+
+-- the row of a node as it is made under a key
+abbrev pub keyed_row : NodeRow → ℕ → Made
+keyed_row r key = record { node = r.node; row = r.row; key = key }
+
+-- the rows of these nodes as they are made, the first of them the one at place i
+abbrev pub keyed_rows : ℕ → ℕ → ℕ → List NodeRow → List Made
+keyed_rows low step i [] = []
+keyed_rows low step i (r ∷ rs) = keyed_row r (key_at low step i) ∷ keyed_rows low step (i + 1) rs
 
 -- ---- the new rows
 -- A literal that the row at place i may have: that of a new gate before it, or one of a node to which a row may refer whose key is above low.

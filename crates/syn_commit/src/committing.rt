@@ -9,7 +9,7 @@ ghost use Rattle.syn_decide.specs.Walk.{enters};
 ghost use Rattle.syn_commit_laws.specs.Redefining.{IsInOrder};
 ghost use Rattle.syn_table.specs.Seating.{IsOf, known_of, nodes_of, view_of};
 ghost use Rattle.syn_table.specs.Steps.{with_view};
-ghost use Rattle.syn_commit.specs.Committed.{EndsInMiss, FellSince, IsBooked, StoredSince, changes_since, met_since};
+ghost use Rattle.syn_commit.specs.Committed.{EndsInMiss, FellSince, IsBooked, StoredSince, changes_since, makes_since, met_since};
 ghost use Rattle.syn_commit.specs.Counts.{CountsAreLoaded};
 ghost use Rattle.syn_commit.specs.Giving.{HoldsAlone};
 ghost use Rattle.syn_commit.specs.Keyed.{IsKeyedSoFar};
@@ -56,7 +56,7 @@ fn settle<G: Gate>(
     ensures known { known_of seat.new ≡ with_view (known_of seat.old) (view_of seat.new) }
     ensures alone { HoldsAlone pool.new (view_of seat.new) }
     ensures reads { IsOfReads (task_of attempt.now) (view_of start.now.value) (view_of seat.new) deciding.now }
-    ensures booked { IsBooked (nodes_of tools.now.shared.now) (task_of attempt.now) deciding.now (told_answer outcome) (view_of start.now.value) pool.old (view_of seat.new) pool.new }
+    ensures booked { IsBooked (task_of attempt.now) deciding.now (told_answer outcome) (view_of start.now.value) pool.old (view_of seat.new) pool.new }
 {
     match outcome {
         Outcome::Done(gain) => store(
@@ -93,7 +93,8 @@ pub fn try_commit<G: Gate>(
     ensures busy { (n : ℕ) → told_answer result ≡ Busy n → EndsInMiss (met_since (view_of seat.old) (view_of seat.new)) n }
     ensures free { length (known_of seat.old).numbers ≡ 64 → (n : ℕ) → told_answer result ≡ Busy n → ⊥ }
     ensures changes { (view_of seat.new).changes ≡ (view_of seat.old).changes ++ changes_since (view_of seat.old) (view_of seat.new) }
-    ensures stored { StoredSince (nodes_of tools.now.shared.now) (asked proposal.now zero_gain (length pool.old)) (view_of seat.old) pool.old (told_answer result) (view_of seat.new) pool.new }
+    ensures makes { (view_of seat.new).makes ≡ (view_of seat.old).makes ++ makes_since (view_of seat.old) (view_of seat.new) }
+    ensures stored { StoredSince (asked proposal.now zero_gain (length pool.old)) (view_of seat.old) pool.old (told_answer result) (view_of seat.new) pool.new }
     ensures fell { FellSince (asked proposal.now zero_gain (length pool.old)) (view_of seat.old) (told_answer result) (view_of seat.new) }
 {
     tools.shared.seats_reach_nodes(seat);

@@ -1,6 +1,6 @@
 //! What a commit stores behind the answer `Done`.
 
-ghost use Rattle.std.specs.Prelude.{◌≡◌, ◌+◌, ◌*◌, ◌<◌, ◌≤◌, ◌++◌, [], length, reverse, slice_index_or, true};
+ghost use Rattle.std.specs.Prelude.{◌≡◌, ◌+◌, ◌-◌, ◌*◌, ◌/◌, ◌<◌, ◌≤◌, ◌++◌, [], length, reverse, slice_index_or, true};
 ghost use Rattle.syn_plan.specs.declared.TheConstants.{MOST_GATES};
 ghost use Rattle.syn_decide.specs.declared.decisions.TheConstants.{MOST_INNER};
 ghost use Rattle.syn_decide.specs.declared.decisions.NodeRow.{NodeRow};
@@ -37,12 +37,13 @@ use syn_table::{Seat, Shared};
 // How far apart the keys of so many rows lie between the two.
 fn step_between(low: u64, need: u32, high: u64) -> u64
     requires { low + need < high }
+    ensures even { result ≡ (high - low) / (need + 1) }
     ensures some { 1 ≤ result }
     ensures below { low + need * result < high }
 {
     match between(low, need, high) {
         Some(step) => step,
-        None => 1,
+        None => unreachable!(),
     }
 }
 
@@ -145,7 +146,7 @@ pub(crate) fn store<G: Gate>(
     ensures known { known_of seat.new ≡ with_view (known_of seat.old) (view_of seat.new) }
     ensures alone { HoldsAlone pool.new (view_of seat.new) }
     ensures reads { IsOfReads (task_of attempt.now) (view_of start.now.value) (view_of seat.new) deciding.now }
-    ensures booked { IsBooked (nodes_of tools.now.shared.now) (task_of attempt.now) deciding.now (Done gain) (view_of start.now.value) pool.old (view_of seat.new) pool.new }
+    ensures booked { IsBooked (task_of attempt.now) deciding.now (Done gain) (view_of start.now.value) pool.old (view_of seat.new) pool.new }
 {
     let counted = Snapshot::of(seat);
     tools.shared.seats_reach_nodes(seat);

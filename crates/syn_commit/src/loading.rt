@@ -153,6 +153,7 @@ fn load_count(
     ensures known { known_of seat.new ≡ with_view (known_of seat.old) (view_of seat.new) }
     ensures counted { IsCounted (task_of attempt.now) (nodes_of shared.now) node (view_of seat.old) deciding.old (view_of seat.new) deciding.new }
 {
+    shared.seats_reach_nodes(seat);
     let own = times_in(pins, node);
     let count = shared.refs_of(seat, node);
     deciding.read(attempt, Seen::Count { node, count, own });

@@ -20,7 +20,7 @@ use Rattle.syn_commit_laws.specs.Dying.{ands_in, AreDoomed}
 use Rattle.syn_commit_laws.specs.Turning.{Turns, GivesUp, change_of, stored_by, one_gate, gates_known}
 use Rattle.syn_fanout_free.specs.Freed.{is_free}
 use Rattle.syn_commit_laws.specs.Freeing.{frees, left, ands_freed, late, redefines, ands_before, ands_after, IsFreeing, IsOut, IsGivenUp}
-use Rattle.syn_commit_laws.specs.Laws.{GivingUpBegins, GivingUpGoesOn, GivenUpTells, EarlyTells, RootsAreOut, GatesFall, UnpinsTurn, MakesTurn, RedefinesTurn, FreesTurn}
+use Rattle.syn_commit_laws.specs.Laws.{GivingUpBegins, GivingUpGoesOn, GivenUpTells, EarlyTells, RootsAreOut, GatesFall}
 use Rattle.syn_commit_laws.proofs.Sums.{sum_some}
 use Rattle.syn_commit_laws.proofs.Numbers.{frees_append, redefines_append, ands_same}
 use Rattle.syn_commit_laws.proofs.Goings.{differences_tell, freeing_begins, freeing_goes_on}
@@ -232,49 +232,3 @@ release_same nodes v w n t free = ap (gates_known nodes) t ∙ sum_same nodes (�
 
 pub gates_fall : GatesFall
 gates_fall nodes v w = (λ n t. free_less nodes v w n t, λ n t. ap (gates_known nodes) t.3, λ n t free. release_same nodes v w n t free)
-
--- ---- an unpin by whether the count was 1
-abbrev unpinned_by : View → ℕ → Bool → View
-unpinned_by v n last = trimmed (record v { pins = without_one n v.pins; idle = if last && is_derived_known (known_row v n) then n ∷ v.idle else v.idle })
-
-pub unpins_turn : UnpinsTurn
-unpins_turn nodes v n last w u = go (has_node v.sole n) refl
-  where
-    fewer : own_pins w n + 1 ≡ own_pins v n
-    fewer =
-        let less : times n (without_one n v.pins) + hits n n ≡ times n v.pins = times_less n n v.pins (times_has n v.pins u.own) in
-        let one : hits n n ≡ 1 = hits_same n in
-        let same : own_pins w n ≡ times n (without_one n v.pins) = ap (λ (z : View). own_pins z n) u.found.2 in
-        omega arith
-
-    refs_same : own_refs nodes w n ≡ own_refs nodes v n
-    refs_same = ap (λ (z : View). own_refs nodes z n) u.found.2
-
-    same_test_of : (b : Bool) → last ≡ b → ((last ≡ true → (own_refs nodes w n ≡ 0) × (own_pins w n ≡ 0))) → ((own_refs nodes w n ≡ 0) × (own_pins w n ≡ 0) → last ≡ true)
-        → (own_refs nodes v n + own_pins v n == 1) ≡ last
-    same_test_of true e to from =
-        let t : (own_refs nodes w n ≡ 0) × (own_pins w n ≡ 0) = to e in
-        eq-eqb (own_refs nodes v n + own_pins v n) 1 (omega (arith, t.0, t.1, fewer, refs_same)) ∙ sym e
-    same_test_of false e to from =
-        ne_eqb (own_refs nodes v n + own_pins v n) 1 (λ is. both_ways last e (from (omega (arith, is, fewer, refs_same), omega (arith, is, fewer, refs_same)))) ∙ sym e
-
-    go : (s : Bool) → has_node v.sole n ≡ s → Turns nodes v (Kind.Unpin n) w
-    go false e = (u.found.0, u.own, (λ h. absurd (both_ways (has_node v.sole n) e h)), u.found.2)
-    go true e = (
-      own_refs nodes v n + own_pins v n,
-      u.own,
-      (λ h. refl),
-      u.found.2 ∙ ap (unpinned_by v n) (sym u.found.1 ∙ sym (same_test_of last refl (u.sole e).0 (u.sole e).1)),
-    )
-
--- ---- stores
-pub makes_turn : MakesTurn
-makes_turn nodes v n row shown free served = ((shown.rows n Free free).0, free, served, refl)
-
-pub redefines_turn : RedefinesTurn
-redefines_turn nodes v n old row over shown was gate served = (old, (shown.rows n old was).0, was, gate, served, refl)
-
-pub frees_turn : FreesTurn
-frees_turn nodes v n old shown idle was =
-    let t : (is_derived_known (known_row v n) ≡ true) × (own_refs nodes v n + own_pins v n ≡ 0) = shown.idles n idle in
-    (old, (shown.rows n old was).0, was, sym (ap is_derived_known was) ∙ t.0, t.1, idle, refl)

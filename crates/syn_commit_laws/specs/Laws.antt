@@ -21,7 +21,7 @@ use Rattle.syn_core_laws.specs.Sound.{IsSound}
 use Rattle.syn_core_laws.specs.Runs.{Steps, Runs}
 use Rattle.syn_core_laws.specs.Shown.{HasNoCircle, IsShown}
 use Rattle.syn_commit_laws.specs.Dying.{ands_in, explained, IsDying, ands_among, AreFound, explained_by, IsLoaded, AreDoomed, IsWalk, AreLoaded}
-use Rattle.syn_commit_laws.specs.Turning.{Turns, Spares, Commits, GivesUp, stored_by, made_by, makes, TurnsAll, CommitsAll, loads, HasCount, IsServed, gates_known, IsUnpin}
+use Rattle.syn_commit_laws.specs.Turning.{Turns, Spares, Commits, GivesUp, stored_by, made_by, makes, TurnsAll, CommitsAll, loads, HasCount, gates_known}
 use Rattle.syn_commit_laws.specs.Freeing.{ands_freed, late, redefines, ands_before, ands_after, IsTold, IsFreeing, IsFreed, IsOut, IsGivenUp}
 use Rattle.syn_commit_laws.specs.Running.{own, CommitsAlong}
 
@@ -183,22 +183,6 @@ abbrev pub EarlyTells : Type 0
 EarlyTells =
     (start v : View) (changes : List Change) → IsTold start 0 changes v → redefines changes ≡ []
     → v.difference +ℤ pos (late (λ n. false) changes) ≡ start.difference
-
--- ---- by the table's clauses
-abbrev pub UnpinsTurn : Type 0
-UnpinsTurn = (nodes : ℕ) (v : View) (n : ℕ) (last : Bool) (w : View) → IsUnpin nodes v n last w → Turns nodes v (Kind.Unpin n) w
-
--- What a seat shows, and what is asked of each, makes the stores turn its view.
-abbrev pub MakesTurn : Type 0
-MakesTurn = (nodes : ℕ) (v : View) (n : ℕ) (row : Row) → IsShown nodes v → known_row v n ≡ Some Free → IsServed v row → Turns nodes v (Kind.Make n row) (made v n row)
-
-abbrev pub RedefinesTurn : Type 0
-RedefinesTurn =
-    (nodes : ℕ) (v : View) (n : ℕ) (old row : Row) (over : ArrayVec ℕ) → IsShown nodes v → known_row v n ≡ Some old → is_derived row ≡ true → IsServed v row
-    → Turns nodes v (Kind.Redefine n row over) (redefined v n old row)
-
-abbrev pub FreesTurn : Type 0
-FreesTurn = (nodes : ℕ) (v : View) (n : ℕ) (old : Row) → IsShown nodes v → has_node v.idle n ≡ true → known_row v n ≡ Some old → Turns nodes v (Kind.Free n) (freed v n old)
 
 -- ---- by the core
 -- An event turns its seat's view, and no other's; the nodes stay as many.

@@ -137,9 +137,3 @@ one_gate row = if is_derived_known row then 1 else 0
 -- how many nodes the seat knows as gates
 abbrev pub gates_known : ℕ → View → ℕ
 gates_known nodes v = sum_below nodes (λ n. one_gate (known_row v n))
-
--- how the shared table tells an unpin: by whether the count that was found was 1; of a sole node that is so exactly where nothing of the seat's is left on it
-pub record IsUnpin (nodes : ℕ) (v : View) (n : ℕ) (last : Bool) (w : View) : Type 0 where
-  pub own : has_node v.pins n ≡ true
-  pub found : (count : ℕ) × (last ≡ (count == 1)) × (w ≡ unpinned v n count)
-  pub sole : has_node v.sole n ≡ true → (last ≡ true) ↔ ((own_refs nodes w n ≡ 0) × (own_pins w n ≡ 0))

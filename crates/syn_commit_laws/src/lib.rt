@@ -6,7 +6,7 @@ ghost use Rattle.syn_commit_laws.specs.Gains.{DoneTellsGain, NewGatesAreStored, 
 ghost use Rattle.syn_commit_laws.specs.Origins.{NewRowsReferToOrigins};
 ghost use Rattle.syn_commit_laws.specs.Redefining.{MetLeavesAreFew, RedefinesKeepValue};
 ghost use Rattle.syn_commit_laws.specs.Worked.{WorkedRedefine};
-ghost use Rattle.syn_commit_laws.specs.Laws.{CommitsFree, CommittedRowsAreFreed, CountsLoad, DifferencesTell, DyingAreDoomed, DyingAreExplained, DyingRowsAreFreed, EarlyTells, EventsTurn, FindingBegins, FindingEnds, FindingGoesOn, FreedTellGain, FreeNodesLive, FreesAddNone, RedefinesAddOne, FreeingBegins, FreeingEnds, FreeingGoesOn, GatesFall, GivenUpTells, GivingUpBegins, GivingUpGoesOn, ListsTell, LoadsTell, NewRowsSpare, NodesStay, OthersStay, RedefinesAppend, RootsAreOut, RunsTurn, TellingBegins, TellingGoesOn, UnpinsTurn, MakesTurn, RedefinesTurn, FreesTurn};
+ghost use Rattle.syn_commit_laws.specs.Laws.{CommitsFree, CommittedRowsAreFreed, CountsLoad, DifferencesTell, DyingAreDoomed, DyingAreExplained, DyingRowsAreFreed, EarlyTells, EventsTurn, FindingBegins, FindingEnds, FindingGoesOn, FreedTellGain, FreeNodesLive, FreesAddNone, RedefinesAddOne, FreeingBegins, FreeingEnds, FreeingGoesOn, GatesFall, GivenUpTells, GivingUpBegins, GivingUpGoesOn, ListsTell, LoadsTell, NewRowsSpare, NodesStay, OthersStay, RedefinesAppend, RootsAreOut, RunsTurn, TellingBegins, TellingGoesOn};
 
 /// The dying rows are those whose counts dead rows explain; new rows refer to none of them.
 pub fn dying_rows()
@@ -66,14 +66,6 @@ pub fn giving_up()
     ensures tells { GivenUpTells }
     ensures early { EarlyTells }
     ensures roots { RootsAreOut }
-{}
-
-/// The steps of the shared table turn the view as the laws want it.
-pub fn steps_turn()
-    ensures unpins { UnpinsTurn }
-    ensures makes { MakesTurn }
-    ensures redefines { RedefinesTurn }
-    ensures frees { FreesTurn }
 {}
 
 /// What a sound core adds to the view of a seat.

@@ -141,6 +141,7 @@ fn empty_seat(alloc: Global, number: u32) -> SeatView
         misses: Vec::new(alloc),
         reads: Vec::new(alloc),
         changes: Vec::new(alloc),
+        makes: Vec::new(alloc),
         difference: 0,
         sole: Vec::new(alloc),
     }

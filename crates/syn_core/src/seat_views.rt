@@ -3,7 +3,7 @@
 ghost use Rattle.std.specs.Prelude.{◌≡◌, ℕ, ◌+◌, ◌*◌, ◌^◌, ◌≤◌, pos, ◌<◌, ◌==◌, ◌||◌, ◌&&◌, not, true, false, [], ◌∷◌, ◌++◌, length, IfOk, Some, None, if◌then◌else◌};
 ghost use Rattle.syn_rows.specs.Nodes.{has_node};
 ghost use Rattle.syn_core_laws.specs.Lists.{only, kept};
-ghost use Rattle.syn_core_laws.specs.Views.{differs, trimmed, claimed, missed, released, row_loaded, pinned, unpinned, count_loaded, key_loaded, key_set, made, redefined, freed, is_mine, stays_sole, is_derived_known, refs_known};
+ghost use Rattle.syn_core_laws.specs.Views.{differs, trimmed, claimed, missed, released, row_loaded, pinned, unpinned, count_loaded, key_loaded, key_set, last_key, made, redefined, freed, is_mine, stays_sole, is_derived_known, refs_known};
 ghost use Rattle.syn_rows.specs.References.{and_count, sum_below};
 ghost use Rattle.syn_core_laws.specs.Lists.{look};
 
@@ -13,7 +13,7 @@ use crate::lists::{
 };
 use std::alloc::{AllocError, Global};
 use std::marker::Model;
-use syn_core_laws::{Change, Seen, View};
+use syn_core_laws::{Change, Made, Seen, View};
 use syn_rows::{Lit, Row};
 
 /// What a seat knows.
@@ -28,6 +28,7 @@ pub struct SeatView {
     pub(crate) misses: Vec<u32>,
     pub(crate) reads: Vec<Seen>,
     pub(crate) changes: Vec<Change>,
+    pub(crate) makes: Vec<Made>,
     pub(crate) difference: i64,
     pub(crate) sole: Vec<u32>,
 }
@@ -37,7 +38,7 @@ impl Model for SeatView {
 
     ghost Value = { View };
 
-    ghost view = { λ p. record { number = p.number; held = p.held.items; rows = p.rows.items; keys = p.keys.items; pins = p.pins.items; idle = p.idle.items; misses = p.misses.items; reads = p.reads.items; changes = p.changes.items; difference = p.difference; sole = p.sole.items } };
+    ghost view = { λ p. record { number = p.number; held = p.held.items; rows = p.rows.items; keys = p.keys.items; pins = p.pins.items; idle = p.idle.items; misses = p.misses.items; reads = p.reads.items; changes = p.changes.items; makes = p.makes.items; difference = p.difference; sole = p.sole.items } };
 }
 
 impl SeatView {
@@ -72,6 +73,7 @@ impl SeatView {
             misses: copied(alloc, self.misses.as_slice())?,
             reads: copied(alloc, self.reads.as_slice())?,
             changes: copied(alloc, self.changes.as_slice())?,
+            makes: copied(alloc, self.makes.as_slice())?,
             difference: self.difference,
             sole: copied(alloc, self.sole.as_slice())?,
         })
@@ -215,6 +217,16 @@ impl SeatView {
         Ok(view)
     }
 
+    /// The key of the node that the seat loaded or stored last, 0 where there is none.
+    fn last_key(&self, node: u32) -> u64
+        ensures { result ≡ last_key self.now node }
+    {
+        match look(self.keys.as_slice(), node) {
+            Some(key) => key,
+            None => 0,
+        }
+    }
+
     pub(crate) fn made(&self, alloc: Global, node: u32, row: Row) -> Result<SeatView, AllocError>
         ensures { IfOk result (λ p. p ≡ made self.now node row) }
     {
@@ -222,6 +234,8 @@ impl SeatView {
         view.pins = without_each(alloc, row, self.pins.as_slice())?;
         view.rows = with(alloc, (node, row), self.rows.as_slice())?;
         view.idle = with(alloc, node, self.idle.as_slice())?;
+        let key = self.last_key(node);
+        view.makes.push(Made { node, row, key })?;
         let Some(difference) = self.difference.checked_add(1) else {
             return Err(AllocError)
         };

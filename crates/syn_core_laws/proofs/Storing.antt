@@ -12,9 +12,10 @@ use Rattle.syn_rows.specs.Values.{RowFits, Fits, SameSources}
 use Rattle.syn_rows.specs.References.{times, refs, and_count, all_ands, sum_below, refs_by_rows, refs_by_literals}
 use Rattle.syn_core_laws.specs.declared.View.{View}
 use Rattle.syn_core_laws.specs.declared.Change.{Change}
+use Rattle.syn_core_laws.specs.declared.Made.{Made}
 use Rattle.syn_rows.specs.Nodes.{has_node}
 use Rattle.syn_core_laws.specs.Lists.{only, without_each, look, kept}
-use Rattle.syn_core_laws.specs.Views.{is_mine, known_row, known_key, refs_known, own_refs, differs, key_set, made, redefined, freed, pins_after}
+use Rattle.syn_core_laws.specs.Views.{is_mine, known_row, known_key, refs_known, own_refs, differs, key_set, last_key, made, redefined, freed, pins_after}
 use Rattle.syn_core_laws.specs.Cores.{Core, all_pins, differences}
 use Rattle.syn_core_laws.specs.Sound.{RowRests, KnowsDerived, Agree, IsSeatSound, IsSound}
 use Rattle.syn_core_laws.specs.Events.{key_stored, row_stored, KeyBelow, MayRest, IsAnd}
@@ -117,9 +118,9 @@ module _ (c : Core) (id : ℕ) (v : View) (s : IsSound c) (at : get_elem? c.seat
 -- a row that a seat stores into a node that it holds
 module _ (c : Core) (id : ℕ) (v : View) (s : IsSound c) (at : get_elem? c.seats id ≡ some v) (small : v.number < 64)
     (n : ℕ) (old row : Row) (known : known_row v n ≡ Some old) (was_no_source : old ≢ Source) (is_no_source : row ≢ Source)
-    (pins : List ℕ) (told : List (ℕ × ℕ)) (idle : List ℕ) (changes : List Change) (difference : ℤ) where
+    (pins : List ℕ) (told : List (ℕ × ℕ)) (idle : List ℕ) (changes : List Change) (makes : List Made) (difference : ℤ) where
   abbrev storing : View
-  storing = record v { pins = pins; rows = (n, row) ∷ v.rows; keys = told; idle = idle; changes = changes; difference = difference }
+  storing = record v { pins = pins; rows = (n, row) ∷ v.rows; keys = told; idle = idle; changes = changes; makes = makes; difference = difference }
 
   store_sound : (row ≡ Free → get_or c.counts n 0 ≡ 0)
       → ((i : ℕ) → RowRests (set c.rows n row) c.keys i (row_at (set c.rows n row) i))
@@ -282,7 +283,7 @@ module _ (c : Core) (id : ℕ) (v : View) (s : IsSound c) (at : get_elem? c.seat
       let gate : is_derived row ≡ true = ap is_derived is in
       let one_more : and_count row ≡ 1 = ap and_count is in
       store_sound c id v s at small n Free row known (λ e. absurd (cc)) (gate_no_source row gate)
-      (without_each (refs_of row) v.pins) (kept (is_mine (record v { pins = without_each (refs_of row) v.pins })) v.keys) (n ∷ v.idle) v.changes (v.difference +ℤ pos 1)
+      (without_each (refs_of row) v.pins) (kept (is_mine (record v { pins = without_each (refs_of row) v.pins })) v.keys) (n ∷ v.idle) v.changes (v.makes ++ (record { node = n; row = row; key = last_key v n }) ∷ []) (v.difference +ℤ pos 1)
       (λ e. absurd (gate_no_free row gate e))
       (rests_after n row inside (gate_no_free row gate) (may_rests n row may))
       (λ m. omega (arith, times_less_each m (refs_of row) v.pins may.0))
@@ -317,7 +318,7 @@ module _ (c : Core) (id : ℕ) (v : View) (s : IsSound c) (at : get_elem? c.seat
       let inside : n < length c.rows = held_there c id v s at n mine in
       store_sound c id v s at small n old row known (gate_no_source old was_gate) (gate_no_source row gate)
       (pins_after v old row) (kept (is_mine (record v { pins = pins_after v old row })) v.keys) v.idle
-      (v.changes ++ (record { node = n; old = old; new = row }) ∷ []) ((v.difference +ℤ pos (and_count row)) -ℤ pos (and_count old))
+      (v.changes ++ (record { node = n; old = old; new = row }) ∷ []) v.makes ((v.difference +ℤ pos (and_count row)) -ℤ pos (and_count old))
       (λ e. absurd (gate_no_free row gate e))
       (rests_after n row inside (gate_no_free row gate) (may_rests n row may))
       (λ m. omega (arith, times_less_each m (refs_of row) v.pins may.0, times_append m (refs_of old) (without_each (refs_of row) v.pins)))
@@ -369,7 +370,7 @@ module _ (c : Core) (id : ℕ) (v : View) (s : IsSound c) (at : get_elem? c.seat
       let no_constant : 0 ≢ n = λ e. gate_no_source old was_gate (sym was_old ∙ (ap (row_at c.rows) (sym e) ∙ s.constant)) in
       store_sound c id v s at small n old Free known (gate_no_source old was_gate) (λ e. absurd (cc))
       (refs_of old ++ v.pins) v.keys (only (differs n) v.idle)
-      (v.changes ++ (record { node = n; old = old; new = Free }) ∷ []) (v.difference -ℤ pos (and_count old))
+      (v.changes ++ (record { node = n; old = old; new = Free }) ∷ []) v.makes (v.difference -ℤ pos (and_count old))
       (λ e. none)
       (λ i. elim (cases_eq i n) [
         | inl e ↦ subst (λ z. RowRests (set c.rows n Free) c.keys z (row_at (set c.rows n Free) z)) (sym e) (subst (λ (r : Row). RowRests (set c.rows n Free) c.keys n r) (sym here) tt)

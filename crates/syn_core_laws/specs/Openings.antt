@@ -27,7 +27,7 @@ pub record IsStart (rows : List Row) (observed : List Lit) (keys : List ℕ) : T
 
 -- what a seat knows at first
 abbrev pub empty_view : ℕ → View
-empty_view number = record { number = number; held = []; rows = []; keys = []; pins = []; idle = []; misses = []; reads = []; changes = []; difference = pos 0; sole = [] }
+empty_view number = record { number = number; held = []; rows = []; keys = []; pins = []; idle = []; misses = []; reads = []; changes = []; makes = []; difference = pos 0; sole = [] }
 
 -- as many seats, numbered from `first`
 abbrev pub seats_from : ℕ → ℕ → List View

@@ -21,6 +21,15 @@ known_row v n = look n v.rows
 abbrev pub known_key : View → ℕ → Option ℕ
 known_key v n = if n == 0 then Some 0 else look n v.keys
 
+-- the key told, 0 where none is
+abbrev pub or_zero : Option ℕ → ℕ
+or_zero None = 0
+or_zero (Some key) = key
+
+-- the key of the node that the seat loaded or stored last
+abbrev pub last_key : View → ℕ → ℕ
+last_key v n = or_zero (look n v.keys)
+
 -- the references of a row to the node m, none where the row isn't known
 abbrev pub refs_known : ℕ → Option Row → ℕ
 refs_known m None = 0
@@ -93,7 +102,13 @@ key_set v n key = record v { keys = (n, key) ∷ v.keys }
 
 -- the seat made the row: one pin for each place becomes the row's reference, and the node joins the zero list
 abbrev pub made : View → ℕ → Row → View
-made v n row = trimmed (record v { pins = without_each (refs_of row) v.pins; rows = (n, row) ∷ v.rows; idle = n ∷ v.idle; difference = v.difference +ℤ pos 1 })
+made v n row = trimmed (record v {
+  pins = without_each (refs_of row) v.pins;
+  rows = (n, row) ∷ v.rows;
+  idle = n ∷ v.idle;
+  makes = v.makes ++ (record { node = n; row = row; key = last_key v n }) ∷ [];
+  difference = v.difference +ℤ pos 1;
+})
 
 -- the pins when one for each place of the new row becomes its reference, and the old row's references become pins
 abbrev pub pins_after : View → Row → Row → List ℕ

@@ -49,6 +49,17 @@ pub struct Change {
     pub new: Row,
 }
 
+/// A row that a make stored: the node, its row, and the key that the seat knew of the node.
+#[derive(Clone, Copy, Debug, PartialEq, Eq)]
+pub struct Made {
+    /// The node.
+    pub node: u32,
+    /// The row that it got.
+    pub row: Row,
+    /// Its key; 0 where the seat knew none.
+    pub key: u64,
+}
+
 /// What a seat knows, as plain data. No value of it is made: contracts see a seat as one.
 pub struct View {
     /// The seat's number, below 64; 64 for a seat that is spent.
@@ -69,6 +80,8 @@ pub struct View {
     pub reads: LinkedList<Seen>,
     /// The rows that it stored by a redefine or a free, in order.
     pub changes: LinkedList<Change>,
+    /// The rows that it made, in order.
+    pub makes: LinkedList<Made>,
     /// How many AND rows it made more than it took away.
     pub difference: i64,
     /// The nodes of which it knows that only its own rows and pins refer to them.

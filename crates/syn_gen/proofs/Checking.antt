@@ -2,8 +2,8 @@
 use Rattle.std.proofs.Common.{◌≡◌, ℕ, zero, suc, ◌+◌, ◌*◌, ◌%◌, ◌<◌, ◌≤◌, nat_le, if◌then◌else◌, not, Bool, true, false, List, [], ◌∷◌, ◌++◌, length, map, flat_map, filter, sum_by, append_assoc, None, find, refl, sym, ap, ◌∙◌, arith}
 use Rattle.std.specs.List.{list_all}
 use Rattle.std.proofs.lemmas.Bool.{agree_below_at, and_from, and_parts, cond-false, leb-true, not_from_true}
-use Rattle.std.proofs.lemmas.List.{append-nil}
-use Rattle.std.proofs.lemmas.List.Sums.{sum_by-cons}
+use Rattle.std.proofs.lemmas.List.{append-nil, length-map}
+use Rattle.std.proofs.lemmas.List.Sums.{count_by-le-length, length-filter, sum_by-cons}
 use Rattle.std.proofs.lemmas.List.Sorted.{IsPermutation-refl}
 use Rattle.syn_netlist.specs.Costs.{row_cost, table_cost}
 use Rattle.syn_netlist.specs.Faults.{first_undriven, inputs_of, reads}
@@ -12,7 +12,7 @@ use Rattle.syn_netlist.specs.Order.{Ordered, defined, reads_known}
 use Rattle.syn_netlist.specs.Words.{distinct, has_word}
 use Rattle.syn_gen.specs.Draws.{after_draws, draw, drawn}
 use Rattle.syn_gen.specs.Generated.{generated, generated_tables, signal, signals, table_of, tables_from, truth_rows, unread}
-use Rattle.syn_gen.specs.Laws.{GeneratedCosts, GeneratedIsChecked}
+use Rattle.syn_gen.specs.Laws.{GeneratedCosts, GeneratedIsChecked, GeneratedOutputs}
 use Rattle.syn_gen.proofs.Named.{has_signal, length-signals, signals_distinct}
 
 -- inputs, then outputs, are the names in order
@@ -100,3 +100,16 @@ costs_from (suc count) n state =
 
 pub generated_costs : GeneratedCosts
 generated_costs seed size = (ap length (sources_are seed size) ∙ length-signals 16, costs_from size 16 seed)
+
+so_many : (count n state : ℕ) → length (tables_from count n state) ≡ count
+so_many zero n state = refl
+so_many (suc count) n state = let rest = so_many count (suc n) (after_draws 4 state) in omega (arith, rest)
+
+pub generated_outputs : GeneratedOutputs
+generated_outputs seed size =
+    let read : List ℕ → Bool = has_word (flat_map inputs_of (generated_tables seed size)) in
+    let unread = length-filter (λ w. not (read w)) (map output_of (generated_tables seed size)) in
+    let few = count_by-le-length (λ w. not (read w)) (map output_of (generated_tables seed size)) in
+    let long = length-map (generated_tables seed size) output_of in
+    let many = so_many size 16 seed in
+    omega (arith, unread, few, long, many)

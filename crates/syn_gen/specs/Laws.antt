@@ -13,3 +13,7 @@ GeneratedIsChecked = (seed size : ℕ) → size < 2 ^ 31 → Ordered (generated 
 -- It has sixteen sources, and costs at most 28 for each table.
 abbrev pub GeneratedCosts : Type 0
 GeneratedCosts = (seed size : ℕ) → (length (sources (generated seed size).frame) ≡ 16) × (cost_of (generated seed size) ≤ 28 * size)
+
+-- It has no more outputs than tables.
+abbrev pub GeneratedOutputs : Type 0
+GeneratedOutputs = (seed size : ℕ) → length (generated seed size).frame.outputs ≤ size

@@ -8,4 +8,4 @@ mod naming;
 mod tables;
 
 pub use generating::generate;
-pub use laws::{generated_costs, generated_is_checked};
+pub use laws::{generated_costs, generated_is_checked, generated_outputs};

@@ -3,6 +3,7 @@ pub mod Alike
 pub mod Faults
 pub mod LineSizes
 pub mod Costs
+pub mod Outputs
 pub mod Flat
 pub mod Built
 pub mod Either

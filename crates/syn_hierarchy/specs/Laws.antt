@@ -1,5 +1,6 @@
 -- Laws of reading a file.
-use Rattle.std.specs.Prelude.{ℕ, ◌≡◌, ◌⊎◌, List}
+use Rattle.std.specs.Prelude.{ℕ, ◌≡◌, ◌⊎◌, ◌≤◌, List, length}
+use Rattle.syn_models.specs.FlatFaults.{most_words}
 use Rattle.syn_netlist.specs.Lists.{Netlist}
 use Rattle.syn_reader.specs.Reading as alone
 use Rattle.syn_hierarchy.specs.Faults.{Fault}
@@ -25,3 +26,7 @@ OneFault = (bytes : List ℕ) (f g : Fault) → IsFirstFault bytes f → IsFirst
 -- What reads as a file of one model, without subcircuits, reads as the same netlist where a file may have more.
 abbrev pub OneModelReads : Type 0
 OneModelReads = (bytes : List ℕ) (n : Netlist) → alone.Reads bytes n → Reads bytes n
+
+-- A netlist that is read within the limits has no more outputs than words may be read: each is a word of a line.
+abbrev pub FewOutputs : Type 0
+FewOutputs = (bytes : List ℕ) (n : Netlist) → Reads bytes n → Within bytes n → length n.frame.outputs ≤ most_words

@@ -1,6 +1,6 @@
 //! Laws of reading: each function has an empty body, and its clause is the law.
 
-ghost use Rattle.syn_hierarchy.specs.Laws.{EitherOr, NotBoth, OneFault, OneModelReads, OneNetlist};
+ghost use Rattle.syn_hierarchy.specs.Laws.{EitherOr, FewOutputs, NotBoth, OneFault, OneModelReads, OneNetlist};
 
 /// A file reads as at most one netlist.
 pub fn one_netlist()
@@ -25,4 +25,9 @@ pub fn one_fault()
 /// What reads as a file of one model reads as the same netlist where a file may have more.
 pub fn one_model_reads()
     ensures { OneModelReads }
+{}
+
+/// A netlist that is read within the limits has at most 16,777,216 outputs: each is a word of a line.
+pub fn few_outputs()
+    ensures { FewOutputs }
 {}

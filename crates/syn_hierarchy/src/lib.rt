@@ -12,5 +12,5 @@ mod laws;
 mod reading;
 
 pub use file_fault::FileFault;
-pub use laws::{either_or, not_both, one_fault, one_model_reads, one_netlist};
+pub use laws::{either_or, few_outputs, not_both, one_fault, one_model_reads, one_netlist};
 pub use reading::{read, read_checked};

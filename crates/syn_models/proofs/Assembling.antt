@@ -295,10 +295,10 @@ opens_main ms main first none acyclic = go first.others first.is
         let (tree, opens) = opened_without (models_in (main ∷ others)) (subst (λ (l : List code.Model). first_fault_of_models (models_in l) ≡ None) e none) (subst (λ (l : List code.Model). NoRecursion (models_in l)) e acyclic) in
         (tree, subst (λ (l : List code.Model). Opens (map model_in l) (model_in main).statements tree) (sym e) opens)
 
-pub room : (ms : List code.Model) (main : code.Model) (list : List met.Instance) (parts : List Part) (words : ℕ) → IsFirst ms main → IsWalked (map model_in ms) main list parts → Tells (models_in ms) words → words ≤ most_words → length main.names + inner_count list < 2 ^ 32
+pub room : (ms : List code.Model) (main : code.Model) (list : List met.Instance) (parts : List Part) (words : ℕ) → IsFirst ms main → IsWalked (map model_in ms) main list parts → Tells (models_in ms) words → words ≤ most_words → length main.names + inner_count list < 2 ^ 31
 room ms main list parts words first w tells few = go first.others first.is
   where
-    go : (others : List code.Model) → ms ≡ main ∷ others → length main.names + inner_count list < 2 ^ 32
+    go : (others : List code.Model) → ms ≡ main ∷ others → length main.names + inner_count list < 2 ^ 31
     go others e =
         let opens : Opens (map model_in (main ∷ others)) (model_in main).statements w.tree = subst (λ (l : List code.Model). Opens (map model_in l) (model_in main).statements w.tree) e w.opens in
         let is : words ≡ told (words_of (model_in main) w.tree) = subst (λ (l : List code.Model). Tells (models_in l) words) e tells w.tree opens in

@@ -21,11 +21,11 @@ pub record IsCalling (all : List (List ℕ)) (maps : List (List ℕ)) (main : co
   pub whole : homes ++ map inner_names rest ≡ homes_of main list
   pub at : length homes ≡ suc i
   pub wired : Wired homes rest
-  pub few : length all + inner_count rest < 2 ^ 32
+  pub few : length all + inner_count rest < 2 ^ 31
   pub maps_are : AreMaps (length all) homes maps
   pub spelled : (calls : ℕ → List ℕ → List ℕ) → calls 0 ≡ as_it_is → Calls calls (inner_name count) 1 (map entry_in list) → AreSpelled all homes calls maps × Calls calls (inner_name count) (suc i) (map entry_in rest)
 
-pub calling_begins : (all : List (List ℕ)) (maps : List (List ℕ)) (main : code.Model) (list : List met.Instance) (count : ℕ) → Wired (main.names ∷ []) list → length main.names + inner_count list < 2 ^ 32 → all ≡ main.names
+pub calling_begins : (all : List (List ℕ)) (maps : List (List ℕ)) (main : code.Model) (list : List met.Instance) (count : ℕ) → Wired (main.names ∷ []) list → length main.names + inner_count list < 2 ^ 31 → all ≡ main.names
     → AreMaps (length all) (main.names ∷ []) maps → ((calls : ℕ → List ℕ → List ℕ) → calls 0 ≡ as_it_is → AreSpelled all (main.names ∷ []) calls maps) → IsCalling all maps main list list count 0
 calling_begins all maps main list count w few e are s = record {
   grows = subst (Grows main.names) (sym e) (Grows-same main.names);
@@ -33,7 +33,7 @@ calling_begins all maps main list count w few e are s = record {
   whole = refl;
   at = refl;
   wired = w;
-  few = subst (λ (n : ℕ). n + inner_count list < 2 ^ 32) (sym (ap length e)) few;
+  few = subst (λ (n : ℕ). n + inner_count list < 2 ^ 31) (sym (ap length e)) few;
   maps_are = are;
   spelled = λ calls b g. (s calls b, g);
 }

@@ -2,16 +2,20 @@
 use Rattle.std.proofs.Common.{◌≡◌, ℕ, zero, suc, ◌+◌, ◌<◌, ◌≤◌, ◌||◌, not, Bool, true, false, List, [], ◌∷◌, ◌++◌, map, length, bytes_eq, refl, sym, ap, ◌∙◌, inl, inr, arith, length-append, append_assoc}
 use Rattle.std.specs.List.{list_any}
 use Rattle.std.specs.Int.Digits.{digits_of}
-use Rattle.std.proofs.lemmas.Bool.{and_right, or_from, cases_Bool, cases_eq, false_from_ne_true}
+use Rattle.std.proofs.lemmas.Bool.{and_parts, and_right, both_ways, or_cases, or_from, cases_Bool, cases_eq, false_from_ne_true}
+use Rattle.std.proofs.lemmas.Int.Digits.{length-digits_of_step}
+use Rattle.std.proofs.lemmas.List.{length-map}
 use Rattle.syn_netlist.specs.Words.{has_word}
 use Rattle.syn_netlist.proofs.Sets.{same_word}
 use Rattle.syn_models.specs.Models.{Bind, is_bound}
 use Rattle.syn_models.specs.Opening.{Opened, End, Plain, Instance, instances}
 use Rattle.syn_models.specs.Flattening.{slashes, digit_byte, inner_name, taken, clashes}
 use Rattle.syn_models.specs.Laws.{SlashesAreThere}
+use Rattle.syn_models.specs.ReadBack.{is_inner, taken_by}
+use Rattle.syn_models.specs.Walking.{Entry}
 
 -- the bytes of all names
-abbrev bytes_in : List (List ℕ) → ℕ
+abbrev pub bytes_in : List (List ℕ) → ℕ
 bytes_in [] = 0
 bytes_in (w ∷ ws) = length w + bytes_in ws
 
@@ -41,6 +45,36 @@ no_clash names count next (Instance c m inside rest) l =
     or_from (list_any (taken names (inner_name count next) c.binds) m.names) (clashes names (inner_name count) (suc next) inside || clashes names (inner_name count) (suc (next + instances inside)) rest)
     (none_taken names count next c.binds m.names l)
     (or_from (clashes names (inner_name count) (suc next) inside) (clashes names (inner_name count) (suc (next + instances inside)) rest) (no_clash names count (suc next) inside l) (no_clash names count (suc (next + instances inside)) rest l))
+
+-- an inner name that is used is longer than its slashes, and so are all names together
+
+long_by_number : (count k : ℕ) (x : List ℕ) → 1 ≤ k → count + 1 ≤ length (inner_name count k x)
+long_by_number count k x some =
+    omega (arith, length-append (map digit_byte (digits_of 10 k)) (slashes count ++ x), length-append (slashes count) x, length-slashes count, length-map (digits_of 10 k) digit_byte, length-digits_of_step 10 k (omega arith) some)
+
+inner_long : (count k : ℕ) (binds : List Bind) (word : List ℕ) (names : List (List ℕ)) → 1 ≤ k → list_any (is_inner (inner_name count k) binds word) names ≡ true → count + 1 ≤ length word
+inner_long count k binds word [] some h = absurd (both_ways false refl h)
+inner_long count k binds word (x ∷ xs) some h = elim (or_cases (is_inner (inner_name count k) binds word x) (list_any (is_inner (inner_name count k) binds word) xs) h) [
+  | inl here ↦
+      let same = ap length (same_word word (inner_name count k x) (and_parts (not (is_bound binds x)) (bytes_eq word (inner_name count k x)) here).1) in
+      let long = long_by_number count k x some in
+      omega (arith, same, long)
+  | inr there ↦ inner_long count k binds word xs some there
+]
+
+pub taken_long : (count next : ℕ) (list : List Entry) (word : List ℕ) → 1 ≤ next → taken_by (inner_name count) next list word ≡ true → count + 1 ≤ length word
+taken_long count next [] word some h = absurd (both_ways false refl h)
+taken_long count next (e ∷ es) word some h = elim (or_cases (list_any (is_inner (inner_name count next) e.binds word) e.inside.names) (taken_by (inner_name count) (suc next) es word) h) [
+  | inl here ↦ inner_long count next e.binds word e.inside.names some here
+  | inr there ↦ taken_long count (suc next) es word (omega arith) there
+]
+
+pub any_taken_long : (count : ℕ) (list : List Entry) (names : List (List ℕ)) → list_any (taken_by (inner_name count) 1 list) names ≡ true → count ≤ bytes_in names
+any_taken_long count list [] h = absurd (both_ways false refl h)
+any_taken_long count list (w ∷ ws) h = elim (or_cases (taken_by (inner_name count) 1 list w) (list_any (taken_by (inner_name count) 1 list) ws) h) [
+  | inl here ↦ let long = taken_long count 1 list w (omega arith) here in omega (arith, long)
+  | inr there ↦ let long = any_taken_long count list ws there in omega (arith, long)
+]
 
 -- the first number, from one on, that doesn't pass
 first_failing : (test : ℕ → Bool) (low fuel : ℕ) → 1 ≤ low → test (low + fuel) ≡ false → ((j : ℕ) → 1 ≤ j → j < low → test j ≡ true)

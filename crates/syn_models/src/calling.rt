@@ -66,7 +66,8 @@ pub(crate) fn call_names(
     count: usize,
 ) -> Result<Called, AllocError>
     requires wired { Wired (main.now.names ∷ []) instances.now }
-    requires few { length main.now.names + inner_count instances.now < 2 ^ 32 }
+    requires few { length main.now.names + inner_count instances.now < 2 ^ 31 }
+    ensures few { IfOk result (λ r. length r.names < 2 ^ 31) }
     ensures grows { IfOk result (λ r. Grows main.now.names r.names) }
     ensures maps { IfOk result (λ r. AreMaps (length r.names) (homes_of main.now instances.now) r.maps.items) }
     ensures each { IfOk result (λ r. (calls : ℕ → List ℕ → List ℕ) → calls 0 ≡ as_it_is → Calls calls (inner_name count) 1 (map entry_in instances.now) → AreSpelled r.names (homes_of main.now instances.now) calls r.maps.items) }

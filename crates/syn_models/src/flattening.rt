@@ -72,9 +72,10 @@ fn flat_netlist(
 ) -> Result<Netlist, AllocError>
     requires first { IsFirst models.now main.now }
     requires walked { IsWalked (map model_in models.now) main.now walked.now.instances.items walked.now.parts.items }
-    requires few { length main.now.names + inner_count walked.now.instances.items < 2 ^ 32 }
+    requires few { length main.now.names + inner_count walked.now.instances.items < 2 ^ 31 }
     requires none { first_fault_of_models (models_in models.now) ≡ None }
-    ensures { IfOk result (λ n. IsFlattening (models_in models.now) (netlist_in n)) }
+    ensures flattening { IfOk result (λ n. IsFlattening (models_in models.now) (netlist_in n)) }
+    ensures names { IfOk result (λ n. length n.frame.names < 2 ^ 31) }
 {
     let instances = walked.instances.as_slice();
     let parts = walked.parts.as_slice();
@@ -98,6 +99,7 @@ fn flat_netlist(
 pub fn flatten(models: &Models, alloc: Global) -> Result<Netlist, FlatFault>
     ensures netlist { IfOk result (λ n. Flattens (models_in models.now.models) (netlist_in n)) }
     ensures within { OnOk result (WithinWords (models_in models.now.models)) }
+    ensures names { IfOk result (λ n. length n.frame.names < 2 ^ 31) }
     ensures fault { IfErr result (IsFlatFault (models_in models.now.models)) }
 {
     let file = file_of(alloc, models.models.as_slice())?;

@@ -1,6 +1,6 @@
 //! How many slashes inner names have: the fewest for which none is a name of the main model.
 
-ghost use Rattle.std.specs.Prelude.{◌≡◌, ◌≤◌, ◌&&◌, map, not, drop, IfOk};
+ghost use Rattle.std.specs.Prelude.{◌≡◌, ◌+◌, ◌<◌, ◌≤◌, ◌^◌, ◌&&◌, true, map, not, drop, IfOk};
 ghost use Rattle.std.specs.List.{list_any};
 ghost use Rattle.syn_models.specs.Calling.{IsFewest};
 ghost use Rattle.syn_models.specs.FlatFaults.{told};
@@ -104,7 +104,8 @@ fn any_taken(
     count: usize,
 ) -> Result<bool, AllocError>
     requires { 1 ≤ count }
-    ensures { IfOk result (λ taken. taken ≡ list_any (taken_by (inner_name count) 1 (map entry_in instances.now)) names.now) }
+    ensures taken { IfOk result (λ taken. taken ≡ list_any (taken_by (inner_name count) 1 (map entry_in instances.now)) names.now) }
+    ensures few { IfOk result (λ taken. taken ≡ true → count + 1 < 2 ^ 64) }
 {
     for i in 0..names.len() {
         if is_taken(alloc, instances, count, names.word(i))? {
@@ -123,11 +124,10 @@ pub(crate) fn slash_count(
 ) -> Result<usize, AllocError>
     ensures { IfOk result (IsFewest names.now (map entry_in instances.now)) }
 {
-    // There is no memory for a name with more slashes.
-    for count in 1..usize::MAX {
-        if !any_taken(alloc, names, instances, count)? {
-            return Ok(count);
-        }
+    // A name that is taken is longer than its slashes.
+    let mut count = 1;
+    while any_taken(alloc, names, instances, count)? {
+        count += 1;
     }
-    Err(AllocError)
+    Ok(count)
 }

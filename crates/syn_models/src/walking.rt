@@ -1,6 +1,6 @@
 //! A walk through all instances, with a stack of its own.
 
-ghost use Rattle.std.specs.Prelude.{◌≡◌, ◌≢◌, ◌++◌, ◌∷◌, [], length, true, IfOk, None, OnOk, Some};
+ghost use Rattle.std.specs.Prelude.{◌≡◌, ◌≢◌, ◌+◌, ◌*◌, ◌++◌, ◌∷◌, [], length, true, IfOk, None, OnOk, Some};
 ghost use Rattle.syn_models.specs.Called.{actuals_below};
 ghost use Rattle.syn_models.specs.Files.{IsFile, all_in};
 ghost use Rattle.syn_models.specs.Kept.{numbers_in};
@@ -51,7 +51,8 @@ fn met_part<'a>(place: Place<'a>, kind: &'a StatementKind) -> Part<'a>
     Part { place, kind }
 }
 
-// A turn of the walk: the highest level ends, or goes on by one statement.
+// A turn of the walk: the highest level ends, or goes on by one statement. The statements and twice the instances that were
+// met, less the levels, are one more, so memory bounds the turns.
 fn turn<'a>(
     file: &File<'a>,
     level: Level<'a>,
@@ -62,6 +63,7 @@ fn turn<'a>(
     requires walk { IsWalk (all_in file.now) walked.old.main.now walked.old.instances.items walked.old.parts.items (levels.old.items ++ level ∷ []) }
     ensures main { walked.new.main.now ≡ walked.old.main.now }
     ensures walk { OnOk result (IsWalk (all_in file.now) walked.new.main.now walked.new.instances.items walked.new.parts.items levels.new.items) }
+    ensures turns { OnOk result (length walked.new.parts.items + 2 * length walked.new.instances.items + length levels.old.items ≡ length walked.old.parts.items + 2 * length walked.old.instances.items + length levels.new.items) }
 {
     let place = level.place;
     let statements = place.home.statements.as_slice();
@@ -119,12 +121,8 @@ pub(crate) fn walk<'a>(
         },
         at: 0,
     })?;
-    // More turns than this need more memory than there is.
-    for _ in 0..u64::MAX {
-        match levels.pop() {
-            Some(level) => turn(file, level, &mut walked, &mut levels)?,
-            None => return Ok(walked),
-        }
+    while let Some(level) = levels.pop() {
+        turn(file, level, &mut walked, &mut levels)?;
     }
-    Err(AllocError)
+    Ok(walked)
 }

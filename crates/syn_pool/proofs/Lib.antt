@@ -1,6 +1,5 @@
-pub mod Maps
-pub mod Gathered
-pub mod Firsts
+mod Sums
+mod Works
+mod Leaving
+mod Numbers
 mod Chains
-pub mod Savings
-mod Borrowed

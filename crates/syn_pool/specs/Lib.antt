@@ -1,6 +1,6 @@
-pub mod Sound
+pub mod Keys
+pub mod Reports
+pub mod Scenes
+pub mod Working
 pub mod Closing
-pub mod Leftovers
-pub mod Following
-pub mod Gains
-pub mod Laws
+pub mod Steps

@@ -1,18 +1,33 @@
-//! Proposers, and the check of a graph: that no proposal saves anything, or what those that save make of it.
+//! The pass of a proposer over a graph, until no proposal of it saves anything.
+//!
+//! A pass is steps: a round of workers that commit, then the check of the graph that they leave. A round puts the graph on a
+//! shared table. Each worker has a thread, a seat and spare nodes there, visits nodes, and commits the proposals that are
+//! worth it; when all seats are joined again, the table is closed, and its rows are compacted.
+//!
+//! Looks at a table as it stands (the cuts of a node, their functions, what goes with the node) are guesses, since rows may
+//! change while they are read. Nothing rests on them: a commit judges each proposal again.
 #![tactic(auto)]
 
-mod applying;
-mod checking;
-mod choosing;
-mod gains;
-mod laws;
-mod proposing;
-mod turns;
+mod candidates;
+mod closing;
+mod cuts;
+mod fan_outs;
+mod following;
+mod freed;
+mod functions;
+mod keeping;
+mod looking;
+mod opening;
+mod passing;
+mod queues;
+mod rounds;
+mod scene;
+mod sharing;
+mod steps;
+mod sweeping;
+mod trying;
+mod weighing;
+mod working;
 
-pub use applying::{is_smaller, smaller};
-pub use checking::leftovers;
-pub use gains::{Improved, Report};
-pub use laws::{closed_saves_nothing, first_of_parts};
-pub use proposing::{Proposer, saves, saves_bounded};
-pub use syn_gain::owned;
-pub use turns::Turns;
+pub use keeping::improve_keeping_levels;
+pub use passing::{improve, pass};

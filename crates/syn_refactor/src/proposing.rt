@@ -4,7 +4,7 @@ ghost use Rattle.std.specs.Prelude.{◌≡◌, ◌∷◌, [], true, IfOk, ⊤};
 ghost use Rattle.syn_rows.specs.Rows.{row_at};
 ghost use Rattle.syn_rows.specs.Reach.{is_and};
 ghost use Rattle.syn_gain.specs.Proposals.{replacement};
-ghost use Rattle.syn_pool.specs.Sound.{IsSound};
+ghost use Rattle.syn_proposals.specs.Sound.{IsSound};
 ghost use Rattle.syn_refactor.specs.Refactoring.{refactorings};
 
 use std::alloc::{AllocError, Global};
@@ -14,7 +14,7 @@ use syn_gain::{Proposal, Uses};
 use syn_graph::Graph;
 use syn_growing::{cone_leaves, may_save};
 use syn_plan::factor;
-use syn_pool::{Proposer, saves};
+use syn_proposals::{Proposer, saves};
 
 /// Proposes for each AND the factored plan of its function over the leaves of its cone.
 #[derive(Clone, Copy, Debug)]

@@ -53,6 +53,23 @@ index_before leaves inner n j rise there less = elim (cases_Bool (has_node leave
     in_inner : has_node leaves n ≡ false → has_node inner n ≡ true
     in_inner never = elim (or_cases (has_node leaves n) (has_node inner n) there) [ inl leaf ↦ absurd (both_ways (has_node leaves n) never leaf) | inr t ↦ t ]
 
+-- a node below an inner one is a leaf or stands before it
+pub there_before : (rows : List Row) (leaves before : List ℕ) (n : ℕ) (after : List ℕ) → AreInner rows leaves (before ++ n ∷ after) → (m : ℕ) → is_there leaves (before ++ n ∷ after) m ≡ true → m < n → is_there leaves before m ≡ true
+there_before rows leaves before n after are m h less = elim (or_cases (has_node leaves m) (has_node (before ++ n ∷ after) m) h) [
+  | inl leaf ↦ or_left (has_node leaves m) (has_node before m) leaf
+  | inr inside ↦ or_right (has_node leaves m) (has_node before m) (elim (has_cases before (n ∷ after) m inside) [
+    | inl old ↦ old
+    | inr new ↦ absurd (let le = first_after before n after m are.rise new in omega (arith, le, less))
+  ])
+]
+  where
+    first_after : (ms : List ℕ) (n : ℕ) (ns : List ℕ) (m : ℕ) → rises (ms ++ n ∷ ns) ≡ true → has_node (n ∷ ns) m ≡ true → n ≤ m
+    first_after [] n ns m rise h = elim (or_cases (nat_eq n m) (has_node ns m) h) [
+      | inl e ↦ let same = same_node n m e in omega (arith, same)
+      | inr t ↦ let lt = ltb-true n m (all_in (nat_lt n) ns m (and_parts (list_all (nat_lt n) ns) (rises ns) rise).0 t) in omega (arith, lt)
+    ]
+    first_after (k ∷ ks) n ns m rise h = first_after ks n ns m (and_parts (list_all (nat_lt k) (ks ++ n ∷ ns)) (rises (ks ++ n ∷ ns)) rise).1 h
+
 -- values
 
 module _ (rows : List Row) (leaves : List ℕ) (xs : List Bool) (order : InOrder rows) (long : length xs ≡ length leaves) where
@@ -100,8 +117,8 @@ module _ (rows : List Row) (leaves : List ℕ) (xs : List Bool) (order : InOrder
   gates_from before (n ∷ after) are within low =
       let (a, b, is, first, second) = are.join n here in
       let small = fan_ins_below rows n a b order is in
-      let before_a = there_before (node_of a) first small.0 in
-      let before_b = there_before (node_of b) second small.1 in
+      let before_a = there_before rows leaves before n after are (node_of a) first small.0 in
+      let before_b = there_before rows leaves before n after are (node_of b) second small.1 in
       let gate_is : gate_of leaves (before ++ n ∷ after) (row_at rows n) ≡ (lit_in leaves (before ++ n ∷ after) a, lit_in leaves (before ++ n ∷ after) b) = ap (gate_of leaves (before ++ n ∷ after)) is in
       let value : (literal_value (values before) (gate_of leaves (before ++ n ∷ after) (row_at rows n)).0 && literal_value (values before) (gate_of leaves (before ++ n ∷ after) (row_at rows n)).1) ≡ v n =
       ap (λ (g : PLit × PLit). literal_value (values before) g.0 && literal_value (values before) g.1) gate_is
@@ -116,22 +133,6 @@ module _ (rows : List Row) (leaves : List ℕ) (xs : List Bool) (order : InOrder
     where
       here : has_node (before ++ n ∷ after) n ≡ true
       here = has_right before (n ∷ after) n (has_here n after)
-
-      there_before : (m : ℕ) → is_there leaves (before ++ n ∷ after) m ≡ true → m < n → is_there leaves before m ≡ true
-      there_before m h less = elim (or_cases (has_node leaves m) (has_node (before ++ n ∷ after) m) h) [
-        | inl leaf ↦ or_left (has_node leaves m) (has_node before m) leaf
-        | inr inside ↦ or_right (has_node leaves m) (has_node before m) (elim (has_cases before (n ∷ after) m inside) [
-          | inl old ↦ old
-          | inr new ↦ absurd (let le = first_after before n after m are.rise new in omega (arith, le, less))
-        ])
-      ]
-        where
-          first_after : (ms : List ℕ) (n : ℕ) (ns : List ℕ) (m : ℕ) → rises (ms ++ n ∷ ns) ≡ true → has_node (n ∷ ns) m ≡ true → n ≤ m
-          first_after [] n ns m rise h = elim (or_cases (nat_eq n m) (has_node ns m) h) [
-            | inl e ↦ let same = same_node n m e in omega (arith, same)
-            | inr t ↦ let lt = ltb-true n m (all_in (nat_lt n) ns m (and_parts (list_all (nat_lt n) ns) (rises ns) rise).0 t) in omega (arith, lt)
-          ]
-          first_after (k ∷ ks) n ns m rise h = first_after ks n ns m (and_parts (list_all (nat_lt k) (ks ++ n ∷ ns)) (rises (ks ++ n ∷ ns)) rise).1 h
 
   pub gates_have : (inner : List ℕ) → AreInner rows leaves inner → ((m : ℕ) → has_node inner m ≡ true → m < length rows) → ((m : ℕ) → has_node leaves m ≡ true → m < length rows)
       → values_after (false ∷ xs) (gates_of rows leaves inner) ≡ values inner

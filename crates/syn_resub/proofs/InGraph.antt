@@ -1,6 +1,9 @@
 -- The rows of a graph as divisors want them.
 use Rattle.std.proofs.Common.{◌≡◌, ℕ, ◌<◌, true, length, get_or, refl, sym, ap, subst, arith}
+use Rattle.syn_rows.specs.declared.Lit.{Lit}
+use Rattle.syn_rows.specs.declared.Row.TheVariants.{And}
 use Rattle.syn_rows.specs.Reach.{is_and}
+use Rattle.syn_rows.specs.Rows.{row_at}
 use Rattle.syn_rows.proofs.Nodes.{has_at}
 use Rattle.syn_hashed.specs.Hashed.{IsHashed, is_gate}
 use Rattle.syn_hashed.proofs.Dropped.{gate_parts}
@@ -15,13 +18,14 @@ use Rattle.syn_resub.specs.Laws.{AreDivisors}
 use Rattle.syn_resub.proofs.Dividing.{divisors_are}
 use Rattle.syn_resub.proofs.Scanned.{FirstIsSmaller}
 
-pub first_is_smaller : (graph : Graph) → FirstIsSmaller graph.rows
-first_is_smaller graph n a b is =
+pub is_gate_at : (graph : Graph) (n : ℕ) (a b : Lit) → row_at graph.rows n ≡ And a b → is_gate n (And a b) ≡ true
+is_gate_at graph n a b is =
     let hashed : IsHashed (length (sources (frame_in graph.frame))) graph.rows = graph.graph.hashed in
     let inside = and_inside (length (sources (frame_in graph.frame))) graph.rows hashed n (ap is_and is) in
-    let gate = gate_parts n a b (subst (λ row. is_gate n row ≡ true) is (hashed.gates n inside.0 inside.1)) in
-    let rising = gate.rising in
-    omega (arith, rising)
+    subst (λ row. is_gate n row ≡ true) is (hashed.gates n inside.0 inside.1)
+
+pub first_is_smaller : (graph : Graph) → FirstIsSmaller graph.rows
+first_is_smaller graph n a b is = let rising = (gate_parts n a b (is_gate_at graph n a b is)).rising in omega (arith, rising)
 
 pub are_divisors : (graph : Graph) (node : ℕ) (d : Divided) → AreDivided graph.rows node d → AreDivisors graph.rows d.leaves.items node d.nodes.items
 are_divisors graph node d divided = subst (AreDivisors graph.rows d.leaves.items node) (sym divided.nodes) (divisors_are graph.rows d.leaves.items node (in_order graph))

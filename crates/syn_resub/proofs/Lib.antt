@@ -11,3 +11,5 @@ pub mod Made
 pub mod Planned
 pub mod Tabled
 pub mod Proposed
+pub mod Joined
+pub mod Saving

@@ -1,7 +1,10 @@
 -- A form's plan is a sound proposal.
-use Rattle.std.proofs.Common.{◌≡◌, ℕ, ◌+◌, ◌<◌, true, false, List, [], ◌∷◌, ◌++◌, get_or, length, map, take, sym, ap, ap₂, ◌∙◌, subst, arith}
+use Rattle.std.proofs.Common.{◌≡◌, ℕ, ◌+◌, ◌<◌, true, false, All, List, [], ◌∷◌, ◌++◌, get_or, length, map, take, sym, ap, ap₂, ◌∙◌, subst, arith}
 use Rattle.std.proofs.lemmas.List.{map-append, take_more}
+use Rattle.std.proofs.lemmas.List.Elements.{All-map}
 use Rattle.std.specs.Bool.{beq}
+use Rattle.std.specs.List.{AllWithin, HoldsAt}
+use Rattle.syn_rows.specs.declared.Lit.{Lit}
 use Rattle.syn_rows.specs.declared.Row.{Row}
 use Rattle.syn_rows.specs.Values.{value_in}
 use Rattle.syn_graph.specs.declared.Graph.{Graph}
@@ -18,13 +21,15 @@ use Rattle.syn_gain.specs.Proposals.{replacement}
 use Rattle.syn_gain.specs.Replacements.{Replacement}
 use Rattle.syn_growing.specs.Plans.{over}
 use Rattle.syn_growing.proofs.InGraphs.{and_there, in_order}
+use Rattle.syn_proposals.specs.Closing.{IsFirst, SavesNothing, SavesSome}
+use Rattle.syn_proposals.proofs.Firsts.{first_is}
 use Rattle.syn_resub.specs.declared.divided.Divided.{Divided}
 use Rattle.syn_resub.specs.declared.forms.Form.{Form}
 use Rattle.syn_resub.specs.Divided.{AreDivided}
 use Rattle.syn_resub.specs.Divisors.{divisors}
 use Rattle.syn_resub.specs.Forms.{form_value, found_forms, stands_for}
 use Rattle.syn_resub.specs.Needed.{IsMadeOf}
-use Rattle.syn_resub.specs.Resubstitution.{plan_for}
+use Rattle.syn_resub.specs.Resubstitution.{plan_for, resubstitutions, resubstitutions_over}
 use Rattle.syn_resub.proofs.Gated.{plan_has}
 use Rattle.syn_resub.proofs.InGraph.{are_divisors}
 use Rattle.syn_resub.proofs.Made.{found_are_made, found_stand}
@@ -69,3 +74,23 @@ pub proposals_more : (f : Form → Replacement) (fs : List Form) (i : ℕ) (form
 proposals_more f fs i form old new p lt at is one before =
     ap (map replacement) is ∙ map-append replacement old (p ∷ []) ∙ ap₂ (λ (rs : List Replacement) r. rs ++ r ∷ []) before (one ∙ ap f at)
     ∙ sym (map-append f (take i fs) (get_or fs i form ∷ [])) ∙ ap (map f) (sym (take_more fs i form lt))
+
+-- the first form that saves is the first proposal that does
+pub first_form : (rows : List Row) (observed : List Lit) (node : ℕ) (d : Divided) (fs : List Form) (i : ℕ) (form : Form) (p : Proposal) → AreDivided rows node d → fs ≡ found_forms rows d.leaves.items node → i < length fs → form ≡ get_or fs i form
+    → replacement p ≡ over node d.leaves.items (plan_for rows d.leaves.items node form) → HoldsAt (λ x. SavesSome rows observed (over node d.leaves.items (plan_for rows d.leaves.items node x))) fs i
+    → AllWithin (λ x. SavesNothing rows observed (over node d.leaves.items (plan_for rows d.leaves.items node x))) fs 0 i → IsFirst rows observed (resubstitutions rows node) (replacement p)
+first_form rows observed node d fs i form p divided same lt at is some nothing =
+    subst (λ ls. IsFirst rows observed (resubstitutions_over rows ls node) (replacement p)) divided.leaves
+    (subst (IsFirst rows observed (resubstitutions_over rows d.leaves.items node)) (sym is)
+    (subst (λ (xs : List Form). IsFirst rows observed (map f xs) (f form)) same (first_is rows observed f fs i form lt at (subst (λ x. SavesSome rows observed (f x)) (sym at) (some form)) nothing)))
+  where
+    f : Form → Replacement
+    f x = over node d.leaves.items (plan_for rows d.leaves.items node x)
+
+-- where no form saves, no proposal does
+pub no_form : (rows : List Row) (observed : List Lit) (node : ℕ) (d : Divided) (fs : List Form) → AreDivided rows node d → fs ≡ found_forms rows d.leaves.items node
+    → All (λ x. SavesNothing rows observed (over node d.leaves.items (plan_for rows d.leaves.items node x))) fs → All (SavesNothing rows observed) (resubstitutions rows node)
+no_form rows observed node d fs divided same all =
+    subst (λ ls. All (SavesNothing rows observed) (resubstitutions_over rows ls node)) divided.leaves
+    (All-map (SavesNothing rows observed) (λ x. over node d.leaves.items (plan_for rows d.leaves.items node x)) (found_forms rows d.leaves.items node)
+    (subst (All (λ x. SavesNothing rows observed (over node d.leaves.items (plan_for rows d.leaves.items node x)))) same all))

@@ -7,3 +7,4 @@ pub mod Scanning
 pub mod Divided
 pub mod Sides
 pub mod Needed
+pub mod Placing

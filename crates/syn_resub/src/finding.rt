@@ -82,13 +82,42 @@ fn push_divisors(graph: &Graph, node: u32, divided: &Divided, found: &mut Found)
 }
 
 // Both.
+#[inline]
 fn both(first: bool, second: bool) -> bool
     ensures { result ≡ (first && second) }
 {
     first && second
 }
 
-// The AND of two literals, and its complement.
+// The AND of two literals, where both are implied, and its complement, where both are so by the complement.
+fn push_implied(
+    graph: &Graph,
+    node: u32,
+    divided: &Divided,
+    first: &Side,
+    second: &Side,
+    plain: bool,
+    complemented: bool,
+    found: &mut Found,
+)
+    requires divided { AreDivided graph.now.rows node divided.now }
+    requires few { length found.old.items ≤ 16 }
+    requires first { IsSide graph.now.rows divided.now.leaves.items node first.now }
+    requires second { IsSide graph.now.rows divided.now.leaves.items node second.now }
+    requires plain { plain ≡ (first.now.above && second.now.above) }
+    requires complemented { complemented ≡ (first.now.above_not && second.now.above_not) }
+    ensures few { length found.new.items ≤ 16 }
+    ensures found { found.new.items ≡ take 16 (found.old.items ++ filter (stands_for graph.now.rows divided.now.leaves.items node) (ands_of first.now.lit second.now.lit)) }
+{
+    let table = first.table.and(second.table);
+    let plain = stands(plain, table, divided.table);
+    push_form(found, Form::Both(first.lit, second.lit, false), plain);
+    let complemented = stands(complemented, table.not(), divided.table);
+    push_form(found, Form::Both(first.lit, second.lit, true), complemented);
+}
+
+// The AND of two literals, and its complement. Most pairs end at the test of what is implied.
+#[inline]
 fn push_ands_of(
     graph: &Graph,
     node: u32,
@@ -107,11 +136,16 @@ fn push_ands_of(
     let plain = both(first.above, second.above);
     let complemented = both(first.above_not, second.above_not);
     if plain || complemented {
-        let table = first.table.and(second.table);
-        let plain = stands(plain, table, divided.table);
-        push_form(found, Form::Both(first.lit, second.lit, false), plain);
-        let complemented = stands(complemented, table.not(), divided.table);
-        push_form(found, Form::Both(first.lit, second.lit, true), complemented);
+        push_implied(
+            graph,
+            node,
+            divided,
+            first,
+            second,
+            plain,
+            complemented,
+            found,
+        );
     }
 }
 

@@ -12,6 +12,7 @@ mod finding;
 mod forms;
 mod laws;
 mod nodes;
+mod placing;
 mod plans;
 mod proposing;
 mod resubstituting;

@@ -6,7 +6,7 @@ ghost use Rattle.syn_rows.specs.Rows.{row_at};
 ghost use Rattle.syn_gain.specs.Proposals.{replacement};
 ghost use Rattle.syn_gain.specs.Uses.{IsUsesOf};
 ghost use Rattle.syn_growing.specs.Plans.{over};
-ghost use Rattle.syn_pool.specs.Sound.{IsSound};
+ghost use Rattle.syn_proposals.specs.Sound.{IsSound};
 ghost use Rattle.syn_resub.specs.Divided.{AreDivided};
 ghost use Rattle.syn_resub.specs.FanOuts.{AreFanOuts};
 ghost use Rattle.syn_resub.specs.Forms.{stands_for};
@@ -15,14 +15,15 @@ ghost use Rattle.syn_resub.specs.Resubstitution.{plan_for, resubstitutions};
 
 use crate::divided::{Divided, divide};
 use crate::finding::found_forms;
+use crate::placing::{MOST_MADE, form_at, makes_row, place_of_first};
 use crate::plans::plan_for;
 use crate::{FanOuts, Form};
 use std::alloc::{AllocError, Global};
 use std::thread::Threads;
-use syn_gain::{Proposal, Uses};
+use syn_gain::{Proposal, Uses, lost_but};
 use syn_graph::Graph;
-use syn_growing::{Leaves, may_save};
-use syn_pool::Proposer;
+use syn_growing::Leaves;
+use syn_proposals::Proposer;
 use syn_rows::Row;
 
 /// Proposes for each AND the forms that stand for it over the leaves of its cone.
@@ -56,14 +57,6 @@ fn proposal(graph: &Graph, node: u32, divided: &Divided, form: Form) -> Proposal
     Proposal::over(node, copied(divided.leaves.as_slice()), plan)
 }
 
-// The form at a place.
-fn form_at(forms: &[Form], place: usize) -> Form
-    requires { place < length forms.now }
-    ensures { result ≡ slice_index_or forms.now place result }
-{
-    forms[place]
-}
-
 // Whether a form is the AND's own row.
 fn is_own(graph: &Graph, node: u32, form: Form) -> bool
     requires { is_and (row_at graph.now.rows node) ≡ true }
@@ -74,15 +67,25 @@ fn is_own(graph: &Graph, node: u32, form: Form) -> bool
     }
 }
 
+// Whether a form is worth a commit: it isn't the AND's own row, and where a new row doesn't pay, it makes none.
+fn may_save(graph: &Graph, uses: &Uses, node: u32, form: Form, row_pays: bool) -> bool
+    requires uses { IsUsesOf uses.now graph.now }
+    requires gate { is_and (row_at graph.now.rows node) ≡ true }
+{
+    if is_own(graph, node, form) {
+        return false;
+    }
+    row_pays || !makes_row(graph, uses, form)
+}
+
 // Adds a form's proposal, where it may save.
 fn push_promising(
-    alloc: Global,
     graph: &Graph,
     uses: &Uses,
     node: u32,
     divided: &Divided,
     form: Form,
-    zero_gain: bool,
+    row_pays: bool,
     proposals: &mut Vec<Proposal>,
 ) -> Result<(), AllocError>
     requires uses { IsUsesOf uses.now graph.now }
@@ -93,12 +96,8 @@ fn push_promising(
     requires roots { All (λ p. p.root ≡ node) proposals.old.items }
     ensures roots { OnOk result (All (λ p. p.root ≡ node) proposals.new.items) }
 {
-    if is_own(graph, node, form) {
-        return Ok(());
-    }
-    let proposal = proposal(graph, node, divided, form);
-    if may_save(alloc, graph, uses, &proposal, zero_gain)? {
-        proposals.push(proposal)?;
+    if may_save(graph, uses, node, form, row_pays) {
+        proposals.push(proposal(graph, node, divided, form))?;
     }
     Ok(())
 }
@@ -137,6 +136,26 @@ impl Proposer for Divisors {
         Ok(proposals)
     }
 
+    fn first_saving(
+        &self,
+        alloc: Global,
+        graph: &Graph,
+        uses: &Uses,
+        lists: &FanOuts,
+        node: u32,
+    ) -> Result<Option<Proposal>, AllocError> {
+        let divided = divide(alloc, graph, lists, node)?;
+        let forms = found_forms(graph, node, &divided);
+        let all = forms.as_slice();
+        match place_of_first(alloc, graph, uses, node, &divided, all)? {
+            Some(place) => {
+                let form = form_at(all, place);
+                Ok(Some(proposal(graph, node, &divided, form)))
+            }
+            None => Ok(None),
+        }
+    }
+
     fn promising(
         &self,
         alloc: Global,
@@ -148,19 +167,13 @@ impl Proposer for Divisors {
     ) -> Result<Vec<Proposal>, AllocError> {
         let divided = divide(alloc, graph, lists, node)?;
         let forms = found_forms(graph, node, &divided);
+        let leaves = divided.leaves.as_slice();
+        let lost = lost_but(alloc, graph, uses, node, leaves, MOST_MADE)?;
+        let row_pays = zero_gain || lost > MOST_MADE;
         let mut proposals = Vec::new(alloc);
         for place in 0..forms.len() {
             let form = form_at(forms.as_slice(), place);
-            push_promising(
-                alloc,
-                graph,
-                uses,
-                node,
-                &divided,
-                form,
-                zero_gain,
-                &mut proposals,
-            )?;
+            push_promising(graph, uses, node, &divided, form, row_pays, &mut proposals)?;
         }
         Ok(proposals)
     }

@@ -3,7 +3,7 @@
 ghost use Rattle.std.specs.Prelude.{◌≡◌, ◌≤◌, Bool, List, IfErr, IfOk, length};
 ghost use Rattle.syn_rows.specs.Values.{rows_function};
 ghost use Rattle.syn_netlist.specs.Frames.{frame_in};
-ghost use Rattle.syn_pool.specs.Closing.{Closed};
+ghost use Rattle.syn_proposals.specs.Closing.{Closed};
 ghost use Rattle.syn_resub.specs.Resubstitution.{resubstitutions};
 
 use crate::Divisors;
@@ -11,7 +11,7 @@ use std::alloc::{AllocError, Global};
 use std::thread::Threads;
 use syn_commit::Gate;
 use syn_graph::Graph;
-use syn_pass::pass;
+use syn_pool::improve;
 
 /// Resubstitutes in a graph until no proposal of resubstitution for any of its ANDs saves: the same frame, the same values of
 /// the observed signals, and no more ANDs. Up to `workers` threads commit proposals, and look at proposals again: with one the
@@ -32,8 +32,5 @@ pub fn resub<R: Threads + Sync, G: Gate>(
     ensures closed { IfOk result (λ g. Closed g.rows g.observed (resubstitutions g.rows)) }
     ensures refused { IfErr result (λ e. e.0 ≡ graph) }
 {
-    match pass(rt, alloc, graph, &Divisors, workers, zero, gate) {
-        Ok((made, _report)) => Ok(made),
-        Err(refused) => Err(refused),
-    }
+    improve(rt, alloc, graph, &Divisors, workers, zero, gate)
 }

@@ -22,11 +22,11 @@ use Rattle.syn_gain.specs.Proposals.{replacement}
 use Rattle.syn_gain.specs.Replacements.{Replacement}
 use Rattle.syn_gain.proofs.Owning.{and_inside}
 use Rattle.syn_apply.specs.Sound.{IsSoundBy}
-use Rattle.syn_pool.specs.Sound.{IsSound}
+use Rattle.syn_proposals.specs.Sound.{IsSound}
 use Rattle.syn_rewrite.specs.Functions.{IsFunctionOver, cut_function}
 use Rattle.syn_cuts.specs.Leaves.{leaves as leaves_in, leaves_of}
-use Rattle.syn_pool.specs.Closing.{IsFirst, SavesNothing}
-use Rattle.syn_pool.proofs.Savings.{first_of_parts}
+use Rattle.syn_proposals.specs.Closing.{IsFirst, SavesNothing}
+use Rattle.syn_proposals.proofs.Savings.{first_of_parts}
 use Rattle.syn_rewrite.specs.declared.prepared.Prepared.{Prepared}
 use Rattle.syn_rewrite.specs.Prepared.{AreFunctionsOver, AreLeavesOf, ArePlansOf, IsPreparedFor, cuts_of}
 use Rattle.syn_rewrite.specs.Rewriting.{cut_proposals, fitted_plans, over, rewritings}

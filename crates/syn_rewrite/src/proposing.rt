@@ -10,8 +10,8 @@ ghost use Rattle.syn_fanout_free.specs.Bounding.{IsMostLost};
 ghost use Rattle.syn_fanout_free.specs.Saved.{count_in};
 ghost use Rattle.syn_gain.specs.Proposals.{replacement, replacement_of};
 ghost use Rattle.syn_gain.specs.Uses.{IsUsesOf};
-ghost use Rattle.syn_pool.specs.Closing.{IsFirst, SavesNothing};
-ghost use Rattle.syn_pool.specs.Sound.{IsSound};
+ghost use Rattle.syn_proposals.specs.Closing.{IsFirst, SavesNothing};
+ghost use Rattle.syn_proposals.specs.Sound.{IsSound};
 ghost use Rattle.syn_rewrite.specs.Apart.{are_apart};
 ghost use Rattle.syn_rewrite.specs.Functions.{IsFunctionOver};
 ghost use Rattle.syn_rewrite.specs.Prepared.{AreLeavesOf, ArePlansOf, IsPreparedFor};
@@ -30,7 +30,7 @@ use syn_gain::{Candidate, Proposal, Room, Uses, lost_but, owned};
 use syn_graph::Graph;
 use syn_library::Prepared as Classes;
 use syn_plan::Plan;
-use syn_pool::{Proposer, saves_bounded};
+use syn_proposals::{Proposer, saves_bounded};
 
 /// How many ANDs that go with a row are counted before its plans are looked at; hardly a plan of four leaves adds as many.
 pub(crate) const MOST_COUNTED: u32 = 16;

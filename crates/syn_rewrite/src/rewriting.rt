@@ -3,7 +3,7 @@
 ghost use Rattle.std.specs.Prelude.{◌≡◌, ◌≤◌, Bool, List, IfErr, IfOk, length};
 ghost use Rattle.syn_rows.specs.Values.{rows_function};
 ghost use Rattle.syn_netlist.specs.Frames.{frame_in};
-ghost use Rattle.syn_pool.specs.Closing.{Closed};
+ghost use Rattle.syn_proposals.specs.Closing.{Closed};
 ghost use Rattle.syn_rewrite.specs.Rewriting.{rewritings};
 
 use crate::CutPlans;
@@ -11,7 +11,7 @@ use std::alloc::{AllocError, Global};
 use std::thread::Threads;
 use syn_commit::Gate;
 use syn_graph::Graph;
-use syn_pass::pass;
+use syn_pool::improve;
 
 /// Rewrites a graph until no proposal of rewriting for any of its ANDs saves: the same frame, the same values of the
 /// observed signals, and no more ANDs. Up to `workers` threads list cuts, commit proposals, and look at proposals again:
@@ -33,12 +33,8 @@ pub fn rewrite<R: Threads + Sync, G: Gate>(
     ensures closed { IfOk result (λ g. Closed g.rows g.observed (rewritings g.rows)) }
     ensures refused { IfErr result (λ e. e.0 ≡ graph) }
 {
-    let proposer = match CutPlans::new(alloc) {
-        Ok(proposer) => proposer,
-        Err(error) => return Err((graph, error)),
-    };
-    match pass(rt, alloc, graph, &proposer, workers, zero, gate) {
-        Ok((rewritten, _report)) => Ok(rewritten),
-        Err(refused) => Err(refused),
+    match CutPlans::new(alloc) {
+        Ok(proposer) => improve(rt, alloc, graph, &proposer, workers, zero, gate),
+        Err(error) => Err((graph, error)),
     }
 }

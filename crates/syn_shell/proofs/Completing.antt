@@ -1,5 +1,5 @@
 -- A run that was ready is refused for want of memory alone, or where a call failed.
-use Rattle.std.proofs.Common.{◌≡◌, ◌⊎◌, ℕ, ◌+◌, ◌<◌, ◌≤◌, List, [], ◌∷◌, ◌++◌, length, refl, sym, subst, arith, inl, inr, Option, None, Some, IfSome, IsSome}
+use Rattle.std.proofs.Common.{◌≡◌, ◌⊎◌, ℕ, ◌+◌, ◌<◌, ◌≤◌, List, [], ◌∷◌, ◌++◌, length, refl, sym, ◌∙◌, subst, arith, inl, inr, Option, None, Some, IfSome, IsSome}
 use Rattle.std.specs.Option.{IsSomeAnd}
 use Rattle.syn_io.specs.Outside.{Disk, Input, Screen, file_at, next_line}
 use Rattle.syn_netlist.specs.Lists.{Netlist}
@@ -8,21 +8,26 @@ use Rattle.syn_hierarchy.specs.Faults.{Fault}
 use Rattle.syn_hierarchy.specs.Laws.{NotBoth}
 use Rattle.syn_hierarchy.specs.Limits.{IsFirstFault, Within}
 use Rattle.syn_hierarchy.specs.Reading.{Reads}
+use Rattle.syn_aiger_files.specs.declared.files.Aig.{Aig}
+use Rattle.syn_aiger.specs.Faults.{Spells}
+use Rattle.syn_aiger.specs.Faults as aiger
+use Rattle.syn_aiger.specs.Laws as aiger_laws
+use Rattle.syn_aiger.specs.Writing.{first_typed}
 use Rattle.syn_words.specs.declared.Command.{Command}
 use Rattle.syn_words.specs.Scripts.{IsScript}
 use Rattle.syn_words.proofs.Deciding.{script_has_no_fault}
 use Rattle.syn_shell.specs.declared.refusal.Refusal.{Refusal}
-use Rattle.syn_shell.specs.declared.refusal.Refusal.TheVariants.{Script, Read, FileTooLong, LineTooLong, TooManyGates, NoNetwork, GetFailed, PutFailed, LineFailed, SinkFailed, NoMemory}
+use Rattle.syn_shell.specs.declared.refusal.Refusal.TheVariants.{Script, Read, ReadAiger, FileTooLong, LineTooLong, TooManyGates, LatchType, NoNetwork, GetFailed, PutFailed, LineFailed, SinkFailed, NoMemory}
 use Rattle.syn_build_luts.specs.Refusals.{most_gates}
 use Rattle.syn_shell.specs.Networks.{Network, gates_in}
 use Rattle.syn_shell.specs.Outside.{State, script_limit}
 use Rattle.syn_shell.specs.Lines.{refusal_status}
-use Rattle.syn_shell.specs.Steps.{Denied, Kind, Reading, Generating, Printing, Writing, Making, kind_of, file_limit, GeneratingRefused, MakingRefused, PrintRefused, ReadRefused, WriteRefused}
+use Rattle.syn_shell.specs.Steps.{Denied, Kind, Reading, ReadingAiger, Generating, Printing, Writing, WritingAiger, Making, kind_of, file_limit, AigerReadRefused, AigerRefused, AigerWriteRefused, GeneratingRefused, GetRefused, MakingRefused, PrintRefused, ReadRefused, WriteRefused}
 use Rattle.syn_shell.specs.Scripts.{Refused, RunsCommands, RunsScript, ScriptRefused, nameless}
 use Rattle.syn_shell.specs.LineMode.{LineRefused, NoFurther, RunsLines, listed, most_lines}
 use Rattle.syn_shell.specs.Usage.{Usage, OneScript, EachLine, Faulty, usage_of}
 use Rattle.syn_shell.specs.Runs.{RunsUsage, RunsWords, status_of}
-use Rattle.syn_shell.specs.Readiness.{CommandsReady, IsComplete, IsReadable, LineReady, LinesReady, Needs, ScriptReady, UsageReady, WordsReady}
+use Rattle.syn_shell.specs.Readiness.{CommandsReady, IsComplete, IsReadable, IsReadableAiger, LineReady, LinesReady, Needs, ScriptReady, UsageReady, WordsReady}
 use Rattle.syn_shell.proofs.Concluding.{ran_seven}
 
 -- statuses that a ready run may end with, if a call may have failed
@@ -38,36 +43,46 @@ no_memory = inr (inr refl)
 fine_as : (refusals others : List Refused) → refusals ≡ others → IsFine (status_of others) → IsFine (status_of refusals)
 fine_as refusals others is fine = subst (λ (rs : List Refused). IsFine (status_of rs)) (sym is) fine
 
--- a file that is readable has no fault and is not too long
+-- what reads or spells within its limits has no first fault, in both formats
+record NothingIsBoth : Type 0 where
+  blif : NotBoth
+  aiger : aiger_laws.NotBoth
 
--- the bytes are short enough, and spell a netlist within the limits
-abbrev ReadsWithin : List ℕ → Type 0
-ReadsWithin bytes = (length bytes ≤ file_limit) × (net : Netlist) × Reads bytes net × Within bytes net
+-- the bytes of a file that is told and there are as they need be
 
-no_fault_here : NotBoth → (bytes : List ℕ) (fault : Option Fault) → ReadsWithin bytes → IsSomeAnd fault (IsFirstFault bytes) → ⊥
-no_fault_here not_both bytes None needs first = first
-no_fault_here not_both bytes (Some fault) (short, net, reads, within) first = not_both bytes net fault reads within first
-
-readable_at : NotBoth → (found : Option (List ℕ)) (bytes : List ℕ) (fault : Option Fault) → IsSomeAnd found ReadsWithin → found ≡ Some bytes → IsSomeAnd fault (IsFirstFault bytes) → ⊥
-readable_at not_both None bytes fault needs is first = needs
-readable_at not_both (Some b) bytes fault needs is first = no_fault_here not_both bytes fault (subst ReadsWithin (same b bytes is) needs) first
+there_at : (needed : List ℕ → Type 0) (found : Option (List ℕ)) (bytes : List ℕ) → IsSomeAnd found needed → found ≡ Some bytes → needed bytes
+there_at needed None bytes needs is = absurd needs
+there_at needed (Some b) bytes needs is = subst needed (same b bytes is) needs
   where
     same : (x y : List ℕ) → Some x ≡ Some y → x ≡ y
     same x y e = cc
 
-not_faulty : NotBoth → (name : List ℕ) (told : Option (List (List ℕ × List ℕ))) (bytes : List ℕ) (fault : Option Fault)
-    → IsSomeAnd told (λ list. IsSomeAnd (file_at name list) ReadsWithin) → IfSome told (λ list. file_at name list ≡ Some bytes) → IsSomeAnd fault (IsFirstFault bytes) → ⊥
-not_faulty not_both name None bytes fault needs file first = needs
-not_faulty not_both name (Some list) bytes fault needs file first = readable_at not_both (file_at name list) bytes fault needs file first
+there_in : (needed : List ℕ → Type 0) (name : List ℕ) (told : Option (List (List ℕ × List ℕ))) (bytes : List ℕ)
+    → IsSomeAnd told (λ list. IsSomeAnd (file_at name list) needed) → IfSome told (λ list. file_at name list ≡ Some bytes) → needed bytes
+there_in needed name None bytes needs file = absurd needs
+there_in needed name (Some list) bytes needs file = there_at needed (file_at name list) bytes needs file
 
-short_at : (found : Option (List ℕ)) → IsSomeAnd found ReadsWithin → IsSomeAnd found (λ b. file_limit < length b) → ⊥
-short_at None needs long = needs
-short_at (Some b) (short, net, reads, within) long = absurd (omega (arith, short, long))
+-- they aren't too long
 
-not_too_long : (name : List ℕ) (told : Option (List (List ℕ × List ℕ)))
-    → IsSomeAnd told (λ list. IsSomeAnd (file_at name list) ReadsWithin) → IfSome told (λ list. IsSomeAnd (file_at name list) (λ b. file_limit < length b)) → ⊥
-not_too_long name None needs long = needs
-not_too_long name (Some list) needs long = short_at (file_at name list) needs long
+short_at : (needed : List ℕ → Type 0) → ((b : List ℕ) → needed b → length b ≤ file_limit) → (found : Option (List ℕ)) → IsSomeAnd found needed → IsSomeAnd found (λ b. file_limit < length b) → ⊥
+short_at needed short None needs long = needs
+short_at needed short (Some b) needs long = let few = short b needs in absurd (omega (arith, few, long))
+
+not_too_long : (needed : List ℕ → Type 0) → ((b : List ℕ) → needed b → length b ≤ file_limit) → (name : List ℕ) (told : Option (List (List ℕ × List ℕ)))
+    → IsSomeAnd told (λ list. IsSomeAnd (file_at name list) needed) → IfSome told (λ list. IsSomeAnd (file_at name list) (λ b. file_limit < length b)) → ⊥
+not_too_long needed short name None needs long = needs
+not_too_long needed short name (Some list) needs long = short_at needed short (file_at name list) needs long
+
+-- the bytes are short enough, and spell a netlist, or an AIGER file, within the limits
+abbrev ReadsWithin : List ℕ → Type 0
+ReadsWithin bytes = (length bytes ≤ file_limit) × (net : Netlist) × Reads bytes net × Within bytes net
+
+abbrev SpellsWithin : List ℕ → Type 0
+SpellsWithin bytes = (length bytes ≤ file_limit) × (g : Aig) × Spells bytes g × aiger.Within g
+
+no_fault_here : NotBoth → (bytes : List ℕ) (fault : Option Fault) → ReadsWithin bytes → IsSomeAnd fault (IsFirstFault bytes) → ⊥
+no_fault_here not_both bytes None needs first = first
+no_fault_here not_both bytes (Some fault) (short, net, reads, within) first = not_both bytes net fault reads within first
 
 there_is_one : (m : Option Network) → IsSome m → m ≡ None → ⊥
 there_is_one None some none = cc
@@ -75,12 +90,22 @@ there_is_one (Some net) some none = cc
 
 -- a refused command whose needs are met, by its kind
 
-read_fine : NotBoth → (name : List ℕ) (before after : Disk) (cause : Refusal) → IsReadable name before → ReadRefused name before after cause → IsFine (refusal_status cause)
-read_fine not_both name before after (Read fault) needs why = absurd (not_faulty not_both name before.told why.bytes (fault_in fault) needs why.file why.first)
-read_fine not_both name before after GetFailed needs why = failed
-read_fine not_both name before after FileTooLong needs why = absurd (not_too_long name before.told needs why)
-read_fine not_both name before after NoMemory needs why = no_memory
-read_fine not_both name before after other needs why = absurd why
+get_fine : (needed : List ℕ → Type 0) → ((b : List ℕ) → needed b → length b ≤ file_limit) → (name : List ℕ) (before after : Disk) (cause : Refusal)
+    → IsSomeAnd before.told (λ list. IsSomeAnd (file_at name list) needed) → GetRefused name before after cause → IsFine (refusal_status cause)
+get_fine needed short name before after GetFailed needs why = failed
+get_fine needed short name before after FileTooLong needs why = absurd (not_too_long needed short name before.told needs why)
+get_fine needed short name before after NoMemory needs why = no_memory
+get_fine needed short name before after other needs why = absurd why
+
+read_fine : NothingIsBoth → (name : List ℕ) (before after : Disk) (cause : Refusal) → IsReadable name before → ReadRefused name before after cause → IsFine (refusal_status cause)
+read_fine not_both name before after (Read fault) needs why = absurd (no_fault_here not_both.blif why.bytes (fault_in fault) (there_in ReadsWithin name before.told why.bytes needs why.file) why.first)
+read_fine not_both name before after other needs why = get_fine ReadsWithin (λ b h. h.0) name before after other needs why
+
+aiger_read_fine : NothingIsBoth → (name : List ℕ) (before after : Disk) (cause : Refusal) → IsReadableAiger name before → AigerReadRefused name before after cause → IsFine (refusal_status cause)
+aiger_read_fine not_both name before after (ReadAiger fault) needs why =
+    let (short, g, spells, within) = there_in SpellsWithin name before.told why.bytes needs why.file in
+    absurd (not_both.aiger why.bytes g fault spells within why.first)
+aiger_read_fine not_both name before after other needs why = get_fine SpellsWithin (λ b h. h.0) name before after other needs why
 
 print_fine : (m : Option Network) (before after : Screen) (cause : Refusal) → IsSome m → PrintRefused m before after cause → IsFine (refusal_status cause)
 print_fine m before after NoNetwork needs why = absurd (there_is_one m needs why.0)
@@ -93,6 +118,32 @@ write_fine m name before after NoNetwork needs why = absurd (there_is_one m need
 write_fine m name before after PutFailed needs why = failed
 write_fine m name before after NoMemory needs why = no_memory
 write_fine m name before after other needs why = absurd why
+
+-- not too many gates make the network a graph, and no latch has a type
+abbrev HasAiger : Option Network → Type 0
+HasAiger m = IsSomeAnd m (λ net. (gates_in net ≤ most_gates) × (first_typed net.netlist.frame ≡ None))
+
+there_is_an_aiger : (m : Option Network) → HasAiger m → IsSome m
+there_is_an_aiger None needs = absurd needs
+there_is_an_aiger (Some net) needs = refl
+
+has_aiger : (m : Option Network) (cause : Refusal) → HasAiger m → IsSomeAnd m (λ net. AigerRefused net cause) → IsFine (refusal_status cause)
+has_aiger None cause needs why = absurd needs
+has_aiger (Some net) cause needs why = by cause why
+  where
+    none : (found : Option (List ℕ)) (latch : List ℕ) → found ≡ None → found ≡ Some latch → ⊥
+    none found latch e h = let z : ◌≡◌ {A = Option (List ℕ)} None (Some latch) = sym e ∙ h in cc
+
+    by : (c : Refusal) → AigerRefused net c → IsFine (refusal_status c)
+    by (TooManyGates gates) why = let few = needs.0 in absurd (omega (arith, few, why.0, why.1))
+    by (LatchType latch) why = absurd (none (first_typed net.netlist.frame) latch needs.1 why.1)
+    by NoMemory why = no_memory
+    by other why = absurd why
+
+aiger_write_fine : (m : Option Network) (name : List ℕ) (before after : Disk) (cause : Refusal) → HasAiger m → AigerWriteRefused m name before after cause → IsFine (refusal_status cause)
+aiger_write_fine m name before after (TooManyGates gates) needs why = has_aiger m (TooManyGates gates) needs why.0
+aiger_write_fine m name before after (LatchType latch) needs why = has_aiger m (LatchType latch) needs why.0
+aiger_write_fine m name before after other needs why = write_fine m name before after other (there_is_an_aiger m needs) why
 
 -- not too many gates make the network a graph
 abbrev IsGraphable : Option Network → Type 0
@@ -116,11 +167,13 @@ generating_fine : (cause : Refusal) → GeneratingRefused cause → IsFine (refu
 generating_fine NoMemory why = no_memory
 generating_fine other why = absurd why
 
-denied_fine : NotBoth → (kind : Kind) (before after : State) (cause : Refusal) → Needs kind before → Denied kind before cause after → IsFine (refusal_status cause)
+denied_fine : NothingIsBoth → (kind : Kind) (before after : State) (cause : Refusal) → Needs kind before → Denied kind before cause after → IsFine (refusal_status cause)
 denied_fine not_both (Reading name) before after cause needs (stays, why, stand, same) = read_fine not_both name before.files after.files cause needs why
+denied_fine not_both (ReadingAiger name) before after cause needs (stays, why, stand, same) = aiger_read_fine not_both name before.files after.files cause needs why
 denied_fine not_both (Generating seed size) before after cause needs (stays, why, stand, same) = generating_fine cause why
 denied_fine not_both Printing before after cause needs (stays, why, same) = print_fine before.network before.sink after.sink cause needs why
 denied_fine not_both (Writing name) before after cause needs (stays, why, same) = write_fine before.network name before.files after.files cause needs why
+denied_fine not_both (WritingAiger ascii name) before after cause needs (stays, why, same) = aiger_write_fine before.network name before.files after.files cause needs why
 denied_fine not_both Making before after cause needs (stays, why, stand, same) = making_fine before.network cause needs why
 
 abbrev OutcomeFine : Option Refused → Type 0
@@ -129,7 +182,7 @@ OutcomeFine outcome = IsFine (status_of (listed outcome))
 outcome_as : (outcome other : Option Refused) → outcome ≡ other → OutcomeFine other → OutcomeFine outcome
 outcome_as outcome other is fine = subst OutcomeFine (sym is) fine
 
-commands_fine : NotBoth → (cs : List Command) (before after : State) (outcome : Option Refused) (runs : RunsCommands cs before outcome after) → CommandsReady cs before outcome after runs → OutcomeFine outcome
+commands_fine : NothingIsBoth → (cs : List Command) (before after : State) (outcome : Option Refused) (runs : RunsCommands cs before outcome after) → CommandsReady cs before outcome after runs → OutcomeFine outcome
 commands_fine not_both [] before after outcome (none, same) ready = outcome_as outcome None none (inl refl)
 commands_fine not_both (c ∷ cs) before after outcome (inl (between, step, more)) (needs, ready) = commands_fine not_both cs between after outcome more ready
 commands_fine not_both (c ∷ cs) before after outcome (inr (cause, is, step)) needs = outcome_as outcome _ is (denied_fine not_both (kind_of c) before after cause needs step)
@@ -140,7 +193,7 @@ unrun_fine text (Script fault) (short, commands, script) why = absurd (script_ha
 unrun_fine text NoMemory ready why = no_memory
 unrun_fine text other ready why = absurd why
 
-script_fine : NotBoth → (text : List ℕ) (before after : State) (outcome : Option Refused) (runs : RunsScript text before outcome after) → ScriptReady text before outcome after runs → OutcomeFine outcome
+script_fine : NothingIsBoth → (text : List ℕ) (before after : State) (outcome : Option Refused) (runs : RunsScript text before outcome after) → ScriptReady text before outcome after runs → OutcomeFine outcome
 script_fine not_both text before after outcome (inl (cause, why, (is, same))) ready = outcome_as outcome _ is (unrun_fine text cause ready why)
 script_fine not_both text before after outcome (inr (commands, short, script, runs)) ready = commands_fine not_both commands before after outcome runs ready
 
@@ -177,7 +230,7 @@ further_fine : (taken : ℕ) (cause : Refusal) (i i' : Input) → LineReady take
 further_fine taken cause i i' ready (inl why) = line_fine taken cause i i' ready why
 further_fine taken cause i i' ready (inr (is, many)) = absurd (not_many taken i.told many.line many.most ready many.gave.next)
 
-lines_fine : NotBoth → (lines : List (List ℕ)) (taken : ℕ) (before after : State) (refusals : List Refused) (i i' : Input) (runs : RunsLines lines taken before i refusals after i')
+lines_fine : NothingIsBoth → (lines : List (List ℕ)) (taken : ℕ) (before after : State) (refusals : List Refused) (i i' : Input) (runs : RunsLines lines taken before i refusals after i')
     → LinesReady lines taken before i refusals after i' runs → IsFine (status_of refusals)
 lines_fine not_both [] taken before after refusals i i' (inl (gave, none, same)) ready = fine_as refusals [] none (inl refl)
 lines_fine not_both [] taken before after refusals i i' (inr (cause, why, is, announced)) ready = fine_as refusals (nameless cause ∷ []) is (further_fine taken cause i i' ready why)
@@ -186,18 +239,18 @@ lines_fine not_both (line ∷ lines) taken before after refusals i i' (j, outcom
 lines_fine not_both (line ∷ lines) taken before after refusals i i' (j, outcome, done, lt, gave, runs, inr (ends, is, none, same)) here =
     fine_as refusals (listed outcome) is (script_fine not_both line before done outcome runs here)
 
-usage_fine : NotBoth → (usage : Usage) (before after : State) (refusals : List Refused) (i i' : Input) (runs : RunsUsage usage before i refusals after i') → UsageReady usage before i refusals after i' runs → IsFine (status_of refusals)
+usage_fine : NothingIsBoth → (usage : Usage) (before after : State) (refusals : List Refused) (i i' : Input) (runs : RunsUsage usage before i refusals after i') → UsageReady usage before i refusals after i' runs → IsFine (status_of refusals)
 usage_fine not_both (OneScript text) before after refusals i i' ((outcome, done, runs, is, ends), same) ready = fine_as refusals (listed outcome) is (script_fine not_both text before done outcome runs ready)
 usage_fine not_both EachLine before after refusals i i' (lines, runs) ready = lines_fine not_both lines 0 before after refusals i i' runs ready
 usage_fine not_both Faulty before after refusals i i' runs ready = absurd ready
 
-words_fine : NotBoth → (words : List (List ℕ)) (before after : State) (refusals : List Refused) (i i' : Input) (runs : RunsWords words before i refusals after i') → WordsReady words before i refusals after i' runs → IsFine (status_of refusals)
+words_fine : NothingIsBoth → (words : List (List ℕ)) (before after : State) (refusals : List Refused) (i i' : Input) (runs : RunsWords words before i refusals after i') → WordsReady words before i refusals after i' runs → IsFine (status_of refusals)
 words_fine not_both words before after refusals i i' (inl runs) ready = usage_fine not_both (usage_of words) before after refusals i i' runs ready
 words_fine not_both words before after refusals i i' (inr ((is, announced), same)) ready = fine_as refusals (nameless NoMemory ∷ []) is no_memory
 
-pub ran_complete : NotBoth → (words : List (List ℕ)) (d d' : Disk) (s s' : Screen) (i i' : Input) (status : ℕ) → IsComplete words d s i d' s' i' status
-ran_complete not_both words d d' s s' i i' status ran ready stand =
-    go (subst IsFine (sym ran.status_is) (words_fine not_both words _ _ ran.refusals i i' ran.runs ready))
+pub ran_complete : NotBoth → aiger_laws.NotBoth → (words : List (List ℕ)) (d d' : Disk) (s s' : Screen) (i i' : Input) (status : ℕ) → IsComplete words d s i d' s' i' status
+ran_complete blif aiger_law words d d' s s' i i' status ran ready stand =
+    go (subst IsFine (sym ran.status_is) (words_fine (record { blif = blif; aiger = aiger_law }) words _ _ ran.refusals i i' ran.runs ready))
   where
     go : IsFine status → (status ≡ 0) ⊎ (status ≡ 8)
     go (inl none) = inl none

@@ -6,10 +6,12 @@ use Rattle.syn_models.specs.declared.flat_fault.FlatFault.{FlatFault}
 use Rattle.syn_models.specs.declared.flat_fault.FlatFault.TheVariants as models
 use Rattle.syn_hierarchy.specs.declared.file_fault.FileFault.{FileFault}
 use Rattle.syn_hierarchy.specs.declared.file_fault.FileFault.TheVariants as file
+use Rattle.syn_aiger_files.specs.declared.fault.AigFault.{AigFault}
+use Rattle.syn_aiger_files.specs.declared.fault.AigFault.TheVariants as aiger
 use Rattle.syn_shell.specs.declared.refusal.Refusal.{Refusal}
-use Rattle.syn_shell.specs.declared.refusal.Refusal.TheVariants.{Read, GetFailed, PutFailed, LineFailed, SinkFailed}
+use Rattle.syn_shell.specs.declared.refusal.Refusal.TheVariants.{Read, ReadAiger, GetFailed, PutFailed, LineFailed, SinkFailed}
 use Rattle.syn_shell.specs.Outside.{State}
-use Rattle.syn_shell.specs.Lines.{file_status, models_status, refusal_status}
+use Rattle.syn_shell.specs.Lines.{aiger_status, file_status, models_status, refusal_status}
 use Rattle.syn_shell.specs.Scripts.{Refused}
 use Rattle.syn_shell.specs.LineMode.{RunsLines, most_lines}
 use Rattle.syn_shell.specs.Usage.{usage_of}
@@ -36,12 +38,19 @@ file_not_seven : (fault : FileFault) → file_status fault ≡ 7 → ⊥
 file_not_seven (file.Models fault) e = models_not_seven fault e
 file_not_seven other e = absurd (omega (arith, e))
 
+aiger_not_seven : (fault : AigFault) → aiger_status fault ≡ 7 → ⊥
+aiger_not_seven (aiger.TooManySources count) e = absurd (omega (arith, e))
+aiger_not_seven (aiger.TooManyGates count) e = absurd (omega (arith, e))
+aiger_not_seven aiger.NoMemory e = absurd (omega (arith, e))
+aiger_not_seven other e = absurd (omega (arith, e))
+
 seven_by : (cause : Refusal) (name : List ℕ) (more : List Refused) (d d' : Disk) (s s' : Screen) (i i' : Input) → refusal_status cause ≡ 7 → FaultsCover (record { cause = cause; name = name } ∷ more) d s i d' s' i' → SomeFault d s i d' s' i'
 seven_by GetFailed name more d d' s s' i i' e f = inl (rose_by d.faults d'.faults _ f.files)
 seven_by PutFailed name more d d' s s' i i' e f = inl (rose_by d.faults d'.faults _ f.files)
 seven_by SinkFailed name more d d' s s' i i' e f = inr (inl (rose_by s.faults s'.faults _ f.sink))
 seven_by LineFailed name more d d' s s' i i' e f = inr (inr (rose_by i.faults i'.faults _ f.lines))
 seven_by (Read fault) name more d d' s s' i i' e f = absurd (file_not_seven fault e)
+seven_by (ReadAiger fault) name more d d' s s' i i' e f = absurd (aiger_not_seven fault e)
 seven_by other name more d d' s s' i i' e f = absurd (omega (arith, e))
 
 seven_of : (refusals : List Refused) (d d' : Disk) (s s' : Screen) (i i' : Input) → status_of refusals ≡ 7 → FaultsCover refusals d s i d' s' i' → SomeFault d s i d' s' i'

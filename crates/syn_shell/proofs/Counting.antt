@@ -4,9 +4,9 @@ use Rattle.syn_io.specs.Outside.{Rose, Disk, Screen, Input}
 use Rattle.syn_shell.specs.Networks.{Network}
 use Rattle.syn_words.specs.declared.Command.{Command}
 use Rattle.syn_shell.specs.declared.refusal.Refusal.{Refusal}
-use Rattle.syn_shell.specs.declared.refusal.Refusal.TheVariants.{Words, Script, Read, FileTooLong, LineTooLong, TooManyGates, NoNetwork, GetFailed, PutFailed, LineFailed, SinkFailed, NoMemory}
+use Rattle.syn_shell.specs.declared.refusal.Refusal.TheVariants.{Words, Script, Read, ReadAiger, FileTooLong, LineTooLong, TooManyGates, LatchType, NoNetwork, GetFailed, PutFailed, LineFailed, SinkFailed, NoMemory}
 use Rattle.syn_shell.specs.Outside.{State}
-use Rattle.syn_shell.specs.Steps.{Accepted, Denied, Kind, Reading, Generating, Printing, Writing, Making, kind_of, ReadRefused, GeneratingRefused, MakingRefused, PrintRefused, WriteRefused}
+use Rattle.syn_shell.specs.Steps.{Accepted, Denied, Kind, Reading, ReadingAiger, Generating, Printing, Writing, WritingAiger, Making, kind_of, GetRefused, ReadRefused, AigerReadRefused, GeneratingRefused, MakingRefused, PrintRefused, WriteRefused, AigerWriteRefused}
 use Rattle.syn_shell.specs.Scripts.{Refused, RunsCommands, RunsScript, ScriptRefused, SinkGaveUp, Announced, nameless}
 use Rattle.syn_shell.specs.LineMode.{EndsBySink, GoesOn, LineRefused, NoFurther, RunsLines, listed}
 use Rattle.syn_shell.specs.Usage.{Usage, OneScript, EachLine, Faulty, usage_of}
@@ -48,12 +48,19 @@ sink_same s s' e = covers_same s.faults s'.faults (ap (λ (x : Screen). x.faults
 
 -- by the cause of a refused command
 
+get_counted : (file name : List ℕ) (cause : Refusal) (d d' : Disk) (s s' : Screen) → GetRefused file d d' cause → d.faults ≤ d'.faults → s' ≡ s → Counted (record { cause = cause; name = name } ∷ []) d s d' s'
+get_counted file name GetFailed d d' s s' why le e = record { files = covers_one d.faults d'.faults le why; sink = sink_same s s' e; lines = refl }
+get_counted file name FileTooLong d d' s s' why le e = record { files = covers_none d.faults d'.faults le; sink = sink_same s s' e; lines = refl }
+get_counted file name NoMemory d d' s s' why le e = record { files = covers_none d.faults d'.faults le; sink = sink_same s s' e; lines = refl }
+get_counted file name other d d' s s' why le e = absurd why
+
 read_counted : (file name : List ℕ) (cause : Refusal) (d d' : Disk) (s s' : Screen) → ReadRefused file d d' cause → d.faults ≤ d'.faults → s' ≡ s → Counted (record { cause = cause; name = name } ∷ []) d s d' s'
 read_counted file name (Read fault) d d' s s' why le e = record { files = covers_none d.faults d'.faults le; sink = sink_same s s' e; lines = refl }
-read_counted file name GetFailed d d' s s' why le e = record { files = covers_one d.faults d'.faults le why; sink = sink_same s s' e; lines = refl }
-read_counted file name FileTooLong d d' s s' why le e = record { files = covers_none d.faults d'.faults le; sink = sink_same s s' e; lines = refl }
-read_counted file name NoMemory d d' s s' why le e = record { files = covers_none d.faults d'.faults le; sink = sink_same s s' e; lines = refl }
-read_counted file name other d d' s s' why le e = absurd why
+read_counted file name other d d' s s' why le e = get_counted file name other d d' s s' why le e
+
+aiger_read_counted : (file name : List ℕ) (cause : Refusal) (d d' : Disk) (s s' : Screen) → AigerReadRefused file d d' cause → d.faults ≤ d'.faults → s' ≡ s → Counted (record { cause = cause; name = name } ∷ []) d s d' s'
+aiger_read_counted file name (ReadAiger fault) d d' s s' why le e = record { files = covers_none d.faults d'.faults le; sink = sink_same s s' e; lines = refl }
+aiger_read_counted file name other d d' s s' why le e = get_counted file name other d d' s s' why le e
 
 print_counted : (m : Option Network) (name : List ℕ) (cause : Refusal) (d d' : Disk) (s s' : Screen) → PrintRefused m s s' cause → d' ≡ d → Counted (record { cause = cause; name = name } ∷ []) d s d' s'
 print_counted m name NoNetwork d d' s s' (none, same) e = record { files = disk_same d d' e; sink = sink_same s s' same; lines = refl }
@@ -66,6 +73,11 @@ write_counted m file name NoNetwork d d' s s' (none, same) e = record { files = 
 write_counted m file name PutFailed d d' s s' (some, rose, others) e = record { files = covers_one d.faults d'.faults others.later rose; sink = sink_same s s' e; lines = refl }
 write_counted m file name NoMemory d d' s s' others e = record { files = covers_none d.faults d'.faults others.later; sink = sink_same s s' e; lines = refl }
 write_counted m file name other d d' s s' why e = absurd why
+
+aiger_write_counted : (m : Option Network) (file name : List ℕ) (cause : Refusal) (d d' : Disk) (s s' : Screen) → AigerWriteRefused m file d d' cause → s' ≡ s → Counted (record { cause = cause; name = name } ∷ []) d s d' s'
+aiger_write_counted m file name (TooManyGates gates) d d' s s' why e = record { files = disk_same d d' why.1; sink = sink_same s s' e; lines = refl }
+aiger_write_counted m file name (LatchType latch) d d' s s' why e = record { files = disk_same d d' why.1; sink = sink_same s s' e; lines = refl }
+aiger_write_counted m file name other d d' s s' why e = write_counted m file name other d d' s s' why e
 
 making_counted : (m : Option Network) (name : List ℕ) (cause : Refusal) (d d' : Disk) (s s' : Screen) → MakingRefused m cause → d' ≡ d → s' ≡ s → Counted (record { cause = cause; name = name } ∷ []) d s d' s'
 making_counted m name NoNetwork d d' s s' why e f = record { files = disk_same d d' e; sink = sink_same s s' f; lines = refl }
@@ -81,16 +93,20 @@ generating_counted name other d d' s s' why e f = absurd why
 
 refused_counted : (kind : Kind) (name : List ℕ) (cause : Refusal) (before after : State) → Denied kind before cause after → Counted (record { cause = cause; name = name } ∷ []) before.files before.sink after.files after.sink
 refused_counted (Reading file) name cause before after (stays, why, stand, e) = read_counted file name cause before.files after.files before.sink after.sink why stand.later e
+refused_counted (ReadingAiger file) name cause before after (stays, why, stand, e) = aiger_read_counted file name cause before.files after.files before.sink after.sink why stand.later e
 refused_counted (Generating seed size) name cause before after (stays, why, e, f) = generating_counted name cause before.files after.files before.sink after.sink why e f
 refused_counted Printing name cause before after (stays, why, e) = print_counted before.network name cause before.files after.files before.sink after.sink why e
 refused_counted (Writing file) name cause before after (stays, why, e) = write_counted before.network file name cause before.files after.files before.sink after.sink why e
+refused_counted (WritingAiger ascii file) name cause before after (stays, why, e) = aiger_write_counted before.network file name cause before.files after.files before.sink after.sink why e
 refused_counted Making name cause before after (stays, why, e, f) = making_counted before.network name cause before.files after.files before.sink after.sink why e f
 
 accepted_counted : (kind : Kind) (c : Command) (before after : State) → Accepted kind c before after → Counted [] before.files before.sink after.files after.sink
 accepted_counted (Reading file) c before after (net, is, read, stand, e) = record { files = covers_none before.files.faults after.files.faults stand.later; sink = sink_same before.sink after.sink e; lines = refl }
+accepted_counted (ReadingAiger file) c before after (net, is, read, stand, e) = record { files = covers_none before.files.faults after.files.faults stand.later; sink = sink_same before.sink after.sink e; lines = refl }
 accepted_counted (Generating seed size) c before after (net, is, graph, e, f) = record { files = disk_same before.files after.files e; sink = sink_same before.sink after.sink f; lines = refl }
 accepted_counted Printing c before after (net, line, some, stays, e, text, took) = record { files = disk_same before.files after.files e; sink = covers_none before.sink.faults after.sink.faults took.later; lines = refl }
 accepted_counted (Writing file) c before after (net, some, stays, bytes, reads, others, e) = record { files = covers_none before.files.faults after.files.faults others.later; sink = sink_same before.sink after.sink e; lines = refl }
+accepted_counted (WritingAiger ascii file) c before after (net, bytes, some, stays, there, are, others, e) = record { files = covers_none before.files.faults after.files.faults others.later; sink = sink_same before.sink after.sink e; lines = refl }
 accepted_counted Making c before after (made, e, f) = record { files = disk_same before.files after.files e; sink = sink_same before.sink after.sink f; lines = refl }
 
 -- parts one after the other

@@ -1,30 +1,35 @@
 -- Each write of a run gives what was read or generated last before it: step by step the network keeps that.
 use Rattle.std.proofs.Common.{◌≡◌, ℕ, ◌+◌, Bool, true, false, if◌then◌else◌, List, [], ◌∷◌, ◌++◌, refl, sym, ap, subst, inl, inr, Option, None, Some, Result, Ok, Err}
-use Rattle.syn_io.specs.Outside.{Disk, Input, Screen}
+use Rattle.syn_io.specs.Outside.{Input}
 use Rattle.syn_netlist.specs.Lists.{Netlist}
-use Rattle.syn_netlist.specs.Meaning.{SameMeaning, SameIsTransitive}
+use Rattle.syn_netlist.specs.Meaning.{SameFromFunction, SameMeaning, SameIsTransitive}
 use Rattle.syn_netlist.specs.Order.{Ordered}
-use Rattle.syn_shapes.specs.Printed.{printed}
-use Rattle.syn_hierarchy.specs.Reading.{Reads}
+use Rattle.syn_shapes.specs.GraphShape.{GraphHasFunction, GraphShape}
 use Rattle.syn_seq.specs.Laws.{SameMeaningIsSequential, SequentialIsTransitive}
-use Rattle.syn_seq.specs.Sequential.{SameSequentially}
+use Rattle.syn_aiger.specs.Writing.{aig_of}
 use Rattle.syn_words.specs.declared.Command.{Command}
 use Rattle.syn_words.specs.declared.Command.TheVariants as commands
 use Rattle.syn_shell.specs.declared.refusal.Refusal.{Refusal}
 use Rattle.syn_shell.specs.Networks.{Network, graph_network}
-use Rattle.syn_shell.specs.Outside.{State, FileIs}
-use Rattle.syn_shell.specs.Steps.{Denied, IsSweptTo, Kind, Reading, Generating, Printing, Writing, Making, Makes, OnGraph, Remakes, SessionStep, kind_of}
+use Rattle.syn_shell.specs.Outside.{State}
+use Rattle.syn_shell.specs.Steps.{Denied, IsSweptTo, Kind, Reading, ReadingAiger, Generating, Printing, Writing, WritingAiger, Making, Makes, OnGraph, Remakes, SessionStep, kind_of}
 use Rattle.syn_shell.specs.Scripts.{Refused, RunsCommands, RunsScript}
 use Rattle.syn_shell.specs.LineMode.{EndsBySink, GoesOn, RunsLines}
 use Rattle.syn_shell.specs.Usage.{Usage, OneScript, EachLine, Faulty, usage_of}
-use Rattle.syn_shell.specs.Runs.{Ran, RunsUsage, RunsWords}
-use Rattle.syn_shell.specs.Origins.{EachWriteKeeps, IsSameBy, Keeps, Origin, Step, origin_after, origin_behind, swept_since, steps_of_commands, steps_of_lines, steps_of_script, steps_of_usage, steps_of_words}
+use Rattle.syn_shell.specs.Runs.{RunsUsage, RunsWords}
+use Rattle.syn_shell.specs.Origins.{EachWriteKeeps, Gives, IsSameBy, Keeps, Origin, Step, origin_after, origin_behind, swept_since, steps_of_commands, steps_of_lines, steps_of_script, steps_of_usage, steps_of_words, writes}
 
--- the laws that say how sameness goes on from step to step
+-- the laws that say how sameness begins, at a graph, and goes on from step to step
 record AreLaws : Type 0 where
   means : SameIsTransitive
   runs : SequentialIsTransitive
   weaker : SameMeaningIsSequential
+  graph_has : GraphHasFunction
+  same_function : SameFromFunction
+
+-- a graph means the same as itself
+means_itself : AreLaws → (m : Netlist) → Ordered m → GraphShape m → SameMeaning m m
+means_itself laws m ordered shape = let has = (laws.graph_has m shape ordered).1 in laws.same_function m m _ refl has has
 
 -- whether a command sweeps latches
 abbrev sweeps : Command → Bool
@@ -67,6 +72,8 @@ made_kept laws (commands.MapByFlow inputs) old new making made = kept_on_graph l
 made_kept laws commands.Sweep old new making made = kept_on_graph laws true IsSweptTo (λ a b h. (h.sweep.same, h.sweep.ordered)) old.mapped old new made
 made_kept laws (commands.Read name) old new making made = absurd (cc)
 made_kept laws (commands.Write name) old new making made = absurd (cc)
+made_kept laws (commands.ReadAiger name) old new making made = absurd (cc)
+made_kept laws (commands.WriteAiger ascii name) old new making made = absurd (cc)
 made_kept laws commands.Stats old new making made = absurd (cc)
 made_kept laws (commands.Generate seed size) old new making made = absurd (cc)
 
@@ -97,16 +104,21 @@ remade_kept laws c (Some origin) m m' making (old, new, was, is, gates, made) (n
 
 denied_stays : (kind : Kind) (before : State) (cause : Refusal) (after : State) → Denied kind before cause after → after.network ≡ before.network
 denied_stays (Reading name) before cause after h = h.0
+denied_stays (ReadingAiger name) before cause after h = h.0
 denied_stays (Generating seed size) before cause after h = h.0
 denied_stays Printing before cause after h = h.0
 denied_stays (Writing name) before cause after h = h.0
+denied_stays (WritingAiger ascii name) before cause after h = h.0
 denied_stays Making before cause after h = h.0
 
 accepted_kept : AreLaws → (c : Command) (before after : State) (origin : Option Origin) → SessionStep c before (Ok tt) after → IsKept origin before.network → IsKept (origin_behind c before.files (Ok tt) origin) after.network
 accepted_kept laws (commands.Read name) before after origin (net, is, read, stand, same) kept = (graph_network net, is, (read.netlist, (read.bytes, read.file, read.reads), read.graph.same, read.graph.ordered))
+accepted_kept laws (commands.ReadAiger name) before after origin (net, is, read, stand, same) kept =
+    (graph_network net, is, (net, (read.bytes, read.aig, read.file, read.spells, read.graph), means_itself laws net read.graph.ordered read.graph.shape, read.graph.ordered))
 accepted_kept laws (commands.Generate seed size) before after origin (net, is, graph, stand, same) kept = (graph_network net, is, (_, refl, graph.same, graph.ordered))
 accepted_kept laws commands.Stats before after origin (net, line, is, stays, files, text, took) kept = stays_kept origin before after stays kept
 accepted_kept laws (commands.Write name) before after origin (net, is, stays, file, reads, others, sink) kept = stays_kept origin before after stays kept
+accepted_kept laws (commands.WriteAiger ascii name) before after origin (net, bytes, is, stays, file, are, others, sink) kept = stays_kept origin before after stays kept
 accepted_kept laws commands.Sweep before after origin (made, files, sink) kept = remade_kept laws commands.Sweep origin before.network after.network refl made kept
 accepted_kept laws commands.Strash before after origin (made, files, sink) kept = remade_kept laws commands.Strash origin before.network after.network refl made kept
 accepted_kept laws commands.Balance before after origin (made, files, sink) kept = remade_kept laws commands.Balance origin before.network after.network refl made kept
@@ -186,22 +198,30 @@ step_among laws (f ∷ front) back s origin m m' kept (from, step, rest) =
     let here : IsKept origin f.before.network = subst (IsKept origin) (sym from) kept in
     step_among laws front back s (origin_behind f.command f.before.files f.answer origin) f.after.network m' (step_kept laws f.command f.before f.answer f.after origin step here) rest
 
-abbrev Gives : Option Origin → List ℕ → State → Type 0
-Gives found name after = (origin : Origin) × (m : Netlist) × (found ≡ Some origin) × FileIs name after.files (printed m) × Reads (printed m) m × Keeps origin m
+abbrev Given : Option Origin → Command → State → Type 0
+Given found c after = (origin : Origin) × (m : Netlist) × (found ≡ Some origin) × Gives c after.files m × Keeps origin m
 
-write_gives : (found : Option Origin) (name : List ℕ) (before after : State) → IsKept found before.network → SessionStep (commands.Write name) before (Ok tt) after → Gives found name after
-write_gives None name before after none (net, is, stays, file, reads, others, sink) = absurd (cc)
-write_gives (Some origin) name before after (kept, there, keeps) (net, is, stays, file, reads, others, sink) =
-    (origin, net.netlist, refl, file, reads, subst (λ (a : Network). Keeps origin a.netlist) (same_network kept net before.network there is) keeps)
+-- what a write gives, where the netlist that it writes is that of the network
 
-write_among : (found : Option Origin) (name : List ℕ) (c : Command) (before : State) (answer : Result (Unit {0}) Refusal) (after : State) → c ≡ commands.Write name → answer ≡ Ok tt
-    → IsKept found before.network → SessionStep c before answer after → Gives found name after
-write_among found name c before answer after command accepted kept step =
-    write_gives found name before after kept (subst (λ (r : Result (Unit {0}) Refusal). SessionStep (commands.Write name) before r after) accepted (subst (λ (x : Command). SessionStep x before answer after) command step))
+given_of : (found : Option Origin) (c : Command) (net : Network) (before after : State) → before.network ≡ Some net → Gives c after.files net.netlist → IsKept found before.network → Given found c after
+given_of None c net before after is gives none = absurd (cc)
+given_of (Some origin) c net before after is gives (kept, there, keeps) =
+    (origin, net.netlist, refl, gives, subst (λ (a : Network). Keeps origin a.netlist) (same_network kept net before.network there is) keeps)
 
-pub each_write : SameIsTransitive → SequentialIsTransitive → SameMeaningIsSequential → EachWriteKeeps
-each_write means runs weaker words d s i d' s' i' status ran front back write name are command accepted =
-    let laws : AreLaws = record { means = means; runs = runs; weaker = weaker } in
+write_gives : (found : Option Origin) (c : Command) (before after : State) → writes c ≡ true → IsKept found before.network → SessionStep c before (Ok tt) after → Given found c after
+write_gives found (commands.Write name) before after writing kept (net, is, stays, file, reads, others, sink) = given_of found (commands.Write name) net before after is (file, reads) kept
+write_gives found (commands.WriteAiger ascii name) before after writing kept (net, bytes, is, stays, file, are, others, sink) =
+    given_of found (commands.WriteAiger ascii name) net before after is (bytes, aig_of are.graph.netlist, file, are.spells, are.keeps) kept
+write_gives found other before after writing kept step = absurd (cc)
+
+write_among : (found : Option Origin) (c : Command) (before : State) (answer : Result (Unit {0}) Refusal) (after : State) → writes c ≡ true → answer ≡ Ok tt
+    → IsKept found before.network → SessionStep c before answer after → Given found c after
+write_among found c before answer after writing accepted kept step =
+    write_gives found c before after writing kept (subst (λ (r : Result (Unit {0}) Refusal). SessionStep c before r after) accepted step)
+
+pub each_write : SameIsTransitive → SequentialIsTransitive → SameMeaningIsSequential → GraphHasFunction → SameFromFunction → EachWriteKeeps
+each_write means runs weaker graph_has same_function words d s i d' s' i' status ran front back write are writing accepted =
+    let laws : AreLaws = record { means = means; runs = runs; weaker = weaker; graph_has = graph_has; same_function = same_function } in
     let leads = words_lead words _ i ran.refusals _ i' ran.runs in
     let there = step_among laws front back write None _ leads.0 refl (subst (λ (ss : List Step). Leads None ss leads.0) are leads.1) in
-    write_among (origin_after front None) name write.command write.before write.answer write.after command accepted there.0 there.1
+    write_among (origin_after front None) write.command write.before write.answer write.after writing accepted there.0 there.1

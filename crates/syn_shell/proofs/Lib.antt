@@ -4,6 +4,7 @@ mod Putting
 mod Following
 mod Staying
 mod Mapping
+mod AigerFiles
 mod Hearing
 mod Giving
 mod Turning

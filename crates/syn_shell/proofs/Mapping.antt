@@ -9,7 +9,7 @@ use Rattle.syn_netlist.specs.Words.{distinct}
 use Rattle.syn_netlist.specs.Lists.{Frame, Netlist, sources}
 use Rattle.syn_netlist.specs.Values.{HasFunction}
 use Rattle.syn_netlist.specs.Meaning.{SameFromFunction, SameIsTransitive}
-use Rattle.syn_shapes.specs.GraphShape.{GraphHasFunction}
+use Rattle.syn_shapes.specs.GraphShape.{GraphHasFunction, and_tables}
 use Rattle.syn_shapes.specs.GraphShape as graph_shape
 use Rattle.syn_shapes.specs.Graphs.{IsGraph}
 use Rattle.syn_shapes.specs.Spelling.{NetworkOfGraph, NetworkSpells, network}
@@ -21,10 +21,10 @@ use Rattle.syn_map.specs.Labels.{label_of}
 use Rattle.syn_area.specs.Plain.{AreNeeded}
 use Rattle.syn_words.specs.declared.Command.{Command}
 use Rattle.syn_words.specs.declared.Command.TheVariants as commands
-use Rattle.syn_reader.specs.Limits.{most_sources}
 use Rattle.syn_seq.proofs.Fewer.{fewer_sources}
-use Rattle.syn_shell.specs.Networks.{Network, graph_network, mapped_network, HasFewSources}
-use Rattle.syn_shell.specs.Steps.{IsInLuts, IsLeastMappedTo, IsMappedForArea, IsMappedTo, IsRemade, IsSweptTo, Makes, Making, OnGraph, kind_of}
+use Rattle.syn_build_luts.specs.Refusals.{most_gates}
+use Rattle.syn_shell.specs.Networks.{Network, ands_by, gates_by, gates_in, graph_network, mapped_network, IsSmall}
+use Rattle.syn_shell.specs.Steps.{IsInLuts, IsLeastMappedTo, IsMappedForArea, IsMappedTo, IsRemade, IsSweptTo, Makes, Making, NoMoreBy, OnGraph, kind_of}
 
 -- the laws that say what a graph and a net of LUTs are as netlists
 pub record SpellingLaws : Type 0 where
@@ -136,34 +136,58 @@ behind_hashing transitive (commands.MapByFlow inputs) making m graph new is made
 behind_hashing transitive commands.Sweep making m graph new is made = (graph_network graph, is, made)
 behind_hashing transitive (commands.Read name) making m graph new is made = absurd (cc)
 behind_hashing transitive (commands.Write name) making m graph new is made = absurd (cc)
+behind_hashing transitive (commands.ReadAiger name) making m graph new is made = absurd (cc)
+behind_hashing transitive (commands.WriteAiger ascii name) making m graph new is made = absurd (cc)
 behind_hashing transitive commands.Stats making m graph new is made = absurd (cc)
 behind_hashing transitive (commands.Generate seed size) making m graph new is made = absurd (cc)
 
--- no source is added: the frame stays, or latches go
+-- what a command makes of a small network is small: the frame stays, or latches go, and no AND is added
 
-swept_fewer : (old new : Network) → IsSweptTo old new → length (sources new.netlist.frame) ≤ length (sources old.netlist.frame)
-swept_fewer old new made = fewer_sources old.netlist new.netlist made.sweep.same
+pub no_gates : (net : Network) → net.mapped ≡ false → gates_in net ≤ most_gates
+no_gates net graph = omega (arith, ap (λ (b : Bool). gates_by b net.netlist) graph)
 
-same_fewer : (old new : Network) → old.netlist.frame ≡ new.netlist.frame → length (sources new.netlist.frame) ≤ length (sources old.netlist.frame)
-same_fewer old new same = omega (arith, ap (λ (f : Frame). length (sources f)) same)
+few_by : (mark : Bool) (m n : Netlist) → NoMoreBy mark m n → ands_by mark m ≤ most_gates → gates_by mark m ≤ most_gates → length (and_tables n) ≤ most_gates
+few_by false m n fewer ands gates = omega (arith, fewer, ands)
+few_by true m n fewer ands gates = omega (arith, fewer, gates)
 
-fewer_on_graph : (makes : Network → Network → Type 0) → ((old new : Network) → makes old new → length (sources new.netlist.frame) ≤ length (sources old.netlist.frame)) → (mark : Bool) (old new : Network)
-    → OnGraph makes mark old new → length (sources new.netlist.frame) ≤ length (sources old.netlist.frame)
-fewer_on_graph makes fewer false old new made = fewer old new made
-fewer_on_graph makes fewer true old new (graph, is, made) = omega (arith, fewer graph new made, same_fewer old graph is.same.frame)
+-- of the same frame, with this many ANDs
+same_small : (old new : Network) (n : ℕ) → old.netlist.frame ≡ new.netlist.frame → ands_by new.mapped new.netlist ≡ n → n ≤ most_gates → IsSmall old → IsSmall new
+same_small old new n frame ands few small = record {
+  sources = omega (arith, small.sources, ap (λ (f : Frame). length (sources f)) frame);
+  outputs = omega (arith, small.outputs, ap (λ (f : Frame). length f.outputs) frame);
+  ands = omega (arith, ands, few);
+}
 
-fewer_behind : (c : Command) (old new : Network) → Makes c old new → length (sources new.netlist.frame) ≤ length (sources old.netlist.frame)
-fewer_behind commands.Strash old new made = same_fewer old new made.same.frame
-fewer_behind commands.Balance old new made = fewer_on_graph _ (λ a b h. same_fewer a b h.remade.same.frame) old.mapped old new made
-fewer_behind (commands.Rewrite zero workers) old new made = fewer_on_graph _ (λ a b h. same_fewer a b h.remade.same.frame) old.mapped old new made
-fewer_behind (commands.Refactor zero workers) old new made = fewer_on_graph _ (λ a b h. same_fewer a b h.remade.same.frame) old.mapped old new made
-fewer_behind (commands.Resubstitute zero workers) old new made = fewer_on_graph _ (λ a b h. same_fewer a b h.remade.same.frame) old.mapped old new made
-fewer_behind (commands.Map false inputs) old new made = fewer_on_graph _ (λ a b h. same_fewer a b h.luts.same.frame) old.mapped old new made
-fewer_behind (commands.Map true inputs) old new made = fewer_on_graph _ (λ a b h. same_fewer a b h.luts.same.frame) old.mapped old new made
-fewer_behind (commands.MapByFlow inputs) old new made = fewer_on_graph _ (λ a b h. same_fewer a b h.luts.same.frame) old.mapped old new made
-fewer_behind commands.Sweep old new made = fewer_on_graph _ swept_fewer old.mapped old new made
-fewer_behind other old new made = omega (arith, ap (λ (n : Network). length (sources n.netlist.frame)) made)
+pub remade_small : (old new : Network) → IsRemade old new → gates_in old ≤ most_gates → IsSmall old → IsSmall new
+remade_small old new made gates small =
+    same_small old new (length (and_tables new.netlist)) made.same.frame (ap (λ (b : Bool). ands_by b new.netlist) made.graph) (few_by old.mapped old.netlist new.netlist made.fewer small.ands gates) small
 
--- so few sources stay few
-pub few_sources_kept : (c : Command) (old new : Network) → Makes c old new → HasFewSources old → HasFewSources new
-few_sources_kept c old new made few = omega (arith, fewer_behind c old new made, few)
+luts_small : (inputs : ℕ) (old new : Network) → IsInLuts inputs old new → IsSmall old → IsSmall new
+luts_small inputs old new made small = same_small old new 0 made.same.frame (ap (λ (b : Bool). ands_by b new.netlist) made.mapped) (omega arith) small
+
+swept_small : (old new : Network) → old.mapped ≡ false → IsSweptTo old new → IsSmall old → IsSmall new
+swept_small old new graph made small =
+    let many : ands_by old.mapped old.netlist ≡ length (and_tables old.netlist) = ap (λ (b : Bool). ands_by b old.netlist) graph in
+    let few : ands_by new.mapped new.netlist ≡ length (and_tables new.netlist) = ap (λ (b : Bool). ands_by b new.netlist) made.graph in
+    record {
+      sources = omega (arith, small.sources, fewer_sources old.netlist new.netlist made.sweep.same);
+      outputs = omega (arith, small.outputs, ap (λ (ws : List (List ℕ)). length ws) made.sweep.same.outputs);
+      ands = omega (arith, small.ands, many, few, made.sweep.fewer);
+    }
+
+small_on_graph : (makes : Network → Network → Type 0) → ((old new : Network) → old.mapped ≡ false → makes old new → IsSmall old → IsSmall new) → (mark : Bool) (old new : Network) → old.mapped ≡ mark
+    → OnGraph makes mark old new → gates_in old ≤ most_gates → IsSmall old → IsSmall new
+small_on_graph makes kept false old new is made gates small = kept old new is made small
+small_on_graph makes kept true old new is (graph, remade, made) gates small = kept graph new remade.graph made (remade_small old graph remade gates small)
+
+pub small_kept : (c : Command) (old new : Network) → Makes c old new → gates_in old ≤ most_gates → IsSmall old → IsSmall new
+small_kept commands.Strash old new made = remade_small old new made
+small_kept commands.Balance old new made = small_on_graph _ (λ a b is h. remade_small a b h.remade (no_gates a is)) old.mapped old new refl made
+small_kept (commands.Rewrite zero workers) old new made = small_on_graph _ (λ a b is h. remade_small a b h.remade (no_gates a is)) old.mapped old new refl made
+small_kept (commands.Refactor zero workers) old new made = small_on_graph _ (λ a b is h. remade_small a b h.remade (no_gates a is)) old.mapped old new refl made
+small_kept (commands.Resubstitute zero workers) old new made = small_on_graph _ (λ a b is h. remade_small a b h.remade (no_gates a is)) old.mapped old new refl made
+small_kept (commands.Map false inputs) old new made = small_on_graph _ (λ a b is h. luts_small inputs a b h.luts) old.mapped old new refl made
+small_kept (commands.Map true inputs) old new made = small_on_graph _ (λ a b is h. luts_small inputs a b h.luts) old.mapped old new refl made
+small_kept (commands.MapByFlow inputs) old new made = small_on_graph _ (λ a b is h. luts_small inputs a b h.luts) old.mapped old new refl made
+small_kept commands.Sweep old new made = small_on_graph _ swept_small old.mapped old new refl made
+small_kept other old new made = λ gates small. subst IsSmall (sym made) small

@@ -1,5 +1,5 @@
 -- Texts put one after the other.
-use Rattle.std.proofs.Common.{◌≡◌, ℕ, ◌+◌, ◌<◌, ◌≤◌, List, [], ◌∷◌, ◌++◌, length, get_or, drop, map, codes, sym, ap, ◌∙◌, subst, Result, Ok, Err}
+use Rattle.std.proofs.Common.{◌≡◌, ℕ, ◌+◌, ◌<◌, ◌≤◌, List, [], ◌∷◌, ◌++◌, length, get_or, drop, map, codes, decimal, sym, ap, ◌∙◌, subst, Result, Ok, Err}
 use Rattle.std.specs.List.{flat_map}
 use Rattle.std.proofs.lemmas.List.{append-nil, drop_more, drop_all}
 use Rattle.syn_io.specs.declared.SinkFailed.{SinkFailed}
@@ -38,3 +38,7 @@ more_none f xs i le = sym (ap (flat_map f) (drop_all i xs le))
 -- a name after one blank
 pub spaced : (name x : List ℕ) → x ≡ name → joined (codes " " ∷ x ∷ []) ≡ codes " " ++ name
 spaced name x is = ap (λ (l : List ℕ). codes " " ++ l) (append-nil x ∙ is)
+
+-- a number after one blank
+pub spaced_number : (number : ℕ) → joined (codes " " ∷ decimal number ∷ [] ∷ []) ≡ codes " " ++ decimal number
+spaced_number number = ap (λ (l : List ℕ). codes " " ++ l) (append-nil (decimal number))

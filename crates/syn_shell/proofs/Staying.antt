@@ -13,7 +13,7 @@ use Rattle.syn_shapes.specs.Graphs.{IsGraph, lit_at}
 use Rattle.syn_shapes.specs.Spelling.{NetworkOfGraph, NetworkSpells, network}
 use Rattle.syn_hashed.specs.Growing.{level_by}
 use Rattle.syn_shell.specs.Networks.{graph_network}
-use Rattle.syn_pool.specs.Closing.{Closed}
+use Rattle.syn_proposals.specs.Closing.{Closed}
 use Rattle.syn_gain.specs.Replacements.{Replacement}
 use Rattle.syn_shell.specs.Steps.{IsBalanced, IsClosedFor, IsRemade, level_at}
 

@@ -5,8 +5,10 @@ use Rattle.syn_models.specs.declared.flat_fault.FlatFault.{FlatFault}
 use Rattle.syn_models.specs.declared.flat_fault.FlatFault.TheVariants as models
 use Rattle.syn_hierarchy.specs.declared.file_fault.FileFault.{FileFault}
 use Rattle.syn_hierarchy.specs.declared.file_fault.FileFault.TheVariants as file
+use Rattle.syn_aiger_files.specs.declared.fault.AigFault.{AigFault}
+use Rattle.syn_aiger_files.specs.declared.fault.AigFault.TheVariants as aiger
 use Rattle.syn_shell.specs.declared.refusal.Refusal.{Refusal}
-use Rattle.syn_shell.specs.declared.refusal.Refusal.TheVariants.{Words, Script, Read, FileTooLong, LineTooLong, TooManyLines, TooManyGates, NoNetwork, GetFailed, PutFailed, LineFailed, SinkFailed, NoMemory}
+use Rattle.syn_shell.specs.declared.refusal.Refusal.TheVariants.{Words, Script, Read, ReadAiger, FileTooLong, LineTooLong, TooManyLines, TooManyGates, LatchType, NoNetwork, GetFailed, PutFailed, LineFailed, SinkFailed, NoMemory}
 use Rattle.syn_shell.specs.Networks.{Network}
 use Rattle.syn_shell.specs.declared.announcing.Announcement.{Announcement}
 use Rattle.syn_shell.specs.declared.announcing.Announcement.TheVariants.{Whole, Cut}
@@ -14,7 +16,7 @@ use Rattle.syn_shell.specs.declared.line_mode.Turn.{Turn}
 use Rattle.syn_shell.specs.declared.line_mode.Turn.TheVariants as turn
 use Rattle.syn_io.specs.Outside.{Disk, Screen, Input}
 use Rattle.syn_shell.specs.Outside.{State, state, GaveLine, GaveNone}
-use Rattle.syn_shell.specs.Lines.{file_status, models_status, refusal_status}
+use Rattle.syn_shell.specs.Lines.{aiger_status, file_status, models_status, refusal_status}
 use Rattle.syn_shell.specs.Scripts.{Refused, nameless, RunsScript}
 use Rattle.syn_shell.specs.LineMode.{GoesOn, LineRefused, NoFurther, RunsLines, listed, most_lines}
 use Rattle.syn_shell.specs.Runs.{status_of}
@@ -36,14 +38,22 @@ file_refused (file.TooManySources count) = refl
 file_refused (file.TooLarge cost) = refl
 file_refused file.NoMemory = refl
 
+aiger_refused : (fault : AigFault) → nat_eq (aiger_status fault) 0 ≡ false
+aiger_refused (aiger.TooManySources count) = refl
+aiger_refused (aiger.TooManyGates count) = refl
+aiger_refused aiger.NoMemory = refl
+aiger_refused other = refl
+
 pub is_refused : (cause : Refusal) → nat_eq (refusal_status cause) 0 ≡ false
 is_refused Words = refl
 is_refused (Script fault) = refl
 is_refused (Read fault) = file_refused fault
+is_refused (ReadAiger fault) = aiger_refused fault
 is_refused FileTooLong = refl
 is_refused LineTooLong = refl
 is_refused TooManyLines = refl
 is_refused (TooManyGates gates) = refl
+is_refused (LatchType latch) = refl
 is_refused NoNetwork = refl
 is_refused GetFailed = refl
 is_refused PutFailed = refl

@@ -2,7 +2,7 @@
 use Rattle.std.proofs.Common.{◌≡◌, ℕ, List, [], ◌∷◌, refl, sym, ap, ◌∙◌, subst, inl, inr, Option, None, Some}
 use Rattle.syn_shell.specs.Networks.{Network}
 use Rattle.syn_shell.specs.declared.refusal.Refusal.{Refusal}
-use Rattle.syn_shell.specs.declared.refusal.Refusal.TheVariants.{Words, Script, Read, FileTooLong, LineTooLong, TooManyLines, TooManyGates, NoNetwork, GetFailed, PutFailed, LineFailed, SinkFailed, NoMemory}
+use Rattle.syn_shell.specs.declared.refusal.Refusal.TheVariants.{Words, Script, Read, ReadAiger, FileTooLong, LineTooLong, TooManyLines, TooManyGates, LatchType, NoNetwork, GetFailed, PutFailed, LineFailed, SinkFailed, NoMemory}
 use Rattle.syn_shell.specs.declared.announcing.Announcement.{Announcement}
 use Rattle.syn_shell.specs.declared.announcing.Announcement.TheVariants.{Whole, Cut}
 use Rattle.syn_io.specs.Outside.{Disk, Screen, Input}
@@ -18,10 +18,12 @@ words_refused : (words : List (List ℕ)) (cause : Refusal) (st after : State) (
 words_refused words Words st after i refusals h nothing = inl (subst (λ (u : Usage). RunsUsage u st i refusals after i) (sym h) (nothing, refl))
 words_refused words (Script fault) st after i refusals h nothing = absurd h
 words_refused words (Read fault) st after i refusals h nothing = absurd h
+words_refused words (ReadAiger fault) st after i refusals h nothing = absurd h
 words_refused words FileTooLong st after i refusals h nothing = absurd h
 words_refused words LineTooLong st after i refusals h nothing = absurd h
 words_refused words TooManyLines st after i refusals h nothing = absurd h
 words_refused words (TooManyGates gates) st after i refusals h nothing = absurd h
+words_refused words (LatchType latch) st after i refusals h nothing = absurd h
 words_refused words NoNetwork st after i refusals h nothing = absurd h
 words_refused words GetFailed st after i refusals h nothing = absurd h
 words_refused words PutFailed st after i refusals h nothing = absurd h

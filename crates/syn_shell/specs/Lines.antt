@@ -16,9 +16,11 @@ use Rattle.syn_models.specs.declared.flat_fault.FlatFault.{FlatFault}
 use Rattle.syn_models.specs.declared.flat_fault.FlatFault.TheVariants as models
 use Rattle.syn_hierarchy.specs.declared.file_fault.FileFault.{FileFault}
 use Rattle.syn_hierarchy.specs.declared.file_fault.FileFault.TheVariants as file
+use Rattle.syn_aiger_files.specs.declared.fault.AigFault.{AigFault}
+use Rattle.syn_aiger_files.specs.declared.fault.AigFault.TheVariants as aiger
 use Rattle.syn_shell.specs.Networks.{Network}
 use Rattle.syn_shell.specs.declared.refusal.Refusal.{Refusal}
-use Rattle.syn_shell.specs.declared.refusal.Refusal.TheVariants.{Words, Script, Read, FileTooLong, LineTooLong, TooManyLines, TooManyGates, NoNetwork, GetFailed, PutFailed, LineFailed, SinkFailed, NoMemory}
+use Rattle.syn_shell.specs.declared.refusal.Refusal.TheVariants.{Words, Script, Read, ReadAiger, FileTooLong, LineTooLong, TooManyLines, TooManyGates, LatchType, NoNetwork, GetFailed, PutFailed, LineFailed, SinkFailed, NoMemory}
 
 -- the greatest number of a list, 0 where it is empty
 abbrev pub greatest : List ℕ → ℕ
@@ -132,15 +134,29 @@ file_text (file.TooManySources count) = joined (decimal count ∷ codes " source
 file_text (file.TooLarge cost) = joined (codes "cost " ∷ decimal cost ∷ [])
 file_text file.NoMemory = codes "out of memory"
 
+-- what a fault of an AIGER file says; its places are offsets of bytes
+abbrev pub aiger_text : AigFault → List ℕ
+aiger_text aiger.Header = codes "aiger header"
+aiger_text (aiger.Line at) = joined (codes "byte " ∷ decimal at ∷ codes ": aiger line" ∷ [])
+aiger_text (aiger.Pair at) = joined (codes "byte " ∷ decimal at ∷ codes ": aiger pair" ∷ [])
+aiger_text (aiger.Symbol at) = joined (codes "byte " ∷ decimal at ∷ codes ": aiger symbol" ∷ [])
+aiger_text (aiger.Undefined variable) = joined (codes "variable " ∷ decimal variable ∷ codes " undefined" ∷ [])
+aiger_text (aiger.Cycle variables) = codes "aiger cycle" ++ flat_map (λ variable. codes " " ++ decimal variable) variables
+aiger_text (aiger.TooManySources count) = joined (decimal count ∷ codes " sources" ∷ [])
+aiger_text (aiger.TooManyGates count) = joined (decimal count ∷ codes " gates" ∷ [])
+aiger_text aiger.NoMemory = codes "out of memory"
+
 -- what a refusal says; the name is that of the file that the command names
 abbrev pub refusal_text : Refusal → List ℕ → List ℕ
 refusal_text Words name = codes "command line"
 refusal_text (Script fault) name = script_text fault
 refusal_text (Read fault) name = file_text fault
+refusal_text (ReadAiger fault) name = aiger_text fault
 refusal_text FileTooLong name = codes "file longer than 16777216 bytes"
 refusal_text LineTooLong name = codes "line longer than 65536 bytes"
 refusal_text TooManyLines name = codes "more than 1048576 lines"
 refusal_text (TooManyGates gates) name = joined (decimal gates ∷ codes " gates" ∷ [])
+refusal_text (LatchType latch) name = joined (latch ∷ codes " has a latch type" ∷ [])
 refusal_text NoNetwork name = codes "no network"
 refusal_text GetFailed name = joined (codes "cannot read " ∷ name ∷ [])
 refusal_text PutFailed name = joined (codes "cannot write " ∷ name ∷ [])
@@ -167,15 +183,24 @@ file_status (file.TooManySources count) = 5
 file_status (file.TooLarge cost) = 5
 file_status file.NoMemory = 8
 
+-- the same of a fault of an AIGER file: its two limits have one of their own
+abbrev pub aiger_status : AigFault → ℕ
+aiger_status (aiger.TooManySources count) = 5
+aiger_status (aiger.TooManyGates count) = 5
+aiger_status aiger.NoMemory = 8
+aiger_status fault = 4
+
 -- the status that a run ends with where this is refused first
 abbrev pub refusal_status : Refusal → ℕ
 refusal_status Words = 2
 refusal_status (Script fault) = 3
 refusal_status (Read fault) = file_status fault
+refusal_status (ReadAiger fault) = aiger_status fault
 refusal_status FileTooLong = 5
 refusal_status LineTooLong = 5
 refusal_status TooManyLines = 5
 refusal_status (TooManyGates gates) = 5
+refusal_status (LatchType latch) = 9
 refusal_status NoNetwork = 6
 refusal_status GetFailed = 7
 refusal_status PutFailed = 7

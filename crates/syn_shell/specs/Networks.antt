@@ -1,7 +1,9 @@
 -- The network of a session: the netlist that a write of it puts, and whether it is one of LUTs.
-use Rattle.std.specs.Prelude.{ℕ, ◌≤◌, Bool, true, false, Option, option_map, length}
+use Rattle.std.specs.Prelude.{ℕ, ◌≤◌, ◌<◌, ◌^◌, Bool, true, false, Option, option_map, length}
 use Rattle.syn_netlist.specs.Lists.{Netlist, sources}
 use Rattle.syn_reader.specs.Limits.{most_sources}
+use Rattle.syn_shapes.specs.GraphShape.{and_tables}
+use Rattle.syn_build_luts.specs.Refusals.{most_gates}
 use Rattle.syn_graph.specs.Graphs as graphs
 use Rattle.syn_lutshapes.specs.LutShape.{gates_of}
 use Rattle.syn_lutnet.specs.Nets as nets
@@ -39,6 +41,13 @@ gates_by true netlist = gates_of netlist
 abbrev pub gates_in : Network → ℕ
 gates_in network = gates_by network.mapped network.netlist
 
--- A network has no more sources than a netlist that is read may have.
-abbrev pub HasFewSources : Network → Type 0
-HasFewSources network = length (sources network.netlist.frame) ≤ most_sources
+-- The ANDs of a netlist by the mark: those of a graph; a net of LUTs has none.
+abbrev pub ands_by : Bool → Netlist → ℕ
+ands_by false netlist = length (and_tables netlist)
+ands_by true netlist = 0
+
+-- A network is small enough to be made a graph and to be written as numbers: it has no more sources than a netlist that is read may have, fewer than 2 ^ 28 outputs, and, as a graph, no more ANDs than a net of LUTs may give.
+pub record IsSmall (network : Network) : Type 0 where
+  pub sources : length (sources network.netlist.frame) ≤ most_sources
+  pub outputs : length network.netlist.frame.outputs < 2 ^ 28
+  pub ands : ands_by network.mapped network.netlist ≤ most_gates

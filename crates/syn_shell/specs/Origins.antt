@@ -9,12 +9,14 @@ use Rattle.syn_shapes.specs.Printed.{printed}
 use Rattle.syn_gen.specs.Generated.{generated}
 use Rattle.syn_hierarchy.specs.Reading.{Reads}
 use Rattle.syn_seq.specs.Sequential.{SameSequentially}
+use Rattle.syn_aiger_files.specs.declared.files.Aig.{Aig}
+use Rattle.syn_aiger.specs.Faults.{Spells}
+use Rattle.syn_aiger.specs.Networks.{IsGraphOfAig}
+use Rattle.syn_aiger.specs.Writing.{IsWrittenAs}
 use Rattle.syn_words.specs.declared.Command.{Command}
 use Rattle.syn_words.specs.declared.Command.TheVariants as commands
 use Rattle.syn_shell.specs.declared.refusal.Refusal.{Refusal}
-use Rattle.syn_shell.specs.Networks.{Network}
 use Rattle.syn_shell.specs.Outside.{State, FileIs}
-use Rattle.syn_shell.specs.Steps.{SessionStep}
 use Rattle.syn_shell.specs.Scripts.{Refused, RunsCommands, RunsScript}
 use Rattle.syn_shell.specs.LineMode.{RunsLines}
 use Rattle.syn_shell.specs.Usage.{Usage, OneScript, EachLine, Faulty, usage_of}
@@ -56,14 +58,16 @@ abbrev pub steps_of_words : (words : List (List ℕ)) (before : State) (i : Inpu
 steps_of_words words before i refusals after i' (inl runs) = steps_of_usage (usage_of words) before i refusals after i' runs
 steps_of_words words before i refusals after i' (inr nothing) = []
 
--- Where a netlist comes from: a file of that name, as the files were when it was read; or it was generated, from a seed and a size.
+-- Where a netlist comes from: a file of that name, or an AIGER file, as the files were when it was read; or it was generated, from a seed and a size.
 pub data Place : Type 0 where
   OfFile : List ℕ → Disk → Place
+  OfAiger : List ℕ → Disk → Place
   OfSeed : ℕ → ℕ → Place
 
--- The netlist is the one that comes from there: the file's bytes read as it, or it is the generated one.
+-- The netlist is one that comes from there: the file's bytes read as it; or they spell an AIGER file of which it is a graph; or it is the generated one.
 abbrev pub ComesFrom : Place → Netlist → Type 0
 ComesFrom (OfFile name files) n = (bytes : List ℕ) × FileIs name files bytes × Reads bytes n
+ComesFrom (OfAiger name files) n = (bytes : List ℕ) × (g : Aig) × FileIs name files bytes × Spells bytes g × IsGraphOfAig g n
 ComesFrom (OfSeed seed size) n = n ≡ generated seed size
 
 -- Where a network came from, and whether its latches were swept since.
@@ -83,6 +87,7 @@ swept_since (Some origin) = Some (record { place = origin.place; swept = true })
 -- where the network comes from behind a command that was accepted: from what it reads or generates, else from where it came before
 abbrev pub origin_by : Command → Disk → Option Origin → Option Origin
 origin_by (commands.Read name) files origin = fresh (OfFile name files)
+origin_by (commands.ReadAiger name) files origin = fresh (OfAiger name files)
 origin_by (commands.Generate seed size) files origin = fresh (OfSeed seed size)
 origin_by commands.Sweep files origin = swept_since origin
 origin_by other files origin = origin
@@ -106,9 +111,21 @@ IsSameBy true n m = SameSequentially n m
 abbrev pub Keeps : Origin → Netlist → Type 0
 Keeps origin m = (n : Netlist) × ComesFrom origin.place n × IsSameBy origin.swept n m × Ordered m
 
--- What each write of a run gives: behind an accepted write, whatever steps were before and after it, the file is the printed form of a netlist that reads back from it and keeps what was read or generated last before the write, which there is.
+-- the command writes a file
+abbrev pub writes : Command → Bool
+writes (commands.Write name) = true
+writes (commands.WriteAiger ascii name) = true
+writes other = false
+
+-- What is found in the file that a command wrote, by its format: the printed form of the netlist, which reads back from it; or bytes that spell an AIGER file that keeps what the netlist means.
+abbrev pub Gives : Command → Disk → Netlist → Type 0
+Gives (commands.Write name) files m = FileIs name files (printed m) × Reads (printed m) m
+Gives (commands.WriteAiger ascii name) files m = (bytes : List ℕ) × (g : Aig) × FileIs name files bytes × Spells bytes g × IsWrittenAs m g
+Gives other files m = ⊥
+
+-- What each write of a run gives: behind an accepted write, whatever steps were before and after it, the file gives a netlist that keeps what was read or generated last before the write, which there is.
 abbrev pub EachWriteKeeps : Type 0
 EachWriteKeeps =
     (words : List (List ℕ)) (d : Disk) (s : Screen) (i : Input) (d' : Disk) (s' : Screen) (i' : Input) (status : ℕ) (ran : Ran words d s i d' s' i' status)
-    (front back : List Step) (write : Step) (name : List ℕ) → steps_of_words words _ i ran.refusals _ i' ran.runs ≡ front ++ write ∷ back → write.command ≡ commands.Write name → write.answer ≡ Ok tt
-    → (origin : Origin) × (m : Netlist) × (origin_after front None ≡ Some origin) × FileIs name write.after.files (printed m) × Reads (printed m) m × Keeps origin m
+    (front back : List Step) (write : Step) → steps_of_words words _ i ran.refusals _ i' ran.runs ≡ front ++ write ∷ back → writes write.command ≡ true → write.answer ≡ Ok tt
+    → (origin : Origin) × (m : Netlist) × (origin_after front None ≡ Some origin) × Gives write.command write.after.files m × Keeps origin m

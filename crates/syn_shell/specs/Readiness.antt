@@ -1,16 +1,20 @@
 -- When a run is ready: nothing stands in its way but want of memory and calls that fail. It is a condition on the run itself: what each command needs is there in the state in which the run ran it.
-use Rattle.std.specs.Prelude.{◌≡◌, ◌⊎◌, ℕ, ◌+◌, ◌<◌, ◌≤◌, List, [], ◌∷◌, length, Option, IfSome, IsSome, IsSomeAnd, ⊤}
+use Rattle.std.specs.Prelude.{◌≡◌, ◌⊎◌, ℕ, ◌+◌, ◌<◌, ◌≤◌, List, [], ◌∷◌, length, Option, IfSome, IsSome, IsSomeAnd, None, ⊤}
 use mathlib.Core.Logic.{inl, inr}
 use Rattle.syn_io.specs.Outside.{Disk, Input, Screen, file_at, next_line}
 use Rattle.syn_netlist.specs.Lists.{Netlist}
 use Rattle.syn_hierarchy.specs.Limits.{Within}
 use Rattle.syn_hierarchy.specs.Reading.{Reads}
 use Rattle.syn_build_luts.specs.Refusals.{most_gates}
+use Rattle.syn_aiger_files.specs.declared.files.Aig.{Aig}
+use Rattle.syn_aiger.specs.Faults.{Spells}
+use Rattle.syn_aiger.specs.Faults as aiger
+use Rattle.syn_aiger.specs.Writing.{first_typed}
 use Rattle.syn_words.specs.declared.Command.{Command}
 use Rattle.syn_words.specs.Scripts.{IsScript}
 use Rattle.syn_shell.specs.Networks.{gates_in}
 use Rattle.syn_shell.specs.Outside.{State, script_limit}
-use Rattle.syn_shell.specs.Steps.{Kind, Reading, Generating, Printing, Writing, Making, kind_of, file_limit}
+use Rattle.syn_shell.specs.Steps.{Kind, Reading, ReadingAiger, Generating, Printing, Writing, WritingAiger, Making, kind_of, file_limit}
 use Rattle.syn_shell.specs.Scripts.{Refused, RunsCommands, RunsScript}
 use Rattle.syn_shell.specs.LineMode.{RunsLines, most_lines}
 use Rattle.syn_shell.specs.Usage.{Usage, OneScript, EachLine, Faulty, usage_of}
@@ -21,12 +25,18 @@ use Rattle.syn_shell.specs.Runs.{Ran, RunsUsage, RunsWords}
 abbrev pub IsReadable : List ℕ → Disk → Type 0
 IsReadable name files = IsSomeAnd files.told (λ list. IsSomeAnd (file_at name list) (λ bytes. (length bytes ≤ file_limit) × (net : Netlist) × Reads bytes net × Within bytes net))
 
--- What a command needs, by its kind: its file, nothing, or a network, and to make it anew one that not too many gates make a graph.
+-- The file of that name is told and there; it is short enough, and spells an AIGER file within both limits: sources and ANDs.
+abbrev pub IsReadableAiger : List ℕ → Disk → Type 0
+IsReadableAiger name files = IsSomeAnd files.told (λ list. IsSomeAnd (file_at name list) (λ bytes. (length bytes ≤ file_limit) × (g : Aig) × Spells bytes g × aiger.Within g))
+
+-- What a command needs, by its kind: its file, nothing, or a network, to make it anew or to write it as an AIGER file one that not too many gates make a graph, and for the latter one without types of latches.
 abbrev pub Needs : Kind → State → Type 0
 Needs (Reading name) before = IsReadable name before.files
+Needs (ReadingAiger name) before = IsReadableAiger name before.files
 Needs (Generating seed size) before = ⊤
 Needs Printing before = IsSome before.network
 Needs (Writing name) before = IsSome before.network
+Needs (WritingAiger ascii name) before = IsSomeAnd before.network (λ net. (gates_in net ≤ most_gates) × (first_typed net.netlist.frame ≡ None))
 Needs Making before = IsSomeAnd before.network (λ net. gates_in net ≤ most_gates)
 
 -- What each command that was run needs is there.

@@ -1,4 +1,4 @@
--- What each command does, accepted or refused: a relation between the network, the files and the sink before and after it. There are five kinds of commands: those that read a file, that generate a netlist, that print, that write a file, and that make the network anew.
+-- What each command does, accepted or refused: a relation between the network, the files and the sink before and after it. There are these kinds of commands: those that read a file, of either format, that generate a netlist, that print, that write a file, in either format, and that make the network anew.
 use Rattle.std.specs.Prelude.{◌≡◌, ℕ, ◌≤◌, ◌<◌, Bool, true, false, List, length, map, Option, Some, None, IfSome, IsSome, IsSomeAnd, Result, Ok, Err, ⊤}
 use Rattle.syn_io.specs.Outside.{Rose, file_at, Disk, Screen}
 use Rattle.syn_rows.specs.declared.Row.{Row}
@@ -15,7 +15,7 @@ use Rattle.syn_lutshapes.specs.LutShape.{LutShape, count_of, depth_of, gates_of}
 use Rattle.syn_map.specs.Labels.{label_of}
 use Rattle.syn_area.specs.Plain.{AreNeeded}
 use Rattle.syn_build_luts.specs.Refusals.{most_gates}
-use Rattle.syn_pool.specs.Closing.{Closed}
+use Rattle.syn_proposals.specs.Closing.{Closed}
 use Rattle.syn_gain.specs.Replacements.{Replacement}
 use Rattle.syn_flow.specs.Coverings.{IsLeastDepth}
 use Rattle.syn_gen.specs.Generated.{generated}
@@ -23,6 +23,13 @@ use Rattle.syn_refactor.specs.Refactoring.{refactorings}
 use Rattle.syn_resub.specs.Resubstitution.{resubstitutions}
 use Rattle.syn_rewrite.specs.Rewriting.{rewritings}
 use Rattle.syn_seq.specs.Sweeping.{IsSweepOf}
+use Rattle.syn_aiger_files.specs.declared.fault.AigFault.{AigFault}
+use Rattle.syn_aiger_files.specs.declared.files.Aig.{Aig}
+use Rattle.syn_aiger_files.specs.Printed as aiger_printed
+use Rattle.syn_aiger.specs.Faults.{Spells}
+use Rattle.syn_aiger.specs.Faults as aiger
+use Rattle.syn_aiger.specs.Networks.{IsGraphOfAig}
+use Rattle.syn_aiger.specs.Writing.{IsWrittenAs, aig_of, first_typed}
 use Rattle.syn_words.specs.declared.Command.{Command}
 use Rattle.syn_words.specs.declared.Command.TheVariants as commands
 use Rattle.syn_hierarchy.specs.declared.file_fault.FileFault.{FileFault}
@@ -31,7 +38,7 @@ use Rattle.syn_hierarchy.specs.Limits.{Within, IsFirstFault}
 use Rattle.syn_hierarchy.specs.Reading.{Reads}
 use Rattle.syn_build.specs.Building.{IsGraphOf}
 use Rattle.syn_shell.specs.declared.refusal.Refusal.{Refusal}
-use Rattle.syn_shell.specs.declared.refusal.Refusal.TheVariants.{Read, FileTooLong, TooManyGates, NoNetwork, GetFailed, PutFailed, SinkFailed, NoMemory}
+use Rattle.syn_shell.specs.declared.refusal.Refusal.TheVariants.{Read, ReadAiger, FileTooLong, TooManyGates, LatchType, NoNetwork, GetFailed, PutFailed, SinkFailed, NoMemory}
 use Rattle.syn_shell.specs.Outside.{State, FilesStand, FileIs, OthersStand, Took, TookPart}
 use Rattle.syn_shell.specs.Networks.{Network, gates_in, graph_network}
 use Rattle.syn_shell.specs.Lines.{IsStatsLine}
@@ -50,6 +57,16 @@ pub record IsReadAs (name : List ℕ) (files : Disk) (m : Netlist) : Type 0 wher
   pub within : Within bytes netlist
   pub graph : IsGraphOf netlist m
 
+-- What an accepted read makes of an AIGER file: its bytes spell a file of that format within the limits, and the network is a graph of it.
+pub record IsReadAsAiger (name : List ℕ) (files : Disk) (m : Netlist) : Type 0 where
+  pub bytes : List ℕ
+  pub aig : Aig
+  pub file : FileIs name files bytes
+  pub short : length bytes ≤ file_limit
+  pub spells : Spells bytes aig
+  pub within : aiger.Within aig
+  pub graph : IsGraphOfAig aig m
+
 -- The bytes of a file have this first fault, which is none of memory.
 pub record IsFaulty (name : List ℕ) (files : Disk) (fault : FileFault) : Type 0 where
   pub bytes : List ℕ
@@ -57,19 +74,41 @@ pub record IsFaulty (name : List ℕ) (files : Disk) (fault : FileFault) : Type 
   pub short : length bytes ≤ file_limit
   pub first : IsSomeAnd (fault_in fault) (IsFirstFault bytes)
 
+-- The bytes of an AIGER file have this first fault, which is none of memory.
+pub record IsFaultyAiger (name : List ℕ) (files : Disk) (fault : AigFault) : Type 0 where
+  pub bytes : List ℕ
+  pub file : FileIs name files bytes
+  pub short : length bytes ≤ file_limit
+  pub first : aiger.IsFirstFault bytes fault
+
 -- Why bytes spell no netlist: their first fault, or memory was refused.
 abbrev pub ParseRefused : List ℕ → Refusal → Type 0
 ParseRefused bytes (Read fault) = IsSomeAnd (fault_in fault) (IsFirstFault bytes)
 ParseRefused bytes NoMemory = ⊤
 ParseRefused bytes other = ⊥
 
--- Why a read is refused.
+-- Why bytes spell no AIGER file, likewise.
+abbrev pub AigerParseRefused : List ℕ → Refusal → Type 0
+AigerParseRefused bytes (ReadAiger fault) = aiger.IsFirstFault bytes fault
+AigerParseRefused bytes NoMemory = ⊤
+AigerParseRefused bytes other = ⊥
+
+-- Why the bytes of a file are not there: it could not be read, or it is too long, or memory was refused.
+abbrev pub GetRefused : List ℕ → Disk → Disk → Refusal → Type 0
+GetRefused name before after GetFailed = Rose before.faults after.faults
+GetRefused name before after FileTooLong = IfSome before.told (λ list. IsSomeAnd (file_at name list) (λ bytes. file_limit < length bytes))
+GetRefused name before after NoMemory = ⊤
+GetRefused name before after other = ⊥
+
+-- Why a read is refused: the file has a fault, or its bytes are not there.
 abbrev pub ReadRefused : List ℕ → Disk → Disk → Refusal → Type 0
 ReadRefused name before after (Read fault) = IsFaulty name before fault
-ReadRefused name before after GetFailed = Rose before.faults after.faults
-ReadRefused name before after FileTooLong = IfSome before.told (λ list. IsSomeAnd (file_at name list) (λ bytes. file_limit < length bytes))
-ReadRefused name before after NoMemory = ⊤
-ReadRefused name before after other = ⊥
+ReadRefused name before after other = GetRefused name before after other
+
+-- The same of an AIGER file.
+abbrev pub AigerReadRefused : List ℕ → Disk → Disk → Refusal → Type 0
+AigerReadRefused name before after (ReadAiger fault) = IsFaultyAiger name before fault
+AigerReadRefused name before after other = GetRefused name before after other
 
 -- Why a network's line is refused, and what the sink took of it.
 abbrev pub PrintRefused : Option Network → Screen → Screen → Refusal → Type 0
@@ -106,6 +145,34 @@ level_at m i = level_in (levels_of (rows_of m)) (node_of (lit_at (observed_of m)
 pub record IsBalanced (old new : Network) : Type 0 where
   pub remade : IsRemade old new
   pub levels : (i : ℕ) → i < length (observed_of new.netlist) → level_at new.netlist i ≤ level_at old.netlist i
+
+-- The graph as which a network is written in the AIGER format, by the mark: itself, or what hashing makes of a net of LUTs.
+abbrev pub IsGraphFor : Bool → Network → Network → Type 0
+IsGraphFor false net graph = graph ≡ net
+IsGraphFor true net graph = IsRemade net graph
+
+-- What an accepted write of an AIGER file puts: the bytes of the file of a graph for the network, in the format; they spell that file, and it keeps what the network means. Not too many gates make the network a graph, and no latch has a type.
+pub record IsAigerOf (ascii : Bool) (net : Network) (bytes : List ℕ) : Type 0 where
+  pub graph : Network
+  pub made : IsGraphFor net.mapped net graph
+  pub gates : gates_in net ≤ most_gates
+  pub untyped : first_typed net.netlist.frame ≡ None
+  pub is : bytes ≡ aiger_printed.printed ascii (aig_of graph.netlist)
+  pub spells : Spells bytes (aig_of graph.netlist)
+  pub keeps : IsWrittenAs net.netlist (aig_of graph.netlist)
+
+-- Why a network has no AIGER file: too many gates make it a graph; else its first latch with a type is told. Memory may be refused.
+abbrev pub AigerRefused : Network → Refusal → Type 0
+AigerRefused net (TooManyGates gates) = (gates ≡ gates_in net) × (most_gates < gates)
+AigerRefused net (LatchType latch) = (gates_in net ≤ most_gates) × (first_typed net.netlist.frame ≡ Some latch)
+AigerRefused net NoMemory = ⊤
+AigerRefused net other = ⊥
+
+-- Why a write of an AIGER file is refused, and what became of the files: there is no such file of the network, or as any write.
+abbrev pub AigerWriteRefused : Option Network → List ℕ → Disk → Disk → Refusal → Type 0
+AigerWriteRefused m name before after (TooManyGates gates) = IsSomeAnd m (λ net. AigerRefused net (TooManyGates gates)) × (after ≡ before)
+AigerWriteRefused m name before after (LatchType latch) = IsSomeAnd m (λ net. AigerRefused net (LatchType latch)) × (after ≡ before)
+AigerWriteRefused m name before after other = WriteRefused m name before after other
 
 -- What rewriting, refactoring and resubstitution make of a graph, each for its proposals: it is remade, and no proposal for any of its ANDs saves one, by the rows that it spells.
 pub record IsClosedFor (proposals : List Row → ℕ → List Replacement) (old new : Network) : Type 0 where
@@ -179,25 +246,31 @@ GeneratingRefused other = ⊥
 abbrev pub NetworkStays : State → State → Type 0
 NetworkStays before after = after.network ≡ before.network
 
--- The kinds of commands: one that reads a file, generates a netlist, prints, writes a file, or makes the network anew.
+-- The kinds of commands: one that reads a file or an AIGER file, generates a netlist, prints, writes a file or an AIGER file, in the ASCII format or the binary one, or makes the network anew.
 pub data Kind : Type 0 where
   Reading : List ℕ → Kind
+  ReadingAiger : List ℕ → Kind
   Generating : ℕ → ℕ → Kind
   Printing : Kind
   Writing : List ℕ → Kind
+  WritingAiger : Bool → List ℕ → Kind
   Making : Kind
 
 abbrev pub kind_of : Command → Kind
 kind_of (commands.Read name) = Reading name
+kind_of (commands.ReadAiger name) = ReadingAiger name
 kind_of (commands.Generate seed size) = Generating seed size
 kind_of commands.Stats = Printing
 kind_of (commands.Write name) = Writing name
+kind_of (commands.WriteAiger ascii name) = WritingAiger ascii name
 kind_of other = Making
 
 -- A command that is accepted, by its kind. What is written reads back as what the network is.
 abbrev pub Accepted : Kind → Command → State → State → Type 0
 Accepted (Reading name) command before after =
     (net : Netlist) × (after.network ≡ Some (graph_network net)) × IsReadAs name before.files net × FilesStand before.files after.files × (after.sink ≡ before.sink)
+Accepted (ReadingAiger name) command before after =
+    (net : Netlist) × (after.network ≡ Some (graph_network net)) × IsReadAsAiger name before.files net × FilesStand before.files after.files × (after.sink ≡ before.sink)
 Accepted (Generating seed size) command before after =
     (net : Netlist) × (after.network ≡ Some (graph_network net)) × IsGraphOf (generated seed size) net × (after.files ≡ before.files) × (after.sink ≡ before.sink)
 Accepted Printing command before after =
@@ -205,14 +278,19 @@ Accepted Printing command before after =
 Accepted (Writing name) command before after =
     (net : Network) × (before.network ≡ Some net) × NetworkStays before after × FileIs name after.files (printed net.netlist) × Reads (printed net.netlist) net.netlist
     × OthersStand name before.files after.files × (after.sink ≡ before.sink)
+Accepted (WritingAiger ascii name) command before after =
+    (net : Network) × (bytes : List ℕ) × (before.network ≡ Some net) × NetworkStays before after × FileIs name after.files bytes × IsAigerOf ascii net bytes
+    × OthersStand name before.files after.files × (after.sink ≡ before.sink)
 Accepted Making command before after = Remakes command before.network after.network × (after.files ≡ before.files) × (after.sink ≡ before.sink)
 
 -- A command that is refused, by its kind. It leaves the network.
 abbrev pub Denied : Kind → State → Refusal → State → Type 0
 Denied (Reading name) before cause after = NetworkStays before after × ReadRefused name before.files after.files cause × FilesStand before.files after.files × (after.sink ≡ before.sink)
+Denied (ReadingAiger name) before cause after = NetworkStays before after × AigerReadRefused name before.files after.files cause × FilesStand before.files after.files × (after.sink ≡ before.sink)
 Denied (Generating seed size) before cause after = NetworkStays before after × GeneratingRefused cause × (after.files ≡ before.files) × (after.sink ≡ before.sink)
 Denied Printing before cause after = NetworkStays before after × PrintRefused before.network before.sink after.sink cause × (after.files ≡ before.files)
 Denied (Writing name) before cause after = NetworkStays before after × WriteRefused before.network name before.files after.files cause × (after.sink ≡ before.sink)
+Denied (WritingAiger ascii name) before cause after = NetworkStays before after × AigerWriteRefused before.network name before.files after.files cause × (after.sink ≡ before.sink)
 Denied Making before cause after = NetworkStays before after × MakingRefused before.network cause × (after.files ≡ before.files) × (after.sink ≡ before.sink)
 
 -- One command, from the network, the files and the sink before it to those after it.

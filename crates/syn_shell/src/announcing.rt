@@ -1,13 +1,14 @@
 //! The lines of refusals, put in pieces that take no memory, and their statuses.
 
 ghost use Rattle.std.specs.Prelude.{◌≡◌, ◌++◌, ◌∷◌, [], codes, decimal, flat_map, map};
-ghost use Rattle.syn_shell.specs.Lines.{at_line, at_place, chain_text, file_status, file_text, joined, lines_text, models_status, models_text, name_at_line, read_text, refusal_line, refusal_status, refusal_text, script_text};
+ghost use Rattle.syn_shell.specs.Lines.{aiger_status, aiger_text, at_line, at_place, chain_text, file_status, file_text, joined, lines_text, models_status, models_text, name_at_line, read_text, refusal_line, refusal_status, refusal_text, script_text};
 ghost use Rattle.syn_shell.specs.Outside.{Puts};
 ghost use Rattle.syn_shell.specs.Scripts.{Refused};
 ghost use Rattle.syn_shell.specs.Stopping.{status_in, AnnouncesAs};
 
 use crate::refusal::Refusal;
 use itoa::Buffer;
+use syn_aiger_files::AigFault;
 use syn_hierarchy::FileFault;
 use syn_io::{Sink, SinkFailed};
 use syn_model_lines::LinesFault;
@@ -80,6 +81,24 @@ fn put_number<O: Sink>(
 {
     let mut buffer = Buffer::new();
     put_all(out, &[before, buffer.format(number).as_bytes(), after])
+}
+
+// Puts each number after one blank.
+fn put_numbers<O: Sink>(out: &mut O, numbers: &[u32]) -> Result<(), SinkFailed>
+    ensures { Puts result (flat_map (λ number. codes " " ++ decimal number) numbers.now) (O.screen out.old) (O.screen out.new) }
+{
+    for number in numbers {
+        put_number(out, b" ", *number as u64, b"")?;
+    }
+    Ok(())
+}
+
+// Puts the variables of a circle of ANDs.
+fn put_circle<O: Sink>(out: &mut O, variables: &[u32]) -> Result<(), SinkFailed>
+    ensures { Puts result (codes "aiger cycle" ++ flat_map (λ variable. codes " " ++ decimal variable) variables.now) (O.screen out.old) (O.screen out.new) }
+{
+    put(out, b"aiger cycle")?;
+    put_numbers(out, variables)
 }
 
 // Puts what is wrong at a place of a script.
@@ -219,6 +238,25 @@ fn put_file_fault<O: Sink>(out: &mut O, fault: &FileFault) -> Result<(), SinkFai
     }
 }
 
+// Puts what a fault of an AIGER file says.
+fn put_aiger_fault<O: Sink>(out: &mut O, fault: &AigFault) -> Result<(), SinkFailed>
+    ensures { Puts result (aiger_text fault.now) (O.screen out.old) (O.screen out.new) }
+{
+    match fault {
+        AigFault::Header => put(out, b"aiger header"),
+        AigFault::Line(at) => put_number(out, b"byte ", *at as u64, b": aiger line"),
+        AigFault::Pair(at) => put_number(out, b"byte ", *at as u64, b": aiger pair"),
+        AigFault::Symbol(at) => put_number(out, b"byte ", *at as u64, b": aiger symbol"),
+        AigFault::Undefined(variable) => {
+            put_number(out, b"variable ", *variable as u64, b" undefined")
+        }
+        AigFault::Cycle(variables) => put_circle(out, variables.as_slice()),
+        AigFault::TooManySources(count) => put_number(out, b"", *count as u64, b" sources"),
+        AigFault::TooManyGates(count) => put_number(out, b"", *count as u64, b" gates"),
+        AigFault::NoMemory => put(out, b"out of memory"),
+    }
+}
+
 // Puts what a refusal says.
 fn put_text<O: Sink>(out: &mut O, refusal: &Refusal, name: &[u8]) -> Result<(), SinkFailed>
     ensures { Puts result (refusal_text refusal.now name.now) (O.screen out.old) (O.screen out.new) }
@@ -227,10 +265,12 @@ fn put_text<O: Sink>(out: &mut O, refusal: &Refusal, name: &[u8]) -> Result<(), 
         Refusal::Words => put(out, b"command line"),
         Refusal::Script(fault) => put_script_fault(out, fault),
         Refusal::Read(fault) => put_file_fault(out, fault),
+        Refusal::ReadAiger(fault) => put_aiger_fault(out, fault),
         Refusal::FileTooLong => put(out, b"file longer than 16777216 bytes"),
         Refusal::LineTooLong => put(out, b"line longer than 65536 bytes"),
         Refusal::TooManyLines => put(out, b"more than 1048576 lines"),
         Refusal::TooManyGates(gates) => put_number(out, b"", *gates, b" gates"),
+        Refusal::LatchType(latch) => put_all(out, &[latch.as_slice(), b" has a latch type"]),
         Refusal::NoNetwork => put(out, b"no network"),
         Refusal::GetFailed => put_all(out, &[b"cannot read ", name]),
         Refusal::PutFailed => put_all(out, &[b"cannot write ", name]),
@@ -272,6 +312,17 @@ fn file_status(fault: &FileFault) -> u8
     }
 }
 
+// The status of a run where a fault of an AIGER file is refused first: its two limits have one of their own.
+fn aiger_status(fault: &AigFault) -> u8
+    ensures { result ≡ aiger_status fault.now }
+{
+    match fault {
+        AigFault::TooManySources(_) | AigFault::TooManyGates(_) => 5,
+        AigFault::NoMemory => 8,
+        _ => 4,
+    }
+}
+
 // The status of a run where this is refused first.
 fn status_of(refusal: &Refusal) -> u8
     ensures { result ≡ refusal_status refusal.now }
@@ -280,6 +331,7 @@ fn status_of(refusal: &Refusal) -> u8
         Refusal::Words => 2,
         Refusal::Script(_) => 3,
         Refusal::Read(fault) => file_status(fault),
+        Refusal::ReadAiger(fault) => aiger_status(fault),
         Refusal::FileTooLong
         | Refusal::LineTooLong
         | Refusal::TooManyLines
@@ -287,6 +339,7 @@ fn status_of(refusal: &Refusal) -> u8
         Refusal::NoNetwork => 6,
         Refusal::GetFailed | Refusal::PutFailed | Refusal::LineFailed | Refusal::SinkFailed => 7,
         Refusal::NoMemory => 8,
+        Refusal::LatchType(_) => 9,
     }
 }
 

@@ -8,13 +8,15 @@ pub fn few_lines()
     ensures { FewLines }
 {}
 
-/// Each write of a run gives a netlist that means the same as the one that was read or generated last before it, which
-/// there is, that reads only earlier signals, and that reads back from the file. Where latches were swept since, it gives
-/// the same outputs over every sequence of inputs.
+/// Each write of a run, in either format, gives a netlist that means the same as the one that was read or generated last
+/// before it, which there is, and that reads only earlier signals. A BLIF file reads back as it; an AIGER file, which its
+/// bytes spell, keeps what it means. Where latches were swept since, it gives the same outputs over every sequence of inputs.
 pub fn each_write_keeps()
     ensures { EachWriteKeeps }
 {
     syn_netlist::same_is_transitive();
     syn_seq::sequential_is_transitive();
     syn_seq::same_meaning_is_sequential();
+    syn_shapes::graph_has_function();
+    syn_netlist::same_from_function();
 }

@@ -1,8 +1,10 @@
 //! The shell: what reads, shows and writes netlists.
 #![tactic(auto)]
 
+mod aiger;
 mod announcing;
 mod arguments;
+mod files;
 mod laws;
 mod line_mode;
 mod lines;

@@ -3,12 +3,14 @@
 ghost use Rattle.std.specs.Prelude.{◌≡◌};
 
 use std::alloc::AllocError;
+use syn_aiger_files::AigFault;
 use syn_hierarchy::FileFault;
+use syn_netlist::Word;
 use syn_words::ScriptFault;
 
 /// Why a run or a command is refused. Each but `SinkFailed` has a line that says so.
 ///
-/// Want of memory is always `NoMemory`: neither `Script` nor `Read` has it inside.
+/// Want of memory is always `NoMemory`: none of `Script`, `Read` and `ReadAiger` has it inside.
 #[derive(Debug, Drop)]
 pub enum Refusal {
     /// The words are no call of the program.
@@ -17,6 +19,8 @@ pub enum Refusal {
     Script(ScriptFault),
     /// The first fault of the file that the command names.
     Read(FileFault),
+    /// The first fault of the AIGER file that the command names.
+    ReadAiger(AigFault),
     /// The file that the command names has more than 16,777,216 bytes.
     FileTooLong,
     /// A script or a line has more than 65,536 bytes.
@@ -25,6 +29,8 @@ pub enum Refusal {
     TooManyLines,
     /// So many gates make the network a graph, more than 4,194,304.
     TooManyGates(u64),
+    /// An AIGER file has no latches with a type: the output of the first one that has.
+    LatchType(Word),
     /// The command needs a network, and there is none.
     NoNetwork,
     /// The file that the command names could not be read.

@@ -7,7 +7,7 @@ ghost use Rattle.syn_build_luts.specs.Refusals.{most_gates};
 ghost use Rattle.syn_refactor.specs.Refactoring.{refactorings};
 ghost use Rattle.syn_resub.specs.Resubstitution.{resubstitutions};
 ghost use Rattle.syn_rewrite.specs.Rewriting.{rewritings};
-ghost use Rattle.syn_shell.specs.Networks.{gates_in, graph_network, HasFewSources, mapped_network, network_of};
+ghost use Rattle.syn_shell.specs.Networks.{gates_in, graph_network, IsSmall, mapped_network, network_of};
 ghost use Rattle.syn_shell.specs.Steps.{IsBalanced, IsClosedFor, IsLeastMappedTo, IsMappedForArea, IsMappedTo, IsRemade, IsSweptTo, kind_of, Makes, Making, MakingRefused};
 
 use crate::network::Kept;
@@ -220,16 +220,20 @@ fn remake_graph<R: Threads + Sync, G: Gate>(
         Command::Map { area: true, inputs } => mapped_for_area(rt, alloc, graph, inputs, workers),
         Command::MapByFlow(inputs) => mapped_by_flow(alloc, graph, inputs),
         Command::Sweep => swept(alloc, graph),
-        Command::Read(_) | Command::Generate { .. } | Command::Stats | Command::Write(_) => {
-            Ok(Kept::Graph(graph))
-        }
+        Command::Read(_)
+        | Command::ReadAiger(_)
+        | Command::Generate { .. }
+        | Command::Stats
+        | Command::Write(_)
+        | Command::WriteAiger { .. } => Ok(Kept::Graph(graph)),
     }
 }
 
-// The graph of a net of LUTs.
-fn graph_of(alloc: Global, net: &LutNet) -> Result<Graph, Refusal>
-    requires { HasFewSources (mapped_network (nets.network_of net.now)) }
+/// The graph of a net of LUTs.
+pub(crate) fn graph_of(alloc: Global, net: &LutNet) -> Result<Graph, Refusal>
+    requires { IsSmall (mapped_network (nets.network_of net.now)) }
     ensures graph { IfOk result (λ graph. IsRemade (mapped_network (nets.network_of net.now)) (graph_network (graphs.network_of graph))) }
+    ensures small { IfOk result (λ graph. IsSmall (graph_network (graphs.network_of graph))) }
     ensures gates { IfOk result (λ graph. gates_in (mapped_network (nets.network_of net.now)) ≤ most_gates) }
     ensures refused { IfErr result (MakingRefused (Some (mapped_network (nets.network_of net.now)))) }
 {
@@ -251,7 +255,7 @@ fn remake_luts<R: Threads + Sync, G: Gate>(
     gate: &G,
 ) -> Result<Kept, Refusal>
     requires making { kind_of command.now ≡ Making }
-    requires sources { HasFewSources (mapped_network (nets.network_of net.now)) }
+    requires small { IsSmall (mapped_network (nets.network_of net.now)) }
     ensures made { IfOk result (λ new. Makes command.now (mapped_network (nets.network_of net.now)) (network_of new)) }
     ensures gates { IfOk result (λ new. gates_in (mapped_network (nets.network_of net.now)) ≤ most_gates) }
     ensures refused { IfErr result (MakingRefused (Some (mapped_network (nets.network_of net.now)))) }
@@ -275,10 +279,10 @@ pub(crate) fn remake<R: Threads + Sync, G: Gate>(
     gate: &G,
 ) -> Result<Kept, (Kept, Refusal)>
     requires making { kind_of command.now ≡ Making }
-    requires sources { HasFewSources (network_of network) }
+    requires small { IsSmall (network_of network) }
     ensures made { IfOk result (λ new. Makes command.now (network_of network) (network_of new)) }
     ensures gates { IfOk result (λ new. gates_in (network_of network) ≤ most_gates) }
-    ensures sources { IfOk result (λ new. HasFewSources (network_of new)) }
+    ensures small { IfOk result (λ new. IsSmall (network_of new)) }
     ensures refused { IfErr result (λ back. (network_of back.0 ≡ network_of network) × MakingRefused (Some (network_of network)) back.1) }
 {
     match network {

@@ -29,7 +29,10 @@ fn name_in(command: &Command) -> &[u8]
     ensures { result.now ≡ name_in command.now }
 {
     match command {
-        Command::Read(name) | Command::Write(name) => name.as_str().as_bytes(),
+        Command::Read(name)
+        | Command::Write(name)
+        | Command::ReadAiger(name)
+        | Command::WriteAiger { name, .. } => name.as_str().as_bytes(),
         _ => &[],
     }
 }

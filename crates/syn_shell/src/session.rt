@@ -9,10 +9,12 @@ ghost use Rattle.syn_shapes.specs.Printed.{printed};
 ghost use Rattle.syn_graph.specs.Graphs as graphs;
 ghost use Rattle.syn_build.specs.Building.{IsGraphOf};
 ghost use Rattle.syn_gen.specs.Generated.{generated};
-ghost use Rattle.syn_shell.specs.Networks.{graph_network, HasFewSources, network_of};
+ghost use Rattle.syn_shell.specs.Networks.{graph_network, IsSmall, network_of};
 ghost use Rattle.syn_shell.specs.Outside.{FileIs, FilesStand, OthersStand, state};
 ghost use Rattle.syn_shell.specs.Steps.{file_limit, GeneratingRefused, IsReadAs, kind_of, Making, MakingRefused, ParseRefused, ReadRefused, Remakes, SessionStep, WriteRefused};
 
+use crate::aiger;
+use crate::files::{get, put};
 use crate::lines::print_stats;
 use crate::network::Kept;
 use crate::refusal::Refusal;
@@ -24,11 +26,9 @@ use syn_build::{build, build_checked};
 use syn_commit::Gate;
 use syn_graph::Graph;
 use syn_hierarchy::FileFault;
-use syn_io::{Files, GetFault, PutFault, Sink};
+use syn_io::{Files, Sink};
 use syn_netlist::CheckedNetlist;
 use syn_words::Command;
-
-const FILE_LIMIT: u64 = 16_777_216;
 
 /// What is kept from command to command: the network, a graph or a net of LUTs. Contracts see the netlist that it is
 /// written as, with the mark whether it is a net of LUTs. The number of workers changes nothing that they see.
@@ -40,28 +40,13 @@ pub struct Session {
 
 impl Model for Session {
     ghost use Rattle.std.specs.Prelude.{◌≤◌, IfSome, Option};
-    ghost use Rattle.syn_shell.specs.Networks.{HasFewSources, Network, network_in};
+    ghost use Rattle.syn_shell.specs.Networks.{IsSmall, Network, network_in};
 
     ghost Value = { Option Network };
 
     ghost view = { λ session. network_in session.network };
 
-    ghost invariant = { λ session. (1 ≤ session.workers) × (session.workers ≤ 16) × IfSome (network_in session.network) HasFewSources };
-}
-
-// The bytes of a file.
-fn get<F: Files>(alloc: Global, name: &str, files: &mut F) -> Result<Vec<u8>, Refusal>
-    ensures file { IfOk result (λ bytes. FileIs name.now (F.disk files.old) bytes.items) }
-    ensures short { IfOk result (λ bytes. length bytes.items ≤ file_limit) }
-    ensures refused { IfErr result (ReadRefused name.now (F.disk files.old) (F.disk files.new)) }
-    ensures stand { FilesStand (F.disk files.old) (F.disk files.new) }
-{
-    match files.get(alloc, name, FILE_LIMIT) {
-        Ok(bytes) => Ok(bytes),
-        Err(GetFault::Failed) => Err(Refusal::GetFailed),
-        Err(GetFault::TooLong) => Err(Refusal::FileTooLong),
-        Err(GetFault::NoMemory) => Err(Refusal::NoMemory),
-    }
+    ghost invariant = { λ session. (1 ≤ session.workers) × (session.workers ≤ 16) × IfSome (network_in session.network) IsSmall };
 }
 
 // The netlist that the bytes of a file spell, checked, or their first fault.
@@ -82,10 +67,11 @@ fn parse(alloc: Global, bytes: &[u8]) -> Result<CheckedNetlist, Refusal>
 // The graph of a file's netlist.
 fn read<F: Files>(alloc: Global, name: &str, files: &mut F) -> Result<Graph, Refusal>
     ensures read { IfOk result (λ graph. IsReadAs name.now (F.disk files.old) (graphs.network_of graph)) }
-    ensures sources { IfOk result (λ graph. HasFewSources (graph_network (graphs.network_of graph))) }
+    ensures small { IfOk result (λ graph. IsSmall (graph_network (graphs.network_of graph))) }
     ensures refused { IfErr result (ReadRefused name.now (F.disk files.old) (F.disk files.new)) }
     ensures stand { FilesStand (F.disk files.old) (F.disk files.new) }
 {
+    syn_hierarchy::few_outputs();
     let bytes = get(alloc, name, files)?;
     let checked = parse(alloc, bytes.as_slice())?;
     let graph = build_checked(alloc, checked)?;
@@ -95,27 +81,15 @@ fn read<F: Files>(alloc: Global, name: &str, files: &mut F) -> Result<Graph, Ref
 // The graph of the netlist of a seed and a size.
 fn generated(alloc: Global, seed: u64, size: u16) -> Result<Graph, Refusal>
     ensures generated { IfOk result (λ graph. IsGraphOf (generated seed size) (graphs.network_of graph)) }
-    ensures sources { IfOk result (λ graph. HasFewSources (graph_network (graphs.network_of graph))) }
+    ensures small { IfOk result (λ graph. IsSmall (graph_network (graphs.network_of graph))) }
     ensures refused { IfErr result GeneratingRefused }
 {
     syn_gen::generated_is_checked();
     syn_gen::generated_costs();
+    syn_gen::generated_outputs();
     let netlist = syn_gen::generate(alloc, seed, size as u32)?;
     let graph = build(alloc, &netlist)?;
     Ok(graph)
-}
-
-// Writes bytes to a file.
-fn put<F: Files>(alloc: Global, name: &str, bytes: &[u8], files: &mut F) -> Result<(), Refusal>
-    ensures file { OnOk result (FileIs name.now (F.disk files.new) bytes.now) }
-    ensures refused { IfErr result (λ refusal. (refusal ≡ Refusal.NoMemory) ⊎ ((refusal ≡ Refusal.PutFailed) × Rose (F.disk files.old).faults (F.disk files.new).faults)) }
-    ensures others { OthersStand name.now (F.disk files.old) (F.disk files.new) }
-{
-    match files.put(alloc, name, bytes) {
-        Ok(()) => Ok(()),
-        Err(PutFault::Failed) => Err(Refusal::PutFailed),
-        Err(PutFault::NoMemory) => Err(Refusal::NoMemory),
-    }
 }
 
 // The bytes of a network's netlist.
@@ -198,6 +172,11 @@ impl Session {
                 self.network = Some(Kept::Graph(graph));
                 Ok(())
             }
+            Command::ReadAiger(name) => {
+                let graph = aiger::read(alloc, name.as_str(), files)?;
+                self.network = Some(Kept::Graph(graph));
+                Ok(())
+            }
             Command::Generate { seed, size } => {
                 let graph = generated(alloc, *seed, *size)?;
                 self.network = Some(Kept::Graph(graph));
@@ -210,6 +189,10 @@ impl Session {
             Command::Write(name) => match &self.network {
                 None => Err(Refusal::NoNetwork),
                 Some(network) => write(alloc, network, name.as_str(), files),
+            },
+            Command::WriteAiger { ascii, name } => match &self.network {
+                None => Err(Refusal::NoNetwork),
+                Some(network) => aiger::write(alloc, network, *ascii, name.as_str(), files),
             },
             Command::Strash
             | Command::Balance

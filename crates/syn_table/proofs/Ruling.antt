@@ -21,6 +21,7 @@ use Rattle.syn_table.specs.declared.Opening.{Opening}
 use Rattle.syn_table.specs.Numbers.{all_numbers}
 use Rattle.syn_table.specs.Laying.{IsLaid}
 use Rattle.syn_table.specs.Rule.{views_of, IsTied, IsTable, IsActive}
+use Rattle.syn_table.specs.Events.{IsEvent}
 use Rattle.syn_table.specs.Steps.{with_view}
 
 -- ---- lists of seats
@@ -108,6 +109,31 @@ stepped_on o words after_words seats c id k e v t at small there may number laid
     let at_view : get_elem? c.seats id ≡ some k.core = view_at o words seats c id k t at in
     let sound : IsSound (after c id k.core e) = events_keep_sound c (record { seat = id; kind = e }) (after c id k.core e) t.sound (k.core, at_view, small, there, may, refl) in
     moved o words after_words seats c (after c id k.core e) id k v t at small number sound laid views opening observed rows
+
+-- such an event is the one that the seat's step tells, in this core
+pub event_of : (o : Opening) (words : List ℕ) (seats : List Known) (c : Core) (id : ℕ) (k : Known) (e : EventKind) (v : View)
+    → IsTable o words seats c → get_elem? seats id ≡ some k → k.core.number < 64 → event_node e < length c.rows → May c k.core e → (after c id k.core e).seats ≡ set c.seats id v
+    → (event : IsEvent k e v) × (event.core ≡ c)
+event_of o words seats c id k e v t at small there may views =
+    let at_view : get_elem? c.seats id ≡ some k.core = view_at o words seats c id k t at in (
+      record {
+        opening = o;
+        words = words;
+        seats = seats;
+        core = c;
+        next = after c id k.core e;
+        id = id;
+        table = t;
+        seat = at;
+        steps = (k.core, at_view, small, there, may, refl);
+        view = ap (λ l. get_elem? l id) views ∙ seat_there c.seats id k.core v at_view;
+      },
+      refl,
+    )
+
+pub event_is : (o : Opening) (words : List ℕ) (seats : List Known) (c : Core) (id : ℕ) (k : Known) (e : EventKind) (v : View)
+    → IsTable o words seats c → get_elem? seats id ≡ some k → k.core.number < 64 → event_node e < length c.rows → May c k.core e → (after c id k.core e).seats ≡ set c.seats id v → IsEvent k e v
+event_is o words seats c id k e v t at small there may views = (event_of o words seats c id k e v t at small there may views).0
 
 -- ---- what the rule tells of a seat that has a number
 -- it knows how many nodes there are

@@ -1,7 +1,7 @@
 -- The steps that store a key or a row, each of which the rule allows.
 use Rattle.std.proofs.Common.{◌≡◌, ◌≢◌, ℕ, ◌+◌, ◌*◌, ◌<◌, ◌≤◌, true, List, length, length-set, set, Option, Some, None, refl, sym, ap, ◌∙◌, subst, arith, nat_eq, if◌then◌else◌, get_or}
 use Rattle.syn_rows.specs.declared.TheConstants.{NODE_LIMIT}
-use mathlib.Core.Option.{some, none}
+use mathlib.Core.Option.{some, none, some-injective}
 use lib.ListN.{get_elem?}
 use Rattle.atomic_table.specs.Table.{Me, step, Allows}
 use Rattle.syn_rows.specs.declared.Row.{Row}
@@ -11,6 +11,7 @@ use Rattle.syn_rows.specs.Packing.{word_of, Packs}
 use Rattle.syn_rows.proofs.Packed.{same_packed}
 use Rattle.syn_rows.specs.References.{hits, refs}
 use Rattle.syn_core_laws.specs.declared.View.{View}
+use Rattle.syn_core_laws.specs.declared.EventKind.{EventKind}
 use Rattle.syn_core_laws.specs.declared.EventKind.TheVariants as Kind
 use Rattle.syn_rows.specs.Nodes.{has_node}
 use Rattle.syn_core_laws.specs.Lists.{look}
@@ -26,9 +27,10 @@ use Rattle.syn_table.specs.declared.Known.{Known}
 use Rattle.syn_table.specs.declared.Opening.{Opening}
 use Rattle.syn_table.specs.Laying.{node_at}
 use Rattle.syn_table.specs.Rule.{IsTable, IsCore, IsActive}
+use Rattle.syn_table.specs.Events.{IsEvent, redefines}
 use Rattle.syn_table.specs.Steps.{with_view, TellsKeySet, TellsMade, TellsRedefined, TellsFreed, KnowsRedefine, Redefines, Frees}
 use Rattle.syn_table.proofs.Wording.{laid_row, laid_key, row_node, key_node}
-use Rattle.syn_table.proofs.Ruling.{stepped_on, view_at}
+use Rattle.syn_table.proofs.Ruling.{event_is, stepped_on, view_at}
 use Rattle.syn_table.proofs.Turning.{goes, becomes}
 
 -- ---- one word is one row's
@@ -79,8 +81,10 @@ keys_set_turn o slots id me n key active free s core homes at fits =
     let table : IsTable o (set s.words (4 + 4 * n) key) (set s.views id (with_view me.0 (key_set v n key))) next =
     stepped_on o s.words (set s.words (4 + 4 * n) key) s.views c id me.0 (Kind.SetKey n key) (key_set v n key) t at active.number there free refl
     (laid_key s.words c n key (set c.seats id (key_set v n key)) t.laid there t.sound.keys_count) refl refl refl refl in
-    goes o s id me (4 + 4 * n) key (TellsKeySet (step slots (4 + 4 * n) key 0 none) me key) (key_set v n key) next table
-    (becomes o (set s.words (4 + 4 * n) key) s.views next id me (key_set v n key) _ at active.number table (ap (λ m. key_set v m key) (sym (key_node n))))
+    goes o s id me (4 + 4 * n) key (TellsKeySet (step slots (4 + 4 * n) key 0 none) me key) (key_set v n key) next table (
+      becomes o (set s.words (4 + 4 * n) key) s.views next id me (key_set v n key) _ at active.number table (ap (λ m. key_set v m key) (sym (key_node n))),
+      subst (λ m. IsEvent me.0 (Kind.SetKey m key) (key_set v n key)) (sym (key_node n)) (event_is o s.words s.views c id me.0 (Kind.SetKey n key) (key_set v n key) t at active.number there free refl),
+    )
 
 -- ---- make
 makes_turn : (o : Opening) (slots id : ℕ) (me : Me ℕ Known) (n key : ℕ) (row : Row) → IsActive me.0 → known_row me.0.core n ≡ Some Free → IsAnd row → look n me.0.core.keys ≡ Some key → MayRest me.0.core key row → Packs row
@@ -97,8 +101,14 @@ makes_turn o slots id me n key row active free is_and known may packs s core hom
     stepped_on o s.words (set s.words (2 + 4 * n) (word_of row)) s.views c id me.0 (Kind.Make n row) (made v n row) t at active.number there
     (free, is_and, subst (λ k. MayRest v k row) (sym is) may) refl
     (laid_row s.words c n row (set c.seats id (made v n row)) t.laid there) refl refl refl (length-set c.rows n row) in
-    goes o s id me (2 + 4 * n) (word_of row) (TellsMade (step slots (2 + 4 * n) (word_of row) 0 none) me (word_of row)) (made v n row) next table
-    (row, packs, refl, becomes o (set s.words (2 + 4 * n) (word_of row)) s.views next id me (made v n row) _ at active.number table (ap (λ m. made v m row) (sym (row_node n))))
+    goes o s id me (2 + 4 * n) (word_of row) (TellsMade (step slots (2 + 4 * n) (word_of row) 0 none) me (word_of row)) (made v n row) next table (
+      row,
+      packs,
+      refl,
+      becomes o (set s.words (2 + 4 * n) (word_of row)) s.views next id me (made v n row) _ at active.number table (ap (λ m. made v m row) (sym (row_node n))),
+      subst (λ m. IsEvent me.0 (Kind.Make m row) (made v n row)) (sym (row_node n))
+          (event_is o s.words s.views c id me.0 (Kind.Make n row) (made v n row) t at active.number there (free, is_and, subst (λ k. MayRest v k row) (sym is) may) refl),
+    )
 
 -- ---- redefine
 redefines_turn : (o : Opening) (slots id : ℕ) (me : Me ℕ Known) (n : ℕ) (row : Row) (over : List ℕ) → IsActive me.0 → KnowsRedefine me.0.core n row over → Packs row
@@ -114,7 +124,7 @@ redefines_turn o slots id me n row over active may packs s core homes at fits =
     let is : get_or c.keys n 0 ≡ may.1 = key_is c id v t.sound seated active.number n may.1 may.2 in
     let was : row_at c.rows n ≡ old = ((t.sound.seats id v seated).knows_rows n old known).1 in
     let view : View = redefined v n (row_at c.rows n) row in
-    let event = Kind.Redefine n row (record { items = over }) in
+    let event : EventKind = redefines n row over in
     let next : Core = after c id v event in
     let table : IsTable o (set s.words (2 + 4 * n) (word_of row)) (set s.views id (with_view me.0 view)) next =
     stepped_on o s.words (set s.words (2 + 4 * n) (word_of row)) s.views c id me.0 event view t at active.number there
@@ -127,6 +137,9 @@ redefines_turn o slots id me n row over active may packs s core homes at fits =
       packs,
       refl,
       becomes o (set s.words (2 + 4 * n) (word_of row)) s.views next id me view _ at active.number table (ap (λ q. redefined v n q row) was ∙ ap (λ m. redefined v m old row) (sym (row_node n))),
+      over,
+      subst (λ m. IsEvent me.0 (redefines m row over) view) (sym (row_node n))
+          (event_is o s.words s.views c id me.0 event view t at active.number there (old, subst (λ k. MayRedefine v n k row over old) (sym is) may.3) refl),
     )
 
 -- ---- free
@@ -151,6 +164,7 @@ frees_turn o slots id me n active may s core homes at fits =
       old,
       ap (known_row v) (row_node n) ∙ known,
       becomes o (set s.words (2 + 4 * n) (word_of Free)) s.views next id me view _ at active.number table (ap (freed v n) was ∙ ap (λ m. freed v m old) (sym (row_node n))),
+      subst (λ m. IsEvent me.0 (Kind.Free m) view) (sym (row_node n)) (event_is o s.words s.views c id me.0 (Kind.Free n) view t at active.number there may refl),
     )
 
 -- ---- the same, wherever the index of the word and the number stored come from
@@ -197,3 +211,40 @@ freed_told w me new n at told = (
   subst (λ m. known_row me.0.core m ≡ Some told.0) at told.1,
   ap (λ (m : Me ℕ Known). m.0) told.2.0 ∙ ap (λ m. with_view me.0 (freed me.0.core m told.0)) at,
 )
+
+-- ---- which event it was
+pub made_event : (w : ℕ) (me new : Me ℕ Known) (n x : ℕ) (row : Row) → node_at w ≡ n → Packs row → x ≡ word_of row → TellsMade (step 0 w 0 0 none) me x new → IsEvent me.0 (Kind.Make n row) new.0.core
+made_event w me new n x row at packs is told =
+    subst (λ m. IsEvent me.0 (Kind.Make m row) new.0.core) at (subst (λ r. IsEvent me.0 (Kind.Make (node_at w) r) new.0.core) (same_packed told.0 row told.1 packs (told.2 ∙ is)) told.4)
+
+-- what a redefine asks holds in the core too, so that the event is over the nodes that the call named
+pub redefined_event : (w : ℕ) (me new : Me ℕ Known) (n x : ℕ) (row : Row) (over : List ℕ) → node_at w ≡ n → Packs row → x ≡ word_of row → KnowsRedefine me.0.core n row over → TellsRedefined (step 0 w 0 0 none) me x new
+    → IsEvent me.0 (redefines n row over) new.0.core
+redefined_event w me new n x row over at packs is may told = named (
+  told.6,
+  subst (λ m. IsEvent me.0 (redefines m row told.6) new.0.core) at
+      (subst (λ r. IsEvent me.0 (redefines (node_at w) r told.6) new.0.core) (same_packed told.1 row told.3 packs (told.4 ∙ is)) told.7),
+)
+  where
+    named : (some : List ℕ) × IsEvent me.0 (redefines n row some) new.0.core → IsEvent me.0 (redefines n row over) new.0.core
+    named found =
+        let e = found.1 in
+        let seated : get_elem? e.core.seats e.id ≡ some me.0.core = view_at e.opening e.words e.seats e.core e.id me.0 e.table e.seat in
+        let mine : e.steps.0 ≡ me.0.core = some-injective e.steps.0 me.0.core (sym e.steps.1 ∙ seated) in
+        let small : me.0.core.number < 64 = subst (λ (v : View). v.number < 64) mine e.steps.2 in
+        let key : get_or e.core.keys n 0 ≡ may.1 = key_is e.core e.id me.0.core e.table.sound seated small n may.1 may.2 in
+        record {
+          opening = e.opening;
+          words = e.words;
+          seats = e.seats;
+          core = e.core;
+          next = e.next;
+          id = e.id;
+          table = e.table;
+          seat = e.seat;
+          steps = (me.0.core, seated, small, e.steps.3, (may.0, subst (λ k. MayRedefine me.0.core n k row over may.0) (sym key) may.3), subst (λ (v : View). e.next ≡ after e.core e.id v (redefines n row found.0)) mine e.steps.5);
+          view = e.view;
+        }
+
+pub freed_event : (w : ℕ) (me new : Me ℕ Known) (n : ℕ) → node_at w ≡ n → TellsFreed (step 0 w 0 0 none) me 0 new → IsEvent me.0 (Kind.Free n) new.0.core
+freed_event w me new n at told = subst (λ m. IsEvent me.0 (Kind.Free m) new.0.core) at told.3

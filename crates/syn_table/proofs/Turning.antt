@@ -1,7 +1,7 @@
 -- Each step on a word is one event, which the rule allows.
-use Rattle.std.proofs.Common.{◌≡◌, ◌≢◌, ◌⊎◌, ℕ, suc, ◌+◌, ◌-◌, ◌*◌, ◌%◌, ◌^◌, ◌<◌, ◌≤◌, true, false, if◌then◌else◌, nat_eq, IsTrue, ◌↔◌, List, length, set, get_or, refl, sym, ap, ◌∙◌, subst, arith, inl, inr}
+use Rattle.std.proofs.Common.{◌≡◌, ◌≢◌, ◌⊎◌, ℕ, suc, ◌+◌, ◌-◌, ◌*◌, ◌%◌, ◌^◌, ◌<◌, ◌≤◌, true, false, if◌then◌else◌, nat_eq, List, length, set, get_or, refl, sym, ap, ◌∙◌, subst, arith, inl, inr}
 use Rattle.std.proofs.lemmas.List.{set-get_or}
-use Rattle.std.proofs.lemmas.Bool.{cases_eq, eq-eqb, eqb-true, ne_eqb}
+use Rattle.std.proofs.lemmas.Bool.{cases_eq, eq-eqb, ne_eqb}
 use mathlib.Core.Option.{some, none, some-injective}
 use lib.ListN.{get_elem?}
 use prog.Atomic.{either}
@@ -12,26 +12,23 @@ use Rattle.syn_rows.specs.Rows.{row_at}
 use Rattle.syn_core_laws.specs.declared.View.{View}
 use Rattle.syn_core_laws.specs.declared.EventKind.TheVariants as Kind
 use Rattle.syn_rows.specs.Nodes.{has_node}
-use Rattle.syn_core_laws.specs.Views.{is_mine, own_refs, own_pins, claimed, missed, released, row_loaded, pinned, unpinned, count_loaded, key_loaded}
+use Rattle.syn_core_laws.specs.Views.{is_mine, claimed, missed, released, row_loaded, pinned, unpinned, count_loaded, key_loaded}
 use Rattle.syn_core_laws.specs.Cores.{Core}
 use Rattle.syn_core_laws.specs.Events.{MayPin, after}
-use Rattle.syn_rows.specs.References.{hits, times}
-use Rattle.syn_core_laws.specs.Lists.{without_one}
-use Rattle.syn_core_laws.proofs.Counting.{hits_same, times_has, times_less}
 use Rattle.syn_core_laws.proofs.Listing.{or_cases}
 use Rattle.syn_core_laws.proofs.Pinning.{pins_count}
 use Rattle.syn_core_laws.proofs.Within.{counts_fit, nodes_are_there, rows_pack}
-use Rattle.syn_core_laws.proofs.Showing.{counts_cover_seats}
 use Rattle.syn_core_laws.specs.Openings.{empty_view}
 use Rattle.syn_table.specs.declared.Known.{Known}
 use Rattle.syn_table.specs.declared.Opening.{Opening}
 use Rattle.syn_table.specs.Laying.{IsLaid, node_at}
 use Rattle.syn_table.specs.Rule.{IsTable, IsCore, IsActive}
-use Rattle.syn_table.specs.Steps.{with_view, Becomes, IsSoleCount, CoversOwn, IsAgain, IsAlone, TellsClaim, TellsRelease, TellsRow, TellsPin, TellsUnpin, TellsCount, TellsKey}
+use Rattle.syn_table.specs.Events.{IsEvent}
+use Rattle.syn_table.specs.Steps.{with_view, Becomes, UnpinsAt, TellsClaim, TellsRelease, TellsRow, TellsPin, TellsUnpin, TellsCount, TellsKey}
 use Rattle.syn_table.proofs.Wording.{laid_claim, laid_count, laid_same, claim_node, row_node, count_node, key_node}
 use Rattle.syn_table.proofs.Listed.{seat_of_view}
 use Rattle.syn_table.proofs.Numbering.{others_spent}
-use Rattle.syn_table.proofs.Ruling.{seat_there, stepped_on, view_at, nodes_known, is_active}
+use Rattle.syn_table.proofs.Ruling.{seat_there, stepped_on, event_is, event_of, view_at, nodes_known, is_active}
 
 -- what a step owes where word i becomes x: a new view of the seat under which the rule holds, and which tells T
 abbrev pub Goes : Opening → State ℕ Known → ℕ → Me ℕ Known → ℕ → ℕ → (Me ℕ Known → Type 0) → Type 0
@@ -84,6 +81,9 @@ claim_won o slots id me n x s active is inside free core at e =
       (λ full. e),
       becomes o (set s.words (1 + 4 * n) x) s.views next id me (claimed v n) _ at active.number table
           (ap (λ b. if b then claimed v n else missed v n) (sym (eq-eqb found 0 e)) ∙ ap (λ m. if nat_eq found 0 then claimed v m else missed v m) (sym (claim_node n))),
+      subst (λ m. IsEvent me.0 (if nat_eq found 0 then Kind.Claim m else Kind.ClaimFailed m) (claimed v n)) (sym (claim_node n))
+          (subst (λ b. IsEvent me.0 (if b then Kind.Claim n else Kind.ClaimFailed n) (claimed v n)) (sym (eq-eqb found 0 e))
+          (event_is o s.words s.views c id me.0 (Kind.Claim n) (claimed v n) t at active.number there (sym word ∙ e, free) refl)),
     )
 
 claim_lost : (o : Opening) (slots id : ℕ) (me : Me ℕ Known) (n x : ℕ) (s : State ℕ Known) → IsActive me.0 → n < length me.0.opening → has_node me.0.core.held n ≡ false
@@ -104,6 +104,9 @@ claim_lost o slots id me n x s active inside free core at ne =
       (λ full. absurd (all_free o s.words s.views c id me.0 n t at full free (λ z. ne (word ∙ z)))),
       becomes o (set s.words (1 + 4 * n) found) s.views next id me (missed v n) _ at active.number table
           (ap (λ b. if b then claimed v n else missed v n) (sym (ne_eqb found 0 ne)) ∙ ap (λ m. if nat_eq found 0 then claimed v m else missed v m) (sym (claim_node n))),
+      subst (λ m. IsEvent me.0 (if nat_eq found 0 then Kind.Claim m else Kind.ClaimFailed m) (missed v n)) (sym (claim_node n))
+          (subst (λ b. IsEvent me.0 (if b then Kind.Claim n else Kind.ClaimFailed n) (missed v n)) (sym (ne_eqb found 0 ne))
+          (event_is o s.words s.views c id me.0 (Kind.ClaimFailed n) (missed v n) t at active.number there ((λ z. ne (word ∙ z)), free) refl)),
     )
 
 claims_turn : (o : Opening) (slots id : ℕ) (me : Me ℕ Known) (n x : ℕ) → IsActive me.0 → x ≡ suc me.0.core.number → n < length me.0.opening → has_node me.0.core.held n ≡ false
@@ -125,8 +128,10 @@ releases_turn o slots id me n active held idle s core homes at fits =
     let table : IsTable o (set s.words (1 + 4 * n) 0) (set s.views id (with_view me.0 (released v n))) next =
     stepped_on o s.words (set s.words (1 + 4 * n) 0) s.views c id me.0 (Kind.Release n) (released v n) t at active.number there (held, idle) refl
     (laid_claim s.words c n 0 (set c.seats id (released v n)) t.laid there t.sound.claims_count) refl refl refl refl in
-    goes o s id me (1 + 4 * n) 0 (TellsRelease (step slots (1 + 4 * n) 0 0 none) me 0) (released v n) next table
-    (becomes o (set s.words (1 + 4 * n) 0) s.views next id me (released v n) _ at active.number table (ap (released v) (sym (claim_node n))))
+    goes o s id me (1 + 4 * n) 0 (TellsRelease (step slots (1 + 4 * n) 0 0 none) me 0) (released v n) next table (
+      becomes o (set s.words (1 + 4 * n) 0) s.views next id me (released v n) _ at active.number table (ap (released v) (sym (claim_node n))),
+      subst (λ m. IsEvent me.0 (Kind.Release m) (released v n)) (sym (claim_node n)) (event_is o s.words s.views c id me.0 (Kind.Release n) (released v n) t at active.number there (held, idle) refl),
+    )
 
 -- ---- loads
 rows_turn : (o : Opening) (slots id : ℕ) (me : Me ℕ Known) (n : ℕ) → IsActive me.0 → has_node me.0.core.held n ≡ true
@@ -146,8 +151,8 @@ rows_turn o slots id me n active held s core homes at fits =
       row,
       rows_pack c n t.sound t.small.nodes,
       sym (t.laid.rows n there),
-      subst (λ m. IsAgain v m row) (sym (row_node n)) (λ was known. ((t.sound.seats id v (view_at o s.words s.views c id me.0 t at)).knows_rows n was known).1),
       becomes o (set s.words (2 + 4 * n) found) s.views next id me (row_loaded v n row) _ at active.number table (ap (λ m. row_loaded v m row) (sym (row_node n))),
+      subst (λ m. IsEvent me.0 (Kind.LoadRow m) (row_loaded v n row)) (sym (row_node n)) (event_is o s.words s.views c id me.0 (Kind.LoadRow n) (row_loaded v n row) t at active.number there held refl),
     )
 
 counts_turn : (o : Opening) (slots id : ℕ) (me : Me ℕ Known) (n : ℕ) → IsActive me.0 → has_node me.0.core.held n ≡ true
@@ -168,9 +173,9 @@ counts_turn o slots id me n active held s core homes at fits =
     (subst (λ l. IsLaid l next) (sym (set-get_or s.words (3 + 4 * n) 0)) (laid_same s.words c (set c.seats id loaded) t.laid)) refl refl refl refl in
     goes o s id me (3 + 4 * n) found (TellsCount (step slots (3 + 4 * n) 0 0 none) me found) loaded next table (
       omega (arith, counts_fit c n t.sound t.small),
-      subst (λ m. CoversOwn me.0 m found) (sym (count_node n)) (subst (λ k. own_refs k v n + own_pins v n ≤ found) (sym nodes) (omega (arith, counts_cover_seats c id v n t.sound (view_at o s.words s.views c id me.0 t at)))),
       becomes o (set s.words (3 + 4 * n) found) s.views next id me loaded _ at active.number table
           (ap (λ z. count_loaded z v n count) (sym nodes) ∙ (ap (λ m. count_loaded (length me.0.opening) v m count) (sym (count_node n)) ∙ ap (count_loaded (length me.0.opening) v (node_at (3 + 4 * n))) (sym word))),
+      subst (λ m. IsEvent me.0 (Kind.LoadCount m) loaded) (sym (count_node n)) (event_is o s.words s.views c id me.0 (Kind.LoadCount n) loaded t at active.number there held refl),
     )
 
 -- what a seat holds or has pinned is in its reach
@@ -191,9 +196,11 @@ keys_turn o slots id me n active mine s core homes at fits =
     let table : IsTable o (set s.words (4 + 4 * n) found) (set s.views id (with_view me.0 (key_loaded v n key))) next =
     stepped_on o s.words (set s.words (4 + 4 * n) found) s.views c id me.0 (Kind.LoadKey n) (key_loaded v n key) t at active.number there mine refl
     (subst (λ l. IsLaid l next) (sym (set-get_or s.words (4 + 4 * n) 0)) (laid_same s.words c (set c.seats id (key_loaded v n key)) t.laid)) refl refl refl refl in
-    goes o s id me (4 + 4 * n) found (TellsKey (step slots (4 + 4 * n) 0 0 none) me found) (key_loaded v n key) next table
-    (becomes o (set s.words (4 + 4 * n) found) s.views next id me (key_loaded v n key) _ at active.number table
-    (ap (λ m. key_loaded v m key) (sym (key_node n)) ∙ ap (key_loaded v (node_at (4 + 4 * n))) (sym word)))
+    goes o s id me (4 + 4 * n) found (TellsKey (step slots (4 + 4 * n) 0 0 none) me found) (key_loaded v n key) next table (
+      becomes o (set s.words (4 + 4 * n) found) s.views next id me (key_loaded v n key) _ at active.number table
+          (ap (λ m. key_loaded v m key) (sym (key_node n)) ∙ ap (key_loaded v (node_at (4 + 4 * n))) (sym word)),
+      subst (λ m. IsEvent me.0 (Kind.LoadKey m) (key_loaded v n key)) (sym (key_node n)) (event_is o s.words s.views c id me.0 (Kind.LoadKey n) (key_loaded v n key) t at active.number there mine refl),
+    )
 
 -- ---- pin and unpin
 pins_turn : (o : Opening) (slots id : ℕ) (me : Me ℕ Known) (n : ℕ) → IsActive me.0 → MayPin me.0.core n → length me.0.core.pins < 512
@@ -212,8 +219,10 @@ pins_turn o slots id me n active may room s core homes at fits =
     let table : IsTable o (set s.words (3 + 4 * n) ((found + 1) % 2 ^ 64)) (set s.views id (with_view me.0 (pinned v n))) next =
     stepped_on o s.words (set s.words (3 + 4 * n) ((found + 1) % 2 ^ 64)) s.views c id me.0 (Kind.Pin n) (pinned v n) t at active.number there (may, room) refl
     (subst (λ y. IsLaid (set s.words (3 + 4 * n) y) next) (sym same) (laid_count s.words c n (suc count) (set c.seats id (pinned v n)) t.laid there t.sound.counts_count)) refl refl refl refl in
-    goes o s id me (3 + 4 * n) ((found + 1) % 2 ^ 64) (TellsPin (step slots (3 + 4 * n) 1 0 none) me found) (pinned v n) next table
-    (becomes o (set s.words (3 + 4 * n) ((found + 1) % 2 ^ 64)) s.views next id me (pinned v n) _ at active.number table (ap (pinned v) (sym (count_node n))))
+    goes o s id me (3 + 4 * n) ((found + 1) % 2 ^ 64) (TellsPin (step slots (3 + 4 * n) 1 0 none) me found) (pinned v n) next table (
+      becomes o (set s.words (3 + 4 * n) ((found + 1) % 2 ^ 64)) s.views next id me (pinned v n) _ at active.number table (ap (pinned v) (sym (count_node n))),
+      subst (λ m. IsEvent me.0 (Kind.Pin m) (pinned v n)) (sym (count_node n)) (event_is o s.words s.views c id me.0 (Kind.Pin n) (pinned v n) t at active.number there (may, room) refl),
+    )
 
 unpins_turn : (o : Opening) (slots id : ℕ) (me : Me ℕ Known) (n : ℕ) → IsActive me.0 → has_node me.0.core.pins n ≡ true
     → Allows (IsCore o) slots id me (3 + 4 * n) (λ k. (k + (2 ^ 64 - 1)) % 2 ^ 64) (TellsUnpin (step slots (3 + 4 * n) 1 0 none) me)
@@ -229,13 +238,13 @@ unpins_turn o slots id me n active mine s core homes at fits =
     let few : count + 1 < 2 ^ 32 = counts_fit c n t.sound t.small in
     let some_pin : 1 ≤ count = pins_count c id v t.sound seated n mine in
     let same : (found + (2 ^ 64 - 1)) % 2 ^ 64 ≡ count - 1 = omega arith in
-    let nodes : length me.0.opening ≡ length c.rows = nodes_known o s.words s.views c id me.0 t at active.number in
+    let unpin = event_of o s.words s.views c id me.0 (Kind.Unpin n) (unpinned v n count) t at active.number there mine refl in
     let next : Core = after c id v (Kind.Unpin n) in
     let table : IsTable o (set s.words (3 + 4 * n) ((found + (2 ^ 64 - 1)) % 2 ^ 64)) (set s.views id (with_view me.0 (unpinned v n count))) next =
     stepped_on o s.words (set s.words (3 + 4 * n) ((found + (2 ^ 64 - 1)) % 2 ^ 64)) s.views c id me.0 (Kind.Unpin n) (unpinned v n count) t at active.number there mine refl
     (subst (λ y. IsLaid (set s.words (3 + 4 * n) y) next) (sym same) (laid_count s.words c n (count - 1) (set c.seats id (unpinned v n count)) t.laid there t.sound.counts_count)) refl refl refl refl in
     goes o s id me (3 + 4 * n) ((found + (2 ^ 64 - 1)) % 2 ^ 64) (TellsUnpin (step slots (3 + 4 * n) 1 0 none) me found) (unpinned v n count) next table (
-      subst (λ m. IsSoleCount me.0 m found) (sym (count_node n)) (λ sole. word ∙ (((t.sound.seats id v seated).soles n sole).2 ∙ ap (λ z. own_refs z v n + own_pins v n) (sym nodes))),
+      subst (λ m. UnpinsAt me.0 m found (unpinned v n count)) (sym (count_node n)) (unpin.0, word ∙ ap (λ (x : Core). get_or x.counts n 0) (sym unpin.1)),
       becomes o (set s.words (3 + 4 * n) ((found + (2 ^ 64 - 1)) % 2 ^ 64)) s.views next id me (unpinned v n count) _ at active.number table
           (ap (λ m. unpinned v m count) (sym (count_node n)) ∙ ap (unpinned v (node_at (3 + 4 * n))) (sym word)),
     )
@@ -275,21 +284,3 @@ pub unpins_allowed : (o : Opening) (slots id : ℕ) (me : Me ℕ Known) (n : ℕ
     → Allows (IsCore o) slots id me i (λ k. (k + (2 ^ 64 - 1)) % 2 ^ 64) (TellsUnpin (step slots i 1 0 none) me)
 unpins_allowed o slots id me n i e active mine =
     subst (λ w. Allows (IsCore o) slots id me w (λ k. (k + (2 ^ 64 - 1)) % 2 ^ 64) (TellsUnpin (step slots w 1 0 none) me)) (sym e) (unpins_turn o slots id me n active mine)
-
--- ---- the answer of an unpin
--- a sole node's count was 1 exactly where no reference of the seat and no pin of it is left
-pub last_pin : (k new : Known) (n found : ℕ) → has_node k.core.pins n ≡ true → IsSoleCount k n found → new ≡ with_view k (unpinned k.core n found) → has_node k.core.sole n ≡ true
-    → IsTrue (nat_eq found 1) ↔ IsAlone new n
-last_pin k new n found mine counted is sole = subst (λ z. IsTrue (nat_eq found 1) ↔ IsAlone z n) (sym is) (gone, last)
-  where
-    pin_left : times n (without_one n k.core.pins) + 1 ≡ times n k.core.pins
-    pin_left = let less : times n (without_one n k.core.pins) + hits n n ≡ times n k.core.pins = times_less n n k.core.pins (times_has n k.core.pins mine) in omega (arith, hits_same n)
-
-    count : found ≡ own_refs (length k.opening) k.core n + times n k.core.pins
-    count = counted sole
-
-    gone : IsTrue (nat_eq found 1) → IsAlone (with_view k (unpinned k.core n found)) n
-    gone h = let one : found ≡ 1 = eqb-true found 1 h in (omega (arith, pin_left, count), omega (arith, pin_left, count))
-
-    last : IsAlone (with_view k (unpinned k.core n found)) n → IsTrue (nat_eq found 1)
-    last h = eq-eqb found 1 (omega (arith, pin_left, count, h.0, h.1))

@@ -3,6 +3,7 @@ pub mod Numbers
 pub mod Laying
 pub mod Rule
 pub mod Seating
+pub mod Events
 pub mod Steps
 pub mod Splitting
 pub mod Closing

@@ -6,11 +6,13 @@ ghost use Rattle.syn_rows.specs.declared.Row.TheVariants.{Free};
 ghost use Rattle.syn_rows.specs.declared.TheConstants.{NODE_LIMIT};
 ghost use Rattle.syn_rows.specs.Packing.{word_of, Packs};
 ghost use Rattle.syn_core_laws.specs.Events.{MayPin};
+ghost use Rattle.syn_core_laws.specs.declared.EventKind.TheVariants as Kind;
 ghost use Rattle.syn_rows.specs.Nodes.{has_node};
 ghost use Rattle.syn_core_laws.specs.Views.{is_mine, known_row, own_refs, own_pins, claimed, missed, released, row_loaded, pinned, count_loaded, key_loaded};
 ghost use Rattle.syn_core_laws.specs.Shown.{IsShown};
 ghost use Rattle.syn_table.specs.Seating.{IsOf, known_of, nodes_of, view_of};
-ghost use Rattle.syn_table.specs.Steps.{with_view, IsAgain, IsAlone, Unpins};
+ghost use Rattle.syn_table.specs.Events.{IsEvent, IsUnpin};
+ghost use Rattle.syn_table.specs.Steps.{with_view, Unpins};
 
 use crate::plays::{Claims, LoadsCount, LoadsKey, LoadsRow, Pins, Releases, TakesPinBack};
 use crate::words::{claim_word, count_word, key_word, row_in, row_word};
@@ -75,6 +77,7 @@ impl Shared {
         requires free { has_node (view_of seat.old).held node ≡ false }
         ensures table { IsOf seat.new self.now }
         ensures known { known_of seat.new ≡ with_view (known_of seat.old) (if result then claimed (view_of seat.old) node else missed (view_of seat.old) node) }
+        ensures event { IsEvent (known_of seat.old) (if result then Kind.Claim node else Kind.ClaimFailed node) (view_of seat.new) }
         ensures alone { length (known_of seat.old).numbers ≡ 64 → result ≡ true }
     {
         let mark = seat.mark();
@@ -93,20 +96,21 @@ impl Shared {
         requires busy { has_node (view_of seat.old).idle node ≡ false }
         ensures table { IsOf seat.new self.now }
         ensures known { known_of seat.new ≡ with_view (known_of seat.old) (released (view_of seat.old) node) }
+        ensures event { IsEvent (known_of seat.old) (Kind.Release node) (view_of seat.new) }
     {
         self.table
             .shared
             .store::<Releases>(&mut seat.token, claim_word(node), 0);
     }
 
-    /// Loads the row of a held node. A row that the seat knows is met again.
+    /// Loads the row of a held node.
     #[inline]
     pub fn row_of(&self, seat: &mut Seat, node: u32) -> Row
         requires table { IsOf seat.old self.now }
         requires held { has_node (view_of seat.old).held node ≡ true }
         ensures table { IsOf seat.new self.now }
         ensures known { known_of seat.new ≡ with_view (known_of seat.old) (row_loaded (view_of seat.old) node result) }
-        ensures again { IsAgain (view_of seat.old) node result }
+        ensures event { IsEvent (known_of seat.old) (Kind.LoadRow node) (view_of seat.new) }
     {
         let word = self
             .table
@@ -123,6 +127,7 @@ impl Shared {
         requires few { length (view_of seat.old).pins < 512 }
         ensures table { IsOf seat.new self.now }
         ensures known { known_of seat.new ≡ with_view (known_of seat.old) (pinned (view_of seat.old) node) }
+        ensures event { IsEvent (known_of seat.old) (Kind.Pin node) (view_of seat.new) }
     {
         let _found = self
             .table
@@ -138,7 +143,7 @@ impl Shared {
         requires pinned { has_node (view_of seat.old).pins node ≡ true }
         ensures table { IsOf seat.new self.now }
         ensures known { Unpins (known_of seat.old) node result (known_of seat.new) }
-        ensures sole { has_node (view_of seat.old).sole node ≡ true → IsTrue result ↔ IsAlone (known_of seat.new) node }
+        ensures event { IsUnpin (known_of seat.old) node result (view_of seat.new) }
     {
         let found = self
             .table
@@ -154,7 +159,7 @@ impl Shared {
         requires held { has_node (view_of seat.old).held node ≡ true }
         ensures table { IsOf seat.new self.now }
         ensures known { known_of seat.new ≡ with_view (known_of seat.old) (count_loaded (nodes_of self.now) (view_of seat.old) node result) }
-        ensures own { own_refs (nodes_of self.now) (view_of seat.old) node + own_pins (view_of seat.old) node ≤ result }
+        ensures event { IsEvent (known_of seat.old) (Kind.LoadCount node) (view_of seat.new) }
     {
         let word = self
             .table
@@ -170,6 +175,7 @@ impl Shared {
         requires mine { is_mine (view_of seat.old) node ≡ true }
         ensures table { IsOf seat.new self.now }
         ensures known { known_of seat.new ≡ with_view (known_of seat.old) (key_loaded (view_of seat.old) node result) }
+        ensures event { IsEvent (known_of seat.old) (Kind.LoadKey node) (view_of seat.new) }
     {
         self.table
             .shared

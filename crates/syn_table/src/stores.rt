@@ -3,9 +3,11 @@
 ghost use Rattle.std.specs.Prelude.{◌≡◌, ℕ, Some};
 ghost use Rattle.syn_rows.specs.declared.Row.TheVariants as RowIs;
 ghost use Rattle.syn_core_laws.specs.Events.{IsAnd, MayFree, MayRest};
+ghost use Rattle.syn_core_laws.specs.declared.EventKind.TheVariants as Kind;
 ghost use Rattle.syn_core_laws.specs.Lists.{look};
 ghost use Rattle.syn_core_laws.specs.Views.{known_row, key_set, made};
 ghost use Rattle.syn_table.specs.Seating.{IsOf, known_of, view_of};
+ghost use Rattle.syn_table.specs.Events.{IsEvent, redefines};
 ghost use Rattle.syn_table.specs.Steps.{with_view, Frees, KnowsRedefine, Redefines};
 
 use crate::plays::{FreesRow, MakesRow, RedefinesRow, SetsKey};
@@ -25,6 +27,8 @@ impl Shared {
         requires rests { MayRest (view_of seat.old) key row }
         ensures table { IsOf seat.new self.now }
         ensures known { known_of seat.new ≡ with_view (known_of seat.old) (made (key_set (view_of seat.old) node key) node row) }
+        ensures keyed { IsEvent (known_of seat.old) (Kind.SetKey node key) (key_set (view_of seat.old) node key) }
+        ensures made { IsEvent (with_view (known_of seat.old) (key_set (view_of seat.old) node key)) (Kind.Make node row) (view_of seat.new) }
     {
         self.set_key(seat, node, key);
         self.make_keyed(seat, node, row);
@@ -37,6 +41,7 @@ impl Shared {
         requires free { known_row (view_of seat.old) node ≡ Some RowIs.Free }
         ensures table { IsOf seat.new self.now }
         ensures known { known_of seat.new ≡ with_view (known_of seat.old) (key_set (view_of seat.old) node key) }
+        ensures event { IsEvent (known_of seat.old) (Kind.SetKey node key) (view_of seat.new) }
     {
         self.table
             .shared
@@ -52,6 +57,7 @@ impl Shared {
         requires rests { (key : ℕ) × (look node (view_of seat.old).keys ≡ Some key) × MayRest (view_of seat.old) key row }
         ensures table { IsOf seat.new self.now }
         ensures known { known_of seat.new ≡ with_view (known_of seat.old) (made (view_of seat.old) node row) }
+        ensures event { IsEvent (known_of seat.old) (Kind.Make node row) (view_of seat.new) }
     {
         self.table
             .shared
@@ -68,6 +74,7 @@ impl Shared {
         requires may { KnowsRedefine (view_of seat.old) node row over.now }
         ensures table { IsOf seat.new self.now }
         ensures known { Redefines (known_of seat.old) node row (known_of seat.new) }
+        ensures event { IsEvent (known_of seat.old) (redefines node row over.now) (view_of seat.new) }
     {
         self.table
             .shared
@@ -82,6 +89,7 @@ impl Shared {
         requires may { MayFree (view_of seat.old) node }
         ensures table { IsOf seat.new self.now }
         ensures known { Frees (known_of seat.old) node (known_of seat.new) }
+        ensures event { IsEvent (known_of seat.old) (Kind.Free node) (view_of seat.new) }
     {
         self.table
             .shared

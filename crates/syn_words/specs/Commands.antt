@@ -38,6 +38,8 @@ names =
     ∷ (codes "rs", keywords.Resubstitute)
     ∷ (codes "rsz", keywords.ResubstituteZero)
     ∷ (codes "flowmap", keywords.MapByFlow)
+    ∷ (codes "read_aiger", keywords.ReadAiger)
+    ∷ (codes "write_aiger", keywords.WriteAiger)
     ∷ []
 
 -- What a word names, if anything.
@@ -61,7 +63,11 @@ with_inputs flag = record { flag = flag; numbered = Some (record { letter = 75; 
 abbrev pub seed_and_size : Form
 seed_and_size = words_alone (operands.TwoNumbers (record { least = 0; most = 18446744073709551615 }) (record { least = 1; most = 32768 }))
 
--- What may stand behind a name. The option without a number of `rewrite`, `refactor` and `resub` is `-z`; `rwz`, `rfz` and `rsz` have it set. That of `if` is `-a`.
+-- An option without a number, and then a file's name.
+abbrev pub flag_and_name : ℕ → Form
+flag_and_name letter = record { flag = Some letter; numbered = None; operands = operands.Name }
+
+-- What may stand behind a name. The option without a number of `rewrite`, `refactor` and `resub` is `-z`; `rwz`, `rfz` and `rsz` have it set. That of `if` and `write_aiger` is `-a`.
 abbrev pub form_of : Keyword → Form
 form_of keywords.ReadBlif = words_alone operands.Name
 form_of keywords.WriteBlif = words_alone operands.Name
@@ -79,6 +85,8 @@ form_of keywords.Sweep = words_alone operands.Nothing
 form_of keywords.Resubstitute = with_workers (Some 122)
 form_of keywords.ResubstituteZero = with_workers None
 form_of keywords.MapByFlow = with_inputs None
+form_of keywords.ReadAiger = words_alone operands.Name
+form_of keywords.WriteAiger = flag_and_name 97
 
 -- A number of workers, 16 at most; the form lets no greater one through.
 abbrev pub workers_of : ℕ → ℕ
@@ -130,6 +138,8 @@ commands_of keywords.Sweep given = commands.Sweep ∷ []
 commands_of keywords.Resubstitute given = commands.Resubstitute given.flag (option_map workers_of given.number) ∷ []
 commands_of keywords.ResubstituteZero given = commands.Resubstitute true (option_map workers_of given.number) ∷ []
 commands_of keywords.MapByFlow given = commands.MapByFlow (given_inputs given.number) ∷ []
+commands_of keywords.ReadAiger given = commands.ReadAiger given.name ∷ []
+commands_of keywords.WriteAiger given = commands.WriteAiger given.flag given.name ∷ []
 
 -- What a phrase says by what its name is: the commands that it spells, or its first fault.
 abbrev pub said_by : Option Keyword → Phrase → Result (List Command) ScriptFault

@@ -1,13 +1,14 @@
 -- Worked scripts with their commands, texts with their first faults, and words read by forms.
 use Rattle.std.specs.Prelude.{◌≡◌, true, false, ℕ, List, [], ◌∷◌, ◌++◌, Some, None, Result, Ok, Err, codes}
 use Rattle.syn_words.specs.Words.{words_at}
+use Rattle.syn_words.specs.Commands.{flag_and_name}
 use Rattle.syn_words.specs.Forms.{given_by}
 use Rattle.syn_words.specs.Scripts.{IsScript, IsFirstFault}
-use Rattle.syn_words.specs.declared.Command.TheVariants.{Read, Write, Stats, Strash, Balance, Rewrite, Refactor, Map, Generate, Sweep, Resubstitute, MapByFlow}
+use Rattle.syn_words.specs.declared.Command.TheVariants.{Read, Write, Stats, Strash, Balance, Rewrite, Refactor, Map, Generate, Sweep, Resubstitute, MapByFlow, ReadAiger, WriteAiger}
 use Rattle.syn_words.specs.declared.ScriptFault.{ScriptFault}
 use Rattle.syn_words.specs.declared.ScriptFault.TheVariants.{BadByte, UnknownCommand, MissingWord, ExtraWord, BadNumber, OutOfRange}
 use Rattle.syn_words.specs.declared.forms.Form.{Form}
-use Rattle.syn_words.specs.declared.forms.Operands.TheVariants.{Nothing, Name, TwoNumbers}
+use Rattle.syn_words.specs.declared.forms.Operands.TheVariants.{Nothing, TwoNumbers}
 use Rattle.syn_words.specs.declared.reading.Given.{Given}
 
 -- What a text of words gives by a form, from the offset 0.
@@ -17,10 +18,6 @@ Gives form text wanted = given_by form 99 (words_at 0 text) ≡ wanted
 -- A flag `-z`, and an option `-w` with a number from 1 to 16.
 abbrev pub zero_and_workers : Form
 zero_and_workers = record { flag = Some 122; numbered = Some (record { letter = 119; range = record { least = 1; most = 16 } }); operands = Nothing }
-
--- A flag `-a`, and then a file's name.
-abbrev pub flag_and_name : Form
-flag_and_name = record { flag = Some 97; numbered = None; operands = Name }
 
 -- A number of 64 bits, and one from 1 to 32768.
 abbrev pub two_numbers : Form
@@ -46,10 +43,14 @@ pub record WorkedScripts : Type 0 where
   pub generated : IsScript (codes "gen 18446744073709551615 32768; ps") (Generate 18446744073709551615 32768 ∷ Stats ∷ [])
   pub sweeping : IsScript (codes "read_blif a; scl; ps") (Read (codes "a") ∷ Sweep ∷ Stats ∷ [])
   pub resubstitution : IsScript (codes "rs; resub -w 4 -z; rsz -w 2") (Resubstitute false None ∷ Resubstitute true (Some 4) ∷ Resubstitute true (Some 2) ∷ [])
+  pub aiger : IsScript (codes "read_aiger -a; write_aiger o; write_aiger -a o") (ReadAiger (codes "-a") ∷ WriteAiger false (codes "o") ∷ WriteAiger true (codes "o") ∷ [])
   pub zero_refactored_already : IsFirstFault (codes "rfz -z") (ExtraWord 4)
   pub zero_resubstituted_already : IsFirstFault (codes "rsz -z") (ExtraWord 4)
   pub option_of_resyn2 : IsFirstFault (codes "resyn2 -z") (ExtraWord 7)
   pub option_of_sweeping : IsFirstFault (codes "scl -z") (ExtraWord 4)
+  pub option_of_reading_aiger : IsFirstFault (codes "read_aiger -a f") (ExtraWord 14)
+  pub ascii_behind_the_name : IsFirstFault (codes "write_aiger o -a") (ExtraWord 14)
+  pub ascii_without_a_name : IsFirstFault (codes "write_aiger -a") (MissingWord 14)
   pub no_tables : IsFirstFault (codes "gen 1 0") (OutOfRange 6)
   pub size_no_number : IsFirstFault (codes "gen 1 x") (BadNumber 6)
   pub seed_too_great : IsFirstFault (codes "gen 18446744073709551616 1") (OutOfRange 4)
@@ -92,10 +93,10 @@ pub record WorkedForms : Type 0 where
   pub flag_twice : Gives zero_and_workers (codes "-z -z") (Err (ExtraWord 3))
   pub number_twice : Gives zero_and_workers (codes "-w 4 -w x") (Err (ExtraWord 5))
   pub stray_word : Gives zero_and_workers (codes "z") (Err (ExtraWord 0))
-  pub flag_before_a_name : Gives flag_and_name (codes "-a o") (Ok (record { flag = true; number = None; name = codes "o"; numbers = (0, 0) }))
-  pub flag_behind_a_name : Gives flag_and_name (codes "o -a") (Err (ExtraWord 2))
-  pub flag_for_a_name : Gives flag_and_name (codes "-a -a") (Err (ExtraWord 3))
-  pub name_missing : Gives flag_and_name (codes "-a") (Err (MissingWord 99))
+  pub flag_before_a_name : Gives (flag_and_name 97) (codes "-a o") (Ok (record { flag = true; number = None; name = codes "o"; numbers = (0, 0) }))
+  pub flag_behind_a_name : Gives (flag_and_name 97) (codes "o -a") (Err (ExtraWord 2))
+  pub flag_for_a_name : Gives (flag_and_name 97) (codes "-a -a") (Err (ExtraWord 3))
+  pub name_missing : Gives (flag_and_name 97) (codes "-a") (Err (MissingWord 99))
   pub seed_and_size : Gives two_numbers (codes "18446744073709551615 1") (Ok (record { flag = false; number = None; name = []; numbers = (18446744073709551615, 1) }))
   pub size_missing : Gives two_numbers (codes "1") (Err (MissingWord 99))
   pub size_no_number : Gives two_numbers (codes "1 x") (Err (BadNumber 2))

@@ -40,6 +40,15 @@ pub enum Command {
     Read(FileName),
     /// `write_blif F`: writes the network to the file of that name.
     Write(FileName),
+    /// `read_aiger F`: the graph of the AIGER file of that name becomes the network.
+    ReadAiger(FileName),
+    /// `write_aiger [-a] F`: writes the network's graph to the file of that name, as an AIGER file.
+    WriteAiger {
+        /// Whether the file is in the ASCII format; else it is in the binary one.
+        ascii: bool,
+        /// The file's name.
+        name: FileName,
+    },
     /// `print_stats`, `ps`: prints the network's line.
     Stats,
     /// `strash`, `st`: makes the network a graph, hashed and compacted.

@@ -1,7 +1,7 @@
 //! The table of commands: their names, what may stand behind each, and what it then says.
 
 ghost use Rattle.std.specs.Prelude.{◌≡◌, ◌⊎◌, [], ◌∷◌, Err, None, Ok, IfOk, OnOk, IfErr, option_map};
-ghost use Rattle.syn_words.specs.Commands.{commands_of, form_of, named_in, names, resyn2, said, size_of, with_inputs, with_workers, words_alone, workers_of};
+ghost use Rattle.syn_words.specs.Commands.{commands_of, flag_and_name, form_of, named_in, names, resyn2, said, size_of, with_inputs, with_workers, words_alone, workers_of};
 ghost use Rattle.syn_words.specs.Scripts.{said_onto};
 
 use crate::forms::{Form, NumberRange, Numbered, Operands};
@@ -31,6 +31,8 @@ pub enum Keyword {
     Resubstitute,
     ResubstituteZero,
     MapByFlow,
+    ReadAiger,
+    WriteAiger,
 }
 
 // The keyword that a word names.
@@ -69,6 +71,10 @@ fn keyword_of(word: &[u8]) -> Option<Keyword>
         Some(Keyword::ResubstituteZero)
     } else if b"flowmap".as_slice() == word {
         Some(Keyword::MapByFlow)
+    } else if b"read_aiger".as_slice() == word {
+        Some(Keyword::ReadAiger)
+    } else if b"write_aiger".as_slice() == word {
+        Some(Keyword::WriteAiger)
     } else {
         None
     }
@@ -140,12 +146,26 @@ fn with_inputs(flag: Option<u8>) -> Form
     }
 }
 
+// An option without a number, and then a file's name.
+fn flag_and_name(flag: u8) -> Form
+    ensures { result ≡ flag_and_name flag }
+{
+    Form {
+        flag: Some(flag),
+        numbered: None,
+        operands: Operands::Name,
+    }
+}
+
 // What may stand behind a keyword.
 fn form_of(keyword: Keyword) -> Form
     ensures { result ≡ form_of keyword }
 {
     match keyword {
-        Keyword::ReadBlif | Keyword::WriteBlif => words_alone(Operands::Name),
+        Keyword::ReadBlif | Keyword::WriteBlif | Keyword::ReadAiger => {
+            words_alone(Operands::Name)
+        }
+        Keyword::WriteAiger => flag_and_name(b'a'),
         Keyword::PrintStats
         | Keyword::Strash
         | Keyword::Balance
@@ -250,6 +270,14 @@ fn commands_of(
     match keyword {
         Keyword::ReadBlif => one(alloc, Command::Read(FileName::of(alloc, given.name)?)),
         Keyword::WriteBlif => one(alloc, Command::Write(FileName::of(alloc, given.name)?)),
+        Keyword::ReadAiger => one(alloc, Command::ReadAiger(FileName::of(alloc, given.name)?)),
+        Keyword::WriteAiger => one(
+            alloc,
+            Command::WriteAiger {
+                ascii: given.flag,
+                name: FileName::of(alloc, given.name)?,
+            },
+        ),
         Keyword::PrintStats => one(alloc, Command::Stats),
         Keyword::Strash => one(alloc, Command::Strash),
         Keyword::Balance => one(alloc, Command::Balance),

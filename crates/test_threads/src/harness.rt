@@ -5,7 +5,7 @@ use std::sync::atomic::{AtomicU64, Ordering};
 use syn_build::build_checked;
 use syn_commit::{Gate, Moment};
 use syn_graph::Graph;
-use syn_pool::Report;
+use syn_proposals::Report;
 use syn_reader::read_checked;
 
 /// A gate that counts the commits that were done.

@@ -38,5 +38,3 @@ mod tables;
 mod turns;
 #[cfg(test)]
 mod worker_gates;
-#[cfg(test)]
-mod worker_rounds;

@@ -6,7 +6,7 @@ use crate::harness::{
 use std::alloc::Global;
 use std::test::Fail;
 use std::thread::Threads;
-use syn_pass::pass;
+use syn_pool::pass;
 use syn_rewrite::CutPlans;
 
 // What a pass of rewriting with so many workers on the text's graph does.

@@ -1,22 +1,21 @@
-//! Rounds under gates that hold workers up.
+//! Passes under gates that hold workers up.
 
 use crate::harness::{cones, graph_of};
 use std::alloc::{AllocError, Global};
-use std::hint::spin_loop;
 use std::sync::atomic::{AtomicU64, Ordering};
 use std::test::Fail;
-use std::thread::Threads;
+use std::thread::{Threads, yield_now};
 use syn_build::build;
 use syn_commit::{Gate, Moment};
 use syn_gen::generate;
 use syn_graph::Graph;
-use syn_pool::{Proposer, Report};
+use syn_pool::pass;
+use syn_proposals::Report;
 use syn_rewrite::CutPlans;
 use syn_rows::{Lit, Row};
-use syn_workers::round;
 
-// How often a held worker looks at most: many seconds.
-const MOST_LOOKS: u32 = 1 << 28;
+// How often a held worker looks at most.
+const MOST_LOOKS: u32 = 1_000_000;
 
 // A gate that holds the worker that first claims until another one has done a commit.
 #[derive(Drop)]
@@ -27,6 +26,8 @@ struct HoldsTheFirst {
     other_done: AtomicU64,
     // 1 where none had while the worker was held.
     given_up: AtomicU64,
+    // How many commits were done.
+    told: AtomicU64,
 }
 
 impl HoldsTheFirst {
@@ -35,6 +36,7 @@ impl HoldsTheFirst {
             held: AtomicU64::new(0),
             other_done: AtomicU64::new(0),
             given_up: AtomicU64::new(0),
+            told: AtomicU64::new(0),
         }
     }
 
@@ -44,7 +46,7 @@ impl HoldsTheFirst {
             if self.other_done.load(Ordering::SeqCst) == 1 {
                 return;
             }
-            spin_loop();
+            yield_now();
         }
         self.given_up.store(1, Ordering::SeqCst);
     }
@@ -63,6 +65,7 @@ impl Gate for HoldsTheFirst {
                 }
             }
             Moment::Answered(true) => {
+                let _before = self.told.fetch_add(1, Ordering::SeqCst);
                 if self.held.load(Ordering::SeqCst) != own {
                     self.other_done.store(1, Ordering::SeqCst);
                 }
@@ -72,37 +75,35 @@ impl Gate for HoldsTheFirst {
     }
 }
 
-// A gate that takes its time at each moment, each time another one.
+// A gate that lets other threads run at some of the moments.
 #[derive(Drop)]
-struct Dawdles {
+struct Yields {
     seen: AtomicU64,
 }
 
-impl Gate for Dawdles {
+impl Gate for Yields {
     fn at(&self, worker: u8, _moment: Moment) {
         let seen = self.seen.fetch_add(1, Ordering::SeqCst);
-        for _ in 0..(seen ^ u64::from(worker)) % 256 {
-            spin_loop();
+        if (seen ^ u64::from(worker)) % 4 == 0 {
+            yield_now();
         }
     }
 }
 
-// What a round of so many workers on a graph reports, and the graph that comes.
-fn rounded<R: Threads + Sync, G: Gate>(
+// What a pass of rewriting with so many workers on a graph reports, and the graph that comes.
+fn passed<R: Threads + Sync, G: Gate>(
     rt: &R,
     alloc: Global,
-    graph: &Graph,
+    graph: Graph,
     gate: &G,
     workers: u8,
     zero_gain: bool,
 ) -> Option<(Report, Graph)> {
     let proposer = CutPlans::new(alloc).ok()?;
-    let lists = proposer.prepare(rt, alloc, graph, 1).ok()?;
-    let made = round(
-        rt, alloc, graph, &proposer, &lists, gate, workers, zero_gain,
-    )
-    .ok()??;
-    Some((made.report, made.graph))
+    match pass(rt, alloc, graph, &proposer, workers, zero_gain, gate) {
+        Ok((graph, report)) => Some((report, graph)),
+        Err(_) => None,
+    }
 }
 
 // The graph of the netlist of a seed and a size.
@@ -167,21 +168,20 @@ fn are_equal(alloc: Global, first: &Graph, second: &Graph) -> Result<bool, Alloc
 }
 
 // The worker that first claims goes on only once another one has done a commit. Of each cone the root alone has a proposal
-// that saves, and one worker visits it.
+// that saves, and one worker visits it. What is left, the check takes.
 #[test]
 fn two_workers_work_at_the_same_time(rt: HostRuntime) -> Result<(), Fail> {
     let alloc = rt.alloc();
     let text = cones(alloc, 100)?;
     let gate = HoldsTheFirst::new();
-    let found = match &graph_of(alloc, text.as_str().as_bytes()) {
-        Some(graph) => rounded(&rt, alloc, graph, &gate, 2, false),
+    let found = match graph_of(alloc, text.as_str().as_bytes()) {
+        Some(graph) => passed(&rt, alloc, graph, &gate, 2, false),
         None => None,
     };
     assert_eq!(rt; gate.given_up.load(Ordering::SeqCst), 0);
+    let told = gate.told.load(Ordering::SeqCst);
     let is_well = match found {
-        Some((report, graph)) => {
-            report.done >= 99 && report.done <= 100 && u64::from(graph.count()) + report.done == 300
-        }
+        Some((report, graph)) => report.done == told && told > 0 && graph.count() == 200,
         None => false,
     };
     assert!(rt; is_well);
@@ -191,12 +191,13 @@ fn two_workers_work_at_the_same_time(rt: HostRuntime) -> Result<(), Fail> {
 #[test]
 fn eight_workers_keep_the_values(rt: HostRuntime) -> Result<(), Fail> {
     let alloc = rt.alloc();
-    let graph = generated(alloc, 1, 1000)?;
+    let graph = generated(alloc, 1, 300)?;
     for zero_gain in [false, true] {
-        let gate = Dawdles {
+        let gate = Yields {
             seen: AtomicU64::new(0),
         };
-        let is_well = match rounded(&rt, alloc, &graph, &gate, 8, zero_gain) {
+        let given = graph.copy(alloc)?;
+        let is_well = match passed(&rt, alloc, given, &gate, 8, zero_gain) {
             Some((report, next)) => {
                 let fewer = u64::from(graph.count().saturating_sub(next.count()));
                 report.gained <= fewer && are_equal(alloc, &graph, &next)?

@@ -5,7 +5,7 @@ use crate::samples::chained;
 use std::alloc::{AllocError, Global};
 use std::test::Fail;
 use syn_graph::Graph;
-use syn_pool::Proposer;
+use syn_proposals::Proposer;
 use syn_refactor::{Cones, NoLists};
 
 // The node of an observed signal; none where there is no such signal.

@@ -1,11 +1,10 @@
-use Rattle.std.proofs.Common.{◌≡◌, ◌++◌, map, drop}
-use Rattle.arrayvec.specs.ArrayVec.{array_vec_len}
+use Rattle.std.proofs.Common.{ℕ, List}
+use Rattle.syn_rows.specs.declared.Row.{Row}
 use Rattle.syn_cuts.specs.Leaves.{leaves_of}
-use Rattle.syn_area.specs.Kept.{cut_of}
+use Rattle.syn_covering.specs.Cuts.{IsLutCut}
+use Rattle.syn_area.specs.Kept.{AreCandidates, AreListed, Joins}
 use Rattle.syn_area.proofs.rounds.cuts_of.Given as goal
 
-abbrev pub invariant-loop-candidate : goal.invariant-loop-candidate
-invariant-loop-candidate l = record {
-  left : leaves_of l.cuts.items ++ map cut_of (drop l.candidate-index l.kept) ≡ map cut_of l.kept;
-  count : array_vec_len l.cuts ≡ l.candidate-index;
-}
+abbrev pub invariant-loop-pick : goal.invariant-loop-pick
+invariant-loop-pick l =
+    (rows : List Row) (node : ℕ) → Joins l.k rows l.a l.b node → AreListed rows l.left → AreListed rows l.right → IsLutCut l.k rows node l.chosen → AreCandidates l.k rows node (leaves_of l.cuts.items)

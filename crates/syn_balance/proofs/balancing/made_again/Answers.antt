@@ -6,8 +6,9 @@ use Rattle.syn_rows.specs.Levels.{levels_of}
 use Rattle.syn_shapes.specs.Graphs.{IsHashed}
 use Rattle.syn_hashed.specs.Visiting.{FirstsOf, IsRebuilt, literal_of}
 use Rattle.syn_balance.specs.Roots.{HasRoots}
+use Rattle.syn_balance.specs.Rule.{AreByRule}
 use Rattle.syn_balance.specs.Balancing.{IsBalancing}
-use Rattle.syn_balance.proofs.Ends.{begins, all_stand, made_again}
+use Rattle.syn_balance.proofs.Ends.{begins, all_stand, made_again, made_by_rule}
 use Rattle.syn_balance.proofs.balancing.made_again.Goals as goal
 
 pub balance_nodes-requires-clause-hashed : goal.balance_nodes-requires-clause-hashed
@@ -43,8 +44,8 @@ literals_of-requires c =
     subst (λ (l : List (Option Lit)). Stand l c.args.observed.now) (sym same)
     (all_stand c.in_ok-hashed.hashed.source_count rows c.args.observed.now c.as_slice-2.result.now c.balance_nodes.new.literals c.balance_nodes.new.waiting c.balance_nodes.new.hashed.rows.items s roots c.requires.within)
 
-pub returns : goal.returns
-returns c =
+pub returns-clause-rebuilt : goal.returns-clause-rebuilt
+returns-clause-rebuilt c =
     let rows : List Row = c.args.rows.now in
     let new : List Row = c.balance_nodes.new.hashed.rows.items in
     let s = c.in_ok-balance_nodes.ensures.balanced in
@@ -54,5 +55,18 @@ returns c =
     subst (λ (r : List Row). IsRebuilt c.args.source_count rows c.args.observed.now r c.in_ok-observed.observed.items) (sym c.into_rows-rows.ensures)
     (made_again c.args.source_count rows c.args.observed.now c.as_slice-2.result.now c.balance_nodes.new.literals c.balance_nodes.new.waiting new c.in_ok-observed.observed.items
     (subst (λ (k : ℕ). IsHashed k new) count c.balance_nodes.new.hashed.hashed)
+    (subst (λ (k : ℕ). IsBalancing k rows c.as_slice-2.result.now (length rows) c.balance_nodes.new.literals c.balance_nodes.new.waiting new) c.in_ok-hashed.ensures.sources s)
+    (c.in_ok-observed.ensures ∙ ap (λ (l : List (Option Lit)). map (literal_of l) c.args.observed.now) same))
+
+pub returns-clause-rule : goal.returns-clause-rule
+returns-clause-rule c =
+    let rows : List Row = c.args.rows.now in
+    let new : List Row = c.balance_nodes.new.hashed.rows.items in
+    let s = c.in_ok-balance_nodes.ensures.balanced in
+    let size : length c.balance_nodes.new.literals ≡ vec_len c.in_ok-literals.literals = omega (arith, s.all, c.in_ok-literals.ensures.all, ap length c.as_mut_slice.ensures.value, c.as_mut_slice.ensures.len) in
+    let same : c.as_slice-3.result.now ≡ c.balance_nodes.new.literals = c.as_slice-3.ensures.value ∙ take_at c.balance_nodes.new.literals _ (vec_len c.in_ok-literals.literals) size in
+    let roots : HasRoots rows c.args.observed.now c.as_slice-2.result.now = subst (λ (m : List Bool). HasRoots rows c.args.observed.now m) (sym c.as_slice-2.ensures.value) c.in_ok-roots.ensures in
+    subst (λ (r : List Row). AreByRule c.args.source_count rows c.args.observed.now r c.in_ok-observed.observed.items) (sym c.into_rows-rows.ensures)
+    (made_by_rule c.args.source_count rows c.args.observed.now c.as_slice-2.result.now c.balance_nodes.new.literals c.balance_nodes.new.waiting new c.in_ok-observed.observed.items roots
     (subst (λ (k : ℕ). IsBalancing k rows c.as_slice-2.result.now (length rows) c.balance_nodes.new.literals c.balance_nodes.new.waiting new) c.in_ok-hashed.ensures.sources s)
     (c.in_ok-observed.ensures ∙ ap (λ (l : List (Option Lit)). map (literal_of l) c.args.observed.now) same))

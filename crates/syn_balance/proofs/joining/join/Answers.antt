@@ -1,4 +1,4 @@
-use Rattle.std.proofs.Common.{◌≡◌, ◌∙◌, ℕ, List, length, ap, subst, arith, rules}
+use Rattle.std.proofs.Common.{◌≡◌, ◌∙◌, ℕ, suc, List, map, length, refl, ap, subst, arith, rules}
 use Rattle.std.specs.List.Sorted.{IsPermutation}
 use Rattle.std.proofs.lemmas.List.{length-map}
 use Rattle.std.specs.BinaryHeap.{heap_items}
@@ -6,8 +6,8 @@ use Rattle.std.specs.declared.cmp.Reverse.{Reverse}
 use Rattle.syn_rows.specs.declared.Lit.{Lit}
 use Rattle.syn_rows.specs.Levels.{levels_of}
 use Rattle.syn_hashed.proofs.LevelLaws.{length-levels}
-use Rattle.syn_balance.specs.Heaps.{leaf}
-use Rattle.syn_balance.proofs.Joins.{heap_begins}
+use Rattle.syn_balance.specs.Heaps.{leaf, literal_in}
+use Rattle.syn_balance.proofs.Joins.{heap_begins, joining_through}
 use Rattle.syn_balance.proofs.joining.join.Goals as goal
 
 pub with_levels-requires : goal.with_levels-requires
@@ -26,5 +26,20 @@ loop-hashed-init c =
       entries = begun.0;
       order = c.from-heap.ensures.2;
       some = omega (arith, c.from-heap.ensures.0, ap length c.in_ok-entries.ensures, length-map c.args.leaves.now (leaf c.as_slice.result.now), c.requires.some);
+      joined = (0, (refl, begun.2));
       joining = begun.1;
+    }
+
+pub loop-hashed-preserved : goal.loop-hashed-preserved
+loop-hashed-preserved c =
+    let one = c.in_ok-join_least.ensures in
+    let so_far = c.loop-hashed.invariant.joined in
+    record {
+      sources = search rules;
+      levels = one.levels;
+      entries = one.leaves;
+      order = one.order;
+      some = omega (arith, one.fewer);
+      joined = (suc so_far.0, (c.loop-hashed.hashed.rows.items, map literal_in (heap_items c.loop-hashed.heap), so_far.1, one.least));
+      joining = joining_through c.args.hashed.now.rows.items c.loop-hashed.hashed.rows.items c.join_least.new.hashed.rows.items c.args.leaves.now (map literal_in (heap_items c.loop-hashed.heap)) (map literal_in (heap_items c.join_least.new.heap)) c.loop-hashed.invariant.joining one.joining;
     }

@@ -1,8 +1,9 @@
-use Rattle.std.proofs.Common.{◌≡◌, ◌<◌, map}
+use Rattle.std.proofs.Common.{◌≡◌, ◌<◌, ℕ, map}
 use Rattle.std.specs.BinaryHeap.{IsHeap, heap_items, heap_len}
 use Rattle.syn_rows.specs.Levels.{levels_of}
 use Rattle.syn_balance.specs.Heaps.{AreLeaves, leaf_order, literal_in}
 use Rattle.syn_balance.specs.Joining.{IsJoining}
+use Rattle.syn_balance.specs.Rule.{AreJoined}
 use Rattle.syn_balance.proofs.joining.join.Given as goal
 
 abbrev pub invariant-loop-hashed : goal.invariant-loop-hashed
@@ -12,6 +13,7 @@ invariant-loop-hashed l = record {
   entries : AreLeaves l.hashed.rows.items (heap_items l.heap);
   order : IsHeap leaf_order (heap_items l.heap);
   some : 0 < heap_len l.heap;
+  joined : (times : ℕ) × AreJoined times l.initial.hashed.rows.items l.leaves l.hashed.rows.items (map literal_in (heap_items l.heap));
   joining : IsJoining l.initial.hashed.rows.items l.leaves l.hashed.rows.items (map literal_in (heap_items l.heap));
 }
 

@@ -5,7 +5,7 @@ use Rattle.syn_rows.specs.declared.Lit.{Lit}
 use Rattle.syn_shapes.specs.Graphs.{IsHashed}
 use Rattle.syn_balance.proofs.LevelLists.{level_found}
 use Rattle.syn_hashed.proofs.LevelLaws.{length-levels}
-use Rattle.syn_balance.proofs.Joins.{AreLeast, least_two, more_leaves, least_joined}
+use Rattle.syn_balance.proofs.Joins.{AreLeast, least_two, more_leaves, least_joined, least_rule}
 use Rattle.syn_balance.proofs.joining.join_least.Goals as goal
 
 pub and-requires-clause-second : goal.and-requires-clause-second
@@ -38,3 +38,11 @@ returns-clause-joining c =
     (joined c.index-level.result.now c.in_ok-literal.literal) s
     (subst (λ (k : ℕ). IsHashed k c.and.new.hashed.rows.items) c.in_ok-literal.ensures.sources c.and.new.hashed.hashed)
     c.in_ok-push.ensures.permutation c.in_ok-literal.ensures.grows c.in_ok-literal.ensures.few c.in_ok-literal.ensures.there c.in_ok-literal.ensures.value c.in_ok-literal.ensures.joined
+
+pub returns-clause-least : goal.returns-clause-least
+returns-clause-least c =
+    let s : AreLeast c.args.hashed.now.rows.items (heap_items c.args.heap.now) (heap_items c.pop-2.new.self) c.in-Some.field-0.0.1 c.in-Some-pop.field-0.0.1 =
+    least_two c.args.hashed.now.rows.items (heap_items c.args.heap.now) (heap_items c.pop.new.self) (heap_items c.pop-2.new.self) c.in-Some.field-0 c.in-Some-pop.field-0 c.requires.leaves
+    c.in-Some.ensures.permutation (c.in-Some.ensures.below_top c.requires.order) c.in-Some-pop.ensures.permutation (c.in-Some-pop.ensures.below_top (search rules)) in
+    least_rule c.args.hashed.now.rows.items c.and.new.hashed.rows.items (heap_items c.args.heap.now) (heap_items c.pop-2.new.self) (heap_items c.push.new.self) c.in-Some.field-0.0.1 c.in-Some-pop.field-0.0.1
+    (joined c.index-level.result.now c.in_ok-literal.literal) s c.in_ok-push.ensures.permutation c.in_ok-literal.ensures.literal c.in_ok-literal.ensures.rows

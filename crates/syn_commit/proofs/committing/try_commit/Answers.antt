@@ -1,7 +1,7 @@
 use Rattle.std.proofs.Common.{length, ap, subst, ◌∙◌}
 use Rattle.syn_decide.specs.Decided.{told_answer}
 use Rattle.syn_decide.specs.Tasks.{asked, task_of}
-use Rattle.syn_table.specs.Seating.{nodes_of, view_of}
+use Rattle.syn_table.specs.Seating.{view_of}
 use Rattle.syn_commit.specs.Committed.{IsBooked}
 use Rattle.syn_commit.proofs.Telling.{below_enters, busy_caused, fell_since}
 use Rattle.syn_commit.proofs.committing.try_commit.Goals as goal
@@ -19,9 +19,9 @@ returns-clause-busy g c = λ n busy.
 
 pub returns-clause-fell : goal.returns-clause-fell
 returns-clause-fell g c =
-    fell_since (nodes_of c.args.tools.now.shared.now) (task_of c.of-attempt.result) (asked c.args.proposal.now c.args.zero_gain (length c.args.pool.now)) c.answer.new.deciding (told_answer c.outcome-outcome.result)
+    fell_since (task_of c.of-attempt.result) (asked c.args.proposal.now c.args.zero_gain (length c.args.pool.now)) c.answer.new.deciding (told_answer c.outcome-outcome.result)
     (view_of c.of-start.result.value) (view_of c.args.seat.now) c.args.pool.now (view_of c.settle.new.seat) c.settle.new.pool (c.of-attempt.ensures ∙ ap (asked c.args.proposal.now c.args.zero_gain) (c.len.ensures ∙ ap length c.pool.view_is))
     (ap view_of c.of-start.ensures) c.settle.ensures.reads
     (subst
-    (λ spare. IsBooked (nodes_of c.args.tools.now.shared.now) (task_of c.of-attempt.result) c.answer.new.deciding (told_answer c.outcome-outcome.result) (view_of c.of-start.result.value) spare (view_of c.settle.new.seat) c.settle.new.pool)
+    (λ spare. IsBooked (task_of c.of-attempt.result) c.answer.new.deciding (told_answer c.outcome-outcome.result) (view_of c.of-start.result.value) spare (view_of c.settle.new.seat) c.settle.new.pool)
     c.pool.view_is c.settle.ensures.booked)

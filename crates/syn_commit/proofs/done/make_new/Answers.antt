@@ -1,4 +1,4 @@
-use Rattle.std.proofs.Common.{◌<◌, List, length, sym, ap, ap₂, ◌∙◌, subst, arith}
+use Rattle.std.proofs.Common.{◌≡◌, ◌<◌, ◌+◌, ◌-◌, ◌/◌, List, length, sym, ap, ap₂, ◌∙◌, subst, arith}
 use Rattle.syn_rows.specs.declared.Row.{Row}
 use Rattle.syn_decide.specs.declared.decisions.NodeRow.{NodeRow}
 use Rattle.syn_decide.specs.Fold.{placed_now}
@@ -7,7 +7,7 @@ use Rattle.syn_decide.specs.Walk.{nodes_of as nodes_of_rows}
 use Rattle.syn_table.specs.Seating.{nodes_of, view_of}
 use Rattle.syn_commit_laws.specs.Gains.{IsGain}
 use Rattle.syn_commit_laws.specs.Redefining.{row_made}
-use Rattle.syn_commit.specs.Making.{HasMade}
+use Rattle.syn_commit.specs.Making.{HasMade, step_now}
 use Rattle.syn_commit.specs.Storing.{node_at}
 use Rattle.syn_commit.proofs.Doing.{gains, has_made, needed_few, new_rows_ready}
 use Rattle.syn_commit.proofs.Following.{nodes_few}
@@ -46,13 +46,21 @@ row_made-requires c i =
 pub returns-clause-row : goal.returns-clause-row
 returns-clause-row c = c.row_made.ensures ∙ ap₂ (λ (rs : List NodeRow) (r : Row). row_made (nodes_of_rows rs) r) c.as_slice-2.ensures.value c.new_rows.ensures.root
 
+-- the step of the keys
+even_now : (c : goal.After-row_made) → (c.high.result - c.low-low.result) / (c.new_rows.new.rows.needed + 1) ≡ step_now (task_of c.args.attempt.now) c.args.deciding.now
+even_now c =
+    ap (λ k. (k - c.low-low.result) / (c.new_rows.new.rows.needed + 1)) c.high.ensures
+    ∙ (ap (λ k. (c.args.deciding.now.high - k) / (c.new_rows.new.rows.needed + 1)) c.low-low.ensures
+    ∙ ap (λ k. (c.args.deciding.now.high - c.args.deciding.now.low) / (k + 1)) c.new_rows.ensures.needed)
+
 -- the rows that were made
 made_now : (c : goal.After-row_made) → HasMade (nodes_of c.args.shared.now) (task_of c.args.attempt.now) c.args.deciding.now c.make_rows.new.made.items (view_of c.args.seat.now) (view_of c.make_rows.new.seat)
 made_now c =
     let below = c.step_between-step.ensures.below in
     has_made (task_of c.args.attempt.now) (view_of c.args.start.now.value) (view_of c.args.seat.now) c.args.pool.now c.args.holding.now.pins.items c.args.deciding.now c.args.gain c.requires.trying c.requires.done
     (nodes_of c.args.shared.now) _ c.new_rows.new.rows.needed c.low-low.result c.step_between-step.result c.make_rows.new.made.items c.make_rows.new.pool (view_of c.make_rows.new.seat)
-    (c.as_slice.ensures.value ∙ c.new_rows.ensures.rows) c.new_rows.ensures.needed c.low-low.ensures c.step_between-step.ensures.some (omega (arith, below, c.high.ensures))
+    (c.as_slice.ensures.value ∙ c.new_rows.ensures.rows) c.new_rows.ensures.needed c.low-low.ensures c.step_between-step.ensures.some
+    (c.step_between-step.ensures.even ∙ even_now c) (omega (arith, below, c.high.ensures))
     c.make_rows.ensures.pool c.make_rows.ensures.count c.make_rows.ensures.made c.make_rows.ensures.keeps c.make_rows.ensures.turns
 
 pub returns-clause-made : goal.returns-clause-made

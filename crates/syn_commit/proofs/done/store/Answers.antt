@@ -13,7 +13,7 @@ use Rattle.syn_commit.specs.Keyed.{IsKeyedSoFar}
 use Rattle.syn_commit.specs.Readying.{IsReadyFor}
 use Rattle.syn_commit.specs.Stages.{IsTrying}
 use Rattle.syn_commit.specs.Storing.{MayReferTo}
-use Rattle.syn_commit.proofs.Closing.{booked, reads_at_end}
+use Rattle.syn_commit.proofs.Closing.{booked, old_is, reads_at_end}
 use Rattle.syn_commit.proofs.Doing.{ready_now, root_node, some_inner, stored_now}
 use Rattle.syn_commit.proofs.Handing.{trying_gives}
 use Rattle.syn_commit.proofs.done.store.Given.{Over}
@@ -111,6 +111,9 @@ returns-clause-booked g c =
     root (c.root_of-root.ensures root) (nodes_of c.args.tools.now.shared.now) made row before after c.requires.in_order c.requires.enters c.seats_reach_nodes.ensures.shown c.requires.loaded
     c.make_new-row.ensures.made c.make_new-row.ensures.ready c.make_new-row.ensures.row c.redefine_root.ensures.turns c.redefine_root.ensures.row in
     booked (nodes_of c.args.tools.now.shared.now) root.node (task_of c.args.attempt.now) c.args.deciding.now c.args.gain (view_of c.args.start.now.value) (view_of c.args.seat.now) before after (view_of c.finish.new.seat)
-    made root.row row (length made) c.args.pool.now c.make_new-row.new.pool c.finish.new.pool c.requires.trying.changes c.requires.trying.difference at_root c.make_new-row.ensures.row
-    (subst (λ r. is_derived r ≡ true) (sym c.make_new-row.ensures.row) may.gate) c.make_new-row.ensures.made c.make_new-row.ensures.pool stored c.finish.ensures.given
+    made root.row row (length made) c.args.pool.now c.make_new-row.new.pool c.finish.new.pool c.requires.trying.makes c.requires.trying.changes c.requires.trying.difference at_root
+    (old_is c.args.deciding.now.inner root
+    (some_inner (task_of c.args.attempt.now) (view_of c.args.start.now.value) (view_of c.args.seat.now) c.args.pool.now c.args.holding.now.pins.items c.args.deciding.now c.args.gain c.requires.trying c.requires.done)
+    (c.root_of-root.ensures root)) c.make_new-row.ensures.row
+    (subst (λ r. is_derived r ≡ true) (sym c.make_new-row.ensures.row) may.gate) c.make_new-row.ensures.made c.redefine_root.ensures.turns c.make_new-row.ensures.pool stored c.finish.ensures.given
     (subst (λ (v : View). FellByGain root.node (dying_by c.args.deciding.now) v root.row row c.args.gain (view_of c.finish.new.seat)) (ap view_of c.of-counted.ensures) c.finish.ensures.gain)

@@ -33,6 +33,6 @@ returns-clause-late c =
 pub returns-clause-none : goal.returns-clause-none
 returns-clause-none c =
     let given : HasGivenUp (nodes_of c.args.shared.now) (view_of c.args.seat.now) c.args.pool.now (view_of c.let_go.new.seat) c.drain.new.pool = (view_of c.drain.new.seat, c.drain.ensures.gives, c.let_go.ensures.let_go) in
-    stored_none (nodes_of c.args.shared.now) (view_of c.args.start.now.value) (view_of c.args.seat.now) (view_of c.let_go.new.seat) c.args.pool.now c.drain.new.pool c.args.deciding.now c.requires.trying.changes given
+    stored_none (nodes_of c.args.shared.now) (view_of c.args.start.now.value) (view_of c.args.seat.now) (view_of c.let_go.new.seat) c.args.pool.now c.drain.new.pool c.args.deciding.now c.requires.trying.makes c.requires.trying.changes given
     (fell_by_late (task_of c.args.attempt.now) (view_of c.args.start.now.value) (view_of c.args.seat.now) (view_of c.let_go.new.seat) (nodes_of c.args.shared.now) c.args.pool.now c.drain.new.pool c.args.holding.now.pins.items c.args.deciding.now
     c.requires.enters c.requires.trying c.seats_reach_nodes.ensures.shown c.requires.loaded c.requires.ended given)

@@ -3,9 +3,10 @@ use Rattle.syn_rows.specs.Nodes.{has_node}
 use Rattle.syn_table.specs.declared.Known.{Known}
 use Rattle.syn_table.specs.Seating.{known_of, nodes_of, view_of}
 use Rattle.syn_decide.specs.Walk.{nodes_of as nodes_of_rows}
-use Rattle.syn_commit_laws.proofs.Giving.{unpins_turn}
+use Rattle.syn_core_laws.specs.declared.EventKind.TheVariants as Kind
 use Rattle.syn_commit.specs.Giving.{IsGiving}
-use Rattle.syn_commit.proofs.Draining.{gate_idle, has_pin, no_gate, still_used, unpin_is}
+use Rattle.syn_commit.proofs.Draining.{gate_idle, has_pin, no_gate, still_used}
+use Rattle.syn_commit.proofs.Happening.{event_turns}
 use Rattle.syn_commit.proofs.leaving.unpin.Goals as goal
 
 pub unpin-requires-clause-pinned : goal.unpin-requires-clause-pinned
@@ -21,11 +22,7 @@ returns-then-not-unpin-clause-giving c =
     c.seats_reach_nodes.ensures.shown c.requires.giving (sym u.1 ∙ more))
 
 pub returns-then-not-unpin-clause-turns : goal.returns-then-not-unpin-clause-turns
-returns-then-not-unpin-clause-turns c =
-    unpins_turn (nodes_of c.args.shared.now) (view_of c.args.seat.now) c.args.pin c.unpin.result (view_of c.unpin.new.seat)
-    (unpin_is (nodes_of c.args.shared.now) (known_of c.args.seat.now) (known_of c.unpin.new.seat) c.args.pin c.unpin.result c.seats_reach_nodes.ensures.opening
-    (has_pin (nodes_of c.args.shared.now) c.args.pool.now c.args.holding.now.pins.items c.args.holding.now.gates.items c.args.holding.now.idle.items (view_of c.args.seat.now) c.args.pin 0 c.seats_reach_nodes.ensures.shown c.requires.giving)
-    c.unpin.ensures.known c.unpin.ensures.sole)
+returns-then-not-unpin-clause-turns c = event_turns (known_of c.args.seat.now) (Kind.Unpin c.args.pin) (view_of c.unpin.new.seat) c.unpin.ensures.event.0 (nodes_of c.args.shared.now) c.seats_reach_nodes.ensures.opening
 
 pub returns-in_default-clause-giving : goal.returns-in_default-clause-giving
 returns-in_default-clause-giving c =
@@ -36,11 +33,7 @@ returns-in_default-clause-giving c =
     c.seats_reach_nodes.ensures.shown c.requires.giving none)
 
 pub returns-in_default-clause-turns : goal.returns-in_default-clause-turns
-returns-in_default-clause-turns c =
-    unpins_turn (nodes_of c.args.shared.now) (view_of c.args.seat.now) c.args.pin c.unpin.result (view_of c.unpin.new.seat)
-    (unpin_is (nodes_of c.args.shared.now) (known_of c.args.seat.now) (known_of c.unpin.new.seat) c.args.pin c.unpin.result c.seats_reach_nodes.ensures.opening
-    (has_pin (nodes_of c.args.shared.now) c.args.pool.now c.args.holding.now.pins.items c.args.holding.now.gates.items c.args.holding.now.idle.items (view_of c.args.seat.now) c.args.pin 0 c.seats_reach_nodes.ensures.shown c.requires.giving)
-    c.unpin.ensures.known c.unpin.ensures.sole)
+returns-in_default-clause-turns c = event_turns (known_of c.args.seat.now) (Kind.Unpin c.args.pin) (view_of c.unpin.new.seat) c.unpin.ensures.event.0 (nodes_of c.args.shared.now) c.seats_reach_nodes.ensures.opening
 
 pub returns-clause-giving : goal.returns-clause-giving
 returns-clause-giving c =
@@ -56,8 +49,4 @@ returns-clause-giving c =
     (subst (IsGiving c.args.pool.now c.args.holding.now.pins.items c.set_idle.new.holding.gates.items (c.args.holding.now.idle.items ++ e.0 ∷ [])) (sym (ap (λ (k : Known). k.core) u.2)) given))
 
 pub returns-clause-turns : goal.returns-clause-turns
-returns-clause-turns c =
-    unpins_turn (nodes_of c.args.shared.now) (view_of c.args.seat.now) c.args.pin c.unpin.result (view_of c.unpin.new.seat)
-    (unpin_is (nodes_of c.args.shared.now) (known_of c.args.seat.now) (known_of c.unpin.new.seat) c.args.pin c.unpin.result c.seats_reach_nodes.ensures.opening
-    (has_pin (nodes_of c.args.shared.now) c.args.pool.now c.args.holding.now.pins.items c.args.holding.now.gates.items c.args.holding.now.idle.items (view_of c.args.seat.now) c.args.pin 0 c.seats_reach_nodes.ensures.shown c.requires.giving)
-    c.unpin.ensures.known c.unpin.ensures.sole)
+returns-clause-turns c = event_turns (known_of c.args.seat.now) (Kind.Unpin c.args.pin) (view_of c.unpin.new.seat) c.unpin.ensures.event.0 (nodes_of c.args.shared.now) c.seats_reach_nodes.ensures.opening

@@ -44,8 +44,8 @@ invariant_of-result-clause-once c =
     let tables : map (table_in c.in_ok-frame.frame.names) c.of.result ≡ map (table_in c.in_ok-called.called.names) c.in_ok-tables.tables.items = ap₂ (λ (names : List (List ℕ)) (ts : List Table). map (table_in names) ts) c.in_ok-frame.ensures.names c.of.ensures in
     ap₂ (λ (f : lists.Frame) (ts : List lists.Table). distinct (sources f ++ map output_of ts)) c.in_ok-frame.ensures.frame tables ∙ a.once.all
 
-pub returns : goal.returns
-returns c =
+pub returns-clause-flattening : goal.returns-clause-flattening
+returns-clause-flattening c =
     let w = c.args.walked.now in
     let a : IsAssembled c.args.models.now c.args.main.now (map (latch_in c.in_ok-called.called.names) c.in_ok-latches.latches.items) (map (table_in c.in_ok-called.called.names) c.in_ok-tables.tables.items) =
     put_together c.args.models.now c.args.main.now w.instances.items c.as_slice-instances.result.now w.parts.items c.as_slice-parts.result.now c.in_ok-called.called.names c.in_ok-called.called.maps.items c.as_slice.result.now c.as_slice-2.result.now c.in_ok-count.count c.in_ok-latches.latches.items c.in_ok-tables.tables.items

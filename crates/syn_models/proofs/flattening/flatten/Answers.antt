@@ -49,7 +49,7 @@ returns-clause-netlist c =
     let some : 1 ≤ length c.in_ok-file.file.models.now = subst (λ (l : List Model). 1 ≤ length l) (sym same) c.args.models.now.some in
     let none : first_fault_of_models (models_in c.in_ok-file.file.models.now) ≡ None = first_is ms c.in_ok-fault.field-0 some c.in_ok-fault.ensures c.in_default.is in
     let acyclic : NoRecursion (models_in c.in_ok-file.file.models.now) = check_tells_recursion.checked (models_in ms) (put_is_checked (containing (models_in ms)) c.in_ok-order.order.items c.in_ok-order.ensures.order) in
-    subst (λ (l : List Model). Flattens (models_in l) (netlist_in c.in_ok-flat_netlist.field-0)) same (record { faultless = none; acyclic = acyclic; flattening = c.in_ok-flat_netlist.ensures })
+    subst (λ (l : List Model). Flattens (models_in l) (netlist_in c.in_ok-flat_netlist.field-0)) same (record { faultless = none; acyclic = acyclic; flattening = c.in_ok-flat_netlist.ensures.flattening })
 
 pub returns-clause-within : goal.returns-clause-within
 returns-clause-within c =

@@ -7,8 +7,8 @@ use Rattle.syn_models.specs.Walking.{IsWalk}
 use Rattle.syn_models.proofs.Turning.{walk_begins}
 use Rattle.syn_models.proofs.walking.walk.Goals as goal
 
-pub loop-init : goal.loop-init
-loop-init c =
+pub loop-level-init : goal.loop-level-init
+loop-level-init c =
     let l : Level = record { place = record { number = 0; home = c.args.main }; at = 0 } in
     let levels : c.push.new.self.items ≡ l ∷ [] = search rules in
     record {

@@ -4,8 +4,8 @@ use Rattle.syn_plan.specs.declared.plan.Plan.{Plan}
 use Rattle.syn_plan.specs.Naming.{built_of}
 use Rattle.syn_library.specs.Fitting.{Computes}
 use Rattle.syn_gain.specs.Replacements.{Replacement}
-use Rattle.syn_pool.specs.Closing.{IsFirst, SavesNothing, SavesSome}
-use Rattle.syn_pool.proofs.Firsts.{first_is}
+use Rattle.syn_proposals.specs.Closing.{IsFirst, SavesNothing, SavesSome}
+use Rattle.syn_proposals.proofs.Firsts.{first_is}
 use Rattle.syn_rewrite.specs.Rewriting.{cut_proposals, over}
 use Rattle.syn_rewrite.proofs.Candidates.{is_function, is_sound, plans_are}
 use Rattle.syn_rewrite.proofs.Fitted.{All-read}

@@ -1,6 +1,6 @@
 use Rattle.std.specs.List.{AllWithin}
 use Rattle.syn_plan.specs.Naming.{built_of}
-use Rattle.syn_pool.specs.Closing.{SavesNothing}
+use Rattle.syn_proposals.specs.Closing.{SavesNothing}
 use Rattle.syn_rewrite.specs.Rewriting.{over}
 use Rattle.syn_rewrite.proofs.proposing.first_over.Given as goal
 

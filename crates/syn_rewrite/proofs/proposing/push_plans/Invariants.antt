@@ -1,7 +1,7 @@
 use Rattle.std.proofs.Common.{◌≡◌, ◌++◌, All, map, take}
 use Rattle.syn_plan.specs.Naming.{built_of}
 use Rattle.syn_gain.specs.Proposals.{replacement}
-use Rattle.syn_pool.specs.Sound.{IsSound}
+use Rattle.syn_proposals.specs.Sound.{IsSound}
 use Rattle.syn_rewrite.specs.Rewriting.{over}
 use Rattle.syn_rewrite.proofs.proposing.push_plans.Given as goal
 

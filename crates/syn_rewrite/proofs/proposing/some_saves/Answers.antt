@@ -5,7 +5,7 @@ use Rattle.std.proofs.lemmas.List.Elements.{All-map}
 use Rattle.syn_plan.specs.declared.plan.Plan.{Plan}
 use Rattle.syn_plan.specs.Naming.{built_of}
 use Rattle.syn_gain.specs.Replacements.{Replacement}
-use Rattle.syn_pool.specs.Closing.{SavesNothing}
+use Rattle.syn_proposals.specs.Closing.{SavesNothing}
 use Rattle.syn_rewrite.specs.Apart.{IsApartOver, IsApartPlan}
 use Rattle.syn_rewrite.specs.declared.apart.Apart.{Apart}
 use Rattle.syn_rewrite.specs.Rewriting.{cut_proposals, over}

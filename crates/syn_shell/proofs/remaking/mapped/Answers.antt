@@ -1,6 +1,5 @@
 use Rattle.std.proofs.Common.{ℕ, ◌+◌, ◌≤◌, List, length, subst, arith}
 use Rattle.std.proofs.lemmas.List.{length-map}
-use Rattle.syn_rows.specs.declared.Lit.{Lit}
 use Rattle.syn_netlist.specs.Frames.{frame_in}
 use Rattle.syn_netlist.specs.Lists.{Frame, sources}
 use Rattle.syn_graph.specs.Graphs.{network_of}

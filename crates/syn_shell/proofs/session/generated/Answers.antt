@@ -1,4 +1,4 @@
-use Rattle.std.proofs.Common.{◌≡◌, ◌≤◌, length, sym, ap, subst, arith}
+use Rattle.std.proofs.Common.{◌≡◌, ◌≤◌, ◌<◌, ◌^◌, length, sym, ap, subst, arith}
 use Rattle.syn_netlist.specs.Costs.{cost_of}
 use Rattle.syn_netlist.specs.Faults.{IsChecked}
 use Rattle.syn_netlist.specs.Frames.{frame_in}
@@ -26,10 +26,17 @@ build-requires-clause-room c =
 pub returns-clause-generated : goal.returns-clause-generated
 returns-clause-generated c = subst (λ (m : Netlist). IsGraphOf m (network_of c.in_ok-graph.graph)) c.in_ok-netlist.ensures.generated c.in_ok-graph.ensures.network
 
-pub returns-clause-sources : goal.returns-clause-sources
-returns-clause-sources c =
-    let n = c.in_ok-netlist.netlist in
+pub returns-clause-small : goal.returns-clause-small
+returns-clause-small c =
+    let n : Netlist = netlist_in c.in_ok-netlist.netlist in
     let made : Netlist = generated c.args.seed c.args.size in
-    let few : length (sources (frame_in n.frame)) ≡ length (sources made.frame) = ap (λ (m : Netlist). length (sources m.frame)) c.in_ok-netlist.ensures.generated in
-    let within : length (sources (frame_in n.frame)) ≤ most_sources = omega (arith, few, (c.generated_costs.ensures c.args.seed c.args.size).0) in
-    subst (λ (f : Frame). length (sources f) ≤ most_sources) c.in_ok-graph.ensures.network.same.frame within
+    let same = c.in_ok-netlist.ensures.generated in
+    let costs = c.generated_costs.ensures c.args.seed c.args.size in
+    let few : length (sources n.frame) ≤ most_sources = omega (arith, ap (λ (m : Netlist). length (sources m.frame)) same, costs.0) in
+    let outs : length n.frame.outputs < 2 ^ 28 = omega (arith, ap (λ (m : Netlist). length m.frame.outputs) same, c.generated_outputs.ensures c.args.seed c.args.size, c.ranges.size.fits) in
+    let graph = c.in_ok-graph.ensures.network in
+    record {
+      sources = subst (λ (f : Frame). length (sources f) ≤ most_sources) graph.same.frame few;
+      outputs = subst (λ (f : Frame). length f.outputs < 2 ^ 28) graph.same.frame outs;
+      ands = omega (arith, graph.fewer, ap cost_of same, costs.1, c.ranges.size.fits);
+    }

@@ -17,5 +17,5 @@ returns-clause-failed g c = λ is.
 
 pub returns-clause-complete : goal.returns-clause-complete
 returns-clause-complete g c =
-    ran_complete c.not_both.ensures (map string_bytes c.args.words.now) (g.F.Files.disk c.args.files.now) (g.F.Files.disk c.run_words.new.files) (g.O.Sink.screen c.args.out.now) (g.O.Sink.screen c.run_words.new.out)
+    ran_complete c.not_both.ensures c.not_both-2.ensures (map string_bytes c.args.words.now) (g.F.Files.disk c.args.files.now) (g.F.Files.disk c.run_words.new.files) (g.O.Sink.screen c.args.out.now) (g.O.Sink.screen c.run_words.new.out)
     (g.L.Lines.input c.args.lines.now) (g.L.Lines.input c.run_words.new.lines) c.run_words.result

@@ -1,6 +1,6 @@
 use Rattle.std.proofs.Common.{rules, ◌≡◌, ap, arith, inl}
 use Rattle.syn_table.specs.Laying.{node_at}
-use Rattle.syn_table.proofs.Storing.{frees_allowed, freed_told, idle_held}
+use Rattle.syn_table.proofs.Storing.{frees_allowed, freed_event, freed_told, idle_held}
 use Rattle.syn_table.proofs.Shared.free.Goals as goal
 
 pub store-requires : goal.store-requires
@@ -15,3 +15,8 @@ pub returns-clause-known : goal.returns-clause-known
 returns-clause-known c =
     let here : node_at c.row_word.result ≡ c.args.node = omega (arith, c.row_word.ensures) in
     freed_told c.row_word.result c.args.seat.now.token.me c.store.new.seat.me c.args.node here c.store.ensures.2
+
+pub returns-clause-event : goal.returns-clause-event
+returns-clause-event c =
+    let here : node_at c.row_word.result ≡ c.args.node = omega (arith, c.row_word.ensures) in
+    freed_event c.row_word.result c.args.seat.now.token.me c.store.new.seat.me c.args.node here c.store.ensures.2

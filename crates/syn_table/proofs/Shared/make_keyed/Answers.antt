@@ -1,6 +1,6 @@
 use Rattle.std.proofs.Common.{rules, ◌≡◌, ap, arith, inr}
 use Rattle.syn_table.specs.Laying.{node_at}
-use Rattle.syn_table.proofs.Storing.{makes_allowed, made_told, rests_pack}
+use Rattle.syn_table.proofs.Storing.{makes_allowed, made_event, made_told, rests_pack}
 use Rattle.syn_table.proofs.Shared.make_keyed.Goals as goal
 
 pub pack-requires : goal.pack-requires
@@ -23,4 +23,11 @@ returns-clause-known c =
     let seat = c.args.seat.now in
     let here : node_at c.row_word.result ≡ c.args.node = omega (arith, c.row_word.ensures) in
     made_told c.row_word.result seat.token.me c.store.new.seat.me c.args.node c.pack.result c.args.row here (rests_pack seat.token.me.0.core c.args.self.now.nodes c.args.row
+    (λ m mine. omega (arith, ap (λ t. t.words) c.requires.table, seat.words, c.args.self.now.words, seat.active.within m (inr (inr mine)))) c.args.self.now.few c.requires.rests.2.0) c.pack.ensures c.store.ensures.2
+
+pub returns-clause-event : goal.returns-clause-event
+returns-clause-event c =
+    let seat = c.args.seat.now in
+    let here : node_at c.row_word.result ≡ c.args.node = omega (arith, c.row_word.ensures) in
+    made_event c.row_word.result seat.token.me c.store.new.seat.me c.args.node c.pack.result c.args.row here (rests_pack seat.token.me.0.core c.args.self.now.nodes c.args.row
     (λ m mine. omega (arith, ap (λ t. t.words) c.requires.table, seat.words, c.args.self.now.words, seat.active.within m (inr (inr mine)))) c.args.self.now.few c.requires.rests.2.0) c.pack.ensures c.store.ensures.2

@@ -1,6 +1,6 @@
 use Rattle.std.proofs.Common.{rules, ◌≡◌, ap, arith, inr}
 use Rattle.syn_table.specs.Laying.{node_at}
-use Rattle.syn_table.proofs.Storing.{redefines_allowed, redefined_told, rests_pack}
+use Rattle.syn_table.proofs.Storing.{redefines_allowed, redefined_event, redefined_told, rests_pack}
 use Rattle.syn_table.proofs.Shared.redefine.Goals as goal
 
 pub pack-requires : goal.pack-requires
@@ -24,3 +24,10 @@ returns-clause-known c =
     let here : node_at c.row_word.result ≡ c.args.node = omega (arith, c.row_word.ensures) in
     redefined_told c.row_word.result seat.token.me c.store.new.seat.me c.args.node c.pack.result c.args.row here (rests_pack seat.token.me.0.core c.args.self.now.nodes c.args.row
     (λ m mine. omega (arith, ap (λ t. t.words) c.requires.table, seat.words, c.args.self.now.words, seat.active.within m (inr (inr mine)))) c.args.self.now.few c.requires.may.3.3.0) c.pack.ensures c.store.ensures.2
+
+pub returns-clause-event : goal.returns-clause-event
+returns-clause-event c =
+    let seat = c.args.seat.now in
+    let here : node_at c.row_word.result ≡ c.args.node = omega (arith, c.row_word.ensures) in
+    redefined_event c.row_word.result seat.token.me c.store.new.seat.me c.args.node c.pack.result c.args.row c.args.over.now here (rests_pack seat.token.me.0.core c.args.self.now.nodes c.args.row
+    (λ m mine. omega (arith, ap (λ t. t.words) c.requires.table, seat.words, c.args.self.now.words, seat.active.within m (inr (inr mine)))) c.args.self.now.few c.requires.may.3.3.0) c.pack.ensures c.requires.may c.store.ensures.2

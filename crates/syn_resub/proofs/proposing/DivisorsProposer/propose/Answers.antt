@@ -2,7 +2,7 @@ use Rattle.std.proofs.Common.{◌≡◌, ◌<◌, ◌++◌, [], ◌∷◌, List,
 use Rattle.std.proofs.lemmas.List.{take_all}
 use Rattle.std.proofs.lemmas.List.Elements.{All-push, All-same}
 use Rattle.syn_growing.specs.Plans.{over}
-use Rattle.syn_pool.specs.Sound.{IsSound}
+use Rattle.syn_proposals.specs.Sound.{IsSound}
 use Rattle.syn_resub.specs.declared.forms.Form.{Form}
 use Rattle.syn_resub.specs.Resubstitution.{plan_for, resubstitutions_over}
 use Rattle.syn_resub.proofs.Proposed.{form_found, proposals_more}

@@ -1,7 +1,7 @@
 use Rattle.std.proofs.Common.{◌≡◌, ◌≤◌, All, length, map, take}
 use Rattle.syn_gain.specs.Proposals.{replacement}
 use Rattle.syn_growing.specs.Plans.{over}
-use Rattle.syn_pool.specs.Sound.{IsSound}
+use Rattle.syn_proposals.specs.Sound.{IsSound}
 use Rattle.syn_resub.specs.Resubstitution.{plan_for}
 use Rattle.syn_resub.proofs.proposing.DivisorsProposer.propose.Given as goal
 

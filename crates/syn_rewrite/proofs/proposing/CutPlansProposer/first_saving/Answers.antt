@@ -5,7 +5,7 @@ use Rattle.syn_cuts.specs.Leaves.{leaves_of}
 use Rattle.syn_cuts.proofs.Putting.{leaves_length}
 use Rattle.syn_gain.specs.Proposals.{replacement}
 use Rattle.syn_gain.specs.Replacements.{Replacement}
-use Rattle.syn_pool.specs.Closing.{IsFirst, SavesNothing}
+use Rattle.syn_proposals.specs.Closing.{IsFirst, SavesNothing}
 use Rattle.syn_rewrite.specs.Rewriting.{cut_proposals}
 use Rattle.syn_rewrite.proofs.Candidates.{and_there, first_of_all, function_read, functions_at, functions_count, leaves_read, more_cuts}
 use Rattle.syn_rewrite.proofs.Listed.{within_lists}

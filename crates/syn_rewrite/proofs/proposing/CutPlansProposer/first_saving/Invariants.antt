@@ -1,6 +1,6 @@
 use Rattle.std.proofs.Common.{All, flat_map, take}
 use Rattle.syn_cuts.specs.Leaves.{leaves_of}
-use Rattle.syn_pool.specs.Closing.{SavesNothing}
+use Rattle.syn_proposals.specs.Closing.{SavesNothing}
 use Rattle.syn_rewrite.specs.Rewriting.{cut_proposals}
 use Rattle.syn_rewrite.proofs.proposing.CutPlansProposer.first_saving.Given as goal
 

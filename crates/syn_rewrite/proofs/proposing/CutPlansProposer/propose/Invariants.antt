@@ -1,7 +1,7 @@
 use Rattle.std.proofs.Common.{◌≡◌, All, flat_map, map, take}
 use Rattle.syn_cuts.specs.Leaves.{leaves_of}
 use Rattle.syn_gain.specs.Proposals.{replacement}
-use Rattle.syn_pool.specs.Sound.{IsSound}
+use Rattle.syn_proposals.specs.Sound.{IsSound}
 use Rattle.syn_rewrite.specs.Rewriting.{cut_proposals}
 use Rattle.syn_rewrite.proofs.proposing.CutPlansProposer.propose.Given as goal
 

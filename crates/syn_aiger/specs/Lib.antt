@@ -1,0 +1,11 @@
+pub mod Values
+pub mod Naming
+pub mod Networks
+pub mod Faults
+pub mod Ranks
+pub mod Placing
+pub mod Keeping
+pub mod Framing
+pub mod Writing
+pub mod Laws
+pub mod WrittenLists

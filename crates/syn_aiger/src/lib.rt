@@ -1,0 +1,27 @@
+//! AIGER files as graphs, both ways.
+//!
+//! `read_aig` takes the bytes of a file and gives the graph of its network, or the first fault;
+//! `write_aig` takes a graph and gives the bytes of its file, or names the first latch with a type.
+//! What bytes say, and the bytes of what is to be said, are those of `syn_aiger_files`.
+#![tactic(auto)]
+
+mod circles;
+mod defining;
+mod first_names;
+mod framing;
+mod given;
+mod laws;
+mod naming;
+mod numbering;
+mod places;
+mod reading;
+mod rows;
+mod writing;
+
+pub use laws::{
+    aig_of_is_normal, aig_of_keeps, either_or, not_both, one_aig, one_fault, order_has_no_circle,
+    printed_spells, spelled_defines_once,
+};
+pub use reading::read_aig;
+pub use syn_aiger_files::{AigFault, MOST_GATES};
+pub use writing::{AigWriteFault, write_aig};

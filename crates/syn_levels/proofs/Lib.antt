@@ -1,0 +1,4 @@
+pub mod Staying
+mod NewLevels
+mod Compared
+pub mod Deeper

@@ -1,0 +1,85 @@
+-- What commits are reported: how many were done, and what they gained.
+use Rattle.std.specs.Prelude.{◌≡◌, ℕ, ◌+◌, ◌-◌, ◌^◌, min, List, [], ◌∷◌, ◌++◌, length}
+use Rattle.syn_core_laws.specs.declared.View.{View}
+use Rattle.syn_decide.specs.Decided.{Answer, Answered, Done, Busy, Reach, Wide, Differs, NoGain, NoGap, NoRoom}
+use Rattle.syn_decide.specs.Fold.{decided}
+use Rattle.syn_decide.specs.Tasks.{Task}
+use Rattle.syn_commit_laws.specs.Freeing.{redefines}
+use Rattle.syn_commit.specs.Committed.{changes_since, gain_of, met_since}
+use Rattle.syn_proposals.specs.declared.gains.Report.{Report}
+
+-- 1 for `Done`
+abbrev pub done_of : Answer → ℕ
+done_of (Done gain) = 1
+done_of (Busy node) = 0
+done_of (Reach node) = 0
+done_of (Wide node) = 0
+done_of (Differs was now) = 0
+done_of (NoGain freed added) = 0
+done_of (NoGap node low need high) = 0
+done_of (NoRoom need have) = 0
+
+-- how many of the answers are `Done`, and the sum of their gains
+abbrev pub dones : List Answer → ℕ
+dones [] = 0
+dones (a ∷ xs) = done_of a + dones xs
+
+abbrev pub gains : List Answer → ℕ
+gains [] = 0
+gains (a ∷ xs) = gain_of a + gains xs
+
+-- A seat tried to commit: the answer is decided by what it met, and it redefined one row where that is `Done`, and none else.
+pub record HasTried (answer : Answer) (was now : View) : Type 0 where
+  pub task : Task
+  pub decision : decided task (met_since was now) ≡ Answered answer
+  pub changes : now.changes ≡ was.changes ++ changes_since was now
+  pub stored : length (redefines (changes_since was now)) ≡ done_of answer
+
+-- a seat tried to commit one time after the other, with these answers
+abbrev pub HasTriedAll : List Answer → View → View → Type 0
+HasTriedAll [] was now = now ≡ was
+HasTriedAll (a ∷ xs) was now = (v : View) × HasTried a was v × HasTriedAll xs v now
+
+-- The attempts of one seat, from its first to its last.
+pub record Sweep : Type 0 where
+  pub answers : List Answer
+  pub before : View
+  pub after : View
+  pub tried : HasTriedAll answers before after
+
+-- the answers of several
+abbrev pub all_answers : List Sweep → List Answer
+all_answers [] = []
+all_answers (s ∷ ss) = s.answers ++ all_answers ss
+
+-- a number of a report: past the largest it is the largest
+abbrev pub told : ℕ → ℕ
+told n = min n (2 ^ 64 - 1)
+
+-- the report has the number of the answers that are `Done`, and the sum of their gains
+pub record IsSum (answers : List Answer) (report : Report) : Type 0 where
+  pub done : report.done ≡ told (dones answers)
+  pub gained : report.gained ≡ told (gains answers)
+
+-- the report of some seats' attempts
+abbrev pub IsReport : Report → Type 0
+IsReport report = (sweeps : List Sweep) × IsSum (all_answers sweeps) report
+
+-- the report with a commit more, of this gain, and with an answer more
+abbrev pub with_gain : Report → ℕ → Report
+with_gain r gain = record { done = told (r.done + 1); gained = told (r.gained + gain) }
+
+abbrev pub with_answer : Report → Answer → Report
+with_answer r (Done gain) = with_gain r gain
+with_answer r (Busy node) = r
+with_answer r (Reach node) = r
+with_answer r (Wide node) = r
+with_answer r (Differs was now) = r
+with_answer r (NoGain freed added) = r
+with_answer r (NoGap node low need high) = r
+with_answer r (NoRoom need have) = r
+
+-- the report with these answers more, in order
+abbrev pub reported : Report → List Answer → Report
+reported r [] = r
+reported r (a ∷ xs) = reported (with_answer r a) xs

@@ -1,0 +1,38 @@
+-- Workers at a table, and what their commits leave.
+use Rattle.std.specs.Prelude.{◌≡◌, ◌≤◌, Bool, false, List, ◌∷◌, pos, ◌+ℤ◌, ◌≤ℤ◌}
+use Rattle.syn_decide.specs.Decided.{Answer}
+use Rattle.syn_proposals.specs.declared.gains.Report.{Report}
+use Rattle.syn_table.specs.declared.Seat.{Seat}
+use Rattle.syn_table.specs.declared.Shared.{Shared}
+use Rattle.syn_table.specs.Seating.{IsOf, known_of, view_of}
+use Rattle.syn_table.specs.Steps.{with_view}
+use Rattle.syn_commit.specs.Giving.{HoldsAlone, IsAtRest}
+use Rattle.syn_pool.specs.declared.working.Worker.{Worker}
+use Rattle.syn_pool.specs.Reports.{HasTriedAll, IsSum, Sweep, all_answers, reported}
+
+-- the seat is one of this table, it holds its spare nodes alone, and nothing is pinned
+pub record IsAtWork (shared : Shared) (w : Worker) : Type 0 where
+  pub table : IsOf w.seat shared
+  pub alone : HoldsAlone w.pool (view_of w.seat)
+
+-- What a worker has since the earlier moment: the same seat with another view; it tried to commit, with these answers, and reports them; the difference in ANDs fell by what the report gained, or more; and where gains of 0 are not enough, no more is done than gained, if it was so before.
+pub record HasWorked (zero_gain : Bool) (was now : Worker) : Type 0 where
+  pub known : known_of now.seat ≡ with_view (known_of was.seat) (view_of now.seat)
+  pub answers : List Answer
+  pub tried : HasTriedAll answers (view_of was.seat) (view_of now.seat)
+  pub report : now.report ≡ reported was.report answers
+  pub fell : ((view_of now.seat).difference +ℤ pos now.report.gained) ≤ℤ ((view_of was.seat).difference +ℤ pos was.report.gained)
+  pub gains : zero_gain ≡ false → was.report.done ≤ was.report.gained → now.report.done ≤ now.report.gained
+
+-- What a seat at rest has done, and those that were split from it and joined again: it is at rest again, what it stored it stored by its own attempts, and the report has the sums of these and of the others' attempts.
+pub record HasSwept (shared : Shared) (zero_gain : Bool) (was now : Seat) (report : Report) : Type 0 where
+  pub table : IsOf now shared
+  pub rest : IsAtRest (view_of now)
+  pub known : known_of now ≡ with_view (known_of was) (view_of now)
+  pub own : Sweep
+  pub others : List Sweep
+  pub since : own.before.changes ≡ (view_of was).changes
+  pub until : (view_of now).changes ≡ own.after.changes
+  pub sums : IsSum (all_answers (own ∷ others)) report
+  pub fell : ((view_of now).difference +ℤ pos report.gained) ≤ℤ (view_of was).difference
+  pub gains : zero_gain ≡ false → report.done ≤ report.gained

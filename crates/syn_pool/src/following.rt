@@ -1,0 +1,214 @@
+//! Looks around commits that were done, at the table as it stands: one gain may open the next.
+
+ghost use Rattle.std.specs.Prelude.{◌<◌, false};
+ghost use Rattle.syn_table.specs.Seating.{nodes_of};
+ghost use Rattle.syn_pool.specs.Working.{HasWorked, IsAtWork};
+
+use crate::candidates::candidate;
+use crate::cuts::{Cuts, SeenCut, fan_ins, is_among};
+use crate::fan_outs::FanOuts;
+use crate::freed::going;
+use crate::functions::function_over;
+use crate::scene::Scene;
+use crate::trying::is_done;
+use crate::weighing::adds_fewer;
+use crate::working::Worker;
+use arrayvec::ArrayVec;
+use syn_commit::{Gate, Tools};
+use syn_gain::owned;
+use syn_graph::Graph;
+use syn_plan::Plan;
+use syn_proposals::Proposer;
+use syn_rows::Row;
+use syn_table::Shared;
+
+// The most nodes that wait for a look; more are left to the check.
+const MOST_PENDING: usize = 64;
+
+// The most fan-outs of a node that are looked at.
+const MOST_FAN_OUTS: usize = 6;
+
+// The most looks that one commit leads to.
+const MOST_LOOKS: u32 = 1 << 24;
+
+/// The nodes that wait for a look, the next one last.
+pub(crate) type Pending = ArrayVec<u32, MOST_PENDING>;
+
+// What the looks go by: the graph that the table was opened with, and its fan-outs.
+#[derive(Drop)]
+struct Around<'a> {
+    graph: &'a Graph,
+    fan_outs: &'a FanOuts,
+    shared: &'a Shared,
+}
+
+// Lets a node wait for a look, unless it waits already or there is no room.
+fn note(pending: &mut Pending, node: u32) {
+    if !pending.is_full() && !is_among(pending.as_slice(), node) {
+        pending.push(node);
+    }
+}
+
+// Lets nodes wait for a look.
+fn note_all(pending: &mut Pending, nodes: &[u32]) {
+    for node in nodes {
+        note(pending, *node);
+    }
+}
+
+impl Around<'_> {
+    // The first fan-outs of a node in the graph.
+    fn fan_outs(&self, node: u32) -> &[u32] {
+        let all = self.fan_outs.of(node);
+        let count = all.len().min(MOST_FAN_OUTS);
+        &all[..count]
+    }
+
+    // Whether the table shows another row at a node than the graph.
+    fn is_new(&self, node: u32) -> bool {
+        if node >= self.shared.nodes() {
+            return false;
+        }
+        let (row, _count) = self.shared.peek(node);
+        match self.graph.rows.as_slice().get(node as usize) {
+            Some(was) => *was != row,
+            None => true,
+        }
+    }
+
+    // Lets a node wait if its row is new, and its fan-outs.
+    fn note_at(&self, node: u32, pending: &mut Pending) {
+        note_all(pending, self.fan_outs(node));
+        if self.is_new(node) {
+            note(pending, node);
+        }
+    }
+
+    // Lets what is near a node and its fan-ins wait.
+    fn note_below(&self, node: u32, pending: &mut Pending) {
+        self.note_at(node, pending);
+        if let Some((a, b)) = fan_ins(self.shared, node) {
+            self.note_at(a.node(), pending);
+            self.note_at(b.node(), pending);
+        }
+    }
+
+    // Lets the nodes near a new row wait.
+    fn note_near(&self, node: u32, pending: &mut Pending) {
+        if let Some(Row::And(a, b)) = self.graph.rows.as_slice().get(node as usize) {
+            self.note_below(a.node(), pending);
+            self.note_below(b.node(), pending);
+        }
+        if let Some((a, b)) = fan_ins(self.shared, node) {
+            self.note_below(a.node(), pending);
+            self.note_below(b.node(), pending);
+        }
+        self.note_at(node, pending);
+    }
+}
+
+// Commits the first of the plans over a cut that seems to save: whether it was done.
+#[tactic(auto, using(crate::proofs::Works::has_both, crate::proofs::Works::has_not, crate::proofs::Works::has_saved))]
+fn try_plans<G: Gate>(
+    tools: &Tools<'_, G>,
+    worker: &mut Worker,
+    root: u32,
+    cut: &SeenCut,
+    plans: &[Plan],
+) -> bool
+    requires at_work { IsAtWork tools.now.shared.now worker.old }
+    requires root { root < nodes_of tools.now.shared.now }
+    ensures at_work { IsAtWork tools.now.shared.now worker.new }
+    ensures worked { HasWorked false worker.old worker.new }
+{
+    let leaves = cut.leaves.as_slice();
+    let freed = going(tools.shared, cut);
+    for plan in plans {
+        if !adds_fewer(tools.shared, tools.hints, leaves, plan, freed.as_slice()) {
+            continue;
+        }
+        let Some(candidate) = candidate(root, leaves, plan) else {
+            continue;
+        };
+        if is_done(tools, worker, &owned(candidate), false) {
+            return true;
+        }
+    }
+    false
+}
+
+// Looks at the cuts of a node, and commits the first plan that seems to save: whether one was done.
+#[tactic(auto, using(crate::proofs::Works::has_both, crate::proofs::Works::has_not, crate::proofs::Works::has_saved))]
+fn look<P: Proposer, G: Gate>(
+    scene: &Scene<'_, P, P::Lists, G>,
+    worker: &mut Worker,
+    cuts: &mut Cuts,
+    root: u32,
+) -> bool
+    requires at_work { IsAtWork scene.now.tools.shared.now worker.old }
+    requires root { root < nodes_of scene.now.tools.shared.now }
+    ensures at_work { IsAtWork scene.now.tools.shared.now worker.new }
+    ensures worked { HasWorked false worker.old worker.new }
+{
+    let shared = scene.tools.shared;
+    cuts.find(shared, root);
+    for cut in cuts.as_slice() {
+        let Some(function) = function_over(shared, cut) else {
+            continue;
+        };
+        let plans = scene.proposer.plans_over(scene.lists, function);
+        if try_plans(&scene.tools, worker, root, cut, plans) {
+            return true;
+        }
+    }
+    false
+}
+
+// Looks at a node that may be none of the table's, or no AND.
+#[tactic(auto, using(crate::proofs::Works::has_both, crate::proofs::Works::has_not, crate::proofs::Works::has_saved))]
+fn look_at<P: Proposer, G: Gate>(
+    scene: &Scene<'_, P, P::Lists, G>,
+    worker: &mut Worker,
+    cuts: &mut Cuts,
+    node: u32,
+) -> bool
+    requires at_work { IsAtWork scene.now.tools.shared.now worker.old }
+    ensures at_work { IsAtWork scene.now.tools.shared.now worker.new }
+    ensures worked { HasWorked false worker.old worker.new }
+{
+    let shared = scene.tools.shared;
+    if node >= shared.nodes() {
+        return false;
+    }
+    let (row, _count) = shared.peek(node);
+    matches!(row, Row::And(_, _)) && look(scene, worker, cuts, node)
+}
+
+/// Looks around a commit that was done at a node, and around each that follows, until nothing is gained near any of them.
+#[tactic(auto, using(crate::proofs::Works::has_both, crate::proofs::Works::has_not, crate::proofs::Works::has_saved))]
+pub(crate) fn follow<P: Proposer, G: Gate>(
+    scene: &Scene<'_, P, P::Lists, G>,
+    worker: &mut Worker,
+    cuts: &mut Cuts,
+    node: u32,
+)
+    requires at_work { IsAtWork scene.now.tools.shared.now worker.old }
+    ensures at_work { IsAtWork scene.now.tools.shared.now worker.new }
+    ensures worked { HasWorked false worker.old worker.new }
+{
+    let around = Around {
+        graph: scene.graph,
+        fan_outs: &scene.board.fan_outs,
+        shared: scene.tools.shared,
+    };
+    let mut pending = Pending::new();
+    around.note_near(node, &mut pending);
+    for _ in 0..MOST_LOOKS {
+        let Some(next) = pending.pop() else {
+            return;
+        };
+        if look_at(scene, worker, cuts, next) {
+            around.note_near(next, &mut pending);
+        }
+    }
+}

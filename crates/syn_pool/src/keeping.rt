@@ -1,0 +1,154 @@
+//! Passes that keep levels.
+
+ghost use Rattle.std.specs.Prelude.{◌≡◌, ◌<◌, ◌≤◌, All, Bool, List, IfErr, IfNone, IfOk, IfSome, length};
+ghost use Rattle.syn_rows.specs.Values.{rows_function};
+ghost use Rattle.syn_netlist.specs.Frames.{frame_in};
+ghost use Rattle.syn_levels.specs.Levels.{AllKeep, IsNoDeeper};
+ghost use Rattle.syn_proposals.specs.Closing.{Closed};
+ghost use Rattle.syn_proposals.specs.Following.{Follows};
+ghost use Rattle.syn_proposals.specs.Sound.{IsLeftover};
+
+use crate::passing::closed;
+use crate::scene::Course;
+use std::alloc::{AllocError, Global};
+use std::thread::Threads;
+use syn_commit::Gate;
+use syn_gain::{Proposal, Uses};
+use syn_graph::Graph;
+use syn_levels::is_no_deeper;
+use syn_proposals::{Proposer, first_applied, leftovers, smaller};
+
+// The graph after the first of the leftovers alone.
+fn first_left_applied<K: Proposer>(
+    alloc: Global,
+    graph: &Graph,
+    proposer: &K,
+    found: &[Proposal],
+) -> Result<Graph, AllocError>
+    requires keep { AllKeep (K.proposals proposer.now) }
+    requires some { 0 < length found.now }
+    requires each { All (IsLeftover graph.now.rows graph.now.observed (K.proposals proposer.now graph.now.rows)) found.now }
+    ensures follows { IfOk result (Follows graph.now 1) }
+    ensures levels { IfOk result (IsNoDeeper graph.now) }
+{
+    let _ = proposer;
+    first_applied(alloc, graph, &found[0])
+}
+
+// One check of a graph: one with fewer ANDs in place of it, in which no observed signal is deeper, and none where it is closed.
+fn checked<R: Threads + Sync, K: Proposer>(
+    rt: &R,
+    alloc: Global,
+    graph: &Graph,
+    proposer: &K,
+    workers: u8,
+) -> Result<Option<Graph>, AllocError>
+    requires keep { AllKeep (K.proposals proposer.now) }
+    ensures follows { IfOk result (λ made. IfSome made (Follows graph.now 1)) }
+    ensures levels { IfOk result (λ made. IfSome made (IsNoDeeper graph.now)) }
+    ensures none { IfOk result (λ made. IfNone made (Closed graph.now.rows graph.now.observed (K.proposals proposer.now graph.now.rows))) }
+{
+    let lists = proposer.prepare(rt, alloc, graph, workers)?;
+    let uses = Uses::new(alloc, graph)?;
+    let found = leftovers(rt, alloc, graph, &uses, proposer, &lists, workers)?;
+    let found = found.as_slice();
+    if found.len() == 0 {
+        return Ok(None);
+    }
+    let many = smaller(alloc, graph, &uses, proposer, found)?;
+    let keeps = is_no_deeper(alloc, graph, &many)?;
+    if keeps {
+        return Ok(Some(many));
+    }
+    let one = first_left_applied(alloc, graph, proposer, found)?;
+    Ok(Some(one))
+}
+
+// A closed graph in place of the given one, in which no observed signal is deeper, by checks alone; none where that is closed.
+fn closed_by_checks<R: Threads + Sync, K: Proposer>(
+    rt: &R,
+    alloc: Global,
+    start: &Graph,
+    proposer: &K,
+    workers: u8,
+) -> Result<Option<Graph>, AllocError>
+    requires keep { AllKeep (K.proposals proposer.now) }
+    ensures follows { IfOk result (λ made. IfSome made (Follows start.now 0)) }
+    ensures levels { IfOk result (λ made. IfSome made (IsNoDeeper start.now)) }
+    ensures closed { IfOk result (λ made. IfSome made (λ g. Closed g.rows g.observed (K.proposals proposer.now g.rows))) }
+    ensures none { IfOk result (λ made. IfNone made (Closed start.now.rows start.now.observed (K.proposals proposer.now start.now.rows))) }
+{
+    let Some(first) = checked(rt, alloc, start, proposer, workers)? else {
+        return Ok(None);
+    };
+    let mut graph = first;
+    while let Some(next) = checked(rt, alloc, &graph, proposer, workers)? {
+        graph = next;
+    }
+    Ok(Some(graph))
+}
+
+// What a pass makes of a graph, where no observed signal is deeper in it; else what checks alone make of it.
+fn kept_closed<R: Threads + Sync, K: Proposer, G: Gate>(
+    course: &Course<'_, R, K, G>,
+    graph: &Graph,
+) -> Result<Option<Graph>, AllocError>
+    requires keep { AllKeep (K.proposals course.now.proposer.now) }
+    ensures follows { IfOk result (λ made. IfSome made (Follows graph.now 0)) }
+    ensures levels { IfOk result (λ made. IfSome made (IsNoDeeper graph.now)) }
+    ensures closed { IfOk result (λ made. IfSome made (λ g. Closed g.rows g.observed (K.proposals course.now.proposer.now g.rows))) }
+    ensures none { IfOk result (λ made. IfNone made (Closed graph.now.rows graph.now.observed (K.proposals course.now.proposer.now graph.now.rows))) }
+{
+    match closed(course, graph)? {
+        Some((made, _report)) => {
+            let keeps = is_no_deeper(course.alloc, graph, &made)?;
+            if keeps {
+                return Ok(Some(made));
+            }
+            closed_by_checks(
+                course.rt,
+                course.alloc,
+                graph,
+                course.proposer,
+                course.workers,
+            )
+        }
+        None => Ok(None),
+    }
+}
+
+/// What a pass leaves, as `improve`, of a proposer whose proposals keep the level of their root: the same frame, the same values
+/// of the observed signals, no more ANDs, no observed signal deeper, and closed. Where the pass makes a signal deeper, what it
+/// makes is dropped, and checks alone close the graph. Where memory is refused, the same graph comes back.
+pub fn improve_keeping_levels<R: Threads + Sync, K: Proposer, G: Gate>(
+    rt: &R,
+    alloc: Global,
+    graph: Graph,
+    proposer: &K,
+    workers: u8,
+    zero_gain: bool,
+    gate: &G,
+) -> Result<Graph, (Graph, AllocError)>
+    requires keep { AllKeep (K.proposals proposer.now) }
+    ensures frame { IfOk result (λ g. frame_in g.frame ≡ frame_in graph.frame) }
+    ensures names { IfOk result (λ g. g.frame.names ≡ graph.frame.names) }
+    ensures values { IfOk result (λ g. (bits : List Bool) → rows_function g.rows g.observed bits ≡ rows_function graph.rows graph.observed bits) }
+    ensures count { IfOk result (λ g. length g.rows ≤ length graph.rows) }
+    ensures levels { IfOk result (IsNoDeeper graph) }
+    ensures closed { IfOk result (λ g. Closed g.rows g.observed (K.proposals proposer.now g.rows)) }
+    ensures refused { IfErr result (λ e. e.0 ≡ graph) }
+{
+    let course = Course {
+        rt,
+        alloc,
+        proposer,
+        gate,
+        workers,
+        zero_gain,
+    };
+    match kept_closed(&course, &graph) {
+        Ok(Some(made)) => Ok(made),
+        Ok(None) => Ok(graph),
+        Err(error) => Err((graph, error)),
+    }
+}

@@ -1,0 +1,144 @@
+//! Rounds until the graph is closed.
+
+ghost use Rattle.std.specs.Prelude.{◌≡◌, ◌+◌, ◌≤◌, ℕ, Bool, false, not, List, IfErr, IfNone, IfOk, IfSome, length};
+ghost use Rattle.syn_rows.specs.Values.{rows_function};
+ghost use Rattle.syn_netlist.specs.Frames.{frame_in};
+ghost use Rattle.syn_proposals.specs.Closing.{Closed};
+ghost use Rattle.syn_proposals.specs.Following.{Follows};
+ghost use Rattle.syn_proposals.specs.Gains.{IsGain};
+ghost use Rattle.syn_pool.specs.Reports.{IsReport};
+ghost use Rattle.syn_pool.specs.Steps.{IsStepOf};
+
+use crate::scene::Course;
+use crate::steps::{NOTHING, Step, both, one_step};
+use std::alloc::{AllocError, Global};
+use std::thread::Threads;
+use syn_commit::Gate;
+use syn_graph::Graph;
+use syn_proposals::{Proposer, Report};
+
+// Commits of gain 0 are worth another round where the last one took away one in so many of the ANDs.
+const LEAST_SHARE: usize = 1024;
+
+// Whether they are, where there were so many nodes before the last round and so many after it.
+fn is_worth_another(before: usize, after: usize) -> bool {
+    before.saturating_sub(after).saturating_mul(LEAST_SHARE) >= before
+}
+
+// Steps on a graph in place of another, until it is closed; the lists are those of one before it. Workers commit for all ANDs
+// in them only where gains of 0 are let through, and for as long as these lead to much.
+fn close<R: Threads + Sync, P: Proposer, G: Gate>(
+    course: &Course<'_, R, P, G>,
+    start: &Graph,
+    graph: Graph,
+    report: Report,
+    lists: P::Lists,
+) -> Result<(Graph, Report), AllocError>
+    requires follows { Follows start.now report.gained graph }
+    requires gain { IsGain (not course.now.zero_gain) report }
+    requires report { IsReport report }
+    ensures follows { IfOk result (λ r. Follows start.now r.1.gained r.0) }
+    ensures closed { IfOk result (λ r. Closed r.0.rows r.0.observed (P.proposals course.now.proposer.now r.0.rows)) }
+    ensures gain { IfOk result (λ r. IsGain (not course.now.zero_gain) r.1) }
+    ensures report { IfOk result (λ r. IsReport r.1) }
+{
+    let _count = start.count();
+    let mut graph = graph;
+    let mut report = report;
+    let mut lists = lists;
+    let mut commits = course.zero_gain;
+    loop {
+        let before = Some(lists);
+        match one_step(course, &graph, before, commits)? {
+            Step::Stays => return Ok((graph, report)),
+            Step::Ends(next, more) => return Ok((next, both(report, more))),
+            Step::GoesOn(next, more, used) => {
+                commits = commits
+                    && is_worth_another(graph.rows.as_slice().len(), next.rows.as_slice().len());
+                graph = next;
+                report = both(report, more);
+                lists = used;
+            }
+        }
+    }
+}
+
+/// A closed graph in place of the given one; none where that is closed. Workers commit for all ANDs in the first round.
+pub(crate) fn closed<R: Threads + Sync, P: Proposer, G: Gate>(
+    course: &Course<'_, R, P, G>,
+    graph: &Graph,
+) -> Result<Option<(Graph, Report)>, AllocError>
+    ensures some { IfOk result (λ made. IfSome made (λ r. Follows graph.now r.1.gained r.0 × Closed r.0.rows r.0.observed (P.proposals course.now.proposer.now r.0.rows) × IsGain (not course.now.zero_gain) r.1 × IsReport r.1)) }
+    ensures none { IfOk result (λ made. IfNone made (Closed graph.now.rows graph.now.observed (P.proposals course.now.proposer.now graph.now.rows))) }
+{
+    match one_step(course, graph, None, true)? {
+        Step::Stays => Ok(None),
+        Step::Ends(next, report) => Ok(Some((next, report))),
+        Step::GoesOn(next, report, lists) => {
+            Ok(Some(close(course, graph, next, report, lists)?))
+        }
+    }
+}
+
+/// Lets workers commit proposals on a graph, and then checks it; workers commit for what the check finds, or it is applied,
+/// again and again until no proposal saves: the same frame, the same values of the observed signals, fewer ANDs by at least
+/// what the report says, and closed. The report has what the workers' commits did and gained, and nothing of what was applied
+/// without them. Where `zero_gain` is true, commits of gain 0 are let through, and workers commit for all ANDs again before
+/// each check for as long as a round leads to much. The gate is told of each commit. Where memory is refused, the same graph
+/// comes back.
+#[tactic(auto, using(crate::proofs::Sums::no_report))]
+pub fn pass<R: Threads + Sync, P: Proposer, G: Gate>(
+    rt: &R,
+    alloc: Global,
+    graph: Graph,
+    proposer: &P,
+    workers: u8,
+    zero_gain: bool,
+    gate: &G,
+) -> Result<(Graph, Report), (Graph, AllocError)>
+    ensures frame { IfOk result (λ r. frame_in r.0.frame ≡ frame_in graph.frame) }
+    ensures names { IfOk result (λ r. r.0.frame.names ≡ graph.frame.names) }
+    ensures values { IfOk result (λ r. (bits : List Bool) → rows_function r.0.rows r.0.observed bits ≡ rows_function graph.rows graph.observed bits) }
+    ensures count { IfOk result (λ r. length r.0.rows + r.1.gained ≤ length graph.rows) }
+    ensures closed { IfOk result (λ r. Closed r.0.rows r.0.observed (P.proposals proposer.now r.0.rows)) }
+    ensures gains { IfOk result (λ r. zero_gain ≡ false → r.1.done ≤ r.1.gained) }
+    ensures report { IfOk result (λ r. IsReport r.1) }
+    ensures refused { IfErr result (λ e. e.0 ≡ graph) }
+{
+    let course = Course {
+        rt,
+        alloc,
+        proposer,
+        gate,
+        workers,
+        zero_gain,
+    };
+    match closed(&course, &graph) {
+        Ok(Some(made)) => Ok(made),
+        Ok(None) => Ok((graph, NOTHING)),
+        Err(error) => Err((graph, error)),
+    }
+}
+
+/// The graph that a pass leaves, without its report: the same frame, the same values of the observed signals, no more ANDs, and
+/// closed. With one worker it is the same each time; with several it may depend on which commits first. Where memory is refused,
+/// the same graph comes back.
+pub fn improve<R: Threads + Sync, P: Proposer, G: Gate>(
+    rt: &R,
+    alloc: Global,
+    graph: Graph,
+    proposer: &P,
+    workers: u8,
+    zero_gain: bool,
+    gate: &G,
+) -> Result<Graph, (Graph, AllocError)>
+    ensures frame { IfOk result (λ g. frame_in g.frame ≡ frame_in graph.frame) }
+    ensures names { IfOk result (λ g. g.frame.names ≡ graph.frame.names) }
+    ensures values { IfOk result (λ g. (bits : List Bool) → rows_function g.rows g.observed bits ≡ rows_function graph.rows graph.observed bits) }
+    ensures count { IfOk result (λ g. length g.rows ≤ length graph.rows) }
+    ensures closed { IfOk result (λ g. Closed g.rows g.observed (P.proposals proposer.now g.rows)) }
+    ensures refused { IfErr result (λ e. e.0 ≡ graph) }
+{
+    let (improved, _report) = pass(rt, alloc, graph, proposer, workers, zero_gain, gate)?;
+    Ok(improved)
+}

@@ -1,0 +1,167 @@
+//! A round of several workers.
+
+ghost use Rattle.std.specs.Prelude.{◌≡◌, ◌⊎◌, ◌+◌, ◌*◌, ◌<◌, ◌≤◌, ◌^◌, max, min, not, true, false, length, IfNone, IfOk, IfSome};
+ghost use Rattle.syn_rows.specs.declared.TheConstants.{NODE_LIMIT};
+ghost use Rattle.syn_proposals.specs.Following.{Follows};
+ghost use Rattle.syn_proposals.specs.Gains.{IsGain};
+ghost use Rattle.syn_table.specs.Seating.{IsOf, known_of, nodes_of, view_of};
+ghost use Rattle.syn_commit.specs.Giving.{IsAtRest};
+ghost use Rattle.syn_pool.specs.Reports.{IsReport};
+ghost use Rattle.syn_pool.specs.Working.{HasSwept};
+
+use crate::closing::close;
+use crate::fan_outs::FanOuts;
+use crate::opening::{Order, SPARE, gates_of, noted, opened};
+use crate::queues::{queues_of, thieves_of};
+use crate::scene::{Board, Course, Crew, Tour};
+use crate::sharing::{Swept, swept_by_all};
+use std::alloc::{AllocError, Global};
+use std::thread::Threads;
+use syn_commit::Gate;
+use syn_gain::Uses;
+use syn_graph::Graph;
+use syn_proposals::{Improved, Proposer};
+use syn_rows::NODE_LIMIT;
+use syn_table::{Seat, Shared};
+
+// The most workers of a round.
+const MOST_WORKERS: u8 = 16;
+
+// Whether a table of the graph can be opened, for so many workers.
+fn has_room(graph: &Graph, workers: u8) -> bool
+    ensures nodes { result ≡ true → length graph.now.rows + 512 * workers < NODE_LIMIT }
+    ensures literals { result ≡ true → length graph.now.observed < 2 ^ 30 }
+    ensures none { result ≡ false → (NODE_LIMIT ≤ length graph.now.rows + 512 * workers) ⊎ (2 ^ 30 ≤ length graph.now.observed) }
+{
+    let nodes = graph.rows.as_slice().len() + SPARE as usize * workers as usize;
+    nodes < NODE_LIMIT && graph.observed.as_slice().len() < 1 << 30
+}
+
+// The fan-outs, none where workers don't look around their commits: they do on the tables of leftovers, of which there are
+// few.
+fn fan_outs_of(alloc: Global, graph: &Graph, order: Order) -> Result<FanOuts, AllocError> {
+    match order {
+        Order::Levels => Ok(FanOuts::none(alloc)),
+        Order::Numbers => FanOuts::new(alloc, graph),
+    }
+}
+
+// Visits the nodes of a tour by its workers: the seat is at rest again, and the table with it.
+fn swept<R: Threads + Sync, P: Proposer, G: Gate>(
+    course: &Course<'_, R, P, G>,
+    graph: &Graph,
+    lists: &P::Lists,
+    tour: Tour<'_>,
+    shared: Shared,
+    seat: Seat,
+) -> Result<(Shared, Swept), AllocError>
+    requires lists { P.is_lists_of course.now.proposer.now lists.now graph.now.rows }
+    requires workers { (1 ≤ tour.workers) × (tour.workers ≤ 16) }
+    requires nodes { length graph.now.rows + 512 * tour.workers ≤ nodes_of shared }
+    requires table { IsOf seat shared }
+    requires numbers { tour.workers ≤ length (known_of seat).numbers }
+    requires rest { IsAtRest (view_of seat) }
+    ensures same { IfOk result (λ r. r.0 ≡ shared) }
+    ensures swept { IfOk result (λ r. HasSwept shared tour.entry.zero_gain seat r.1.seat r.1.report) }
+{
+    let alloc = course.alloc;
+    let queues = queues_of(alloc, tour.nodes, tour.workers)?;
+    let board = Board {
+        alloc,
+        shared,
+        hints: noted(alloc, graph)?,
+        uses: Uses::new(alloc, graph)?,
+        fan_outs: fan_outs_of(alloc, graph, tour.order)?,
+        thieves: thieves_of(alloc, queues.as_slice())?,
+        zero_gain: tour.zero_gain,
+    };
+    let crew = Crew { seat, queues };
+    let swept = swept_by_all(
+        course.rt,
+        &board,
+        graph,
+        course.proposer,
+        lists,
+        course.gate,
+        crew,
+    );
+    Ok((board.shared, swept))
+}
+
+// The graph after one round on its table.
+fn improved<R: Threads + Sync, P: Proposer, G: Gate>(
+    course: &Course<'_, R, P, G>,
+    graph: &Graph,
+    lists: &P::Lists,
+    tour: Tour<'_>,
+) -> Result<Improved, AllocError>
+    requires lists { P.is_lists_of course.now.proposer.now lists.now graph.now.rows }
+    requires workers { (1 ≤ tour.workers) × (tour.workers ≤ 16) }
+    requires nodes { length graph.now.rows + 512 * tour.workers < NODE_LIMIT }
+    requires literals { length graph.now.observed < 2 ^ 30 }
+    ensures follows { IfOk result (λ m. Follows graph.now m.report.gained m.graph) }
+    ensures gain { IfOk result (λ m. IsGain (not tour.entry.zero_gain) m.report) }
+    ensures report { IfOk result (λ m. IsReport m.report) }
+{
+    let (table, seat) = opened(course.alloc, graph, tour.workers, tour.order)?;
+    let (shared, swept) = swept(course, graph, lists, tour, table, seat)?;
+    swept.memory?;
+    let next = close(course.alloc, graph, shared, swept.seat)?;
+    Ok(Improved {
+        graph: next,
+        report: swept.report,
+    })
+}
+
+/// One round of 1 to 16 workers: commits proposals for the nodes of a tour on the graph's table, and closes the table. The
+/// graph that comes has the same frame and the same values of the observed signals, and fewer ANDs by at least what the
+/// report says. 0 workers count as 1, and more than 16 as 16. Each has a thread of its own and a part of the nodes, and takes
+/// of the others' when its own is done; the work of a thread that can't be made is done by the caller's. None comes, and
+/// the graph stays, where it has no room for the workers' spare nodes below the limit of nodes, or 2^30 observed signals or
+/// more. The gate is told each commit. The only error is want of memory.
+pub(crate) fn round_at<R: Threads + Sync, P: Proposer, G: Gate>(
+    course: &Course<'_, R, P, G>,
+    graph: &Graph,
+    lists: &P::Lists,
+    tour: Tour<'_>,
+) -> Result<Option<Improved>, AllocError>
+    requires lists { P.is_lists_of course.now.proposer.now lists.now graph.now.rows }
+    ensures follows { IfOk result (λ made. IfSome made (λ m. Follows graph.now m.report.gained m.graph)) }
+    ensures gain { IfOk result (λ made. IfSome made (λ m. IsGain (not tour.entry.zero_gain) m.report)) }
+    ensures report { IfOk result (λ made. IfSome made (λ m. IsReport m.report)) }
+    ensures none { IfOk result (λ made. IfNone made ((NODE_LIMIT ≤ length graph.now.rows + 512 * min (max tour.entry.workers 1) 16) ⊎ (2 ^ 30 ≤ length graph.now.observed))) }
+{
+    let workers = tour.workers.max(1).min(MOST_WORKERS);
+    if !has_room(graph, workers) {
+        return Ok(None);
+    }
+    let tour = Tour {
+        nodes: tour.nodes,
+        order: tour.order,
+        workers,
+        zero_gain: tour.zero_gain,
+    };
+    let made = improved(course, graph, lists, tour)?;
+    Ok(Some(made))
+}
+
+/// A round on all ANDs of the graph, the last one first, with the workers of the pass.
+pub(crate) fn round<R: Threads + Sync, P: Proposer, G: Gate>(
+    course: &Course<'_, R, P, G>,
+    graph: &Graph,
+    lists: &P::Lists,
+) -> Result<Option<Improved>, AllocError>
+    requires lists { P.is_lists_of course.now.proposer.now lists.now graph.now.rows }
+    ensures follows { IfOk result (λ made. IfSome made (λ m. Follows graph.now m.report.gained m.graph)) }
+    ensures gain { IfOk result (λ made. IfSome made (λ m. IsGain (not course.now.zero_gain) m.report)) }
+    ensures report { IfOk result (λ made. IfSome made (λ m. IsReport m.report)) }
+{
+    let gates = gates_of(course.alloc, graph)?;
+    let tour = Tour {
+        nodes: gates.as_slice(),
+        order: Order::Levels,
+        workers: course.workers,
+        zero_gain: course.zero_gain,
+    };
+    round_at(course, graph, lists, tour)
+}

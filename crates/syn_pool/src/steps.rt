@@ -1,0 +1,234 @@
+//! One step of a pass: a round of workers, then the check, and what it finds is committed or applied.
+
+ghost use Rattle.std.specs.Prelude.{◌≡◌, ◌+◌, ◌<◌, ◌≤◌, ◌^◌, ℕ, Bool, not, true, List, All, IfNone, IfOk, IfSome, length};
+ghost use Rattle.syn_rows.specs.declared.Row.{Row};
+ghost use Rattle.syn_rows.specs.Reach.{is_and};
+ghost use Rattle.syn_rows.specs.Rows.{row_at};
+ghost use Rattle.syn_gain.specs.Proposals.{replacement};
+ghost use Rattle.syn_gain.specs.Replacements.{Replacement};
+ghost use Rattle.syn_gain.specs.Uses.{IsUsesOf};
+ghost use Rattle.syn_proposals.specs.Closing.{Closed, SavesSome};
+ghost use Rattle.syn_proposals.specs.Following.{Follows};
+ghost use Rattle.syn_proposals.specs.Gains.{IsGain};
+ghost use Rattle.syn_proposals.specs.Sound.{IsSound};
+ghost use Rattle.syn_pool.specs.Reports.{IsReport};
+ghost use Rattle.syn_pool.specs.Steps.{IsFewer, IsStepOf};
+
+use crate::opening::Order;
+use crate::rounds::{round, round_at};
+use crate::scene::{Course, Tour};
+use std::alloc::{AllocError, Global};
+use std::thread::Threads;
+use syn_commit::Gate;
+use syn_gain::{Proposal, Uses};
+use syn_graph::Graph;
+use syn_proposals::{Improved, Proposer, Report, is_better, leftovers, smaller};
+
+/// No gain.
+pub(crate) const NOTHING: Report = Report { done: 0, gained: 0 };
+
+/// What a step makes of a graph.
+#[derive(Drop)]
+pub(crate) enum Step<L> {
+    /// It is closed.
+    Stays,
+    /// This graph in its place is closed.
+    Ends(Graph, Report),
+    /// This graph is in its place, with fewer ANDs; these are the lists of one before it.
+    GoesOn(Graph, Report, L),
+}
+
+// The roots of proposals, the last one first.
+fn roots_of(alloc: Global, proposals: &[Proposal]) -> Result<Vec<u32>, AllocError> {
+    let mut roots = Vec::new(alloc);
+    for proposal in proposals.iter().rev() {
+        roots.push(proposal.root)?;
+    }
+    Ok(roots)
+}
+
+// The most leftovers that are committed for; more are applied at once, which takes less for each.
+const MOST_COMMITTED: usize = 1024;
+
+// The most leftovers that are left to one worker: several would meet around so few, and leave more to the next check.
+const MOST_ALONE: usize = 256;
+
+// How many workers commit for so many leftovers.
+fn workers_for(leftovers: usize, workers: u8) -> u8 {
+    if leftovers <= MOST_ALONE { 1 } else { workers }
+}
+
+// A graph with fewer ANDs in place of one with leftovers: workers commit for their roots and around them; where there are
+// many, or nothing is gained so, the leftovers are applied.
+#[tactic(auto, using(crate::proofs::Sums::no_report))]
+fn mended<R: Threads + Sync, P: Proposer, G: Gate>(
+    course: &Course<'_, R, P, G>,
+    graph: &Graph,
+    uses: &Uses,
+    lists: &P::Lists,
+    found: &[Proposal],
+) -> Result<Improved, AllocError>
+    requires uses { IsUsesOf uses.now graph.now }
+    requires lists { P.is_lists_of course.now.proposer.now lists.now graph.now.rows }
+    requires some { 0 < length found.now }
+    requires ands { All (λ p. is_and (row_at graph.now.rows p.root) ≡ true) found.now }
+    requires saves { All (λ p. SavesSome graph.now.rows graph.now.observed (replacement p)) found.now }
+    requires sound { All (IsSound graph.now.rows) found.now }
+    ensures { IfOk result (λ m. IsFewer graph.now m.report m.graph) }
+{
+    if found.len() <= MOST_COMMITTED {
+        let roots = roots_of(course.alloc, found)?;
+        let tour = Tour {
+            nodes: roots.as_slice(),
+            order: Order::Numbers,
+            workers: workers_for(found.len(), course.workers),
+            zero_gain: false,
+        };
+        if let Some(improved) = round_at(course, graph, lists, tour)? {
+            if is_better(course.alloc, course.proposer, graph, &improved.graph)? {
+                return Ok(improved);
+            }
+        }
+    }
+    let next = smaller(course.alloc, graph, uses, course.proposer, found)?;
+    Ok(Improved {
+        graph: next,
+        report: NOTHING,
+    })
+}
+
+// The check of a graph with its lists: one with fewer ANDs in place of it, and none where it is closed.
+fn check<R: Threads + Sync, P: Proposer, G: Gate>(
+    course: &Course<'_, R, P, G>,
+    graph: &Graph,
+    lists: &P::Lists,
+) -> Result<Option<Improved>, AllocError>
+    requires lists { P.is_lists_of course.now.proposer.now lists.now graph.now.rows }
+    ensures some { IfOk result (λ made. IfSome made (λ m. IsFewer graph.now m.report m.graph)) }
+    ensures none { IfOk result (λ made. IfNone made (Closed graph.now.rows graph.now.observed (P.proposals course.now.proposer.now graph.now.rows))) }
+{
+    let uses = Uses::new(course.alloc, graph)?;
+    let found = leftovers(
+        course.rt,
+        course.alloc,
+        graph,
+        &uses,
+        course.proposer,
+        lists,
+        course.workers,
+    )?;
+    if found.len() == 0 {
+        return Ok(None);
+    }
+    let made = mended(course, graph, &uses, lists, found.as_slice())?;
+    Ok(Some(made))
+}
+
+// The check of the given graph, with its lists.
+fn check_given<R: Threads + Sync, P: Proposer, G: Gate>(
+    course: &Course<'_, R, P, G>,
+    graph: &Graph,
+    lists: P::Lists,
+) -> Result<Step<P::Lists>, AllocError>
+    requires lists { P.is_lists_of course.now.proposer.now lists graph.now.rows }
+    ensures { (strict : Bool) → IfOk result (IsStepOf graph.now (P.proposals course.now.proposer.now) strict) }
+{
+    match check(course, graph, &lists)? {
+        Some(next) => Ok(Step::GoesOn(next.graph, next.report, lists)),
+        None => Ok(Step::Stays),
+    }
+}
+
+// Two reports as one; a number of applied proposals past the largest is the largest.
+pub(crate) fn both(first: Report, second: Report) -> Report
+    requires { first.gained + second.gained < 2 ^ 64 }
+    ensures gained { result.gained ≡ first.gained + second.gained }
+    ensures report { IsReport first → IsReport second → IsReport result }
+    ensures done { first.done ≤ first.gained → second.done ≤ second.gained → result.done ≤ result.gained }
+{
+    Report {
+        done: first.done.saturating_add(second.done),
+        gained: first.gained + second.gained,
+    }
+}
+
+// The check of a graph in place of a given one, which has these lists.
+fn check_improved<R: Threads + Sync, P: Proposer, G: Gate>(
+    course: &Course<'_, R, P, G>,
+    graph: &Graph,
+    improved: Improved,
+    lists: P::Lists,
+) -> Result<Step<P::Lists>, AllocError>
+    requires follows { Follows graph.now improved.report.gained improved.graph }
+    requires report { IsReport improved.report }
+    ensures { (strict : Bool) → IsGain strict improved.report → IfOk result (IsStepOf graph.now (P.proposals course.now.proposer.now) strict) }
+{
+    let report = improved.report;
+    let _count = graph.count();
+    let lists = listed(course, &improved.graph, Some(lists))?;
+    match check(course, &improved.graph, &lists)? {
+        Some(next) => Ok(Step::GoesOn(next.graph, both(report, next.report), lists)),
+        None => Ok(Step::Ends(improved.graph, report)),
+    }
+}
+
+// The lists of a graph, where these are those of one before it, if there was one.
+fn listed<R: Threads + Sync, P: Proposer, G: Gate>(
+    course: &Course<'_, R, P, G>,
+    graph: &Graph,
+    before: Option<P::Lists>,
+) -> Result<P::Lists, AllocError>
+    ensures { IfOk result (λ lists. P.is_lists_of course.now.proposer.now lists graph.now.rows) }
+{
+    let (rt, alloc, workers) = (course.rt, course.alloc, course.workers);
+    match before {
+        Some(lists) => course
+            .proposer
+            .prepare_again(rt, alloc, graph, lists, workers),
+        None => course.proposer.prepare(rt, alloc, graph, workers),
+    }
+}
+
+// A round of workers on all ANDs, unless its graph may not take the place of the given one.
+fn round_taken<R: Threads + Sync, P: Proposer, G: Gate>(
+    course: &Course<'_, R, P, G>,
+    graph: &Graph,
+    lists: &P::Lists,
+) -> Result<Option<Improved>, AllocError>
+    requires lists { P.is_lists_of course.now.proposer.now lists.now graph.now.rows }
+    ensures follows { IfOk result (λ made. IfSome made (λ m. Follows graph.now m.report.gained m.graph)) }
+    ensures gain { IfOk result (λ made. IfSome made (λ m. IsGain (not course.now.zero_gain) m.report)) }
+    ensures report { IfOk result (λ made. IfSome made (λ m. IsReport m.report)) }
+{
+    match round(course, graph, lists)? {
+        Some(improved) => {
+            let may = course
+                .proposer
+                .may_take(course.alloc, graph, &improved.graph)?;
+            if may { Ok(Some(improved)) } else { Ok(None) }
+        }
+        None => Ok(None),
+    }
+}
+
+/// One step on a graph: workers commit, if they are to, and the graph that they leave is checked. Where they are not to, the
+/// graph has no room for them, nothing was done, or the proposer wouldn't take what they leave, the given graph is checked. The lists are those of a graph before it, if there was one.
+pub(crate) fn one_step<R: Threads + Sync, P: Proposer, G: Gate>(
+    course: &Course<'_, R, P, G>,
+    graph: &Graph,
+    before: Option<P::Lists>,
+    commits: bool,
+) -> Result<Step<P::Lists>, AllocError>
+    ensures { IfOk result (IsStepOf graph.now (P.proposals course.now.proposer.now) (not course.now.zero_gain)) }
+{
+    let lists = listed(course, graph, before)?;
+    if !commits {
+        return check_given(course, graph, lists);
+    }
+    match round_taken(course, graph, &lists)? {
+        Some(improved) if improved.report.done > 0 => {
+            check_improved(course, graph, improved, lists)
+        }
+        _ => check_given(course, graph, lists),
+    }
+}

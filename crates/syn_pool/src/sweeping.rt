@@ -1,0 +1,112 @@
+//! What one worker does: it visits nodes.
+
+ghost use Rattle.std.specs.Prelude.{◌≡◌, ◌<◌, true, length};
+ghost use Rattle.syn_rows.specs.Reach.{is_and};
+ghost use Rattle.syn_rows.specs.Rows.{row_at};
+ghost use Rattle.syn_table.specs.Seating.{nodes_of};
+ghost use Rattle.syn_pool.specs.Scenes.{IsReady};
+ghost use Rattle.syn_pool.specs.Working.{HasWorked, IsAtWork};
+
+use crate::cuts::Cuts;
+use crate::following::follow;
+use crate::queues::{Queue, next_node};
+use crate::scene::Scene;
+use crate::trying::{try_each, try_from_some_place};
+use crate::working::Worker;
+use std::alloc::AllocError;
+use syn_commit::{Gate, Tools};
+use syn_graph::Graph;
+use syn_proposals::Proposer;
+use syn_rows::Row;
+
+/// Whether the node is an AND of the graph.
+pub(crate) fn is_gate(graph: &Graph, node: u32) -> bool
+    ensures gate { result ≡ true → is_and (row_at graph.now.rows node) ≡ true }
+    ensures within { result ≡ true → node < length graph.now.rows }
+{
+    match graph.rows.as_slice().get(node as usize) {
+        Some(Row::And(_, _)) => true,
+        _ => false,
+    }
+}
+
+// Whether a look at the table shows an AND at the node, and the worker doesn't hold it as a spare one.
+fn may_change<G: Gate>(tools: &Tools<'_, G>, worker: &Worker, node: u32) -> bool
+    requires { node < nodes_of tools.now.shared.now }
+{
+    let (row, _count) = tools.shared.peek(node);
+    matches!(row, Row::And(_, _)) && !worker.pool.has(node)
+}
+
+/// Proposes for a node on the graph that the table was opened with, and commits the proposals that are worth it in order,
+/// until one is done: the difference in ANDs falls by at least what the worker's report gains. Where the board says so and
+/// none saves, one of gain 0 is let through. A node is left as it is that is no AND of the graph, that a look at the table
+/// shows as none, or that is one of the worker's spare nodes. The only error is want of memory for the proposals; the clauses
+/// hold then too.
+fn visit<P: Proposer, G: Gate>(
+    scene: &Scene<'_, P, P::Lists, G>,
+    worker: &mut Worker,
+    cuts: &mut Cuts,
+    node: u32,
+) -> Result<(), AllocError>
+    requires ready { IsReady P.is_lists_of scene.now }
+    requires at_work { IsAtWork scene.now.tools.shared.now worker.old }
+    ensures at_work { IsAtWork scene.now.tools.shared.now worker.new }
+    ensures worked { HasWorked scene.now.board.now.zero_gain worker.old worker.new }
+{
+    let Scene {
+        board,
+        graph,
+        proposer,
+        lists,
+        tools,
+    } = scene;
+    if !is_gate(graph, node) || !may_change(tools, worker, node) {
+        return Ok(());
+    }
+    let saving = proposer.promising(board.alloc, graph, &board.uses, lists, node, false)?;
+    if try_each(graph, tools, worker, saving.as_slice(), false, true) {
+        if !board.fan_outs.is_empty() {
+            follow(scene, worker, cuts, node);
+        }
+        return Ok(());
+    }
+    if !board.zero_gain {
+        return Ok(());
+    }
+    let proposals = proposer.promising(board.alloc, graph, &board.uses, lists, node, true)?;
+    try_from_some_place(
+        graph,
+        tools,
+        worker,
+        node,
+        proposals.as_slice(),
+        board.zero_gain,
+    );
+    Ok(())
+}
+
+/// Visits the nodes of the worker's own queue, and then what it takes of the others'. Want of memory ends it, and what was done
+/// before stands in the worker's report.
+#[tactic(auto, using(crate::proofs::Works::has_both, crate::proofs::Works::has_not, crate::proofs::Works::has_saved))]
+pub(crate) fn take_all<P: Proposer, G: Gate>(
+    scene: &Scene<'_, P, P::Lists, G>,
+    worker: &mut Worker,
+    queue: Queue,
+) -> Result<(), AllocError>
+    requires ready { IsReady P.is_lists_of scene.now }
+    requires at_work { IsAtWork scene.now.tools.shared.now worker.old }
+    ensures at_work { IsAtWork scene.now.tools.shared.now worker.new }
+    ensures worked { HasWorked scene.now.board.now.zero_gain worker.old worker.new }
+{
+    let mut queue = queue;
+    let mut cuts = Cuts::new();
+    let thieves = scene.board.thieves.as_slice();
+    for _ in scene.graph.rows.as_slice() {
+        let Some(node) = next_node(&mut queue, thieves, scene.tools.worker) else {
+            break;
+        };
+        visit(scene, worker, &mut cuts, node)?;
+    }
+    Ok(())
+}

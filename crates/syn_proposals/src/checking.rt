@@ -1,0 +1,279 @@
+//! The check of a graph: the proposals that save, or that none does.
+
+ghost use Rattle.std.specs.Prelude.{◌≡◌, ◌-◌, ◌<◌, ◌≤◌, ◌++◌, All, IfOk, IfSome, OnOk, length, map, option_map, option_to_list};
+ghost use Rattle.syn_rows.specs.declared.TheConstants.{NODE_LIMIT};
+ghost use Rattle.syn_gain.specs.Uses.{IsUsesOf};
+ghost use Rattle.syn_gain.specs.Proposals.{replacement};
+ghost use Rattle.syn_proposals.specs.Closing.{Closed};
+ghost use Rattle.syn_proposals.specs.Leftovers.{AreLeftovers, IsAddedBy, IsPartOf};
+ghost use Rattle.syn_proposals.specs.Sound.{IsLeftover, IsSound};
+
+use crate::{Proposer, Turns};
+use std::alloc::{AllocError, Global};
+use std::thread;
+use std::thread::Threads;
+use syn_gain::{Proposal, Uses};
+use syn_graph::Graph;
+use syn_rows::Row;
+
+// How many nodes are worth a thread.
+const LEAST: usize = 256;
+
+// What was found among the nodes from one on, before another: of each AND the first proposal that saves, if one does.
+#[derive(Drop)]
+struct Part {
+    from: u32,
+    to: u32,
+    found: Vec<Proposal>,
+}
+
+// How many threads are worth so many nodes, at most one a worker.
+fn threads_for(nodes: usize, workers: u8) -> usize {
+    nodes.div_ceil(LEAST).min(workers as usize).max(1)
+}
+
+// The first proposal of a node that saves, if it is an AND and has one.
+fn first_at<P: Proposer>(
+    alloc: Global,
+    graph: &Graph,
+    uses: &Uses,
+    proposer: &P,
+    lists: &P::Lists,
+    node: u32,
+) -> Result<Option<Proposal>, AllocError>
+    requires uses { IsUsesOf uses.now graph.now }
+    requires lists { P.is_lists_of proposer.now lists.now graph.now.rows }
+    requires node { node < length graph.now.rows }
+    ensures added { IfOk result (λ found. IsAddedBy graph.now.rows graph.now.observed (P.proposals proposer.now graph.now.rows) node (option_map replacement found)) }
+    ensures sound { IfOk result (λ found. IfSome found (IsSound graph.now.rows)) }
+{
+    match graph.rows.as_slice()[node as usize] {
+        Row::And(_, _) => proposer.first_saving(alloc, graph, uses, lists, node),
+        _ => Ok(None),
+    }
+}
+
+// Adds a proposal that was found to a list.
+fn add_found(found: &mut Vec<Proposal>, more: Option<Proposal>) -> Result<(), AllocError>
+    ensures { OnOk result (found.new.items ≡ found.old.items ++ option_to_list more) }
+{
+    if let Some(proposal) = more {
+        found.push(proposal)?;
+    }
+    Ok(())
+}
+
+// The leftovers of the nodes from one on, before another.
+fn found_between<P: Proposer>(
+    alloc: Global,
+    graph: &Graph,
+    uses: &Uses,
+    proposer: &P,
+    lists: &P::Lists,
+    from: u32,
+    to: u32,
+) -> Result<Vec<Proposal>, AllocError>
+    requires uses { IsUsesOf uses.now graph.now }
+    requires lists { P.is_lists_of proposer.now lists.now graph.now.rows }
+    requires order { from ≤ to }
+    requires within { to ≤ length graph.now.rows }
+    ensures all { IfOk result (λ found. AreLeftovers graph.now.rows graph.now.observed (P.proposals proposer.now graph.now.rows) from (to - from) (map replacement found.items)) }
+    ensures sound { IfOk result (λ found. All (IsSound graph.now.rows) found.items) }
+{
+    let mut found = Vec::new(alloc);
+    for node in from..to {
+        let first = first_at(alloc, graph, uses, proposer, lists, node)?;
+        add_found(&mut found, first)?;
+    }
+    Ok(found)
+}
+
+// One part of the nodes.
+fn part_of<P: Proposer>(
+    alloc: Global,
+    graph: &Graph,
+    uses: &Uses,
+    proposer: &P,
+    lists: &P::Lists,
+    from: u32,
+    to: u32,
+) -> Result<Part, AllocError>
+    requires uses { IsUsesOf uses.now graph.now }
+    requires lists { P.is_lists_of proposer.now lists.now graph.now.rows }
+    requires order { from ≤ to }
+    requires within { to ≤ length graph.now.rows }
+    ensures { IfOk result (IsPartOf graph.now.rows graph.now.observed (P.proposals proposer.now graph.now.rows)) }
+{
+    let found = found_between(alloc, graph, uses, proposer, lists, from, to)?;
+    Ok(Part { from, to, found })
+}
+
+// The parts of the blocks that one thread draws, until none is left.
+fn parts_drawn<P: Proposer>(
+    alloc: Global,
+    graph: &Graph,
+    uses: &Uses,
+    proposer: &P,
+    lists: &P::Lists,
+    turns: &Turns,
+) -> Result<Vec<Part>, AllocError>
+    requires uses { IsUsesOf uses.now graph.now }
+    requires lists { P.is_lists_of proposer.now lists.now graph.now.rows }
+    requires few { length graph.now.rows < NODE_LIMIT }
+    ensures { IfOk result (λ parts. All (IsPartOf graph.now.rows graph.now.observed (P.proposals proposer.now graph.now.rows)) parts.items) }
+{
+    let count = graph.rows.as_slice().len();
+    let mut parts = Vec::new(alloc);
+    for _turn in 0..count {
+        let (from, to) = turns.draw(count);
+        if from == to {
+            break;
+        }
+        let part = part_of(alloc, graph, uses, proposer, lists, from as u32, to as u32)?;
+        parts.push(part)?;
+    }
+    Ok(parts)
+}
+
+// The parts of all threads together.
+fn gathered<P: Proposer>(
+    alloc: Global,
+    graph: &Graph,
+    proposer: &P,
+    drawn: Vec<Result<Vec<Part>, AllocError>>,
+) -> Result<Vec<Part>, AllocError>
+    requires { All (λ more. IfOk more (λ parts. All (IsPartOf graph.now.rows graph.now.observed (P.proposals proposer.now graph.now.rows)) parts.items)) drawn.items }
+    ensures { IfOk result (λ parts. All (IsPartOf graph.now.rows graph.now.observed (P.proposals proposer.now graph.now.rows)) parts.items) }
+{
+    let mut parts = Vec::new(alloc);
+    for more in drawn {
+        let mut more = more?;
+        parts.append(&mut more)?;
+    }
+    Ok(parts)
+}
+
+// All parts in node order, found by threads that draw the nodes' blocks.
+fn find_parts<R: Threads + Sync, P: Proposer>(
+    rt: &R,
+    alloc: Global,
+    graph: &Graph,
+    uses: &Uses,
+    proposer: &P,
+    lists: &P::Lists,
+    workers: u8,
+) -> Result<Vec<Part>, AllocError>
+    requires uses { IsUsesOf uses.now graph.now }
+    requires lists { P.is_lists_of proposer.now lists.now graph.now.rows }
+    requires few { length graph.now.rows < NODE_LIMIT }
+    ensures { IfOk result (λ parts. All (IsPartOf graph.now.rows graph.now.observed (P.proposals proposer.now graph.now.rows)) parts.items) }
+{
+    let turns = &Turns::new();
+    let work = move |_thread: usize| -> Result<Vec<Part>, AllocError>
+        requires { IsUsesOf uses.now graph.now × P.is_lists_of proposer.now lists.now graph.now.rows × (length graph.now.rows < NODE_LIMIT) }
+        ensures { IfOk result (λ parts. All (IsPartOf graph.entry.now.rows graph.entry.now.observed (P.proposals proposer.entry.now graph.entry.now.rows)) parts.items) }
+    { parts_drawn(alloc, graph, uses, proposer, lists, turns) };
+    let threads = threads_for(graph.rows.as_slice().len(), workers);
+    let drawn = thread::map_indices(rt, alloc, threads, &work)?;
+    let mut parts = gathered(alloc, graph, proposer, drawn)?;
+    parts.sort_unstable_by_key(|part| part.from);
+    Ok(parts)
+}
+
+// Adds the leftovers of a part to those of the nodes before it: of how many nodes they are now. A part that begins
+// elsewhere is left out.
+fn take_part<P: Proposer>(
+    graph: &Graph,
+    proposer: &P,
+    found: &mut Vec<Proposal>,
+    part: Part,
+    reached: u32,
+) -> Result<u32, AllocError>
+    requires within { reached ≤ length graph.now.rows }
+    requires all { AreLeftovers graph.now.rows graph.now.observed (P.proposals proposer.now graph.now.rows) 0 reached (map replacement found.old.items) }
+    requires sound { All (IsSound graph.now.rows) found.old.items }
+    requires part { IsPartOf graph.now.rows graph.now.observed (P.proposals proposer.now graph.now.rows) part }
+    ensures within { IfOk result (λ n. n ≤ length graph.now.rows) }
+    ensures all { IfOk result (λ n. AreLeftovers graph.now.rows graph.now.observed (P.proposals proposer.now graph.now.rows) 0 n (map replacement found.new.items)) }
+    ensures sound { OnOk result (All (IsSound graph.now.rows) found.new.items) }
+{
+    let Part {
+        from,
+        to,
+        found: mut more,
+    } = part;
+    if from != reached {
+        return Ok(reached);
+    }
+    found.append(&mut more)?;
+    Ok(to)
+}
+
+// The leftovers of the parts, and of the nodes behind them.
+fn found_in_parts<P: Proposer>(
+    alloc: Global,
+    graph: &Graph,
+    uses: &Uses,
+    proposer: &P,
+    lists: &P::Lists,
+    parts: Vec<Part>,
+) -> Result<Vec<Proposal>, AllocError>
+    requires uses { IsUsesOf uses.now graph.now }
+    requires lists { P.is_lists_of proposer.now lists.now graph.now.rows }
+    requires few { length graph.now.rows < NODE_LIMIT }
+    requires parts { All (IsPartOf graph.now.rows graph.now.observed (P.proposals proposer.now graph.now.rows)) parts.items }
+    ensures all { IfOk result (λ found. AreLeftovers graph.now.rows graph.now.observed (P.proposals proposer.now graph.now.rows) 0 (length graph.now.rows) (map replacement found.items)) }
+    ensures sound { IfOk result (λ found. All (IsSound graph.now.rows) found.items) }
+{
+    let mut found = Vec::new(alloc);
+    let mut reached = 0;
+    for part in parts {
+        reached = take_part(graph, proposer, &mut found, part, reached)?;
+    }
+    let mut more = rest(alloc, graph, uses, proposer, lists, reached)?;
+    found.append(&mut more)?;
+    Ok(found)
+}
+
+// The leftovers of the nodes from one on.
+fn rest<P: Proposer>(
+    alloc: Global,
+    graph: &Graph,
+    uses: &Uses,
+    proposer: &P,
+    lists: &P::Lists,
+    reached: u32,
+) -> Result<Vec<Proposal>, AllocError>
+    requires uses { IsUsesOf uses.now graph.now }
+    requires lists { P.is_lists_of proposer.now lists.now graph.now.rows }
+    requires few { length graph.now.rows < NODE_LIMIT }
+    requires within { reached ≤ length graph.now.rows }
+    ensures all { IfOk result (λ found. AreLeftovers graph.now.rows graph.now.observed (P.proposals proposer.now graph.now.rows) reached (length graph.now.rows - reached) (map replacement found.items)) }
+    ensures sound { IfOk result (λ found. All (IsSound graph.now.rows) found.items) }
+{
+    let to = graph.rows.as_slice().len() as u32;
+    found_between(alloc, graph, uses, proposer, lists, reached, to)
+}
+
+/// The leftovers of a proposer on a graph with these lists: of each AND in node order the first proposal that saves, if one
+/// does, and nothing else, so that they are the same for every number of workers. There are none where the graph is
+/// closed. With several workers the nodes are shared among them. The only error is want of memory.
+pub fn leftovers<R: Threads + Sync, P: Proposer>(
+    rt: &R,
+    alloc: Global,
+    graph: &Graph,
+    uses: &Uses,
+    proposer: &P,
+    lists: &P::Lists,
+    workers: u8,
+) -> Result<Vec<Proposal>, AllocError>
+    requires uses { IsUsesOf uses.now graph.now }
+    requires lists { P.is_lists_of proposer.now lists.now graph.now.rows }
+    ensures all { IfOk result (λ found. AreLeftovers graph.now.rows graph.now.observed (P.proposals proposer.now graph.now.rows) 0 (length graph.now.rows) (map replacement found.items)) }
+    ensures each { IfOk result (λ found. All (IsLeftover graph.now.rows graph.now.observed (P.proposals proposer.now graph.now.rows)) found.items) }
+    ensures none { IfOk result (λ found. length found.items ≡ 0 → Closed graph.now.rows graph.now.observed (P.proposals proposer.now graph.now.rows)) }
+{
+    let _count = graph.count();
+    let parts = find_parts(rt, alloc, graph, uses, proposer, lists, workers)?;
+    found_in_parts(alloc, graph, uses, proposer, lists, parts)
+}

@@ -1,0 +1,158 @@
+-- Refusals of files as those of reads and writes; an AIGER file of a network's graph as one of the network; how large the graph of a file is.
+use Rattle.std.proofs.Common.{◌≡◌, ◌⊎◌, ℕ, suc, ◌≤◌, ◌<◌, ◌^◌, Bool, true, List, [], ◌∷◌, ◌++◌, length, map, flat_map, refl, sym, ap, ap₂, ◌∙◌, subst, arith, inl, inr, Option, None, Some, IfSome, IfOk, Result, Ok, Err, Vec, Global}
+use Rattle.std.specs.Option.{IsSomeAnd}
+use Rattle.std.proofs.lemmas.List.{length-append, length-map}
+use Rattle.syn_io.specs.Outside.{Disk, Rose, without_file}
+use Rattle.syn_netlist.specs.Lists.{Frame, Latch, Netlist, control_of, latch_output, latch_reads, observed, sources}
+use Rattle.syn_netlist.specs.Meaning.{SameMeaning}
+use Rattle.syn_netlist.specs.Values.{Consistent}
+use Rattle.syn_netlist.specs.Words.{has_word}
+use Rattle.syn_netlist.proofs.Sets.{has_head, has_left, has_right}
+use Rattle.syn_seq.proofs.Alike.{outputs_alike, reads_alike}
+use Rattle.syn_build_luts.specs.Refusals.{most_gates}
+use Rattle.syn_aiger_files.specs.declared.files.Aig.{Aig}
+use Rattle.syn_aiger_files.specs.declared.files.AigLatch.{AigLatch}
+use Rattle.syn_aiger_files.specs.declared.files.Place.{Place}
+use Rattle.syn_aiger_files.specs.declared.files.Place.TheVariants.{Input as OfInput, Latch as OfLatch}
+use Rattle.syn_aiger_files.specs.declared.files.Symbol.{Symbol}
+use Rattle.syn_aiger_files.specs.Files.{latch_literal}
+use Rattle.syn_aiger.specs.Faults as aiger
+use Rattle.syn_aiger.specs.Naming.{Named, feeds_named, feeds_of, inputs_of, latches_of, name_of, outputs_of, sources_named, sources_of}
+use Rattle.syn_aiger.specs.Networks.{IsGraphOfAig, frame_of, latches_from}
+use Rattle.syn_aiger.specs.Values.{source_literals, source_variables}
+use Rattle.syn_aiger.specs.Writing.{IsWrittenAs, feed_of, first_typed, free_signals, init_again}
+use Rattle.syn_shell.specs.declared.refusal.Refusal.{Refusal}
+use Rattle.syn_shell.specs.declared.refusal.Refusal.TheVariants.{Read, ReadAiger, TooManyGates, LatchType, NoNetwork, PutFailed, NoMemory}
+use Rattle.syn_shell.specs.Networks.{IsSmall, Network, gates_in, graph_network, mapped_network}
+use Rattle.syn_shell.specs.Outside.{OthersStand}
+use Rattle.syn_shell.specs.Steps.{AigerReadRefused, AigerRefused, AigerWriteRefused, GetRefused, IsAigerOf, IsRemade, MakingRefused, ReadRefused}
+
+-- bytes that are not there are not read, in either format
+
+pub get_is_read : (name : List ℕ) (before after : Disk) (cause : Refusal) → GetRefused name before after cause → ReadRefused name before after cause
+get_is_read name before after (Read fault) why = absurd why
+get_is_read name before after other why = why
+
+pub get_is_aiger_read : (name : List ℕ) (before after : Disk) (cause : Refusal) → GetRefused name before after cause → AigerReadRefused name before after cause
+get_is_aiger_read name before after (ReadAiger fault) why = absurd why
+get_is_aiger_read name before after other why = why
+
+-- a network that isn't made a graph has no AIGER file, and one whose graph has none has none
+
+pub making_is_aiger : (net : Network) (cause : Refusal) → MakingRefused (Some net) cause → AigerRefused net cause
+making_is_aiger net NoNetwork why = absurd (let e : ◌≡◌ {A = Option Network} (Some net) None = why in cc)
+making_is_aiger net (TooManyGates gates) why = why
+making_is_aiger net NoMemory why = tt
+making_is_aiger net other why = absurd why
+
+pub graph_is_aiger : (old graph : Netlist) (cause : Refusal) → IsRemade (mapped_network old) (graph_network graph) → gates_in (mapped_network old) ≤ most_gates → AigerRefused (graph_network graph) cause → AigerRefused (mapped_network old) cause
+graph_is_aiger old graph (TooManyGates gates) made few why = absurd (omega (arith, why.0, why.1))
+graph_is_aiger old graph (LatchType latch) made few why = (few, ap first_typed made.same.frame ∙ why.1)
+graph_is_aiger old graph NoMemory made few why = tt
+graph_is_aiger old graph other made few why = absurd why
+
+-- refused before anything is put, or at the put
+
+others_same : (name : List ℕ) (files : Disk) → OthersStand name files files
+others_same name files = record { told = same files.told; later = omega arith }
+  where
+    same : (told : Option (List (List ℕ × List ℕ))) → IfSome told (λ was. IsSomeAnd told (λ now. without_file name now ≡ without_file name was))
+    same None = tt
+    same (Some list) = refl
+
+pub aiger_unwritten : (net : Network) (name : List ℕ) (files : Disk) (cause : Refusal) → AigerRefused net cause → AigerWriteRefused (Some net) name files files cause
+aiger_unwritten net name files (TooManyGates gates) why = (why, refl)
+aiger_unwritten net name files (LatchType latch) why = (why, refl)
+aiger_unwritten net name files NoMemory why = others_same name files
+aiger_unwritten net name files other why = absurd why
+
+pub aiger_not_put : (net : Network) (name : List ℕ) (before after : Disk) (cause : Refusal) → OthersStand name before after → (cause ≡ NoMemory) ⊎ ((cause ≡ PutFailed) × Rose before.faults after.faults)
+    → AigerWriteRefused (Some net) name before after cause
+aiger_not_put net name before after cause others (inl is) = subst (AigerWriteRefused (Some net) name before after) (sym is) others
+aiger_not_put net name before after cause others (inr (is, rose)) = subst (AigerWriteRefused (Some net) name before after) (sym is) (refl, rose, others)
+
+-- what latches load has the same values where observed signals have
+
+feeds_same : (w w' : List ℕ → Bool) (ls : List Latch) → ((c : List ℕ) → has_word (flat_map latch_reads ls) c ≡ true → w c ≡ w' c) → map w (map feed_of ls) ≡ map w' (map feed_of ls)
+feeds_same w w' [] h = refl
+feeds_same w w' (l ∷ ls) h =
+    ap₂ (λ (b : Bool) (bs : List Bool). b ∷ bs)
+    (h l.feed (has_left (latch_reads l) (flat_map latch_reads ls) l.feed (has_head l.feed (control_of l.kind))))
+    (feeds_same w w' ls (λ c t. h c (has_right (latch_reads l) (flat_map latch_reads ls) c t)))
+
+-- a file that keeps what a netlist means keeps what another one of the same meaning does
+written_alike : (old graph : Netlist) (g : Aig) → SameMeaning old graph → IsWrittenAs graph g → IsWrittenAs old g
+written_alike old graph g same h = record {
+  inputs = h.inputs ∙ sym (ap free_signals e);
+  outputs = h.outputs ∙ sym (ap (λ (f : Frame). f.outputs) e);
+  latches = h.latches ∙ sym (ap (λ (f : Frame). map latch_output f.latches) e);
+  inits = h.inits ∙ sym (ap (λ (f : Frame). map init_again f.latches) e);
+  values = λ v w fits consistent agrees.
+      let there = same.right w in
+      outputs_alike old.frame w there.0 (as_observed w there.0 consistent there.1 there.2)
+      ∙ ap (λ (f : Frame). map there.0 f.outputs) e
+      ∙ h.values v there.0 fits there.1 (there.2 ∙ subst (λ (f : Frame). map w (sources f) ≡ map v (source_variables g)) e agrees);
+  next = λ v w fits consistent agrees.
+      let there = same.right w in
+      feeds_same w there.0 old.frame.latches (reads_alike old.frame w there.0 (as_observed w there.0 consistent there.1 there.2))
+      ∙ ap (λ (f : Frame). map there.0 (map feed_of f.latches)) e
+      ∙ h.next v there.0 fits there.1 (there.2 ∙ subst (λ (f : Frame). map w (sources f) ≡ map v (source_variables g)) e agrees);
+}
+  where
+    e : old.frame ≡ graph.frame
+    e = same.frame
+
+    as_observed : (w w' : List ℕ → Bool) → Consistent old w → Consistent graph w' → map w' (sources graph.frame) ≡ map w (sources graph.frame) → map w (observed old.frame) ≡ map w' (observed old.frame)
+    as_observed w w' consistent there agrees = same.agree w w' consistent there (subst (λ (f : Frame). map w (sources f) ≡ map w' (sources f)) (sym e) (sym agrees))
+
+-- the file of a net's graph is one of the net
+aiger_of_luts : (ascii : Bool) (old graph : Netlist) (bytes : List ℕ) → IsRemade (mapped_network old) (graph_network graph) → gates_in (mapped_network old) ≤ most_gates
+    → IsAigerOf ascii (graph_network graph) bytes → IsAigerOf ascii (mapped_network old) bytes
+aiger_of_luts ascii old graph bytes made few are = record {
+  graph = are.graph;
+  made = subst (IsRemade (mapped_network old)) (sym are.made) made;
+  gates = few;
+  untyped = ap first_typed made.same.frame ∙ are.untyped;
+  is = are.is;
+  spells = are.spells;
+  keeps = written_alike old graph _ made.same are.keeps;
+}
+
+pub aiger_of_network : (ascii : Bool) (network : Network) (old graph : Netlist) (r : Result (Vec ℕ Global) Refusal) → network ≡ mapped_network old → IsRemade (mapped_network old) (graph_network graph) → gates_in (mapped_network old) ≤ most_gates
+    → IfOk r (λ (bytes : Vec ℕ Global). IsAigerOf ascii (graph_network graph) bytes.items) → IfOk r (λ (bytes : Vec ℕ Global). IsAigerOf ascii network bytes.items)
+aiger_of_network ascii network old graph (Ok bytes) is made few are = subst (λ (n : Network). IsAigerOf ascii n bytes.items) (sym is) (aiger_of_luts ascii old graph bytes.items made few are)
+aiger_of_network ascii network old graph (Err cause) is made few are = tt
+
+-- the graph of a file has as many sources as the file
+
+named_count : (symbols : List Symbol) (place : Place) (index : ℕ) (ls : List ℕ) (given : List Named) → length (sources_named symbols place index ls given) ≡ length ls
+named_count symbols place index [] given = refl
+named_count symbols place index (l ∷ ls) given = ap suc (named_count symbols place (suc index) ls _)
+
+feeds_count : (sources : List Named) (index : ℕ) (ls : List AigLatch) (given : List Named) → length (feeds_named sources index ls given) ≡ length ls
+feeds_count sources index [] given = refl
+feeds_count sources index (l ∷ ls) given = ap suc (feeds_count sources (suc index) ls _)
+
+latches_count : (ls : List AigLatch) (outputs feeds : List Named) → length outputs ≡ length ls → length feeds ≡ length ls → length (latches_from ls outputs feeds) ≡ length ls
+latches_count [] outputs feeds e h = refl
+latches_count (l ∷ ls) [] feeds e h = absurd (omega (arith, e))
+latches_count (l ∷ ls) (o ∷ outputs) [] e h = absurd (omega (arith, h))
+latches_count (l ∷ ls) (o ∷ outputs) (f ∷ feeds) e h = ap suc (latches_count ls outputs feeds (omega (arith, e)) (omega (arith, h)))
+
+sources_count : (g : Aig) → length (sources (frame_of g)) ≡ length (source_literals g)
+sources_count g =
+    let inputs = length-map (inputs_of g) name_of ∙ named_count g.symbols OfInput 0 g.inputs [] in
+    let literals = length-map g.latches latch_literal in
+    let outputs = named_count g.symbols OfLatch 0 (map latch_literal g.latches) (inputs_of g) in
+    let latches = latches_count g.latches (latches_of g) (feeds_of g) (outputs ∙ literals) (feeds_count (sources_of g) 0 g.latches (sources_of g ++ outputs_of g)) in
+    let held = length-map (frame_of g).latches latch_output in
+    let all = length-append (map name_of (inputs_of g)) (map latch_output (frame_of g).latches) in
+    let every = length-append g.inputs (map latch_literal g.latches) in
+    omega (arith, inputs, literals, latches, held, all, every)
+
+pub aiger_small : (g : Aig) (m : Netlist) → IsGraphOfAig g m → aiger.Within g → length m.frame.outputs < 2 ^ 28 → IsSmall (graph_network m)
+aiger_small g m graph within few = record {
+  sources = omega (arith, ap (λ (f : Frame). length (sources f)) graph.frame, sources_count g, within.sources);
+  outputs = few;
+  ands = omega (arith, graph.fewer, within.gates);
+}

@@ -1,0 +1,93 @@
+//! AIGER files: the graph of one, and the one of a network.
+
+ghost use Rattle.std.specs.Prelude.{◌≡◌, ◌≤◌, length, IfOk, IfErr, List, OnOk, Some, ℕ};
+ghost use Rattle.syn_graph.specs.Graphs as graphs;
+ghost use Rattle.syn_aiger_files.specs.declared.files.Aig.{Aig};
+ghost use Rattle.syn_aiger.specs.Faults.{Spells};
+ghost use Rattle.syn_aiger.specs.Faults as aiger;
+ghost use Rattle.syn_aiger.specs.Networks.{IsGraphOfAig};
+ghost use Rattle.syn_shell.specs.Networks.{graph_network, IsSmall, network_of};
+ghost use Rattle.syn_shell.specs.Outside.{FileIs, FilesStand, OthersStand};
+ghost use Rattle.syn_shell.specs.Steps.{AigerParseRefused, AigerReadRefused, AigerRefused, AigerWriteRefused, file_limit, IsAigerOf, IsReadAsAiger};
+
+use crate::files::{get, put};
+use crate::network::Kept;
+use crate::refusal::Refusal;
+use crate::remaking::graph_of;
+use std::alloc::Global;
+use syn_aiger::{AigWriteFault, read_aig, write_aig};
+use syn_aiger_files::AigFault;
+use syn_graph::Graph;
+use syn_io::Files;
+
+// The graph of the file that bytes spell, or their first fault.
+fn parse(alloc: Global, bytes: &[u8]) -> Result<Graph, Refusal>
+    requires { length bytes.now ≤ file_limit }
+    ensures graph { IfOk result (λ graph. (g : Aig) × Spells bytes.now g × aiger.Within g × IsGraphOfAig g (graphs.network_of graph)) }
+    ensures small { IfOk result (λ graph. IsSmall (graph_network (graphs.network_of graph))) }
+    ensures refused { IfErr result (AigerParseRefused bytes.now) }
+{
+    match read_aig(alloc, bytes) {
+        Ok(graph) => Ok(graph),
+        Err(AigFault::NoMemory) => Err(Refusal::NoMemory),
+        Err(fault) => Err(Refusal::ReadAiger(fault)),
+    }
+}
+
+/// The graph of an AIGER file.
+pub(crate) fn read<F: Files>(alloc: Global, name: &str, files: &mut F) -> Result<Graph, Refusal>
+    ensures read { IfOk result (λ graph. IsReadAsAiger name.now (F.disk files.old) (graphs.network_of graph)) }
+    ensures small { IfOk result (λ graph. IsSmall (graph_network (graphs.network_of graph))) }
+    ensures refused { IfErr result (AigerReadRefused name.now (F.disk files.old) (F.disk files.new)) }
+    ensures stand { FilesStand (F.disk files.old) (F.disk files.new) }
+{
+    let bytes = get(alloc, name, files)?;
+    let graph = parse(alloc, bytes.as_slice())?;
+    Ok(graph)
+}
+
+// The bytes of a graph's AIGER file.
+fn bytes_of(alloc: Global, graph: &Graph, ascii: bool) -> Result<Vec<u8>, Refusal>
+    requires { IsSmall (graph_network (graphs.network_of graph.now)) }
+    ensures bytes { IfOk result (λ bytes. IsAigerOf ascii (graph_network (graphs.network_of graph.now)) bytes.items) }
+    ensures refused { IfErr result (AigerRefused (graph_network (graphs.network_of graph.now))) }
+{
+    syn_shapes::network_of_graph();
+    match write_aig(alloc, graph, ascii) {
+        Ok(bytes) => Ok(bytes),
+        Err(AigWriteFault::Latch(latch)) => Err(Refusal::LatchType(latch)),
+        Err(AigWriteFault::NoMemory) => Err(Refusal::NoMemory),
+    }
+}
+
+// The bytes of a network's AIGER file: those of its graph.
+fn written(alloc: Global, network: &Kept, ascii: bool) -> Result<Vec<u8>, Refusal>
+    requires { IsSmall (network_of network.now) }
+    ensures bytes { IfOk result (λ bytes. IsAigerOf ascii (network_of network.now) bytes.items) }
+    ensures refused { IfErr result (AigerRefused (network_of network.now)) }
+{
+    match network {
+        Kept::Graph(graph) => bytes_of(alloc, graph, ascii),
+        Kept::Luts(net) => {
+            let graph = graph_of(alloc, net)?;
+            bytes_of(alloc, &graph, ascii)
+        }
+    }
+}
+
+/// Writes a network's graph to an AIGER file, in the ASCII format or in the binary one.
+pub(crate) fn write<F: Files>(
+    alloc: Global,
+    network: &Kept,
+    ascii: bool,
+    name: &str,
+    files: &mut F,
+) -> Result<(), Refusal>
+    requires { IsSmall (network_of network.now) }
+    ensures file { OnOk result ((bytes : List ℕ) × FileIs name.now (F.disk files.new) bytes × IsAigerOf ascii (network_of network.now) bytes) }
+    ensures refused { IfErr result (AigerWriteRefused (Some (network_of network.now)) name.now (F.disk files.old) (F.disk files.new)) }
+    ensures others { OthersStand name.now (F.disk files.old) (F.disk files.new) }
+{
+    let bytes = written(alloc, network, ascii)?;
+    put(alloc, name, bytes.as_slice(), files)
+}

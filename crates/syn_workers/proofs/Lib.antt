@@ -1,3 +1,0 @@
-mod Works
-mod Leaving
-mod Numbers
