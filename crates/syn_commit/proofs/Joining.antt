@@ -16,26 +16,37 @@ use Rattle.syn_decide.specs.Tasks.{Task}
 use Rattle.syn_decide.specs.Decided.{Done}
 use Rattle.syn_decide.specs.Fitting.{HitsAreInside, IsInside}
 use Rattle.syn_decide.specs.Fold.{Ended, State, placed_now}
-use Rattle.syn_decide.specs.Hints.{first_new}
+use Rattle.syn_decide.specs.Hints.{first_new, rows_needed}
 use Rattle.syn_decide.specs.Walk.{enters, nodes_of}
 use Rattle.syn_decide.proofs.Fitting.{hits_always_inside}
 use Rattle.syn_commit_laws.specs.Gains.{IsApart, StoreNothingOf}
 use Rattle.syn_commit_laws.specs.Redefining.{IsInOrder, row_made}
-use Rattle.syn_commit_laws.specs.Turning.{Spares}
+use Rattle.syn_commit_laws.specs.Turning.{Spares, TurnsAll}
 use Rattle.syn_commit_laws.proofs.Deaths.{free_nodes_live, new_rows_spare}
 use Rattle.syn_commit_laws.proofs.Gains.{done_tells_gain, new_gates_are_stored, stored_rows_spare}
 use Rattle.syn_commit_laws.proofs.Goings.{freeing_begins}
 use Rattle.syn_commit_laws.proofs.Keeping.{leaf_below}
-use Rattle.syn_commit.specs.Counts.{dying_by}
-use Rattle.syn_commit.specs.Finishing.{AreStoredBy, HasStored, StoresFinish, new_row, root_change}
+use Rattle.syn_commit.specs.Counts.{CountsAreLoaded, dying_by}
+use Rattle.syn_commit.specs.Finishing.{HasStored, new_row, root_change}
 use Rattle.syn_commit.specs.Stages.{IsTrying}
-use Rattle.syn_commit.specs.Storing.{SparesAll, node_at}
+use Rattle.syn_commit.specs.Storing.{RedefinesRow, makes_rows, node_at}
 use Rattle.syn_commit.proofs.Insides.{AreInside, inner_inside}
 use Rattle.syn_commit.proofs.Loads.{staged}
 use Rattle.syn_commit.proofs.Returning.{used_is_leaf}
-use Rattle.syn_commit.proofs.Sparing.{stores_free}
+use Rattle.syn_commit.proofs.Sparing.{SparesAll, stores_free}
 use Rattle.syn_commit.proofs.Staging.{IsConcluded, IsStaged}
 use Rattle.syn_commit.proofs.Tallying.{AreTallied, all_tallied}
+
+-- Between the counts and the end rows were made for the new gates that need one, in nodes that were spare, and the root was redefined.
+pub record AreStoredBy (nodes : ℕ) (t : Task) (s : State) (low step : ℕ) (made : List NodeRow) (counted w v : View) : Type 0 where
+  pub count : length made ≡ rows_needed t (placed_now t s)
+  pub spare : (i : ℕ) → i < length made → known_row counted (node_at made i) ≡ Some Free
+  pub rows : (i : ℕ) (d : NodeRow) → i < length made → (get_or made i d).row ≡ row_made (nodes_of made) (row_at (placed_now t s).extra i)
+  pub makes : TurnsAll nodes counted (makes_rows low step 0 made) w
+  pub kept : (r : Row) → known_row counted t.proposal.root ≡ Some r → known_row w t.proposal.root ≡ Some r
+  pub redefined : RedefinesRow nodes w t.proposal.root (new_row t s made) v
+  pub root_row : known_row v t.proposal.root ≡ Some (new_row t s made)
+  pub root_gate : is_derived (new_row t s made) ≡ true
 
 inside_at : (t : Task) (rows : List NodeRow) (m : ℕ) → AreInside t rows → has_node (nodes_of rows) m ≡ true → IsInside t m
 inside_at t [] m a h = absurd (cc)
@@ -117,7 +128,11 @@ module _ (nodes : ℕ) (t : Task) (start counted : View) (pool pins : List ℕ) 
         subst (Spares (dying_by s)) (sym (b.rows i d lt)) (new_rows_spare nodes counted k.count t.proposal.root k.may (dying_by s) (row_made (nodes_of made) (row_at (placed_now t s).extra i)) k.dies (nothing.rows i (omega (arith, lt, b.count)))),
       ))
 
-pub stores_finish : StoresFinish
+-- After the answer `Done` such stores leave what the end of a commit needs.
+pub stores_finish : (nodes : ℕ) (t : Task) (start counted w v : View) (pool pins : List ℕ) (s : State) (low step gain : ℕ) (made : List NodeRow)
+    → IsInOrder t → enters t.proposal.leaves [] t.proposal.root ≡ true → IsTrying t start pool pins counted s → IsShown nodes counted → CountsAreLoaded nodes counted s → s.stage ≡ Ended (Done gain)
+    → AreStoredBy nodes t s low step made counted w v
+    → (old : Row) × (known_row counted t.proposal.root ≡ Some old) × HasStored nodes t.proposal.root (dying_by s) counted old (new_row t s made) (length made) gain v
 stores_finish nodes t start counted w v pool pins s low step gain made order root_enters h shown loaded ended b =
     let at : IsStaged t s (Ended (Done gain)) = subst (IsStaged t s) ended (staged t start counted s h.reads) in by at
   where

@@ -7,8 +7,8 @@ use Rattle.syn_core_laws.specs.declared.View.{View}
 use Rattle.syn_core_laws.proofs.Counting.{has_times, times_has}
 use Rattle.syn_decide.specs.Tasks.{Task}
 use Rattle.syn_decide.specs.Fitting.{HitsAreInside}
-use Rattle.syn_decide.specs.Fold.{State}
-use Rattle.syn_decide.specs.Hints.{first_new}
+use Rattle.syn_decide.specs.Fold.{State, placed_now}
+use Rattle.syn_decide.specs.Hints.{first_new, rows_needed}
 use Rattle.syn_decide.specs.Walk.{nodes_of}
 use Rattle.syn_decide.proofs.Fitting.{hits_always_inside}
 use Rattle.syn_commit_laws.specs.Origins.{IsFanIn, IsFrom}
@@ -16,9 +16,9 @@ use Rattle.syn_commit_laws.specs.Redefining.{IsInOrder}
 use Rattle.syn_commit_laws.proofs.Keeping.{leaf_below}
 use Rattle.syn_commit_laws.proofs.Origins.{new_rows_refer_to_origins}
 use Rattle.syn_commit_laws.proofs.Stored.{le_false, le_true}
-use Rattle.syn_commit.specs.Keyed.{AreAllKeyed, IsKeyedSoFar, RowsAreReady}
+use Rattle.syn_commit.specs.Keyed.{AreAllKeyed, IsKeyedSoFar}
 use Rattle.syn_commit.specs.Stages.{IsTrying}
-use Rattle.syn_commit.specs.Storing.{IsPlaced, MayReferTo}
+use Rattle.syn_commit.specs.Storing.{AreNewRows, IsPlaced, MayReferTo}
 use Rattle.syn_commit.proofs.Joining.{hit_below}
 use Rattle.syn_commit.proofs.Returning.{used_is_leaf}
 
@@ -48,7 +48,9 @@ module _ (t : Task) (start v : View) (pool pins : List ℕ) (s : State) (order :
       by (inr (inl hit)) = old i l (hit_below t s.hits (node_of l) inside hit) (k.hits (node_of l) hit)
       by (inr (inr new)) = inl (le_true first_new (node_of l) new.0, new.1)
 
-pub rows_are_ready : RowsAreReady
+-- Behind the keys rows may be made for the new gates, as far as they refer to what was there before.
+pub rows_are_ready : (t : Task) (start v : View) (pool pins : List ℕ) (s : State) → IsInOrder t → IsTrying t start pool pins v s → IsKeyedSoFar t pins v s → AreAllKeyed t pins v s
+    → AreNewRows v s.low (rows_needed t (placed_now t s)) (placed_now t s).extra
 rows_are_ready t start v pool pins s order h k a i lt =
     let new = (new_rows_refer_to_origins t s.hits).rows i (omega (arith, lt)) in
     (new.0, new.1, new.2, placed t start v pool pins s order h k a i new.0 new.3, placed t start v pool pins s order h k a i new.1 new.4)

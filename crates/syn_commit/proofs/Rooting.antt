@@ -34,7 +34,7 @@ use Rattle.syn_commit_laws.proofs.Keeping.{leaf_below, redefines_keep_value}
 use Rattle.syn_commit_laws.proofs.Valued.{has_filtered}
 use Rattle.syn_commit.specs.Finishing.{new_row}
 use Rattle.syn_commit.specs.Keyed.{AreAllKeyed, IsKeyedSoFar, KeyedAt}
-use Rattle.syn_commit.specs.Readying.{AreRowsMade, IsReadyFor, RootIsReady}
+use Rattle.syn_commit.specs.Readying.{AreRowsMade, IsReadyFor}
 use Rattle.syn_commit.specs.Stages.{IsTrying}
 use Rattle.syn_commit.specs.Storing.{MayReferTo, key_at, node_at}
 use Rattle.syn_commit.specs.Walks.{AreKnown}
@@ -203,5 +203,9 @@ module _ (nodes : ℕ) (t : Task) (start counted w : View) (pool pins : List ℕ
   ready : (old : Row) × (known_row counted t.proposal.root ≡ Some old) × IsReadyFor t s made old w
   ready = (root_is.0, root_is.1, record { known = root_known; key = root_key; was = root_is.2; gate = new_gate; refers = new_refers; same = same_value })
 
-pub root_is_ready : RootIsReady
+-- Behind the answer `Done` the root's new row, stored, is one that a redefine may store.
+pub root_is_ready : (nodes : ℕ) (t : Task) (start counted w : View) (pool pins : List ℕ) (s : State) (gain step : ℕ) (made : List NodeRow)
+    → IsInOrder t → enters t.proposal.leaves [] t.proposal.root ≡ true → IsTrying t start pool pins counted s → IsKeyedSoFar t pins counted s → IsShown nodes counted → known_row counted 0 ≢ Some Free
+    → s.stage ≡ Ended (Done gain) → AreRowsMade t s step made counted w
+    → (old : Row) × (known_row counted t.proposal.root ≡ Some old) × IsReadyFor t s made old w
 root_is_ready nodes t start counted w pool pins s gain step made order root_enters h k shown constant ended a = ready nodes t start counted w pool pins s gain step made order root_enters h k shown constant ended a

@@ -1,5 +1,6 @@
 -- Rows that are made, and the root's, are events of a commit: what is to die still does.
 use Rattle.std.proofs.Common.{◌≡◌, ℕ, suc, ◌+◌, Bool, false, List, [], ◌∷◌, ◌++◌, length, Option, Some, refl, sym, ap, ◌∙◌, subst, arith, append-nil, append_assoc}
+use Rattle.std.specs.List.{AllByRecursion}
 use Rattle.arrayvec.specs.ArrayVec.{ArrayVec}
 use Rattle.syn_rows.specs.declared.Row.{Row}
 use Rattle.syn_rows.specs.Rows.{refs_of}
@@ -14,7 +15,11 @@ use Rattle.syn_commit_laws.specs.Dying.{AreDoomed}
 use Rattle.syn_commit_laws.specs.Freeing.{IsFreeing}
 use Rattle.syn_commit_laws.specs.Turning.{Spares, TurnsAll, change_of}
 use Rattle.syn_commit_laws.proofs.Goings.{freeing_goes_on}
-use Rattle.syn_commit.specs.Storing.{SparesAll, StoresFree, key_at, makes_row, makes_rows, pins_of, redefines_row}
+use Rattle.syn_commit.specs.Storing.{key_at, makes_row, makes_rows, pins_of, redefines_row}
+
+-- the nodes of these rows don't die, and the rows refer to nothing that does
+abbrev pub SparesAll : (ℕ → Bool) → List NodeRow → Type 0
+SparesAll dying rows = AllByRecursion (λ r. (dying r.node ≡ false) × Spares dying r.row) rows
 
 module _ (nodes root : ℕ) (dying : ℕ → Bool) (start : View) (doom : AreDoomed nodes root dying start) where
   -- an event that stores no change
@@ -62,7 +67,11 @@ module _ (nodes root : ℕ) (dying : ℕ → Bool) (start : View) (doom : AreDoo
       (subst (λ i. IsFreeing nodes root dying start i (changes ++ (record { node = root; old = old; new = row }) ∷ []) last.0) none
       (subst (λ (cs : List Change). IsFreeing nodes root dying start (k + 0) (changes ++ cs) last.0) (ap (λ (o : Option Row). change_of root o row) known) goes))
 
-pub stores_free : StoresFree
+-- Since the loads of counts such rows were made, and the root was redefined: what is to die with the root still is, so many rows were made, and the root's is the one change.
+pub stores_free : (nodes root low step : ℕ) (dying : ℕ → Bool) (start v w x : View) (new : List NodeRow) (old row : Row) (over : ArrayVec ℕ)
+    → AreDoomed nodes root dying start → IsFreeing nodes root dying start 0 [] v → SparesAll dying new
+    → TurnsAll nodes v (makes_rows low step 0 new) w → known_row w root ≡ Some old → TurnsAll nodes w (redefines_row root row over) x
+    → IsFreeing nodes root dying start (length new) ((record { node = root; old = old; new = row }) ∷ []) x
 stores_free nodes root low step dying start v w x new old row over doom f spares makes was redefines =
     let none : 0 + length new ≡ length new = omega arith in
     root_frees nodes root dying start doom w x (length new) [] old row over

@@ -44,22 +44,3 @@ pub record HasStored (nodes root : ℕ) (dying : ℕ → Bool) (counted : View) 
 abbrev pub FellByGain : ℕ → (ℕ → Bool) → View → Row → Row → ℕ → View → Type 0
 FellByGain root dying counted old new gain v =
     (changes : List Change) × (v.changes ≡ counted.changes ++ changes) × (redefines changes ≡ root_change root old new ∷ []) × (v.difference +ℤ pos (gain + late dying changes) ≡ counted.difference)
-
--- Between the counts and the end rows were made for the new gates that need one, in nodes that were spare, and the root was redefined.
-pub record AreStoredBy (nodes : ℕ) (t : Task) (s : State) (low step : ℕ) (made : List NodeRow) (counted w v : View) : Type 0 where
-  pub count : length made ≡ rows_needed t (placed_now t s)
-  pub spare : (i : ℕ) → i < length made → known_row counted (node_at made i) ≡ Some Free
-  pub rows : (i : ℕ) (d : NodeRow) → i < length made → (slice_index_or made i d).row ≡ row_made (nodes_of made) (row_at (placed_now t s).extra i)
-  pub makes : TurnsAll nodes counted (makes_rows low step 0 made) w
-  pub kept : (r : Row) → known_row counted t.proposal.root ≡ Some r → known_row w t.proposal.root ≡ Some r
-  pub redefined : RedefinesRow nodes w t.proposal.root (new_row t s made) v
-  pub root_row : known_row v t.proposal.root ≡ Some (new_row t s made)
-  pub root_gate : is_derived (new_row t s made) ≡ true
-
--- After the answer `Done` such stores leave what the end of a commit needs.
-abbrev pub StoresFinish : Type 0
-StoresFinish =
-    (nodes : ℕ) (t : Task) (start counted w v : View) (pool pins : List ℕ) (s : State) (low step gain : ℕ) (made : List NodeRow)
-    → IsInOrder t → enters t.proposal.leaves [] t.proposal.root ≡ true → IsTrying t start pool pins counted s → IsShown nodes counted → CountsAreLoaded nodes counted s → s.stage ≡ Ended (Done gain)
-    → AreStoredBy nodes t s low step made counted w v
-    → (old : Row) × (known_row counted t.proposal.root ≡ Some old) × HasStored nodes t.proposal.root (dying_by s) counted old (new_row t s made) (length made) gain v

@@ -7,6 +7,7 @@ use Rattle.syn_core_laws.specs.declared.View.{View}
 use Rattle.syn_core_laws.specs.declared.Change.{Change}
 use Rattle.syn_core_laws.specs.declared.EventKind.{EventKind}
 use Rattle.syn_core_laws.specs.declared.EventKind.TheVariants as Kind
+use Rattle.syn_core_laws.specs.Shown.{HasNoCircle}
 use Rattle.syn_core_laws.specs.Views.{known_row, own_pins}
 use Rattle.syn_decide.specs.declared.decisions.NodeRow.{NodeRow}
 use Rattle.syn_decide.specs.Walk.{nodes_of}
@@ -14,6 +15,7 @@ use Rattle.syn_decide.specs.Walked.{AreGates}
 use Rattle.syn_commit_laws.specs.Freeing.{late, redefines}
 use Rattle.syn_commit_laws.specs.Turning.{Turns}
 use Rattle.syn_decide.specs.Fold.{State}
+use Rattle.syn_commit.specs.declared.leaving.Holding.{Holding}
 use Rattle.syn_commit.specs.declared.leaving.TheConstants.{MOST_HELD}
 use Rattle.syn_commit.specs.Counts.{dying_by}
 use Rattle.syn_commit.specs.Pools.{KeepsPool}
@@ -77,6 +79,10 @@ pub record IsGiving (pool pins : List ℕ) (gates idle : List NodeRow) (v : View
   pub pinned : (n : ℕ) → own_pins v n ≡ times n pins
   pub room : length gates + length idle ≤ MOST_HELD
 
+-- the same of a commit's own lists
+abbrev pub IsHolding : List ℕ → Holding → View → Type 0
+IsHolding pool h v = IsGiving pool h.pins.items h.gates.items h.idle.items v
+
 -- how much is left to give back: each gate that is freed leaves at most two pins more
 abbrev pub work_left : List ℕ → List NodeRow → List NodeRow → ℕ
 work_left pins gates idle = 3 * (length gates + length idle) + length pins
@@ -115,6 +121,15 @@ pub record HoldsAlone (pool : List ℕ) (v : View) : Type 0 where
 -- A seat gave back, and then let go of the gates that were left.
 abbrev pub HasGivenUp : ℕ → View → List ℕ → View → List ℕ → Type 0
 HasGivenUp nodes v pool w grown = (u : View) × Gives nodes v pool u grown × IsLetGo u w
+
+-- Before it let go, no pin was left and nothing on its zero list, and the rows that it knew were in no circle.
+pub record HasGivenBack (nodes : ℕ) (v : View) (pool : List ℕ) (w : View) (grown : List ℕ) : Type 0 where
+  pub drained : View
+  pub gives : Gives nodes v pool drained grown
+  pub let_go : IsLetGo drained w
+  pub no_pins : drained.pins ≡ []
+  pub no_idle : drained.idle ≡ []
+  pub no_circle : HasNoCircle nodes drained
 
 -- Since the start nothing was stored but free rows, and the difference fell by exactly the late ANDs: those that were freed and that the decision didn't count as dying.
 abbrev pub FellByLate : View → View → State → Type 0

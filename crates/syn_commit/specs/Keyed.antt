@@ -60,9 +60,3 @@ pub record IsKeyedSoFar (t : Task) (pins : List ℕ) (v : View) (s : State) : Ty
   pub only : (n : ℕ) → has_node pins n ≡ true → (has_node (used_leaves t) n ≡ true) ⊎ (has_node (nodes_of s.hits) n ≡ true)
   pub hits : (n : ℕ) → has_node (nodes_of s.hits) n ≡ true → has_node pins n ≡ true
   pub stage : KeyedAt t pins v s s.stage
-
--- Behind the keys rows may be made for the new gates, as far as they refer to what was there before.
-abbrev pub RowsAreReady : Type 0
-RowsAreReady =
-    (t : Task) (start v : View) (pool pins : List ℕ) (s : State) → IsInOrder t → IsTrying t start pool pins v s → IsKeyedSoFar t pins v s → AreAllKeyed t pins v s
-    → AreNewRows v s.low (rows_needed t (placed_now t s)) (placed_now t s).extra

@@ -10,3 +10,5 @@ pub mod Finishing
 pub mod Readying
 pub mod Making
 pub mod Committed
+pub mod Trials
+pub mod Verdicts

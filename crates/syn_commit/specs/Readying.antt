@@ -36,11 +36,3 @@ pub record IsReadyFor (t : Task) (s : State) (made : List NodeRow) (old : Row) (
   pub gate : is_derived (new_row t s made) ≡ true
   pub refers : AllRefs (MayReferTo w s.high) (new_row t s made)
   pub same : SameValue w (met_leaves t s.inner) old (new_row t s made)
-
--- After the answer `Done` and such rows it may.
-abbrev pub RootIsReady : Type 0
-RootIsReady =
-    (nodes : ℕ) (t : Task) (start counted w : View) (pool pins : List ℕ) (s : State) (gain step : ℕ) (made : List NodeRow)
-    → IsInOrder t → enters t.proposal.leaves [] t.proposal.root ≡ true → IsTrying t start pool pins counted s → IsKeyedSoFar t pins counted s → IsShown nodes counted → known_row counted 0 ≢ Some Free
-    → s.stage ≡ Ended (Done gain) → AreRowsMade t s step made counted w
-    → (old : Row) × (known_row counted t.proposal.root ≡ Some old) × IsReadyFor t s made old w

@@ -5,7 +5,7 @@ use Rattle.arrayvec.specs.ArrayVec.{ArrayVec}
 use Rattle.syn_rows.specs.declared.Lit.{Lit}
 use Rattle.syn_rows.specs.declared.Row.{Row}
 use Rattle.syn_rows.specs.declared.Row.TheVariants.{Free, And}
-use Rattle.syn_rows.specs.Rows.{node_of, refs_of, row_at}
+use Rattle.syn_rows.specs.Rows.{AllRefs, node_of, refs_of, row_at}
 use Rattle.syn_core_laws.specs.declared.View.{View}
 use Rattle.syn_core_laws.specs.declared.Made.{Made}
 use Rattle.syn_core_laws.specs.declared.EventKind.{EventKind}
@@ -26,6 +26,10 @@ use Rattle.syn_commit.specs.Walks.{AreKnown}
 pub record MayReferTo (v : View) (key n : ℕ) : Type 0 where
   pub pin : MayPin v n
   pub below : KeyBelow v key n
+
+-- A row may stand at the node: the node's key is known, and those of the nodes to which the row refers are below it.
+abbrev pub MayStandAt : View → ℕ → Row → Type 0
+MayStandAt v n row = (key : ℕ) × (known_key v n ≡ Some key) × AllRefs (MayReferTo v key) row
 
 -- the view once these nodes are pinned, one after the other
 abbrev pub with_pins : List ℕ → View → View
@@ -107,16 +111,3 @@ with_row n row (r ∷ rows) = (if r.node == n then record { node = n; row = row 
 -- the row was stored in the place of another, whichever nodes the event names
 abbrev pub RedefinesRow : ℕ → View → ℕ → Row → View → Type 0
 RedefinesRow nodes v n row w = (over : ArrayVec ℕ) → TurnsAll nodes v (redefines_row n row over) w
-
--- ---- what dies
--- the nodes of these rows don't die, and the rows refer to nothing that does
-abbrev pub SparesAll : (ℕ → Bool) → List NodeRow → Type 0
-SparesAll dying rows = AllByRecursion (λ r. (dying r.node ≡ false) × Spares dying r.row) rows
-
--- Since the loads of counts such rows were made, and the root was redefined: what is to die with the root still is, so many rows were made, and the root's is the one change.
-abbrev pub StoresFree : Type 0
-StoresFree =
-    (nodes root low step : ℕ) (dying : ℕ → Bool) (start v w x : View) (new : List NodeRow) (old row : Row) (over : ArrayVec ℕ)
-    → AreDoomed nodes root dying start → IsFreeing nodes root dying start 0 [] v → SparesAll dying new
-    → TurnsAll nodes v (makes_rows low step 0 new) w → known_row w root ≡ Some old → TurnsAll nodes w (redefines_row root row over) x
-    → IsFreeing nodes root dying start (length new) ((record { node = root; old = old; new = row }) ∷ []) x

@@ -1,68 +1,44 @@
 //! One commit.
 
-ghost use Rattle.std.specs.Prelude.{◌≡◌, ◌<◌, ◌≤◌, ℕ, [], ◌++◌, false, length, true};
+ghost use Rattle.std.specs.Prelude.{◌≡◌, ◌<◌, ℕ, [], ◌++◌, false, length};
 ghost use Rattle.syn_rows.specs.Nodes.{has_node};
 ghost use Rattle.syn_decide.specs.Decided.{Answered, Busy, told_answer};
 ghost use Rattle.syn_decide.specs.Fold as fold;
-ghost use Rattle.syn_decide.specs.Tasks.{asked, task_of};
-ghost use Rattle.syn_decide.specs.Walk.{enters};
-ghost use Rattle.syn_commit_laws.specs.Redefining.{IsInOrder};
+ghost use Rattle.syn_decide.specs.Tasks.{asked};
 ghost use Rattle.syn_table.specs.Seating.{IsOf, known_of, nodes_of, view_of};
 ghost use Rattle.syn_table.specs.Steps.{with_view};
-ghost use Rattle.syn_commit.specs.Committed.{EndsInMiss, FellSince, IsBooked, StoredSince, changes_since, makes_since, met_since};
-ghost use Rattle.syn_commit.specs.Counts.{CountsAreLoaded};
+ghost use Rattle.syn_commit.specs.Committed.{EndsInMiss, FellSince, StoredSince, changes_since, makes_since, met_since};
 ghost use Rattle.syn_commit.specs.Giving.{HoldsAlone};
-ghost use Rattle.syn_commit.specs.Keyed.{IsKeyedSoFar};
 ghost use Rattle.syn_commit.specs.Pools.{KeepsPool, found_claimed};
-ghost use Rattle.syn_commit.specs.Stages.{HasEnded, IsTrying};
-ghost use Rattle.syn_commit.specs.Walks.{IsOfReads};
+ghost use Rattle.syn_commit.specs.Verdicts.{HasAnswered, IsOver};
 
 use crate::answering::{answer, outcome};
-use crate::done::store;
+use crate::done::{Stores, store};
 use crate::leaving::{Holding, give_up};
 use crate::spare::Spare;
+use crate::trial::{Trial, Verdict};
 use crate::{Gate, Moment, Pool, Tools};
-use arrayvec::ArrayVec;
 use std::snapshot::Snapshot;
-use syn_decide::{Attempt, Deciding, NewRows, NodeRow, Outcome};
+use syn_decide::{Attempt, Outcome};
 use syn_gain::Proposal;
-use syn_plan::MOST_GATES;
 use syn_table::Seat;
 
 // What follows the answer: `Done` is stored, and at any other one the commit gives up.
-fn settle<G: Gate>(
-    tools: &Tools<'_, G>,
+fn settle(
+    verdict: &Verdict<'_>,
     seat: &mut Seat,
     pool: &mut Spare,
-    attempt: &Attempt<'_>,
-    deciding: &Deciding,
     holding: &mut Holding,
-    rows: &mut NewRows,
-    made: &mut ArrayVec<NodeRow, MOST_GATES>,
-    start: &Snapshot<Seat>,
+    stores: &mut Stores,
     outcome: Outcome,
 )
-    requires table { IsOf seat.old tools.now.shared.now }
-    requires in_order { IsInOrder (task_of attempt.now) }
-    requires enters { enters attempt.now.candidate.leaves.now [] attempt.now.candidate.root ≡ true }
-    requires size { (task_of attempt.now).pool ≡ length pool.old }
-    requires trying { IsTrying (task_of attempt.now) (view_of start.now.value) pool.old holding.old.pins.items (view_of seat.old) deciding.now }
-    requires keyed { IsKeyedSoFar (task_of attempt.now) holding.old.pins.items (view_of seat.old) deciding.now }
-    requires loaded { CountsAreLoaded (nodes_of tools.now.shared.now) (view_of seat.old) deciding.now }
-    requires few { length holding.old.pins.items ≤ 390 }
-    requires ended { HasEnded deciding.now.stage }
-    requires answer { Answered (told_answer outcome) ≡ fold.wants deciding.now }
-    ensures table { IsOf seat.new tools.now.shared.now }
-    ensures known { known_of seat.new ≡ with_view (known_of seat.old) (view_of seat.new) }
-    ensures alone { HoldsAlone pool.new (view_of seat.new) }
-    ensures reads { IsOfReads (task_of attempt.now) (view_of start.now.value) (view_of seat.new) deciding.now }
-    ensures booked { IsBooked (task_of attempt.now) deciding.now (told_answer outcome) (view_of start.now.value) pool.old (view_of seat.new) pool.new }
+    requires answered { HasAnswered verdict.now pool.old seat.old holding.old.pins.items }
+    requires answer { Answered (told_answer outcome) ≡ fold.wants verdict.now.deciding.now }
+    ensures { IsOver verdict.now (told_answer outcome) pool.old seat.old seat.new pool.new }
 {
     match outcome {
-        Outcome::Done(gain) => store(
-            tools, seat, pool, attempt, deciding, holding, rows, made, start, gain,
-        ),
-        _ => give_up(tools.shared, seat, pool, attempt, deciding, holding, start),
+        Outcome::Done(_) => store(verdict, seat, pool, holding, stores),
+        _ => give_up(verdict, seat, pool, holding),
     }
 }
 
@@ -102,27 +78,35 @@ pub fn try_commit<G: Gate>(
     let attempt = Attempt::of(proposal, zero_gain, pool.spare.len());
     pool.room.deciding.restart(&attempt);
     pool.room.holding.pins.clear();
+    let trial = Trial {
+        shared: tools.shared,
+        hints: tools.hints,
+        pool: &pool.spare,
+        attempt,
+        start: &start,
+    };
     answer(
         tools,
+        &trial,
         seat,
-        &pool.spare,
-        &attempt,
         &mut pool.room.deciding,
         &mut pool.room.holding.pins,
-        &mut pool.room.rows,
-        &start,
+        &mut pool.room.stores.rows,
     );
     let outcome = outcome(&pool.room.deciding);
+    let verdict = Verdict {
+        shared: tools.shared,
+        hints: tools.hints,
+        attempt,
+        deciding: &pool.room.deciding,
+        start: &start,
+    };
     settle(
-        tools,
+        &verdict,
         seat,
         &mut pool.spare,
-        &attempt,
-        &pool.room.deciding,
         &mut pool.room.holding,
-        &mut pool.room.rows,
-        &mut pool.room.made,
-        &start,
+        &mut pool.room.stores,
         outcome,
     );
     tools.gate.at(

@@ -1,38 +1,51 @@
 //! What a commit stores behind the answer `Done`.
 
-ghost use Rattle.std.specs.Prelude.{◌≡◌, ◌+◌, ◌-◌, ◌*◌, ◌/◌, ◌<◌, ◌≤◌, ◌++◌, [], length, reverse, slice_index_or, true};
+ghost use Rattle.std.specs.Prelude.{◌≡◌, ◌+◌, ◌-◌, ◌*◌, ◌/◌, ◌<◌, ◌≤◌, ◌++◌, ℕ, length, reverse, slice_index_or};
 ghost use Rattle.syn_plan.specs.declared.TheConstants.{MOST_GATES};
 ghost use Rattle.syn_decide.specs.declared.decisions.TheConstants.{MOST_INNER};
 ghost use Rattle.syn_decide.specs.declared.decisions.NodeRow.{NodeRow};
 ghost use Rattle.syn_decide.specs.Decided.{Done};
 ghost use Rattle.syn_decide.specs.Fold.{Ended};
 ghost use Rattle.syn_decide.specs.Tasks.{task_of};
-ghost use Rattle.syn_decide.specs.Walk.{enters, nodes_of as nodes_of_rows};
+ghost use Rattle.syn_decide.specs.Walk.{nodes_of as nodes_of_rows};
 ghost use Rattle.syn_table.specs.Seating.{IsOf, known_of, nodes_of, view_of};
 ghost use Rattle.syn_table.specs.Steps.{with_view};
-ghost use Rattle.syn_commit_laws.specs.Redefining.{IsInOrder};
-ghost use Rattle.syn_commit.specs.Committed.{IsBooked};
-ghost use Rattle.syn_commit.specs.Counts.{CountsAreLoaded};
 ghost use Rattle.syn_commit.specs.Finishing.{new_row};
-ghost use Rattle.syn_commit.specs.Giving.{HoldsAlone, IsGiving};
-ghost use Rattle.syn_commit.specs.Keyed.{IsKeyedSoFar};
+ghost use Rattle.syn_commit.specs.Giving.{IsHolding};
 ghost use Rattle.syn_commit.specs.Making.{HasMade, IsReady};
-ghost use Rattle.syn_commit.specs.Stages.{IsTrying};
-ghost use Rattle.syn_commit.specs.Walks.{IsOfReads};
+ghost use Rattle.syn_commit.specs.Verdicts.{HasAnswered, IsDone, IsOver};
 
-use crate::finishing::finish;
-use crate::leaving::{Holding, hold};
-use crate::readying::{met_leaves, root_ready};
+use crate::Hints;
+use crate::leaving::{Holding, give_back, hold};
+use crate::readying::met_leaves;
 use crate::spare::Spare;
-use crate::storing::{make_rows, redefine_root, row_made};
-use crate::{Gate, Hints, Tools};
+use crate::storing::{Spacing, make_rows, redefine_root, row_made};
+use crate::trial::Verdict;
 use arrayvec::ArrayVec;
-use std::snapshot::Snapshot;
-use syn_decide::{Attempt, Deciding, NewRows, NodeRow};
+use syn_decide::{Deciding, NewRows, NodeRow};
 use syn_keys::between;
 use syn_plan::MOST_GATES;
 use syn_rows::Row;
-use syn_table::{Seat, Shared};
+use syn_table::Seat;
+
+/// What a commit stores.
+#[derive(Debug, Drop)]
+pub(crate) struct Stores {
+    /// The rows of its new gates.
+    pub(crate) rows: NewRows,
+    /// The rows that it made.
+    pub(crate) made: ArrayVec<NodeRow, MOST_GATES>,
+}
+
+impl Stores {
+    /// Nothing.
+    pub(crate) fn new() -> Stores {
+        Stores {
+            rows: NewRows::new(),
+            made: ArrayVec::new(),
+        }
+    }
+}
 
 // How far apart the keys of so many rows lie between the two.
 fn step_between(low: u64, need: u32, high: u64) -> u64
@@ -49,57 +62,43 @@ fn step_between(low: u64, need: u32, high: u64) -> u64
 
 // Makes a row for each new gate that needs one, in nodes of the pool, and answers the root's new row.
 fn make_new(
-    shared: &Shared,
+    verdict: &Verdict<'_>,
     seat: &mut Seat,
     pool: &mut Spare,
-    attempt: &Attempt<'_>,
-    deciding: &Deciding,
     holding: &mut Holding,
-    rows: &mut NewRows,
-    made: &mut ArrayVec<NodeRow, MOST_GATES>,
-    start: &Snapshot<Seat>,
-    gain: u32,
+    stores: &mut Stores,
 ) -> Row
-    requires table { IsOf seat.old shared.now }
-    requires in_order { IsInOrder (task_of attempt.now) }
-    requires enters { enters attempt.now.candidate.leaves.now [] attempt.now.candidate.root ≡ true }
-    requires size { (task_of attempt.now).pool ≡ length pool.old }
-    requires trying { IsTrying (task_of attempt.now) (view_of start.now.value) pool.old holding.old.pins.items (view_of seat.old) deciding.now }
-    requires keyed { IsKeyedSoFar (task_of attempt.now) holding.old.pins.items (view_of seat.old) deciding.now }
-    requires done { deciding.now.stage ≡ Ended (Done gain) }
-    requires giving { IsGiving pool.old holding.old.pins.items holding.old.gates.items holding.old.idle.items (view_of seat.old) }
-    requires few { length holding.old.pins.items ≤ 390 }
+    requires answered { HasAnswered verdict.now pool.old seat.old holding.old.pins.items }
+    requires done { IsDone verdict.now.deciding.now.stage }
+    requires giving { IsHolding pool.old holding.old (view_of seat.old) }
     requires room { length holding.old.gates.items + length holding.old.idle.items ≤ MOST_INNER + MOST_GATES }
-    ensures table { IsOf seat.new shared.now }
+    ensures table { IsOf seat.new verdict.now.shared.now }
     ensures known { known_of seat.new ≡ with_view (known_of seat.old) (view_of seat.new) }
-    ensures giving { IsGiving pool.new holding.new.pins.items holding.new.gates.items holding.new.idle.items (view_of seat.new) }
+    ensures giving { IsHolding pool.new holding.new (view_of seat.new) }
     ensures pins { holding.new.pins.items ≡ holding.old.pins.items }
-    ensures pool { pool.old ≡ pool.new ++ reverse (nodes_of_rows made.new.items) }
-    ensures row { result ≡ new_row (task_of attempt.now) deciding.now made.new.items }
-    ensures made { HasMade (nodes_of shared.now) (task_of attempt.now) deciding.now made.new.items (view_of seat.old) (view_of seat.new) }
-    ensures ready { IsReady (task_of attempt.now) deciding.now made.new.items (view_of seat.old) (view_of seat.new) }
+    ensures pool { pool.old ≡ pool.new ++ reverse (nodes_of_rows stores.new.made.items) }
+    ensures row { result ≡ new_row (task_of verdict.now.attempt) verdict.now.deciding.now stores.new.made.items }
+    ensures made { HasMade (nodes_of verdict.now.shared.now) (task_of verdict.now.attempt) verdict.now.deciding.now stores.new.made.items (view_of seat.old) (view_of seat.new) }
+    ensures ready { IsReady (task_of verdict.now.attempt) verdict.now.deciding.now stores.new.made.items (view_of seat.old) (view_of seat.new) }
 {
-    let _ = start;
-    let _ = gain;
+    let shared = verdict.shared;
     shared.seats_reach_nodes(seat);
-    root_ready();
-    deciding.new_rows(attempt, rows);
-    let low = deciding.low();
-    let step = step_between(low, rows.needed, deciding.high());
-    made.clear();
+    verdict
+        .deciding
+        .new_rows(&verdict.attempt, &mut stores.rows);
+    let low = verdict.deciding.low();
+    let step = step_between(low, stores.rows.needed, verdict.deciding.high());
     make_rows(
         shared,
         seat,
         pool,
         holding,
-        rows.rows.as_slice(),
-        rows.needed,
-        low,
-        step,
-        made,
+        &stores.rows,
+        Spacing { low, step },
+        &mut stores.made,
     );
     shared.seats_reach_nodes(seat);
-    row_made(made.as_slice(), rows.root)
+    row_made(stores.made.as_slice(), stores.rows.root)
 }
 
 // The root with its row: the first that the walk entered.
@@ -121,71 +120,24 @@ fn note_rows(hints: &Hints, made: &[NodeRow]) {
 
 /// What the answer `Done` stores: a row for each new gate that needs one, the root's, and free rows for what dies. Then all
 /// pins are taken back, and what is left is let go.
-pub(crate) fn store<G: Gate>(
-    tools: &Tools<'_, G>,
+pub(crate) fn store(
+    verdict: &Verdict<'_>,
     seat: &mut Seat,
     pool: &mut Spare,
-    attempt: &Attempt<'_>,
-    deciding: &Deciding,
     holding: &mut Holding,
-    rows: &mut NewRows,
-    made: &mut ArrayVec<NodeRow, MOST_GATES>,
-    start: &Snapshot<Seat>,
-    gain: u32,
+    stores: &mut Stores,
 )
-    requires table { IsOf seat.old tools.now.shared.now }
-    requires in_order { IsInOrder (task_of attempt.now) }
-    requires enters { enters attempt.now.candidate.leaves.now [] attempt.now.candidate.root ≡ true }
-    requires size { (task_of attempt.now).pool ≡ length pool.old }
-    requires trying { IsTrying (task_of attempt.now) (view_of start.now.value) pool.old holding.old.pins.items (view_of seat.old) deciding.now }
-    requires keyed { IsKeyedSoFar (task_of attempt.now) holding.old.pins.items (view_of seat.old) deciding.now }
-    requires loaded { CountsAreLoaded (nodes_of tools.now.shared.now) (view_of seat.old) deciding.now }
-    requires few { length holding.old.pins.items ≤ 390 }
-    requires done { deciding.now.stage ≡ Ended (Done gain) }
-    ensures table { IsOf seat.new tools.now.shared.now }
-    ensures known { known_of seat.new ≡ with_view (known_of seat.old) (view_of seat.new) }
-    ensures alone { HoldsAlone pool.new (view_of seat.new) }
-    ensures reads { IsOfReads (task_of attempt.now) (view_of start.now.value) (view_of seat.new) deciding.now }
-    ensures booked { IsBooked (task_of attempt.now) deciding.now (Done gain) (view_of start.now.value) pool.old (view_of seat.new) pool.new }
+    requires answered { HasAnswered verdict.now pool.old seat.old holding.old.pins.items }
+    requires done { IsDone verdict.now.deciding.now.stage }
+    ensures { (gain : ℕ) → verdict.now.deciding.now.stage ≡ Ended (Done gain) → IsOver verdict.now (Done gain) pool.old seat.old seat.new pool.new }
 {
-    let counted = Snapshot::of(seat);
-    tools.shared.seats_reach_nodes(seat);
-    hold(deciding, holding);
-    let row = make_new(
-        tools.shared,
-        seat,
-        pool,
-        attempt,
-        deciding,
-        holding,
-        rows,
-        made,
-        start,
-        gain,
-    );
-    let root = root_of(deciding);
-    let over = met_leaves(attempt, deciding);
-    redefine_root(
-        tools.shared,
-        seat,
-        pool,
-        holding,
-        root,
-        row,
-        deciding.high(),
-        over.as_slice(),
-    );
-    finish(
-        tools.shared,
-        seat,
-        pool,
-        deciding,
-        holding,
-        root,
-        row,
-        made.as_slice(),
-        gain,
-        &counted,
-    );
-    note_rows(tools.hints, made.as_slice());
+    let shared = verdict.shared;
+    shared.seats_reach_nodes(seat);
+    hold(verdict.deciding, holding);
+    let row = make_new(verdict, seat, pool, holding, stores);
+    let root = root_of(verdict.deciding);
+    let over = met_leaves(&verdict.attempt, verdict.deciding);
+    redefine_root(shared, seat, pool, holding, root, row, over.as_slice());
+    give_back(shared, seat, pool, holding);
+    note_rows(verdict.hints, stores.made.as_slice());
 }

@@ -8,22 +8,19 @@ ghost use Rattle.syn_core_laws.specs.declared.EventKind.TheVariants as Kind;
 ghost use Rattle.syn_plan.specs.declared.TheConstants.{MOST_GATES};
 ghost use Rattle.syn_decide.specs.declared.decisions.TheConstants.{MOST_INNER};
 ghost use Rattle.syn_decide.specs.declared.decisions.NodeRow.{NodeRow};
-ghost use Rattle.syn_decide.specs.Tasks.{task_of};
-ghost use Rattle.syn_decide.specs.Walk.{enters, nodes_of as nodes_of_rows};
+ghost use Rattle.syn_decide.specs.Decided.{Answer, Done};
+ghost use Rattle.syn_decide.specs.Walk.{nodes_of as nodes_of_rows};
 ghost use Rattle.syn_table.specs.Seating.{IsOf, known_of, nodes_of, view_of};
 ghost use Rattle.syn_table.specs.Steps.{with_view};
 ghost use Rattle.syn_commit_laws.specs.Turning.{Turns};
-ghost use Rattle.syn_commit.specs.Committed.{HasStoredNone};
-ghost use Rattle.syn_commit.specs.Counts.{CountsAreLoaded};
-ghost use Rattle.syn_commit.specs.Stages.{HasEnded, IsTrying};
-ghost use Rattle.syn_commit.specs.Walks.{IsOfReads};
-ghost use Rattle.syn_commit.specs.Giving.{FellByLate, Gives, HasGivenUp, HoldsAlone, IsGiving, IsLetGo, with_gate, with_gates, work_left};
+ghost use Rattle.syn_commit.specs.Giving.{Gives, HasGivenBack, HoldsAlone, IsGiving, IsHolding, IsLetGo, with_gate, with_gates, work_left};
+ghost use Rattle.syn_commit.specs.Verdicts.{HasAnswered, IsOver};
 
 use crate::loading::MOST_PINS;
 use crate::spare::Spare;
+use crate::trial::Verdict;
 use arrayvec::ArrayVec;
-use std::snapshot::Snapshot;
-use syn_decide::{Attempt, Deciding, NodeRow};
+use syn_decide::{Deciding, NodeRow};
 use syn_rows::Row;
 use syn_table::{Seat, Shared};
 
@@ -93,7 +90,7 @@ fn unpin(shared: &Shared, seat: &mut Seat, pool: &Spare, holding: &mut Holding, 
     requires giving { IsGiving pool.now (holding.old.pins.items ++ pin ∷ []) holding.old.gates.items holding.old.idle.items (view_of seat.old) }
     ensures table { IsOf seat.new shared.now }
     ensures known { known_of seat.new ≡ with_view (known_of seat.old) (view_of seat.new) }
-    ensures giving { IsGiving pool.now holding.new.pins.items holding.new.gates.items holding.new.idle.items (view_of seat.new) }
+    ensures giving { IsHolding pool.now holding.new (view_of seat.new) }
     ensures turns { Turns (nodes_of shared.now) (view_of seat.old) (Kind.Unpin pin) (view_of seat.new) }
     ensures pins { holding.new.pins.items ≡ holding.old.pins.items }
     ensures size { length holding.new.gates.items + length holding.new.idle.items ≡ length holding.old.gates.items + length holding.old.idle.items }
@@ -109,10 +106,10 @@ fn unpin(shared: &Shared, seat: &mut Seat, pool: &Spare, holding: &mut Holding, 
     set_idle(holding, place);
 }
 
-// The nodes of a row become pins.
-fn push_refs(pins: &mut ArrayVec<u32, MOST_PINS>, row: Row)
-    requires { pins.old.items ≡ [] }
-    ensures { pins.new.items ≡ refs_of row }
+/// The nodes of a row become pins.
+pub(crate) fn add_refs(pins: &mut ArrayVec<u32, MOST_PINS>, row: Row)
+    requires { length pins.old.items + 2 ≤ 512 }
+    ensures { pins.new.items ≡ pins.old.items ++ refs_of row }
 {
     match row {
         Row::Free | Row::Source => (),
@@ -132,24 +129,24 @@ fn free(shared: &Shared, seat: &mut Seat, pool: &mut Spare, holding: &mut Holdin
     requires none { holding.old.pins.items ≡ [] }
     ensures table { IsOf seat.new shared.now }
     ensures known { known_of seat.new ≡ with_view (known_of seat.old) (view_of seat.new) }
-    ensures giving { IsGiving pool.new holding.new.pins.items holding.new.gates.items holding.new.idle.items (view_of seat.new) }
+    ensures giving { IsHolding pool.new holding.new (view_of seat.new) }
     ensures gives { Gives (nodes_of shared.now) (view_of seat.old) pool.old (view_of seat.new) pool.new }
     ensures pins { holding.new.pins.items ≡ refs_of gate.row }
     ensures size { length holding.new.gates.items + length holding.new.idle.items ≡ length holding.old.gates.items + length holding.old.idle.items }
 {
     shared.seats_reach_nodes(seat);
     shared.free(seat, gate.node);
-    push_refs(&mut holding.pins, gate.row);
+    add_refs(&mut holding.pins, gate.row);
     pool.take_in(shared, seat, gate.node);
 }
 
 // Takes a pin back, or frees a gate of the zero list where no pin is left. False where neither is left.
 fn give_one(shared: &Shared, seat: &mut Seat, pool: &mut Spare, holding: &mut Holding) -> bool
     requires table { IsOf seat.old shared.now }
-    requires giving { IsGiving pool.old holding.old.pins.items holding.old.gates.items holding.old.idle.items (view_of seat.old) }
+    requires giving { IsHolding pool.old holding.old (view_of seat.old) }
     ensures table { IsOf seat.new shared.now }
     ensures known { known_of seat.new ≡ with_view (known_of seat.old) (view_of seat.new) }
-    ensures giving { IsGiving pool.new holding.new.pins.items holding.new.gates.items holding.new.idle.items (view_of seat.new) }
+    ensures giving { IsHolding pool.new holding.new (view_of seat.new) }
     ensures gives { Gives (nodes_of shared.now) (view_of seat.old) pool.old (view_of seat.new) pool.new }
     ensures less { result ≡ true → work_left holding.new.pins.items holding.new.gates.items holding.new.idle.items < work_left holding.old.pins.items holding.old.gates.items holding.old.idle.items }
     ensures over { result ≡ false → (holding.new.pins.items ≡ []) × (holding.new.idle.items ≡ []) }
@@ -168,7 +165,7 @@ fn give_one(shared: &Shared, seat: &mut Seat, pool: &mut Spare, holding: &mut Ho
 /// Takes all pins back, and frees what nobody refers to any more, until no pin is left and nothing is on the zero list.
 pub(crate) fn drain(shared: &Shared, seat: &mut Seat, pool: &mut Spare, holding: &mut Holding)
     requires table { IsOf seat.old shared.now }
-    requires giving { IsGiving pool.old holding.old.pins.items holding.old.gates.items holding.old.idle.items (view_of seat.old) }
+    requires giving { IsHolding pool.old holding.old (view_of seat.old) }
     ensures table { IsOf seat.new shared.now }
     ensures known { known_of seat.new ≡ with_view (known_of seat.old) (view_of seat.new) }
     ensures giving { IsGiving pool.new [] holding.new.gates.items [] (view_of seat.new) }
@@ -227,34 +224,32 @@ pub(crate) fn hold(deciding: &Deciding, holding: &mut Holding)
     add_gates(&mut holding.gates, deciding.hits());
 }
 
-/// A commit gives up: it takes its pins back, frees what nobody refers to any more, and lets the other nodes go that it
-/// took.
-pub(crate) fn give_up(
-    shared: &Shared,
-    seat: &mut Seat,
-    pool: &mut Spare,
-    attempt: &Attempt<'_>,
-    deciding: &Deciding,
-    holding: &mut Holding,
-    start: &Snapshot<Seat>,
-)
+/// Takes all pins back, frees what nobody refers to any more, and lets the gates go that are left.
+pub(crate) fn give_back(shared: &Shared, seat: &mut Seat, pool: &mut Spare, holding: &mut Holding)
     requires table { IsOf seat.old shared.now }
-    requires enters { enters attempt.now.candidate.leaves.now [] attempt.now.candidate.root ≡ true }
-    requires trying { IsTrying (task_of attempt.now) (view_of start.now.value) pool.old holding.old.pins.items (view_of seat.old) deciding.now }
-    requires loaded { CountsAreLoaded (nodes_of shared.now) (view_of seat.old) deciding.now }
-    requires ended { HasEnded deciding.now.stage }
+    requires giving { IsHolding pool.old holding.old (view_of seat.old) }
     ensures table { IsOf seat.new shared.now }
     ensures known { known_of seat.new ≡ with_view (known_of seat.old) (view_of seat.new) }
     ensures alone { HoldsAlone pool.new (view_of seat.new) }
-    ensures reads { IsOfReads (task_of attempt.now) (view_of start.now.value) (view_of seat.new) deciding.now }
-    ensures given { HasGivenUp (nodes_of shared.now) (view_of seat.old) pool.old (view_of seat.new) pool.new }
-    ensures late { FellByLate (view_of start.now.value) (view_of seat.new) deciding.now }
-    ensures none { HasStoredNone deciding.now (view_of start.now.value) pool.old (view_of seat.new) pool.new }
+    ensures given { HasGivenBack (nodes_of shared.now) (view_of seat.old) pool.old (view_of seat.new) pool.new }
 {
-    let _ = attempt;
-    let _ = start;
-    shared.seats_reach_nodes(seat);
-    hold(deciding, holding);
     drain(shared, seat, pool, holding);
+    shared.seats_reach_nodes(seat);
     let_go(shared, seat, pool, holding);
+}
+
+/// A commit gives up: it takes its pins back, frees what nobody refers to any more, and lets the other nodes go that it
+/// took. It is over with any answer but `Done`.
+pub(crate) fn give_up(
+    verdict: &Verdict<'_>,
+    seat: &mut Seat,
+    pool: &mut Spare,
+    holding: &mut Holding,
+)
+    requires { HasAnswered verdict.now pool.old seat.old holding.old.pins.items }
+    ensures { (answer : Answer) → ((gain : ℕ) → answer ≡ Done gain → ⊥) → IsOver verdict.now answer pool.old seat.old seat.new pool.new }
+{
+    verdict.shared.seats_reach_nodes(seat);
+    hold(verdict.deciding, holding);
+    give_back(verdict.shared, seat, pool, holding);
 }

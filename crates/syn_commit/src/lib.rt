@@ -4,7 +4,6 @@
 mod answering;
 mod committing;
 mod done;
-mod finishing;
 mod gates;
 mod hinting;
 mod hints;
@@ -14,6 +13,7 @@ mod pools;
 mod readying;
 mod spare;
 mod storing;
+mod trial;
 mod walking;
 
 pub use committing::try_commit;

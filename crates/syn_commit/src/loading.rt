@@ -13,13 +13,11 @@ ghost use Rattle.syn_decide.specs.Walk.{enters};
 ghost use Rattle.syn_table.specs.Seating.{IsOf, known_of, nodes_of, view_of};
 ghost use Rattle.syn_table.specs.Steps.{with_view};
 ghost use Rattle.syn_commit.specs.Counts.{CountsAreLoaded};
-ghost use Rattle.syn_commit.specs.Keyed.{IsKeyedSoFar, RowsAreReady};
-ghost use Rattle.syn_commit.specs.Walks.{KeysWait};
-ghost use Rattle.syn_commit.specs.Stages.{HasEnded, IsCounted, IsKeyed, IsPastKeys, IsPastWalk, IsTrying, leaf_pinned, with_leaf};
+ghost use Rattle.syn_commit.specs.Stages.{HasEnded, IsCounted, IsKeyed, IsPastKeys, leaf_pinned, with_leaf};
+ghost use Rattle.syn_commit.specs.Trials.{HasWalked, IsUnderWay};
 
-use crate::spare::Spare;
+use crate::trial::Trial;
 use arrayvec::ArrayVec;
-use std::snapshot::Snapshot;
 use syn_core_laws::Seen;
 use syn_decide::{Attempt, Deciding, Decision, Want};
 use syn_table::{Seat, Shared};
@@ -87,42 +85,25 @@ fn next_key(deciding: &Deciding) -> Option<u32>
 
 /// Loads the keys of the used leaves, rising, each under a pin that stays, and then the root's.
 pub(crate) fn keys(
-    shared: &Shared,
+    trial: &Trial<'_>,
     seat: &mut Seat,
-    pool: &Spare,
-    attempt: &Attempt<'_>,
     deciding: &mut Deciding,
     pins: &mut ArrayVec<u32, MOST_PINS>,
-    start: &Snapshot<Seat>,
 )
-    requires table { IsOf seat.old shared.now }
-    requires enters { enters attempt.now.candidate.leaves.now [] attempt.now.candidate.root ≡ true }
-    requires trying { IsTrying (task_of attempt.now) (view_of start.now.value) pool.now pins.old.items (view_of seat.old) deciding.old }
+    requires walked { HasWalked trial.now seat.old deciding.old }
+    requires enters { enters trial.now.attempt.candidate.leaves.now [] trial.now.attempt.candidate.root ≡ true }
     requires none { pins.old.items ≡ [] }
-    requires past { IsPastWalk deciding.old.stage }
-    requires waits { KeysWait (task_of attempt.now) deciding.old.stage }
-    requires no_hits { deciding.old.hits ≡ [] }
-    requires uncounted { deciding.old.counts ≡ [] }
-    ensures table { IsOf seat.new shared.now }
     ensures known { known_of seat.new ≡ with_view (known_of seat.old) (view_of seat.new) }
-    ensures trying { IsTrying (task_of attempt.now) (view_of start.now.value) pool.now pins.new.items (view_of seat.new) deciding.new }
+    ensures way { IsUnderWay trial.now seat.new pins.new.items deciding.new }
     ensures misses { (view_of seat.new).misses ≡ (view_of seat.old).misses }
     ensures few { length pins.new.items ≤ 9 }
-    ensures keyed { IsKeyedSoFar (task_of attempt.now) pins.new.items (view_of seat.new) deciding.new }
     ensures uncounted { deciding.new.counts ≡ [] }
     ensures past { IsPastKeys deciding.new.stage }
 {
-    let _ = pool;
-    let _ = start;
     while let Some(node) = next_key(deciding) {
-        load_key(shared, seat, attempt, deciding, pins, node);
+        load_key(trial.shared, seat, &trial.attempt, deciding, pins, node);
     }
 }
-
-/// Behind the keys the rows of new gates may be made.
-pub(crate) fn rows_ready()
-    ensures { RowsAreReady }
-{}
 
 // How often the node stands among the pins.
 fn times_in(pins: &[u32], node: u32) -> u32
@@ -172,31 +153,29 @@ fn next_count(deciding: &Deciding) -> Option<u32>
 
 /// Loads the counts of the inner rows, in the order of the walk.
 pub(crate) fn counts(
-    shared: &Shared,
+    trial: &Trial<'_>,
     seat: &mut Seat,
-    pool: &Spare,
-    attempt: &Attempt<'_>,
     deciding: &mut Deciding,
     pins: &ArrayVec<u32, MOST_PINS>,
-    start: &Snapshot<Seat>,
 )
-    requires table { IsOf seat.old shared.now }
-    requires trying { IsTrying (task_of attempt.now) (view_of start.now.value) pool.now pins.now.items (view_of seat.old) deciding.old }
+    requires way { IsUnderWay trial.now seat.old pins.now.items deciding.old }
     requires few { length pins.now.items ≤ 512 }
-    requires keyed { IsKeyedSoFar (task_of attempt.now) pins.now.items (view_of seat.old) deciding.old }
     requires past { IsPastKeys deciding.old.stage }
     requires uncounted { deciding.old.counts ≡ [] }
-    ensures table { IsOf seat.new shared.now }
     ensures known { known_of seat.new ≡ with_view (known_of seat.old) (view_of seat.new) }
-    ensures loaded { CountsAreLoaded (nodes_of shared.now) (view_of seat.new) deciding.new }
-    ensures trying { IsTrying (task_of attempt.now) (view_of start.now.value) pool.now pins.now.items (view_of seat.new) deciding.new }
+    ensures way { IsUnderWay trial.now seat.new pins.now.items deciding.new }
+    ensures loaded { CountsAreLoaded (nodes_of trial.now.shared.now) (view_of seat.new) deciding.new }
     ensures misses { (view_of seat.new).misses ≡ (view_of seat.old).misses }
-    ensures keyed { IsKeyedSoFar (task_of attempt.now) pins.now.items (view_of seat.new) deciding.new }
     ensures ended { HasEnded deciding.new.stage }
 {
-    let _ = pool;
-    let _ = start;
     while let Some(node) = next_count(deciding) {
-        load_count(shared, seat, attempt, deciding, pins.as_slice(), node);
+        load_count(
+            trial.shared,
+            seat,
+            &trial.attempt,
+            deciding,
+            pins.as_slice(),
+            node,
+        );
     }
 }

@@ -6,12 +6,11 @@ ghost use Rattle.syn_table.specs.Seating.{IsOf, known_of, nodes_of, view_of};
 ghost use Rattle.syn_table.specs.Steps.{with_view};
 ghost use Rattle.syn_commit.specs.Pools.{HoldsNoneOf, IsEmptied, IsFilled, KeepsPool};
 
+use crate::done::Stores;
 use crate::leaving::Holding;
 use crate::spare::Spare;
-use arrayvec::ArrayVec;
 use std::marker::Model;
-use syn_decide::{Deciding, NewRows, NodeRow};
-use syn_plan::MOST_GATES;
+use syn_decide::Deciding;
 use syn_table::{Seat, Shared};
 
 /// What a commit works with. It is some hundred thousand bytes, so it is made once a worker, and begun anew for each commit.
@@ -21,10 +20,8 @@ pub(crate) struct Room {
     pub(crate) deciding: Deciding,
     /// What it holds.
     pub(crate) holding: Holding,
-    /// The rows that it is to store.
-    pub(crate) rows: NewRows,
-    /// The rows that it made.
-    pub(crate) made: ArrayVec<NodeRow, MOST_GATES>,
+    /// The rows that it stores.
+    pub(crate) stores: Stores,
 }
 
 impl Room {
@@ -32,8 +29,7 @@ impl Room {
         Room {
             deciding: Deciding::new(),
             holding: Holding::new(),
-            rows: NewRows::new(),
-            made: ArrayVec::new(),
+            stores: Stores::new(),
         }
     }
 }

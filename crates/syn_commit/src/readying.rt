@@ -3,7 +3,6 @@
 ghost use Rattle.std.specs.Prelude.{◌≡◌, ◌≤◌, length};
 ghost use Rattle.syn_decide.specs.Tasks.{task_of};
 ghost use Rattle.syn_commit_laws.specs.Redefining as redefining;
-ghost use Rattle.syn_commit.specs.Readying.{RootIsReady};
 
 use arrayvec::ArrayVec;
 use syn_decide::{Attempt, Deciding};
@@ -25,8 +24,3 @@ pub(crate) fn met_leaves(attempt: &Attempt<'_>, deciding: &Deciding) -> ArrayVec
     }
     met
 }
-
-/// Behind the answer `Done` the root's new row, stored, is one that a redefine may store.
-pub(crate) fn root_ready()
-    ensures { RootIsReady }
-{}

@@ -5,23 +5,23 @@ ghost use Rattle.std.specs.List.{remove};
 ghost use Rattle.syn_rows.specs.Rows.{AllRefs, is_derived, refs_of};
 ghost use Rattle.syn_core_laws.specs.Events.{IsAnd, MayPin};
 ghost use Rattle.syn_core_laws.specs.SameValue.{SameValue};
-ghost use Rattle.syn_core_laws.specs.Views.{known_key, known_row, pinned};
+ghost use Rattle.syn_core_laws.specs.Views.{known_row, pinned};
 ghost use Rattle.syn_plan.specs.declared.TheConstants.{MOST_GATES};
+ghost use Rattle.syn_decide.specs.declared.decisions.TheConstants.{MOST_INNER};
 ghost use Rattle.syn_decide.specs.declared.decisions.NodeRow.{NodeRow};
 ghost use Rattle.syn_decide.specs.Walk.{nodes_of as nodes_of_rows};
 ghost use Rattle.syn_table.specs.Seating.{IsOf, known_of, nodes_of, view_of};
 ghost use Rattle.syn_table.specs.Steps.{with_view};
 ghost use Rattle.syn_commit_laws.specs.Redefining as redefining;
 ghost use Rattle.syn_commit_laws.specs.Turning.{TurnsAll};
-ghost use Rattle.syn_commit.specs.Giving.{IsGiving};
+ghost use Rattle.syn_commit.specs.Giving.{IsHolding};
 ghost use Rattle.syn_commit.specs.Storing as spec;
-ghost use Rattle.syn_commit.specs.Storing.{AreMade, AreNewRows, KeepsKnown, MayReferTo, RedefinesRow, StoresFree, makes_row, makes_rows, with_pins, with_row};
+ghost use Rattle.syn_commit.specs.Storing.{AreMade, AreNewRows, KeepsKnown, MayReferTo, MayStandAt, RedefinesRow, makes_row, makes_rows, with_pins, with_row};
 
-use crate::leaving::{Holding, MOST_HELD, place_of};
-use crate::loading::MOST_PINS;
+use crate::leaving::{Holding, MOST_HELD, add_refs, place_of};
 use crate::spare::Spare;
 use arrayvec::ArrayVec;
-use syn_decide::NodeRow;
+use syn_decide::{NewRows, NodeRow};
 use syn_plan::MOST_GATES;
 use syn_rows::{Lit, NODE_LIMIT, Row, ordered_and};
 use syn_table::{Seat, Shared};
@@ -42,12 +42,12 @@ fn set_busy(holding: &mut Holding, place: usize)
 // Pins a node for one place of a row to come.
 fn pin_place(shared: &Shared, seat: &mut Seat, pool: &Spare, holding: &mut Holding, node: u32)
     requires table { IsOf seat.old shared.now }
-    requires giving { IsGiving pool.now holding.old.pins.items holding.old.gates.items holding.old.idle.items (view_of seat.old) }
+    requires giving { IsHolding pool.now holding.old (view_of seat.old) }
     requires may { MayPin (view_of seat.old) node }
     requires few { length holding.old.pins.items < 512 }
     ensures table { IsOf seat.new shared.now }
     ensures known { known_of seat.new ≡ with_view (known_of seat.old) (pinned (view_of seat.old) node) }
-    ensures giving { IsGiving pool.now holding.new.pins.items holding.new.gates.items holding.new.idle.items (view_of seat.new) }
+    ensures giving { IsHolding pool.now holding.new (view_of seat.new) }
     ensures pins { holding.new.pins.items ≡ holding.old.pins.items ++ node ∷ [] }
     ensures size { length holding.new.gates.items + length holding.new.idle.items ≡ length holding.old.gates.items + length holding.old.idle.items }
 {
@@ -63,12 +63,12 @@ fn pin_place(shared: &Shared, seat: &mut Seat, pool: &Spare, holding: &mut Holdi
 // Pins each node to which a row to come refers, once for each place.
 fn pin_places(shared: &Shared, seat: &mut Seat, pool: &Spare, holding: &mut Holding, row: Row)
     requires table { IsOf seat.old shared.now }
-    requires giving { IsGiving pool.now holding.old.pins.items holding.old.gates.items holding.old.idle.items (view_of seat.old) }
+    requires giving { IsHolding pool.now holding.old (view_of seat.old) }
     requires may { AllRefs (MayPin (view_of seat.old)) row }
     requires few { length holding.old.pins.items + 2 ≤ 512 }
     ensures table { IsOf seat.new shared.now }
     ensures known { known_of seat.new ≡ with_view (known_of seat.old) (with_pins (refs_of row) (view_of seat.old)) }
-    ensures giving { IsGiving pool.now holding.new.pins.items holding.new.gates.items holding.new.idle.items (view_of seat.new) }
+    ensures giving { IsHolding pool.now holding.new (view_of seat.new) }
     ensures pins { holding.new.pins.items ≡ holding.old.pins.items ++ refs_of row }
     ensures size { length holding.new.gates.items + length holding.new.idle.items ≡ length holding.old.gates.items + length holding.old.idle.items }
 {
@@ -92,7 +92,7 @@ fn make_one(
     key: u64,
 ) -> u32
     requires table { IsOf seat.old shared.now }
-    requires giving { IsGiving pool.old holding.old.pins.items holding.old.gates.items holding.old.idle.items (view_of seat.old) }
+    requires giving { IsHolding pool.old holding.old (view_of seat.old) }
     requires row { IsAnd row }
     requires may { AllRefs (MayReferTo (view_of seat.old) key) row }
     requires some { 1 ≤ length pool.old }
@@ -104,7 +104,7 @@ fn make_one(
     ensures keeps { KeepsKnown (view_of seat.old) (view_of seat.new) }
     ensures keyed { MayReferTo (view_of seat.new) (suc key) result }
     ensures row { known_row (view_of seat.new) result ≡ Some row }
-    ensures giving { IsGiving pool.new holding.new.pins.items holding.new.gates.items holding.new.idle.items (view_of seat.new) }
+    ensures giving { IsHolding pool.new holding.new (view_of seat.new) }
     ensures pool { pool.old ≡ pool.new ++ result ∷ [] }
     ensures pins { holding.new.pins.items ≡ holding.old.pins.items }
     ensures size { length holding.new.gates.items + length holding.new.idle.items ≡ length holding.old.gates.items + length holding.old.idle.items + 1 }
@@ -117,6 +117,15 @@ fn make_one(
     holding.pins.truncate(before);
     holding.idle.push(NodeRow { node, row });
     node
+}
+
+/// How the keys of the rows that are made lie: a step apart, behind `low`.
+#[derive(Clone, Copy, Debug)]
+pub(crate) struct Spacing {
+    /// The greatest key below.
+    pub(crate) low: u64,
+    /// How far apart two keys lie.
+    pub(crate) step: u64,
 }
 
 // The number of the first new gate.
@@ -157,46 +166,43 @@ pub(crate) fn row_made(made: &[NodeRow], row: Row) -> Row
     }
 }
 
-/// Makes the first of the rows, as many as are needed, in nodes of the pool, and notes them in order. Their keys are a
-/// step apart, from `low` on.
+/// Makes the first of the rows, as many as are needed, in nodes of the pool, and lists them in order. Their keys are a step
+/// apart, from `low` on.
 pub(crate) fn make_rows(
     shared: &Shared,
     seat: &mut Seat,
     pool: &mut Spare,
     holding: &mut Holding,
-    rows: &[Row],
-    need: u32,
-    low: u64,
-    step: u64,
+    rows: &NewRows,
+    spacing: Spacing,
     made: &mut ArrayVec<NodeRow, MOST_GATES>,
 )
     requires table { IsOf seat.old shared.now }
-    requires giving { IsGiving pool.old holding.old.pins.items holding.old.gates.items holding.old.idle.items (view_of seat.old) }
-    requires rows { AreNewRows (view_of seat.old) low need rows.now }
-    requires there { need ≤ length rows.now }
-    requires gates { need ≤ MOST_GATES }
-    requires pool { need ≤ length pool.old }
-    requires step { 1 ≤ step }
-    requires keys { low + need * step < 2 ^ 64 }
-    requires none { made.old.items ≡ [] }
+    requires giving { IsHolding pool.old holding.old (view_of seat.old) }
+    requires rows { AreNewRows (view_of seat.old) spacing.low rows.now.needed rows.now.rows.items }
+    requires there { rows.now.needed ≤ length rows.now.rows.items }
+    requires pool { rows.now.needed ≤ length pool.old }
+    requires step { 1 ≤ spacing.step }
+    requires keys { spacing.low + rows.now.needed * spacing.step < 2 ^ 64 }
     requires few { length holding.old.pins.items + 2 ≤ 512 }
-    requires room { length holding.old.gates.items + length holding.old.idle.items + need ≤ MOST_HELD }
+    requires room { length holding.old.gates.items + length holding.old.idle.items ≤ MOST_INNER + MOST_GATES }
     ensures table { IsOf seat.new shared.now }
     ensures known { known_of seat.new ≡ with_view (known_of seat.old) (view_of seat.new) }
-    ensures turns { TurnsAll (nodes_of shared.now) (view_of seat.old) (makes_rows low step 0 made.new.items) (view_of seat.new) }
+    ensures turns { TurnsAll (nodes_of shared.now) (view_of seat.old) (makes_rows spacing.low spacing.step 0 made.new.items) (view_of seat.new) }
     ensures keeps { KeepsKnown (view_of seat.old) (view_of seat.new) }
-    ensures made { AreMade low step rows.now made.new.items (view_of seat.new) }
-    ensures count { length made.new.items ≡ need }
-    ensures giving { IsGiving pool.new holding.new.pins.items holding.new.gates.items holding.new.idle.items (view_of seat.new) }
+    ensures made { AreMade spacing.low spacing.step rows.now.rows.items made.new.items (view_of seat.new) }
+    ensures count { length made.new.items ≡ rows.now.needed }
+    ensures giving { IsHolding pool.new holding.new (view_of seat.new) }
     ensures pool { pool.old ≡ pool.new ++ reverse (nodes_of_rows made.new.items) }
     ensures pins { holding.new.pins.items ≡ holding.old.pins.items }
-    ensures size { length holding.new.gates.items + length holding.new.idle.items ≡ length holding.old.gates.items + length holding.old.idle.items + need }
 {
-    let mut key = low;
-    for i in 0..need {
+    made.clear();
+    let list = rows.rows.as_slice();
+    let mut key = spacing.low;
+    for i in 0..rows.needed {
         shared.seats_reach_nodes(seat);
-        key += step;
-        let row = row_made(made.as_slice(), rows[i as usize]);
+        key += spacing.step;
+        let row = row_made(made.as_slice(), list[i as usize]);
         let node = make_one(shared, seat, pool, holding, row, key);
         made.push(NodeRow { node, row });
     }
@@ -214,21 +220,6 @@ fn set_row(gates: &mut ArrayVec<NodeRow, MOST_HELD>, node: u32, row: Row)
     }
 }
 
-// The nodes of a row become pins.
-fn add_refs(pins: &mut ArrayVec<u32, MOST_PINS>, row: Row)
-    requires { length pins.old.items + 2 ≤ 512 }
-    ensures { pins.new.items ≡ pins.old.items ++ refs_of row }
-{
-    match row {
-        Row::Free | Row::Source => (),
-        Row::And(a, b) => {
-            pins.push(a.node());
-            pins.push(b.node());
-        }
-        Row::Alias(a) => pins.push(a.node()),
-    }
-}
-
 /// Gives the root its new row, which has the old one's value over these nodes: a pin for each place, and then the row.
 /// What the old row referred to is pinned.
 pub(crate) fn redefine_root(
@@ -238,16 +229,14 @@ pub(crate) fn redefine_root(
     holding: &mut Holding,
     root: NodeRow,
     row: Row,
-    key: u64,
     over: &[u32],
 )
     requires table { IsOf seat.old shared.now }
-    requires giving { IsGiving pool.now holding.old.pins.items holding.old.gates.items holding.old.idle.items (view_of seat.old) }
+    requires giving { IsHolding pool.now holding.old (view_of seat.old) }
     requires root { known_row (view_of seat.old) root.node ≡ Some root.row }
-    requires key { known_key (view_of seat.old) root.node ≡ Some key }
     requires was { is_derived root.row ≡ true }
     requires gate { is_derived row ≡ true }
-    requires may { AllRefs (MayReferTo (view_of seat.old) key) row }
+    requires may { MayStandAt (view_of seat.old) root.node row }
     requires over { length over.now ≤ 8 }
     requires same { SameValue (view_of seat.old) over.now root.row row }
     requires few { length holding.old.pins.items + 4 ≤ 512 }
@@ -255,10 +244,9 @@ pub(crate) fn redefine_root(
     ensures known { known_of seat.new ≡ with_view (known_of seat.old) (view_of seat.new) }
     ensures turns { RedefinesRow (nodes_of shared.now) (view_of seat.old) root.node row (view_of seat.new) }
     ensures row { known_row (view_of seat.new) root.node ≡ Some row }
-    ensures giving { IsGiving pool.now holding.new.pins.items holding.new.gates.items holding.new.idle.items (view_of seat.new) }
+    ensures giving { IsHolding pool.now holding.new (view_of seat.new) }
     ensures pins { holding.new.pins.items ≡ holding.old.pins.items ++ refs_of root.row }
 {
-    let _ = key;
     shared.seats_reach_nodes(seat);
     let before = holding.pins.len();
     pin_places(shared, seat, pool, holding, row);
@@ -268,8 +256,3 @@ pub(crate) fn redefine_root(
     set_row(&mut holding.gates, root.node, row);
     set_row(&mut holding.idle, root.node, row);
 }
-
-/// Rows that are made and the root's are events of a commit: what is to die with the root still does.
-pub(crate) fn stores_free()
-    ensures { StoresFree }
-{}

@@ -1,17 +1,15 @@
 //! The walk of a commit, from the root to the leaves, under claims.
 
-ghost use Rattle.std.specs.Prelude.{◌≡◌, ◌<◌, ℕ, [], false, length, true};
+ghost use Rattle.std.specs.Prelude.{◌≡◌, ◌<◌, false, length};
 ghost use Rattle.syn_rows.specs.Nodes.{has_node};
-ghost use Rattle.syn_decide.specs.Fold as fold;
 ghost use Rattle.syn_decide.specs.Tasks.{task_of};
-ghost use Rattle.syn_decide.specs.Walk.{enters};
 ghost use Rattle.syn_table.specs.Seating.{IsOf, known_of, nodes_of, view_of};
 ghost use Rattle.syn_table.specs.Steps.{with_view};
-ghost use Rattle.syn_commit.specs.Pools.{KeepsPool};
 ghost use Rattle.syn_commit.specs.Stages.{IsPastWalk};
+ghost use Rattle.syn_commit.specs.Trials.{Begins, HasWalked};
 ghost use Rattle.syn_commit.specs.Walks.{IsEntered, IsWalking};
 
-use crate::spare::Spare;
+use crate::trial::Trial;
 use syn_core_laws::Seen;
 use syn_decide::{Attempt, Deciding, Decision, Want};
 use syn_table::{Seat, Shared};
@@ -44,30 +42,28 @@ fn enter(
     }
 }
 
-/// Loads the rows between the root and the leaves, as long as the decision asks for rows.
-pub(crate) fn walk(
-    shared: &Shared,
-    seat: &mut Seat,
-    pool: &Spare,
-    attempt: &Attempt<'_>,
-    deciding: &mut Deciding,
-)
-    requires table { IsOf seat.old shared.now }
-    requires start { deciding.old ≡ fold.begin (task_of attempt.now) }
-    requires pool { KeepsPool (view_of seat.old) pool.now }
-    requires alone { (n : ℕ) → has_node (view_of seat.old).held n ≡ has_node pool.now n }
-    requires root { attempt.now.candidate.root < nodes_of shared.now }
-    requires not_spare { has_node pool.now attempt.now.candidate.root ≡ false }
-    requires enters { enters attempt.now.candidate.leaves.now [] attempt.now.candidate.root ≡ true }
-    ensures table { IsOf seat.new shared.now }
+// Loads rows as long as the decision asks for rows.
+fn load_rows(trial: &Trial<'_>, seat: &mut Seat, deciding: &mut Deciding)
+    requires { Begins trial.now seat.old deciding.old }
+    ensures table { IsOf seat.new trial.now.shared.now }
     ensures known { known_of seat.new ≡ with_view (known_of seat.old) (view_of seat.new) }
-    ensures walked { IsWalking (task_of attempt.now) (view_of seat.old) pool.now (view_of seat.new) deciding.new }
+    ensures walking { IsWalking (task_of trial.now.attempt) (view_of seat.old) trial.now.pool.now (view_of seat.new) deciding.new }
     ensures past { IsPastWalk deciding.new.stage }
     ensures sole { length (known_of seat.old).numbers ≡ 64 → (view_of seat.new).misses ≡ (view_of seat.old).misses }
 {
-    let _ = pool;
     while let Decision::Next(Want::Row(node)) = deciding.wants() {
-        shared.seats_reach_nodes(seat);
-        enter(shared, seat, attempt, deciding, node);
+        trial.shared.seats_reach_nodes(seat);
+        enter(trial.shared, seat, &trial.attempt, deciding, node);
     }
+}
+
+/// Loads the rows between the root and the leaves, from the commit's start.
+pub(crate) fn walk(trial: &Trial<'_>, seat: &mut Seat, deciding: &mut Deciding)
+    requires { Begins trial.now seat.old deciding.old }
+    ensures known { known_of seat.new ≡ with_view (known_of seat.old) (view_of seat.new) }
+    ensures walked { HasWalked trial.now seat.new deciding.new }
+    ensures sole { length (known_of seat.old).numbers ≡ 64 → (view_of seat.new).misses ≡ (view_of seat.old).misses }
+{
+    trial.shared.seats_reach_nodes(seat);
+    load_rows(trial, seat, deciding);
 }

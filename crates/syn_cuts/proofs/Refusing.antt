@@ -5,7 +5,9 @@ use Rattle.std.proofs.lemmas.Bool.{and_parts, and_from, or_cases, both_ways, ltb
 use Rattle.std.proofs.lemmas.Slice.Eq.{bytes_eq-Decides}
 use Rattle.syn_cuts.specs.Cuts.{leaves_before, comes_before, put, arranged, union, unions_with}
 use Rattle.syn_cuts.specs.Laws.{are_in_order}
-use Rattle.syn_cuts.proofs.Putting.{take_short, unions_small, unions_large}
+use Rattle.syn_cuts.specs.Keeping.{NoneLonger}
+use Rattle.syn_cuts.proofs.Putting.{IsBehind, put_behind, step_union, take_short, unions_small, unions_large}
+use Rattle.syn_cuts.proofs.Rising.{first_long}
 use Rattle.syn_cuts.proofs.Sorting.{arranged_order, before_total, before_trans}
 
 -- no cut comes before itself
@@ -36,6 +38,13 @@ before_other c d h ne = before_total d c h (false_from_ne_true (bytes_eq d c) (�
 
 pub before_same : (c d : List ℕ) → bytes_eq c d ≡ true → comes_before c d ≡ false
 before_same c d e = subst (λ x. comes_before c x ≡ false) ((bytes_eq-Decides c d).0 e) (before_apart c)
+
+pub neither_before : (c d : List ℕ) → comes_before d c ≡ false → comes_before c d ≡ false → bytes_eq c d ≡ true
+neither_before c d h g = go (bytes_eq c d) refl
+  where
+    go : (b : Bool) → bytes_eq c d ≡ b → bytes_eq c d ≡ true
+    go true e = e
+    go false e = absurd (both_ways (comes_before c d) g (before_other c d h e))
 
 -- a longer cut comes behind
 pub longer_behind : (c d : List ℕ) → length d < length c → comes_before c d ≡ false
@@ -73,13 +82,30 @@ put_late c (d ∷ ds) (suc i) lt h order = go (comes_before c d) refl (bytes_eq 
 pub put_last : (c : List ℕ) (ds : List (List ℕ)) → length ds ≡ 31 → comes_before c (get_or ds 30 []) ≡ false → are_in_order ds ≡ true → take 31 (put c ds) ≡ ds
 put_last c ds full h order = put_late c ds 30 (omega (arith, full)) h order ∙ take_short ds 31 (omega (arith, full))
 
+-- a cut comes behind all cuts in order as far as one that comes before it
+pub behind_past : (c : List ℕ) (ds : List (List ℕ)) (i : ℕ) → i < length ds → comes_before (get_or ds i []) c ≡ true → are_in_order ds ≡ true → IsBehind c ds (suc i)
+behind_past c [] i lt h order = absurd (omega arith)
+behind_past c (d ∷ ds) zero lt h order = put_behind c d ds (not_before c d h) (not_same c d h)
+behind_past c (d ∷ ds) (suc i) lt h order =
+    let parts = and_parts (list_all (comes_before d) ds) (are_in_order ds) order in
+    let first = before_trans d (get_or ds i []) c (all_at (comes_before d) ds i (omega arith) parts.0) h in
+    put_behind c d ds (not_before c d first) (not_same c d first) ∙ ap (λ (l : List (List ℕ)). d ∷ l) (behind_past c ds i (omega arith) h parts.1)
+
 -- a union that is refused: too large, or behind all that are kept
-pub refused : (k most : ℕ) (c d : List ℕ) (old : List (List ℕ)) → length old ≤ 31 → ((e : List ℕ) → most < length e → length e ≤ k → take 31 (put e old) ≡ old) → most < length (union c d)
+pub refused : (k most : ℕ) (c d : List ℕ) (old : List (List ℕ)) → length old ≤ 31 → NoneLonger most k old → most < length (union c d)
     → old ≡ take 31 (arranged old (unions_with k c (d ∷ [])))
 refused k most c d old few late more = elim (cases_lt k (length (union c d))) [
   | inl large ↦ sym (take_short old 31 few) ∙ ap (λ us. take 31 (arranged old us)) (sym (unions_large k c d [] large))
   | inr small ↦ sym (late (union c d) more small) ∙ ap (λ us. take 31 (arranged old us)) (sym (unions_small k c d [] small))
 ]
+
+-- no union of a cut that is too long is kept
+pub none_kept : (k most : ℕ) (c : List ℕ) (ds old : List (List ℕ)) → length old ≤ 31 → NoneLonger most k old → most < length c → old ≡ take 31 (arranged old (unions_with k c ds))
+none_kept k most c [] old few none more = sym (take_short old 31 few)
+none_kept k most c (d ∷ ds) old few none more =
+    let longer = first_long c d in
+    none_kept k most c ds old few none more
+    ∙ step_union k c d ds old old (take 31 (arranged old (unions_with k c (d ∷ ds)))) (d ∷ ds) refl refl (refused k most c d old few none (omega (arith, longer, more)))
 
 -- the first of arranged cuts are in order
 

@@ -4,3 +4,4 @@ pub mod Leaves
 pub mod Lists
 pub mod Signatures
 pub mod Laws
+pub mod Keeping

@@ -7,6 +7,7 @@ ghost use Rattle.arrayvec.specs.ArrayVec.{array_vec_len};
 ghost use Rattle.syn_cuts.specs.Cuts.{comes_before, leaves_before, put, union, arranged, unions, unions_with, first_unions};
 ghost use Rattle.syn_cuts.specs.Laws.{are_in_order};
 ghost use Rattle.syn_cuts.specs.Leaves.{leaves_of};
+ghost use Rattle.syn_cuts.specs.Keeping.{NoneLonger};
 ghost use Rattle.syn_cuts.specs.Signatures.{AreSignatures};
 
 use crate::Cut;
@@ -86,21 +87,26 @@ fn comes_before(left: &[u32], right: &[u32]) -> bool
     }
 }
 
-// Where a cut belongs among cuts: the place, or none where it is there.
+// Where a cut belongs among cuts in order: the place, or none where it is there.
 fn place(cuts: &[Cut], cut: &[u32]) -> Option<usize>
+    requires { are_in_order (leaves_of cuts.now) ≡ true }
     ensures some { IfSome result (λ i. (i ≤ length cuts.now) × (put cut.now (leaves_of cuts.now) ≡ insert (leaves_of cuts.now) i cut.now)) }
     ensures none { IfNone result (put cut.now (leaves_of cuts.now) ≡ leaves_of cuts.now) }
 {
-    for (i, other) in cuts.iter().enumerate() {
-        if !comes_before(other.as_slice(), cut) {
-            return if cut == other.as_slice() {
-                None
-            } else {
-                Some(i)
-            };
+    let mut low = 0;
+    let mut high = cuts.len();
+    while low < high {
+        let middle = low + (high - low) / 2;
+        if !comes_before(cuts[middle].as_slice(), cut) {
+            high = middle;
+            continue;
         }
+        low = middle + 1;
     }
-    Some(cuts.len())
+    if low < cuts.len() && !comes_before(cut, cuts[low].as_slice()) {
+        return None;
+    }
+    Some(low)
 }
 
 // Lets the last cut go where there is no room for one more.
@@ -150,7 +156,7 @@ fn most_leaves(cuts: &[Cut], k: usize) -> usize
     requires few { length cuts.now ≤ 31 }
     requires order { are_in_order (leaves_of cuts.now) ≡ true }
     ensures small { result ≤ k }
-    ensures larger { (c : List ℕ) → result < length c → length c ≤ k → take 31 (put c (leaves_of cuts.now)) ≡ leaves_of cuts.now }
+    ensures longer { NoneLonger result k (leaves_of cuts.now) }
 {
     if cuts.len() < KEPT {
         return k;
@@ -159,23 +165,36 @@ fn most_leaves(cuts: &[Cut], k: usize) -> usize
     if last < k { last } else { k }
 }
 
-// Keeps the union of two cuts, where it has at most k leaves; it has at least so many.
-fn keep_union(kept: &mut ArrayVec<Cut, KEPT>, left: &[u32], right: &[u32], least: usize, k: usize)
+// Keeps the union of two cuts, where it has at most k leaves: how many leaves a cut may have that is kept then. The union
+// has at least so many, and none of more than `most` is kept.
+#[inline]
+fn keep_union(
+    kept: &mut ArrayVec<Cut, KEPT>,
+    left: &[u32],
+    right: &[u32],
+    least: usize,
+    most: usize,
+    k: usize,
+) -> usize
     requires small { k ≤ MOST_VARS }
     requires few { array_vec_len kept.old ≤ 31 }
     requires order { are_in_order (leaves_of kept.old.items) ≡ true }
     requires least { least ≤ length (union left.now right.now) }
+    requires most { most ≤ k }
+    requires longer { NoneLonger most k (leaves_of kept.old.items) }
     ensures few { array_vec_len kept.new ≤ 31 }
     ensures kept { leaves_of kept.new.items ≡ take 31 (arranged (leaves_of kept.old.items) (unions_with k left.now (right.now ∷ []))) }
+    ensures most { result ≤ k }
+    ensures longer { NoneLonger result k (leaves_of kept.new.items) }
 {
-    let most = most_leaves(kept.as_slice(), k);
     if most < least {
-        return;
+        return most;
     }
-    match union(left, right, most) {
-        Some(cut) => keep(kept, cut),
-        None => {}
-    }
+    let Some(cut) = union(left, right, most) else {
+        return most;
+    };
+    keep(kept, cut);
+    most_leaves(kept.as_slice(), k)
 }
 
 // Keeps the unions of a cut with each of others, which have these signatures.
@@ -193,15 +212,14 @@ fn keep_unions(
     ensures few { array_vec_len kept.new ≤ 31 }
     ensures kept { leaves_of kept.new.items ≡ take 31 (arranged (leaves_of kept.old.items) (unions_with k left.now (leaves_of others.now))) }
 {
+    let mut most = most_leaves(kept.as_slice(), k);
+    if most < left.len() {
+        return;
+    }
     let bits = signature(left);
     for (i, other) in others.iter().enumerate() {
-        keep_union(
-            kept,
-            left,
-            other.as_slice(),
-            least_leaves(bits, words, i),
-            k,
-        );
+        let least = least_leaves(bits, words, i);
+        most = keep_union(kept, left, other.as_slice(), least, most, k);
     }
 }
 

@@ -6,7 +6,6 @@ use Rattle.syn_decide.specs.declared.decisions.NodeRow.{NodeRow}
 use Rattle.syn_decide.specs.Tasks.{Task}
 use Rattle.syn_decide.specs.Hints.{is_asked, most_hits, rows_needed}
 use Rattle.syn_decide.specs.Decided.{Answer, NoGain}
-use Rattle.syn_decide.specs.Phases.{state_with}
 use Rattle.syn_decide.specs.Fold.{State, Stage, Ended, by_gain, by_gap, concluded, count_on, failed, freed_by, hint_key, hinted, least_gain, placed_now, read_count, uncounted, with_count}
 
 -- a key that fits behind a row load
@@ -68,13 +67,17 @@ count_next t s k node count own d left e h n l =
     ∙ sym (ap (λ l. read_count t s l node count own) (uncounted_is s k d e h)
     ∙ ap (λ c. if c then count_on t (with_count s count own) (drop (suc k) s.inner) else failed s) n)
 
+-- a state by its parts
+abbrev state_with : Stage → List NodeRow → ℕ → ℕ → List NodeRow → List ℕ → State
+state_with stage inner low high hits counts = record { stage = stage; inner = inner; low = low; high = high; hits = hits; counts = counts }
+
 -- the last count
-pub count_last : (t : Task) (stage : Stage) (inner : List NodeRow) (low high : ℕ) (hits : List NodeRow) (old new shown : List ℕ) (k node count own others : ℕ) (d : NodeRow) (a : Answer)
+pub count_last : (t : Task) (stage : Stage) (inner : List NodeRow) (low high : ℕ) (hits : List NodeRow) (old new : List ℕ) (k node count own others : ℕ) (d : NodeRow) (a : Answer)
     → k ≡ length old → k < length inner → length inner ≤ k + 1 → node ≡ (get_or inner k d).node → others ≡ count - own
-    → new ≡ old ++ others ∷ [] → shown ≡ new → a ≡ concluded t (state_with stage inner low high hits shown)
+    → new ≡ old ++ others ∷ [] → a ≡ concluded t (state_with stage inner low high hits new)
     → state_with (Ended a) inner low high hits new ≡ read_count t (state_with stage inner low high hits old) (uncounted (state_with stage inner low high hits old)) node count own
-count_last t stage inner low high hits old new shown k node count own others d a e l m n o p q r =
-    ap₂ (λ x cs. state_with (Ended x) inner low high hits cs) (r ∙ ap (λ cs. concluded t (state_with stage inner low high hits cs)) (q ∙ pushed)) pushed
+count_last t stage inner low high hits old new k node count own others d a e l m n o p r =
+    ap₂ (λ x cs. state_with (Ended x) inner low high hits cs) (r ∙ ap (λ cs. concluded t (state_with stage inner low high hits cs)) pushed) pushed
     ∙ count_next t (state_with stage inner low high hits old) k node count own d [] e l (eq-eqb _ _ n) (drop_of_length-le inner (let past : length inner ≤ suc k = omega arith in past))
   where
     pushed : new ≡ old ++ (count - own) ∷ []

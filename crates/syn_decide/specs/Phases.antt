@@ -4,6 +4,7 @@ use Rattle.syn_decide.specs.declared.decisions.NodeRow.{NodeRow}
 use Rattle.syn_decide.specs.declared.decisions.Phase.{Phase}
 use Rattle.syn_decide.specs.declared.decisions.Phase.TheVariants as phase
 use Rattle.syn_decide.specs.declared.decisions.TheConstants.{MOST_INNER}
+use Rattle.syn_decide.specs.declared.found.Found.{Found}
 use Rattle.syn_decide.specs.Decided.{told_answer}
 use Rattle.syn_decide.specs.Fold.{State, Stage, Walking, Keying, Hinting, Counting, Ended, Failed}
 
@@ -25,6 +26,6 @@ most_at phase.Counting = MOST_INNER
 most_at (phase.Ended outcome) = MOST_INNER
 most_at phase.Failed = MOST_INNER
 
--- a state by its parts
-abbrev pub state_with : Stage → List NodeRow → ℕ → ℕ → List NodeRow → List ℕ → State
-state_with stage inner low high hits counts = record { stage = stage; inner = inner; low = low; high = high; hits = hits; counts = counts }
+-- a state by its stage, the inner rows and what the loads behind the walk found
+abbrev pub state_at : Stage → List NodeRow → Found → State
+state_at stage inner found = record { stage = stage; inner = inner; low = found.low; high = found.high; hits = found.hits.items; counts = found.counts.items }

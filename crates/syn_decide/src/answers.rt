@@ -10,14 +10,13 @@ ghost use Rattle.syn_decide.specs.Tasks.{task_of};
 ghost use Rattle.syn_decide.specs.Hints as hints;
 ghost use Rattle.syn_decide.specs.Fold as fold;
 ghost use Rattle.syn_decide.specs.Fold.{Stage};
-ghost use Rattle.syn_decide.specs.Phases.{most_at, stage_of, state_with};
+ghost use Rattle.syn_decide.specs.Phases.{most_at, stage_of, state_at};
 
-use crate::dying::{CountedRoom, freed_by};
-use crate::lists::has;
+use crate::dying::freed_by;
+use crate::found::{Desk, Found};
 use crate::place::Placing;
 use crate::waiting::Waiting;
 use crate::{Attempt, MOST_INNER, NodeRow, Outcome, Phase};
-use arrayvec::ArrayVec;
 use syn_core_laws::Seen;
 use syn_plan::MOST_GATES;
 use syn_rows::{NODE_LIMIT, Row};
@@ -29,27 +28,23 @@ fn greater(a: u64, b: u64) -> u64
 }
 
 // A key was loaded.
-fn key_loaded(waiting: &mut Waiting, low: &mut u64, high: &mut u64, key: u64) -> Phase
-    ensures state { (stage : Stage) (inner : List NodeRow) (hits : List NodeRow) (counts : List ℕ)
-        → state_with (stage_of result waiting.new) inner low.new high.new hits counts
-        ≡ fold.key_loaded (state_with stage inner low.old high.old hits counts) key waiting.old }
+fn key_loaded(found: &mut Found, waiting: &mut Waiting, key: u64) -> Phase
+    ensures state { (stage : Stage) (inner : List NodeRow) → state_at (stage_of result waiting.new) inner found.new ≡ fold.key_loaded (state_at stage inner found.old) key waiting.old }
     ensures few { length waiting.new ≤ length waiting.old }
     ensures room { most_at result ≡ MOST_INNER }
 {
     let Some(next) = waiting.pop() else {
-        *high = key;
+        found.high = key;
         return Phase::Hinting(None);
     };
     waiting.push(next);
-    *low = greater(*low, key);
+    found.low = greater(found.low, key);
     Phase::Keying
 }
 
 /// One read of the keys.
-pub(crate) fn read_keying(waiting: &mut Waiting, low: &mut u64, high: &mut u64, read: Seen) -> Phase
-    ensures state { (stage : Stage) (inner : List NodeRow) (hits : List NodeRow) (counts : List ℕ)
-        → state_with (stage_of result waiting.new) inner low.new high.new hits counts
-        ≡ fold.read_keying (state_with stage inner low.old high.old hits counts) waiting.old read }
+pub(crate) fn read_keying(found: &mut Found, waiting: &mut Waiting, read: Seen) -> Phase
+    ensures state { (stage : Stage) (inner : List NodeRow) → state_at (stage_of result waiting.new) inner found.new ≡ fold.read_keying (state_at stage inner found.old) waiting.old read }
     ensures few { length waiting.new ≤ length waiting.old }
     ensures room { most_at result ≡ MOST_INNER }
 {
@@ -57,7 +52,7 @@ pub(crate) fn read_keying(waiting: &mut Waiting, low: &mut u64, high: &mut u64, 
         return Phase::Failed;
     };
     match read {
-        Seen::Key(node, key) if node == next => key_loaded(waiting, low, high, key),
+        Seen::Key(node, key) if node == next => key_loaded(found, waiting, key),
         _ => Phase::Failed,
     }
 }
@@ -66,7 +61,7 @@ pub(crate) fn read_keying(waiting: &mut Waiting, low: &mut u64, high: &mut u64, 
 fn may_hit(leaves: &[u32], high: u64, n: u32, key: u64) -> bool
     ensures { result ≡ hints.may_hit leaves.now high n key }
 {
-    n < NODE_LIMIT as u32 && n != 0 && !has(leaves, n) && key < high
+    n < NODE_LIMIT as u32 && n != 0 && !leaves.contains(&n) && key < high
 }
 
 /// What the gates of a proposal become with these hits.
@@ -110,25 +105,16 @@ fn is_hint(
 }
 
 // The node, whose row was asked for, is a hit where it may be one.
-fn hinted(
-    attempt: &Attempt<'_>,
-    low: &mut u64,
-    high: u64,
-    hits: &mut ArrayVec<NodeRow, MOST_GATES>,
-    last: NodeRow,
-    key: u64,
-) -> Phase
-    requires room { length hits.old.items < MOST_GATES }
-    requires hits { All (λ h. h.node < NODE_LIMIT) hits.old.items }
-    ensures state { (stage : Stage) (waiting : List ℕ) (inner : List NodeRow) (counts : List ℕ)
-        → state_with (stage_of result waiting) inner low.new high hits.new.items counts
-        ≡ fold.hinted (task_of attempt.now) (state_with stage inner low.old high hits.old.items counts) last.node last.row key }
-    ensures hits { All (λ h. h.node < NODE_LIMIT) hits.new.items }
+fn hinted(attempt: &Attempt<'_>, found: &mut Found, last: NodeRow, key: u64) -> Phase
+    requires { length found.old.hits.items < MOST_GATES }
+    ensures state { (stage : Stage) (waiting : List ℕ) (inner : List NodeRow)
+        → state_at (stage_of result waiting) inner found.new
+        ≡ fold.hinted (task_of attempt.now) (state_at stage inner found.old) last.node last.row key }
     ensures room { most_at result ≡ MOST_INNER }
 {
-    if may_hit(attempt.candidate.leaves, high, last.node, key) {
-        hits.push(last);
-        *low = greater(*low, key);
+    if may_hit(attempt.candidate.leaves, found.high, last.node, key) {
+        found.hits.push(last);
+        found.low = greater(found.low, key);
     }
     Phase::Hinting(None)
 }
@@ -136,36 +122,33 @@ fn hinted(
 // A key among the hints.
 fn hint_key(
     attempt: &Attempt<'_>,
-    low: &mut u64,
-    high: u64,
-    hits: &mut ArrayVec<NodeRow, MOST_GATES>,
+    found: &mut Found,
     placing: &mut Placing,
     last: Option<NodeRow>,
     node: u32,
     key: u64,
 ) -> Phase
-    requires { All (λ h. h.node < NODE_LIMIT) hits.old.items }
-    ensures state { (stage : Stage) (waiting : List ℕ) (inner : List NodeRow) (counts : List ℕ)
-        → state_with (stage_of result waiting) inner low.new high hits.new.items counts
-        ≡ fold.hint_key (task_of attempt.now) (state_with stage inner low.old high hits.old.items counts) last node key }
-    ensures hits { All (λ h. h.node < NODE_LIMIT) hits.new.items }
+    ensures state { (stage : Stage) (waiting : List ℕ) (inner : List NodeRow)
+        → state_at (stage_of result waiting) inner found.new
+        ≡ fold.hint_key (task_of attempt.now) (state_at stage inner found.old) last node key }
     ensures room { most_at result ≡ MOST_INNER }
 {
     let Some(last) = last else {
         return Phase::Failed;
     };
-    if is_hint(attempt, hits.as_slice(), placing, last, node) {
-        hinted(attempt, low, high, hits, last, key)
+    if is_hint(attempt, found.hits.as_slice(), placing, last, node) {
+        hinted(attempt, found, last, key)
     } else {
         Phase::Failed
     }
 }
 
 // The answer where the gain is enough: there is no gap, no room, or it is done.
-fn by_gap(attempt: &Attempt<'_>, low: u64, high: u64, gain: u32, need: u32) -> Outcome
-    ensures { (stage : Stage) (inner : List NodeRow) (hits : List NodeRow) (counts : List ℕ)
-        → told_answer result ≡ fold.by_gap (task_of attempt.now) (state_with stage inner low high hits counts) gain need }
+fn by_gap(attempt: &Attempt<'_>, found: &Found, gain: u32, need: u32) -> Outcome
+    ensures { (stage : Stage) (inner : List NodeRow) → told_answer result ≡ fold.by_gap (task_of attempt.now) (state_at stage inner found.now) gain need }
 {
+    let low = found.low;
+    let high = found.high;
     if high <= low || high - low <= u64::from(need) {
         return Outcome::NoGap {
             node: attempt.candidate.root,
@@ -193,99 +176,70 @@ fn least_gain(zero_gain: bool) -> u32
 
 // The answer after the last count.
 #[inline(never)]
-fn conclude(
-    attempt: &Attempt<'_>,
-    inner: &[NodeRow],
-    low: u64,
-    high: u64,
-    hits: &[NodeRow],
-    counts: &[u32],
-    placing: &mut Placing,
-    room: &mut CountedRoom,
-) -> Outcome
-    requires hits { All (λ h. h.node < NODE_LIMIT) hits.now }
-    requires within { length counts.now ≤ length inner.now }
+fn conclude(attempt: &Attempt<'_>, inner: &[NodeRow], found: &Found, desk: &mut Desk) -> Outcome
+    requires within { length found.now.counts.items ≤ length inner.now }
     requires few { length inner.now ≤ MOST_INNER }
-    ensures { (stage : Stage)
-        → told_answer result ≡ fold.concluded (task_of attempt.now) (state_with stage inner.now low high hits.now counts.now) }
+    ensures { (stage : Stage) → told_answer result ≡ fold.concluded (task_of attempt.now) (state_at stage inner.now found.now) }
 {
-    let freed = freed_by(inner, hits, counts, room);
-    place(attempt, hits, placing);
-    let added = placing.added();
+    let hits = found.hits.as_slice();
+    let freed = freed_by(inner, hits, found.counts.as_slice(), &mut desk.room);
+    place(attempt, hits, &mut desk.placing);
+    let added = desk.placing.added();
     if freed < added + least_gain(attempt.zero_gain) {
         return Outcome::NoGain { freed, added };
     }
-    let need = placing.needed(attempt.candidate.plan.out);
-    by_gap(attempt, low, high, freed - added, need)
+    let need = desk.placing.needed(attempt.candidate.plan.out);
+    by_gap(attempt, found, freed - added, need)
 }
 
 // One count.
 fn read_count(
     attempt: &Attempt<'_>,
     inner: &[NodeRow],
-    low: u64,
-    high: u64,
-    hits: &[NodeRow],
-    counts: &mut ArrayVec<u32, MOST_INNER>,
-    placing: &mut Placing,
-    room: &mut CountedRoom,
+    found: &mut Found,
+    desk: &mut Desk,
     node: u32,
     count: u32,
     own: u32,
 ) -> Phase
-    requires hits { All (λ h. h.node < NODE_LIMIT) hits.now }
-    requires inner { length inner.now ≤ MOST_INNER }
+    requires { length inner.now ≤ MOST_INNER }
     ensures room { most_at result ≡ MOST_INNER }
     ensures state { (stage : Stage) (waiting : List ℕ)
-        → state_with (stage_of result waiting) inner.now low high hits.now counts.new.items
-        ≡ fold.read_count (task_of attempt.now) (state_with stage inner.now low high hits.now counts.old.items) (fold.uncounted (state_with stage inner.now low high hits.now counts.old.items)) node count own }
+        → state_at (stage_of result waiting) inner.now found.new
+        ≡ fold.read_count (task_of attempt.now) (state_at stage inner.now found.old) (fold.uncounted (state_at stage inner.now found.old)) node count own }
 {
-    let at = counts.len();
+    let at = found.counts.len();
     if at >= inner.len() {
         return Phase::Failed;
     }
     if node != inner[at].node {
         return Phase::Failed;
     }
-    counts.push(count.saturating_sub(own));
+    found.counts.push(count.saturating_sub(own));
     if at + 1 < inner.len() {
         return Phase::Counting;
     }
-    Phase::Ended(conclude(
-        attempt,
-        inner,
-        low,
-        high,
-        hits,
-        counts.as_slice(),
-        placing,
-        room,
-    ))
+    Phase::Ended(conclude(attempt, inner, found, desk))
 }
 
 /// One read of the counts.
 pub(crate) fn read_counting(
     attempt: &Attempt<'_>,
     inner: &[NodeRow],
-    low: u64,
-    high: u64,
-    hits: &[NodeRow],
-    counts: &mut ArrayVec<u32, MOST_INNER>,
-    placing: &mut Placing,
-    room: &mut CountedRoom,
+    found: &mut Found,
+    desk: &mut Desk,
     read: Seen,
 ) -> Phase
-    requires hits { All (λ h. h.node < NODE_LIMIT) hits.now }
-    requires inner { length inner.now ≤ MOST_INNER }
+    requires { length inner.now ≤ MOST_INNER }
     ensures room { most_at result ≡ MOST_INNER }
     ensures state { (stage : Stage) (waiting : List ℕ)
-        → state_with (stage_of result waiting) inner.now low high hits.now counts.new.items
-        ≡ fold.read_counting (task_of attempt.now) (state_with stage inner.now low high hits.now counts.old.items) read }
+        → state_at (stage_of result waiting) inner.now found.new
+        ≡ fold.read_counting (task_of attempt.now) (state_at stage inner.now found.old) read }
 {
     match read {
-        Seen::Count { node, count, own } => read_count(
-            attempt, inner, low, high, hits, counts, placing, room, node, count, own,
-        ),
+        Seen::Count { node, count, own } => {
+            read_count(attempt, inner, found, desk, node, count, own)
+        }
         _ => Phase::Failed,
     }
 }
@@ -294,39 +248,23 @@ pub(crate) fn read_counting(
 pub(crate) fn read_hinting(
     attempt: &Attempt<'_>,
     inner: &[NodeRow],
-    low: &mut u64,
-    high: u64,
-    hits: &mut ArrayVec<NodeRow, MOST_GATES>,
-    counts: &mut ArrayVec<u32, MOST_INNER>,
-    placing: &mut Placing,
-    room: &mut CountedRoom,
+    found: &mut Found,
+    desk: &mut Desk,
     last: Option<NodeRow>,
     read: Seen,
 ) -> Phase
-    requires hits { All (λ h. h.node < NODE_LIMIT) hits.old.items }
-    requires inner { length inner.now ≤ MOST_INNER }
-    ensures state { (stage : Stage) (waiting : List ℕ)
-        → state_with (stage_of result waiting) inner.now low.new high hits.new.items counts.new.items
-        ≡ fold.read_hinting (task_of attempt.now) (state_with stage inner.now low.old high hits.old.items counts.old.items) last read }
-    ensures hits { All (λ h. h.node < NODE_LIMIT) hits.new.items }
+    requires { length inner.now ≤ MOST_INNER }
     ensures room { most_at result ≡ MOST_INNER }
+    ensures state { (stage : Stage) (waiting : List ℕ)
+        → state_at (stage_of result waiting) inner.now found.new
+        ≡ fold.read_hinting (task_of attempt.now) (state_at stage inner.now found.old) last read }
 {
     match read {
         Seen::Row(node, row) => Phase::Hinting(Some(NodeRow { node, row })),
-        Seen::Key(node, key) => { hint_key(attempt, low, high, hits, placing, last, node, key) }
+        Seen::Key(node, key) => hint_key(attempt, found, &mut desk.placing, last, node, key),
         Seen::Miss(_) => Phase::Hinting(None),
-        Seen::Count { node, count, own } => read_count(
-            attempt,
-            inner,
-            *low,
-            high,
-            hits.as_slice(),
-            counts,
-            placing,
-            room,
-            node,
-            count,
-            own,
-        ),
+        Seen::Count { node, count, own } => {
+            read_count(attempt, inner, found, desk, node, count, own)
+        }
     }
 }

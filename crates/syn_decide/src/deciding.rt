@@ -11,17 +11,14 @@ ghost use Rattle.syn_decide.specs.Fold as fold;
 ghost use Rattle.syn_decide.specs.Hints as hints;
 
 use crate::answers::{read_counting, read_hinting, read_keying};
-use crate::dying::CountedRoom;
-use crate::place::Placing;
+use crate::found::{Desk, Found};
 use crate::stages::read_walking;
-use crate::tables::Rounds;
 use crate::waiting::Waiting;
 use crate::{Attempt, Decision, MOST_INNER, NewRows, NodeRow, Phase, Want, walk};
 use arrayvec::ArrayVec;
 use std::marker::Model;
 use syn_core_laws::Seen;
 use syn_gain::Proposal;
-use syn_plan::MOST_GATES;
 
 /// What is kept of the reads of a commit, inline, with room to reckon in: some fifty thousand bytes, so it is made once and
 /// begun anew for each commit. Contracts see it as the definition's state.
@@ -30,26 +27,20 @@ pub struct Deciding {
     phase: Phase,
     waiting: Waiting,
     inner: ArrayVec<NodeRow, MOST_INNER>,
-    low: u64,
-    high: u64,
-    hits: ArrayVec<NodeRow, MOST_GATES>,
-    counts: ArrayVec<u32, MOST_INNER>,
-    placing: Placing,
-    rounds: Rounds,
-    room: CountedRoom,
+    found: Found,
+    desk: Desk,
 }
 
 impl Model for Deciding {
-    ghost use Rattle.std.specs.Prelude.{All, length, ◌≤◌, ◌+◌, ◌<◌};
-    ghost use Rattle.syn_rows.specs.declared.TheConstants.{NODE_LIMIT};
+    ghost use Rattle.std.specs.Prelude.{length, ◌≤◌, ◌+◌};
     ghost use Rattle.syn_decide.specs.Fold.{State};
-    ghost use Rattle.syn_decide.specs.Phases.{most_at, stage_of};
+    ghost use Rattle.syn_decide.specs.Phases.{most_at, stage_of, state_at};
 
     ghost Value = { State };
 
-    ghost view = { λ d. record { stage = stage_of d.phase d.waiting; inner = d.inner.items; low = d.low; high = d.high; hits = d.hits.items; counts = d.counts.items } };
+    ghost view = { λ d. state_at (stage_of d.phase d.waiting) d.inner.items d.found };
 
-    ghost invariant = { λ d. (length d.waiting ≤ 9 + length d.inner.items) × (length d.inner.items ≤ most_at d.phase) × All (λ h. h.node < NODE_LIMIT) d.hits.items };
+    ghost invariant = { λ d. (length d.waiting ≤ 9 + length d.inner.items) × (length d.inner.items ≤ most_at d.phase) };
 }
 
 impl Deciding {
@@ -59,13 +50,8 @@ impl Deciding {
             phase: Phase::Failed,
             waiting: Waiting::new(),
             inner: ArrayVec::new(),
-            low: 0,
-            high: 0,
-            hits: ArrayVec::new(),
-            counts: ArrayVec::new(),
-            placing: Placing::new(),
-            rounds: Rounds::new(),
-            room: CountedRoom::new(),
+            found: Found::new(),
+            desk: Desk::new(),
         }
     }
 
@@ -86,10 +72,10 @@ impl Deciding {
         self.waiting.clear();
         self.waiting.push(attempt.candidate.root);
         self.inner.clear();
-        self.low = 0;
-        self.high = 0;
-        self.hits.clear();
-        self.counts.clear();
+        self.found.low = 0;
+        self.found.high = 0;
+        self.found.hits.clear();
+        self.found.counts.clear();
     }
 
     /// One read.
@@ -101,31 +87,23 @@ impl Deciding {
                 attempt,
                 &mut self.inner,
                 &mut self.waiting,
-                &mut self.rounds,
+                &mut self.desk.rounds,
                 read,
             ),
-            Phase::Keying => read_keying(&mut self.waiting, &mut self.low, &mut self.high, read),
+            Phase::Keying => read_keying(&mut self.found, &mut self.waiting, read),
             Phase::Hinting(last) => read_hinting(
                 attempt,
                 self.inner.as_slice(),
-                &mut self.low,
-                self.high,
-                &mut self.hits,
-                &mut self.counts,
-                &mut self.placing,
-                &mut self.room,
+                &mut self.found,
+                &mut self.desk,
                 last,
                 read,
             ),
             Phase::Counting => read_counting(
                 attempt,
                 self.inner.as_slice(),
-                self.low,
-                self.high,
-                self.hits.as_slice(),
-                &mut self.counts,
-                &mut self.placing,
-                &mut self.room,
+                &mut self.found,
+                &mut self.desk,
                 read,
             ),
             Phase::Ended(_) => Phase::Failed,
@@ -146,7 +124,7 @@ impl Deciding {
         ensures rows { result.now ≡ self.now.hits }
         ensures few { length result.now ≤ MOST_GATES }
     {
-        self.hits.as_slice()
+        self.found.hits.as_slice()
     }
 
     /// The greatest key among the used leaves and the hits so far; 0 where there is none.
@@ -154,7 +132,7 @@ impl Deciding {
     pub fn low(&self) -> u64
         ensures { result ≡ self.now.low }
     {
-        self.low
+        self.found.low
     }
 
     /// The root's key, once it is loaded.
@@ -162,7 +140,7 @@ impl Deciding {
     pub fn high(&self) -> u64
         ensures { result ≡ self.now.high }
     {
-        self.high
+        self.found.high
     }
 
     /// Whether the walk met the node: an inner row refers to it.
@@ -189,7 +167,7 @@ impl Deciding {
         ensures needed { rows.new.needed ≡ hints.rows_needed (task_of attempt.now) (fold.placed_now (task_of attempt.now) self.now) }
         ensures root { rows.new.root ≡ hints.new_root_row (task_of attempt.now) (fold.placed_now (task_of attempt.now) self.now) }
     {
-        rows.fill(attempt, self.hits.as_slice());
+        rows.fill(attempt, self.found.hits.as_slice());
     }
 
     /// What is decided so far.
@@ -200,8 +178,8 @@ impl Deciding {
         match self.phase {
             Phase::Walking => next_row(&self.waiting),
             Phase::Keying => next_key(&self.waiting),
-            Phase::Hinting(_) => next_count(self.inner.as_slice(), self.counts.as_slice()),
-            Phase::Counting => next_count(self.inner.as_slice(), self.counts.as_slice()),
+            Phase::Hinting(_) => next_count(self.inner.as_slice(), self.found.counts.as_slice()),
+            Phase::Counting => next_count(self.inner.as_slice(), self.found.counts.as_slice()),
             Phase::Ended(outcome) => Decision::Answer(outcome),
             Phase::Failed => Decision::Unfit,
         }

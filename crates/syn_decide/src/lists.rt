@@ -10,18 +10,6 @@ ghost use Rattle.syn_decide.specs.Walk.{nodes_of};
 use crate::{Counted, NodeRow};
 use syn_rows::Row;
 
-/// Whether a node stands in a list.
-pub(crate) fn has(nodes: &[u32], node: u32) -> bool
-    ensures { result ≡ has_node nodes.now node }
-{
-    for n in nodes {
-        if *n == node {
-            return true;
-        }
-    }
-    false
-}
-
 /// Whether a node is among those of rows.
 pub(crate) fn has_row(rows: &[NodeRow], node: u32) -> bool
     ensures { result ≡ has_node (nodes_of rows.now) node }

@@ -15,6 +15,7 @@ ghost use Rattle.syn_decide.specs.Told.{as_met};
 use crate::{MetPair, NodeRow};
 use arrayvec::ArrayVec;
 use std::marker::Model;
+use syn_gain::{literal_for, node_at};
 use syn_plan::{MOST_GATES, MOST_LEAVES, PLit, Plan};
 use syn_rows::{FALSE, Lit, NODE_LIMIT, Row, ordered_and, simple_and};
 
@@ -23,32 +24,6 @@ const MOST_INDEXES: usize = 1 + MOST_LEAVES as usize + MOST_GATES;
 
 // The number of the first new gate.
 const FIRST_NEW: u32 = NODE_LIMIT as u32;
-
-// The literal of an index, the constant past the end.
-fn literal_at(literals: &[Lit], index: usize) -> Lit
-    ensures { result ≡ slice_index_or literals.now index joining.constant }
-{
-    if index < literals.len() {
-        literals[index]
-    } else {
-        FALSE
-    }
-}
-
-/// The literal that a plan's literal becomes.
-pub(crate) fn literal_for(literals: &[Lit], l: PLit) -> Lit
-    ensures { result ≡ placing.literal_for literals.now l }
-{
-    let plain = literal_at(literals, l.index() as usize);
-    if l.complemented() { plain.not() } else { plain }
-}
-
-// The node at a place of a list, 0 past its end.
-fn node_at(nodes: &[u32], place: usize) -> u32
-    ensures { result ≡ slice_index_or nodes.now place 0 }
-{
-    if place < nodes.len() { nodes[place] } else { 0 }
-}
 
 // Begins the literals: the constant, and a plan's leaves, of which there are so many.
 fn leaf_literals(literals: &mut ArrayVec<Lit, MOST_INDEXES>, count: u8, leaves: &[u32])

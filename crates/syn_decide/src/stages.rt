@@ -3,12 +3,12 @@
 ghost use Rattle.std.specs.Prelude.{◌≡◌, ◌<◌, ◌≤◌, ◌+◌, ◌^◌, ◌++◌, ◌∷◌, ℕ, List, [], find, length, not};
 ghost use Rattle.syn_plan.specs.Naming as naming;
 ghost use Rattle.syn_decide.specs.declared.decisions.TheConstants.{MOST_INNER};
-ghost use Rattle.syn_decide.specs.declared.decisions.NodeRow.{NodeRow};
+ghost use Rattle.syn_decide.specs.declared.found.Found.{Found};
 ghost use Rattle.syn_decide.specs.Tasks.{task_of};
 ghost use Rattle.syn_decide.specs.Functions as functions;
 ghost use Rattle.syn_decide.specs.Fold as fold;
 ghost use Rattle.syn_decide.specs.Fold.{Stage};
-ghost use Rattle.syn_decide.specs.Phases.{stage_of, most_at, state_with};
+ghost use Rattle.syn_decide.specs.Phases.{stage_of, most_at, state_at};
 
 use crate::tables::{Rounds, compare};
 use crate::waiting::Waiting;
@@ -144,9 +144,9 @@ fn row_loaded(
 ) -> Phase
     requires room { length inner.old.items < MOST_INNER }
     requires few { length waiting.old + 1 ≤ 9 + length inner.old.items }
-    ensures state { (low high : ℕ) (stage : Stage) (hits : List NodeRow) (counts : List ℕ)
-        → state_with (stage_of result waiting.new) inner.new.items low high hits counts
-        ≡ fold.row_loaded (task_of attempt.now) (state_with stage inner.old.items low high hits counts) node row waiting.old }
+    ensures state { (stage : Stage) (found : Found)
+        → state_at (stage_of result waiting.new) inner.new.items found
+        ≡ fold.row_loaded (task_of attempt.now) (state_at stage inner.old.items found) node row waiting.old }
     ensures few { length waiting.new ≤ 9 + length inner.new.items }
     ensures room { length inner.new.items ≤ most_at result }
 {
@@ -169,9 +169,9 @@ pub(crate) fn read_walking(
 ) -> Phase
     requires room { length inner.old.items < MOST_INNER }
     requires few { length waiting.old ≤ 9 + length inner.old.items }
-    ensures state { (low high : ℕ) (stage : Stage) (hits : List NodeRow) (counts : List ℕ)
-        → state_with (stage_of result waiting.new) inner.new.items low high hits counts
-        ≡ fold.read_walking (task_of attempt.now) (state_with stage inner.old.items low high hits counts) waiting.old read }
+    ensures state { (stage : Stage) (found : Found)
+        → state_at (stage_of result waiting.new) inner.new.items found
+        ≡ fold.read_walking (task_of attempt.now) (state_at stage inner.old.items found) waiting.old read }
     ensures few { length waiting.new ≤ 9 + length inner.new.items }
     ensures room { length inner.new.items ≤ most_at result }
 {

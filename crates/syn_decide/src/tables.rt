@@ -1,9 +1,10 @@
 //! The function of the root by the inner rows, against the plan's.
 
-ghost use Rattle.std.specs.Prelude.{◌≡◌, ◌<◌, ◌≤◌, ◌+◌, ◌^◌, ℕ, max, length, false, true, IfNone, IfSome, None, Some, slice_set, All};
+ghost use Rattle.std.specs.Prelude.{◌≡◌, ◌<◌, ◌≤◌, ◌+◌, ◌^◌, ℕ, max, length, false, true, IfNone, IfSome, None, Some, slice_set, take, All};
 ghost use Rattle.std.specs.List.{AllZip};
 ghost use Rattle.syn_truth.specs.declared.TheConstants.{MOST_VARS};
 ghost use Rattle.syn_truth.specs.Truth.{AtEach, value_of};
+ghost use Rattle.syn_plan.specs.Plans.{plan_truth};
 ghost use Rattle.syn_rows.specs.Nodes.{has_node};
 ghost use Rattle.syn_core_laws.specs.SameValue.{both, turned_by};
 ghost use Rattle.syn_rows.specs.Rows.{node_of};
@@ -12,9 +13,9 @@ ghost use Rattle.syn_decide.specs.Functions.{leaf_value};
 ghost use Rattle.syn_decide.specs.Tables as spec;
 ghost use Rattle.syn_decide.specs.Tasks.{task_of};
 
-use crate::plans::{MOST_TABLES, was_table};
 use crate::{Attempt, Comparison, MOST_INNER, NodeRow};
 use arrayvec::ArrayVec;
+use syn_plan::Plan;
 use syn_rows::{Lit, Row};
 use syn_truth::Truth;
 
@@ -146,13 +147,12 @@ fn row_table(
     }
 }
 
-/// The tables of inner rows, one or none for each, room for those of a next round, and for those of a plan. It is kept, since it
-/// costs more to make than to fill.
+/// The tables of inner rows, one or none for each, and room for those of a next round. It is kept, since it costs more to make
+/// than to fill.
 #[derive(Debug, Drop)]
 pub(crate) struct Rounds {
     last: ArrayVec<Option<Truth>, MOST_INNER>,
     next: ArrayVec<Option<Truth>, MOST_INNER>,
-    plan: ArrayVec<Truth, MOST_TABLES>,
 }
 
 impl Rounds {
@@ -161,7 +161,6 @@ impl Rounds {
         Rounds {
             last: ArrayVec::new(),
             next: ArrayVec::new(),
-            plan: ArrayVec::new(),
         }
     }
 }
@@ -344,6 +343,16 @@ fn greater(a: u8, b: u8) -> u8
     if a < b { b } else { a }
 }
 
+// The table of a plan, widened.
+fn was_table(plan: &Plan, vars: u8) -> Truth
+    requires few { vars ≤ MOST_VARS }
+    requires within { plan.now.leaves ≤ vars }
+    ensures vars { result.vars ≡ vars }
+    ensures values { AtEach vars (λ xs. value_of result xs ≡ plan_truth plan.now (take plan.now.leaves xs)) }
+{
+    plan.truth().widen(vars)
+}
+
 /// The function of the root by the inner rows, against the plan's.
 #[inline(never)]
 pub(crate) fn compare(attempt: &Attempt<'_>, inner: &[NodeRow], rounds: &mut Rounds) -> Comparison
@@ -355,7 +364,7 @@ pub(crate) fn compare(attempt: &Attempt<'_>, inner: &[NodeRow], rounds: &mut Rou
     let Some(now) = root_table(vars, leaves, inner, attempt.candidate.root, rounds) else {
         return Comparison::Circle;
     };
-    let was = was_table(attempt.candidate.plan, vars, &mut rounds.plan);
+    let was = was_table(attempt.candidate.plan, vars);
     if was == now {
         Comparison::Same
     } else {

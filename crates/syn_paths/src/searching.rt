@@ -216,12 +216,18 @@ fn visit(
     }
 }
 
+// The nodes from which a search starts, and how many of them were entered.
+#[derive(Clone, Copy, Debug)]
+struct Starts<'a> {
+    all: &'a [u32],
+    entered: usize,
+}
+
 // Searches on until nothing waits, or a place into a source is met: the place of it in the trail.
 fn search_on(
     rows: &[Row],
     next: &[Next],
-    starts: &[u32],
-    at: usize,
+    starts: Starts,
     ins: &mut [u32],
     outs: &mut [u32],
     stamp: u32,
@@ -233,15 +239,15 @@ fn search_on(
     requires next { NextWithin next.now (length ins.old) }
     requires ins_stamps { AreUpTo ins.old stamp }
     requires outs_stamps { AreUpTo outs.old stamp }
-    requires searching { IsSearching rows.now next.now (IsStart starts.now) stamp (state ins.old outs.old trail.old.items waiting.old.items) (map Out (drop at starts.now)) }
+    requires searching { IsSearching rows.now next.now (IsStart starts.all.now) stamp (state ins.old outs.old trail.old.items waiting.old.items) (map Out (drop starts.entered starts.all.now)) }
     ensures ins_long { IfOk result (λ r. length ins.new ≡ length ins.old) }
     ensures outs_long { IfOk result (λ r. length outs.new ≡ length outs.old) }
     ensures ins_stamps { IfOk result (λ r. AreUpTo ins.new stamp) }
     ensures outs_stamps { IfOk result (λ r. AreUpTo outs.new stamp) }
-    ensures searching { IfOk result (λ r. IfNone r (IsSearching rows.now next.now (IsStart starts.now) stamp (state ins.new outs.new trail.new.items []) (map Out (drop at starts.now)))) }
+    ensures searching { IfOk result (λ r. IfNone r (IsSearching rows.now next.now (IsStart starts.entry.all.now) stamp (state ins.new outs.new trail.new.items []) (map Out (drop starts.entry.entered starts.entry.all.now)))) }
     ensures empty { IfOk result (λ r. IfNone r (waiting.new.items ≡ [])) }
     ensures found { IfOk result (λ r. IfSome r (λ i. IsFoundAt rows.now trail.new.items i)) }
-    ensures trail { IfOk result (λ r. IfSome r (λ i. IsTrail rows.now next.now (IsStart starts.now) trail.new.items)) }
+    ensures trail { IfOk result (λ r. IfSome r (λ i. IsTrail rows.now next.now (IsStart starts.entry.all.now) trail.new.items)) }
 {
     while let Some(i) = waiting.pop() {
         if visit(rows, next, ins, outs, stamp, trail, waiting, i)? {
@@ -290,7 +296,11 @@ pub(crate) fn search(
             Place::Out(starts[at]),
             None,
         )?;
-        let found = search_on(rows, next, starts, at + 1, ins, outs, stamp, trail, waiting)?;
+        let begun = Starts {
+            all: starts,
+            entered: at + 1,
+        };
+        let found = search_on(rows, next, begun, ins, outs, stamp, trail, waiting)?;
         if found.is_some() {
             return Ok(found);
         }

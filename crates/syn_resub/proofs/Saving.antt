@@ -54,8 +54,8 @@ module _ (graph : Graph) (node : ℕ) (d : Divided) (divided : AreDivided graph.
       ∙ ap (root_row (length graph.rows) (placed_form graph.rows node form).extra) same_literal
       ∙ root_becomes
 
-  pub extra_is : (slice extra : List Row) (row : Row) → slice ≡ graph.rows → row ≡ new_root_by graph.rows form_replacement → extra ≡ (placed_form graph.rows node form).extra → IsExtra (length slice) row extra
-  extra_is slice extra row same_rows same_row same_extra = as_extra graph form_replacement is_below divided.gate slice extra row same_rows same_row (same_extra ∙ rows_become)
+  pub extra_is : (slice extra : List Row) (row : Row) → slice ≡ graph.rows → row ≡ new_root_by graph.rows form_replacement → extra ≡ new_rows_by graph.rows form_replacement → IsExtra (length slice) row extra
+  extra_is = as_extra graph form_replacement is_below divided.gate
 
 -- what the code's lists save is what the proposal saves
 

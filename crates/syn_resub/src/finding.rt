@@ -96,23 +96,23 @@ fn push_implied(
     divided: &Divided,
     first: &Side,
     second: &Side,
-    plain: bool,
-    complemented: bool,
     found: &mut Found,
 )
     requires divided { AreDivided graph.now.rows node divided.now }
     requires few { length found.old.items ≤ 16 }
     requires first { IsSide graph.now.rows divided.now.leaves.items node first.now }
     requires second { IsSide graph.now.rows divided.now.leaves.items node second.now }
-    requires plain { plain ≡ (first.now.above && second.now.above) }
-    requires complemented { complemented ≡ (first.now.above_not && second.now.above_not) }
     ensures few { length found.new.items ≤ 16 }
     ensures found { found.new.items ≡ take 16 (found.old.items ++ filter (stands_for graph.now.rows divided.now.leaves.items node) (ands_of first.now.lit second.now.lit)) }
 {
     let table = first.table.and(second.table);
-    let plain = stands(plain, table, divided.table);
+    let plain = stands(both(first.above, second.above), table, divided.table);
     push_form(found, Form::Both(first.lit, second.lit, false), plain);
-    let complemented = stands(complemented, table.not(), divided.table);
+    let complemented = stands(
+        both(first.above_not, second.above_not),
+        table.not(),
+        divided.table,
+    );
     push_form(found, Form::Both(first.lit, second.lit, true), complemented);
 }
 
@@ -136,16 +136,7 @@ fn push_ands_of(
     let plain = both(first.above, second.above);
     let complemented = both(first.above_not, second.above_not);
     if plain || complemented {
-        push_implied(
-            graph,
-            node,
-            divided,
-            first,
-            second,
-            plain,
-            complemented,
-            found,
-        );
+        push_implied(graph, node, divided, first, second, found);
     }
 }
 

@@ -7,6 +7,7 @@ ghost use Rattle.syn_rows.specs.Rows.{row_at};
 ghost use Rattle.syn_fanout_free.specs.Bounding.{IsMostLost};
 ghost use Rattle.syn_fanout_free.specs.Saved.{count_in};
 ghost use Rattle.syn_gain.specs.Placing.{root_row};
+ghost use Rattle.syn_gain.specs.Replacements.{new_root_by, new_rows_by};
 ghost use Rattle.syn_gain.specs.Searching.{placed_pair};
 ghost use Rattle.syn_gain.specs.Uses.{IsUsesOf};
 ghost use Rattle.syn_growing.specs.Plans.{over};
@@ -117,6 +118,32 @@ fn root_of(rows: &[Row], extra: &[Row], literal: Lit) -> Row
     }
 }
 
+// The new rows of a form in place of an AND: the AND's own, and the one behind the last row, if it makes one.
+#[derive(Debug, Drop)]
+struct NewRows {
+    root: Row,
+    extra: ArrayVec<Row, 1>,
+}
+
+// What a form's proposal becomes.
+fn new_rows(graph: &Graph, uses: &Uses, node: u32, divided: &Divided, form: Form) -> NewRows
+    requires uses { IsUsesOf uses.now graph.now }
+    requires gate { is_and (row_at graph.now.rows node) ≡ true }
+    requires divided { AreDivided graph.now.rows node divided.now }
+    requires made { IsMadeOf divided.now.nodes.items form }
+    ensures root { result.root ≡ new_root_by graph.now.rows (over node divided.now.leaves.items (plan_for graph.now.rows divided.now.leaves.items node form)) }
+    ensures extra { result.extra.items ≡ new_rows_by graph.now.rows (over node divided.now.leaves.items (plan_for graph.now.rows divided.now.leaves.items node form)) }
+{
+    let _ = divided;
+    let placed = place(graph, uses, node, form);
+    let rows = graph.rows.as_slice();
+    let root = root_of(rows, placed.extra.as_slice(), placed.literal);
+    NewRows {
+        root,
+        extra: placed.extra,
+    }
+}
+
 // Whether a form saves in place of an AND, where no more than `most` ANDs go with the AND's row, whichever others stay.
 fn form_saves(
     alloc: Global,
@@ -126,7 +153,6 @@ fn form_saves(
     divided: &Divided,
     form: Form,
     most: u32,
-    kept: &mut KeptRows,
 ) -> Result<bool, AllocError>
     requires uses { IsUsesOf uses.now graph.now }
     requires gate { is_and (row_at graph.now.rows node) ≡ true }
@@ -136,21 +162,21 @@ fn form_saves(
     ensures some { IfOk result (λ some. some ≡ true → SavesSome graph.now.rows graph.now.observed (over node divided.now.leaves.items (plan_for graph.now.rows divided.now.leaves.items node form))) }
     ensures none { IfOk result (λ some. some ≡ false → SavesNothing graph.now.rows graph.now.observed (over node divided.now.leaves.items (plan_for graph.now.rows divided.now.leaves.items node form))) }
 {
-    let _ = divided;
-    let placed = place(graph, uses, node, form);
+    let made = new_rows(graph, uses, node, divided, form);
     let rows = graph.rows.as_slice();
-    let extra = placed.extra.as_slice();
-    let row = root_of(rows, extra, placed.literal);
+    let counts = uses.counts.as_slice();
+    let extra = made.extra.as_slice();
+    let mut kept = KeptRows::new(alloc);
     saves_near(
         alloc,
         rows,
-        uses.counts.as_slice(),
+        counts,
         node,
-        row,
+        made.root,
         extra,
         &[],
         most,
-        kept,
+        &mut kept,
     )
 }
 
@@ -182,10 +208,9 @@ pub(crate) fn place_of_first(
     ensures none { IfOk result (λ found. IfNone found (All (λ form. SavesNothing graph.now.rows graph.now.observed (over node divided.now.leaves.items (plan_for graph.now.rows divided.now.leaves.items node form))) forms.now)) }
 {
     let most = lost_but(alloc, graph, uses, node, &[], MOST_MADE)?;
-    let mut kept = KeptRows::new(alloc);
     for place in 0..forms.len() {
         let form = form_at(forms, place);
-        if form_saves(alloc, graph, uses, node, divided, form, most, &mut kept)? {
+        if form_saves(alloc, graph, uses, node, divided, form, most)? {
             return Ok(Some(place));
         }
     }

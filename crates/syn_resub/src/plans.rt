@@ -28,6 +28,15 @@ type Inner = ArrayVec<u32, MOST_DIVISORS>;
 // Nodes that are wanted: two roots, and two fan-ins of each divisor.
 type Wanted = ArrayVec<u32, 130>;
 
+// What is gathered of the nodes that a form needs.
+#[derive(Debug, Drop)]
+struct Gathered {
+    // The nodes that are wanted.
+    wanted: Wanted,
+    // Those of them whose rows are gates, rising.
+    inner: Inner,
+}
+
 // Whether a node is wanted and isn't a leaf.
 fn is_needed(leaves: &[u32], wanted: &[u32], node: u32) -> bool
     ensures { result ≡ (has_node wanted.now node && not (has_node leaves.now node)) }
@@ -45,22 +54,21 @@ fn need(
     nodes: &[u32],
     roots: &[u32],
     i: usize,
-    wanted: &mut Wanted,
-    inner: &mut Inner,
+    gathered: &mut Gathered,
 )
     requires divisors { AreDivisors graph.now.rows leaves.now node nodes.now }
     requires place { i < length nodes.now }
-    requires needs { Needs graph.now.rows leaves.now nodes.now node roots.now (i + 1) wanted.old.items inner.old.items }
-    ensures needs { Needs graph.now.rows leaves.now nodes.now node roots.now i wanted.new.items inner.new.items }
+    requires needs { Needs graph.now.rows leaves.now nodes.now node roots.now (i + 1) gathered.old.wanted.items gathered.old.inner.items }
+    ensures needs { Needs graph.now.rows leaves.now nodes.now node roots.now i gathered.new.wanted.items gathered.new.inner.items }
 {
     let divisor = node_at(nodes, i);
-    if !is_needed(leaves, wanted.as_slice(), divisor) {
+    if !is_needed(leaves, gathered.wanted.as_slice(), divisor) {
         return;
     }
     if let Row::And(a, b) = graph.rows.as_slice()[divisor as usize] {
-        wanted.push(a.node());
-        wanted.push(b.node());
-        inner.insert(0, divisor);
+        gathered.wanted.push(a.node());
+        gathered.wanted.push(b.node());
+        gathered.inner.insert(0, divisor);
     }
 }
 
@@ -75,22 +83,14 @@ fn needed(graph: &Graph, node: u32, leaves: &[u32], nodes: &[u32], roots: &[u32]
     for root in roots {
         wanted.push(*root);
     }
-    let mut inner = Inner::new();
+    let inner = Inner::new();
+    let mut gathered = Gathered { wanted, inner };
     let mut i = nodes.len();
     while i > 0 {
         i -= 1;
-        need(
-            graph,
-            node,
-            leaves,
-            nodes,
-            roots,
-            i,
-            &mut wanted,
-            &mut inner,
-        );
+        need(graph, node, leaves, nodes, roots, i, &mut gathered);
     }
-    inner
+    gathered.inner
 }
 
 // The index of a node in a plan.

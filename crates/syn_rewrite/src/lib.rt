@@ -20,4 +20,4 @@ mod weighing;
 pub use laws::{class_of_function, function_of_table};
 pub use prepared::Prepared;
 pub use proposing::CutPlans;
-pub use rewriting::rewrite;
+pub use rewriting::{rewrite, rewrite_keeping_levels};

@@ -8,7 +8,7 @@ use Rattle.syn_commit.proofs.answering.answer.Goals as goal
 
 pub returns-clause-free : goal.returns-clause-free
 returns-clause-free g c = λ all n e.
-    let keyed : length (known_of c.keys.new.seat).numbers ≡ 64 = ap (λ (k : Known). length k.numbers) c.keys.ensures.known ∙ (ap (λ (k : Known). length k.numbers) c.walked.ensures.known ∙ all) in
-    let same : (view_of c.counts.new.seat).misses ≡ (view_of c.args.start.now.value).misses =
-    c.counts.ensures.misses ∙ (c.try_hints.ensures.sole keyed ∙ (c.keys.ensures.misses ∙ (c.walked.ensures.sole all ∙ ap (λ (v : View). v.misses) (sym c.requires.start)))) in
-    never_busy (task_of c.args.attempt.now) (view_of c.args.start.now.value) (view_of c.counts.new.seat) c.counts.new.deciding c.counts.ensures.trying.reads same n e
+    let keyed : length (known_of c.keys.new.seat).numbers ≡ 64 = ap (λ (k : Known). length k.numbers) c.keys.ensures.known ∙ (ap (λ (k : Known). length k.numbers) c.walk.ensures.known ∙ all) in
+    let same : (view_of c.counts.new.seat).misses ≡ (view_of c.args.trial.now.start.now.value).misses =
+    c.counts.ensures.misses ∙ (c.try_hints.ensures.sole keyed ∙ (c.keys.ensures.misses ∙ (c.walk.ensures.sole all ∙ ap (λ (v : View). v.misses) (sym c.requires.begins.start)))) in
+    never_busy (task_of c.args.trial.now.attempt) (view_of c.args.trial.now.start.now.value) (view_of c.counts.new.seat) c.counts.new.deciding c.counts.ensures.way.trying.reads same n e

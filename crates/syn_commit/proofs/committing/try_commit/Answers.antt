@@ -1,4 +1,4 @@
-use Rattle.std.proofs.Common.{length, ap, subst, ◌∙◌}
+use Rattle.std.proofs.Common.{length, ap, rules, subst, ◌∙◌}
 use Rattle.syn_decide.specs.Decided.{told_answer}
 use Rattle.syn_decide.specs.Tasks.{asked, task_of}
 use Rattle.syn_table.specs.Seating.{view_of}
@@ -6,11 +6,33 @@ use Rattle.syn_commit.specs.Committed.{IsBooked}
 use Rattle.syn_commit.proofs.Telling.{below_enters, busy_caused, fell_since}
 use Rattle.syn_commit.proofs.committing.try_commit.Goals as goal
 
-pub answer-requires-clause-enters : goal.answer-requires-clause-enters
-answer-requires-clause-enters g c = λ κs within. let p = c.of-attempt.result.candidate in below_enters p.root p.leaves.now p.root_is_no_constant p.below_root
+pub answer-requires-clause-begins : goal.answer-requires-clause-begins
+answer-requires-clause-begins g c = λ κs within. record {
+  table = search rules;
+  start = search rules;
+  state = search rules;
+  pool = search rules;
+  alone = search rules;
+  pins = search rules;
+  root = search rules;
+  not_spare = search rules;
+  enters = let p = c.of-attempt.result.candidate in below_enters p.root p.leaves.now p.root_is_no_constant p.below_root;
+}
 
-pub settle-requires-clause-enters : goal.settle-requires-clause-enters
-settle-requires-clause-enters g c = λ κs within. let p = c.of-attempt.result.candidate in below_enters p.root p.leaves.now p.root_is_no_constant p.below_root
+pub settle-requires-clause-answered : goal.settle-requires-clause-answered
+settle-requires-clause-answered g c =
+    let way = c.answer.ensures.way in
+    record {
+      table = way.table;
+      in_order = search rules;
+      enters = let p = c.of-attempt.result.candidate in below_enters p.root p.leaves.now p.root_is_no_constant p.below_root;
+      size = search rules;
+      trying = way.trying;
+      keyed = way.keyed;
+      loaded = c.answer.ensures.loaded;
+      ended = c.answer.ensures.ended;
+      few = c.answer.ensures.few;
+    }
 
 pub returns-clause-busy : goal.returns-clause-busy
 returns-clause-busy g c = λ n busy.

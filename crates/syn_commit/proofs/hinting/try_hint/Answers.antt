@@ -7,9 +7,9 @@ use Rattle.syn_commit.proofs.hinting.try_hint.Goals as goal
 pub try_held-requires-clause-unpinned : goal.try_held-requires-clause-unpinned
 try_held-requires-clause-unpinned c =
     let may : c.may_try.result ≡ true = search rules in
-    not_pinned (task_of c.args.attempt.now) c.args.pins.now.items (view_of c.args.seat.now) c.args.deciding.now c.suggest-node.result c.requires.keyed (c.may_try.ensures.leaf may) (c.may_try.ensures.hit may)
+    not_pinned (task_of c.args.trial.now.attempt) c.args.pins.now.items (view_of c.args.seat.now) c.args.deciding.now c.suggest-node.result c.requires.way.keyed (c.may_try.ensures.leaf may) (c.may_try.ensures.hit may)
 
 pub try_other-requires-clause-unpinned : goal.try_other-requires-clause-unpinned
 try_other-requires-clause-unpinned c =
     let may : c.may_try.result ≡ true = search rules in
-    not_pinned (task_of c.args.attempt.now) c.args.pins.now.items (view_of c.args.seat.now) c.args.deciding.now c.suggest-node.result c.requires.keyed (c.may_try.ensures.leaf may) (c.may_try.ensures.hit may)
+    not_pinned (task_of c.args.trial.now.attempt) c.args.pins.now.items (view_of c.args.seat.now) c.args.deciding.now c.suggest-node.result c.requires.way.keyed (c.may_try.ensures.leaf may) (c.may_try.ensures.hit may)

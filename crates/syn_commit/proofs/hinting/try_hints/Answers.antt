@@ -6,10 +6,8 @@ use Rattle.syn_commit.proofs.hinting.try_hints.Goals as goal
 
 pub loop-step-preserved : goal.loop-step-preserved
 loop-step-preserved c = record {
-  table = search rules;
   known = search rules;
-  hinting = c.try_place.ensures.hinting;
-  keyed = c.try_place.ensures.keyed;
+  hints = c.try_place.ensures.hints;
   sole = search rules;
   few = search rules;
   place = search rules;
@@ -18,8 +16,10 @@ loop-step-preserved c = record {
 
 pub returns-in_default-clause-uncounted : goal.returns-in_default-clause-uncounted
 returns-in_default-clause-uncounted c =
-    hinting_uncounted (task_of c.args.attempt.now) (view_of c.args.start.now.value) (view_of c.try_place.new.seat) c.try_place.new.deciding c.try_place.ensures.hinting.trying.reads c.try_place.ensures.hinting.stage
+    let hints = c.try_place.ensures.hints in
+    hinting_uncounted (task_of c.args.trial.now.attempt) (view_of c.args.trial.now.start.now.value) (view_of c.try_place.new.seat) c.try_place.new.deciding hints.way.trying.reads hints.stage
 
 pub returns-clause-uncounted : goal.returns-clause-uncounted
 returns-clause-uncounted c =
-    hinting_uncounted (task_of c.args.attempt.now) (view_of c.args.start.now.value) (view_of c.loop-step.seat) c.loop-step.deciding c.loop-step.invariant.hinting.trying.reads c.loop-step.invariant.hinting.stage
+    let hints = c.loop-step.invariant.hints in
+    hinting_uncounted (task_of c.args.trial.now.attempt) (view_of c.args.trial.now.start.now.value) (view_of c.loop-step.seat) c.loop-step.deciding hints.way.trying.reads hints.stage

@@ -7,4 +7,4 @@ use Rattle.syn_commit.proofs.hinting.try_place.Goals as goal
 
 pub place_again-requires : goal.place_again-requires
 place_again-requires c = λ none.
-    c.requires.rows ∙ ap (λ (hits : List NodeRow). (placed_by_hits (task_of c.args.attempt.now) hits).extra) (sym (c.try_hint-hit.ensures.same none))
+    c.requires.rows ∙ ap (λ (hits : List NodeRow). (placed_by_hits (task_of c.args.trial.now.attempt) hits).extra) (sym (c.try_hint-hit.ensures.same none))

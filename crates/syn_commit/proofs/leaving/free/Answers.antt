@@ -1,4 +1,6 @@
-use Rattle.std.proofs.Common.{◌≡◌, nat_lt, if◌then◌else◌, false, true, length, sym, ap, ◌∙◌, subst}
+use Rattle.std.proofs.Common.{◌≡◌, nat_lt, if◌then◌else◌, false, true, ℕ, List, [], ◌++◌, length, sym, ap, ◌∙◌, subst}
+use Rattle.syn_rows.specs.declared.Row.{Row}
+use Rattle.syn_rows.specs.Rows.{refs_of}
 use Rattle.syn_rows.specs.Nodes.{has_node}
 use Rattle.syn_core_laws.specs.declared.View.{View}
 use Rattle.syn_core_laws.specs.declared.EventKind.TheVariants as Kind
@@ -10,6 +12,10 @@ use Rattle.syn_commit.specs.Giving.{IsGiving}
 use Rattle.syn_commit.proofs.Draining.{freed_is, frees_give, may_free, off_list, still_held}
 use Rattle.syn_commit.proofs.Happening.{event_turns}
 use Rattle.syn_commit.proofs.leaving.free.Goals as goal
+
+-- where there was no pin, the pins are the row's nodes
+pins_are : (old new : List ℕ) (row : Row) → new ≡ old ++ refs_of row → old ≡ [] → new ≡ refs_of row
+pins_are old new row e none = e ∙ ap (λ ps. ps ++ refs_of row) none
 
 pub free-requires-clause-may : goal.free-requires-clause-may
 free-requires-clause-may c =
@@ -43,7 +49,7 @@ returns-clause-giving c =
     let given = frees_give (nodes_of c.args.shared.now) c.args.pool.now c.args.holding.now.gates.items c.args.holding.now.idle.items c.args.gate (view_of c.args.seat.now) c.seats_reach_nodes.ensures.shown c.requires.giving
     (view_of c.take_in.new.seat) c.take_in.new.self (subst (λ (v : View). Turns (nodes_of c.args.shared.now) (view_of c.args.seat.now) (Kind.Free c.args.gate.node) v) is turned)
     (c.take_in.ensures.view ∙ ap (λ y. if nat_lt (length c.args.pool.now) 512 then y else released y c.args.gate.node) is) c.take_in.ensures.pool in
-    subst (λ ps. IsGiving c.take_in.new.self ps c.args.holding.now.gates.items c.args.holding.now.idle.items (view_of c.take_in.new.seat)) (sym c.push_refs.ensures) given.0
+    subst (λ ps. IsGiving c.take_in.new.self ps c.args.holding.now.gates.items c.args.holding.now.idle.items (view_of c.take_in.new.seat)) (sym (pins_are _ _ c.args.gate.row c.add_refs.ensures c.requires.none)) given.0
 
 pub returns-clause-gives : goal.returns-clause-gives
 returns-clause-gives c =
@@ -55,3 +61,6 @@ returns-clause-gives c =
     (frees_give (nodes_of c.args.shared.now) c.args.pool.now c.args.holding.now.gates.items c.args.holding.now.idle.items c.args.gate (view_of c.args.seat.now) c.seats_reach_nodes.ensures.shown c.requires.giving
     (view_of c.take_in.new.seat) c.take_in.new.self (subst (λ (v : View). Turns (nodes_of c.args.shared.now) (view_of c.args.seat.now) (Kind.Free c.args.gate.node) v) is turned)
     (c.take_in.ensures.view ∙ ap (λ y. if nat_lt (length c.args.pool.now) 512 then y else released y c.args.gate.node) is) c.take_in.ensures.pool).1
+
+pub returns-clause-pins : goal.returns-clause-pins
+returns-clause-pins c = pins_are _ _ c.args.gate.row c.add_refs.ensures c.requires.none

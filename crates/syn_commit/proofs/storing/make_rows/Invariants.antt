@@ -11,11 +11,11 @@ abbrev pub invariant-loop-i : goal.invariant-loop-i
 invariant-loop-i l = record {
   table : IsOf l.seat l.shared;
   known : known_of l.seat ≡ with_view (known_of l.fn.seat) (view_of l.seat);
-  turns : TurnsAll (nodes_of l.shared) (view_of l.fn.seat) (makes_rows l.low l.step 0 l.made.items) (view_of l.seat);
+  turns : TurnsAll (nodes_of l.shared) (view_of l.fn.seat) (makes_rows l.spacing.low l.spacing.step 0 l.made.items) (view_of l.seat);
   keeps : KeepsKnown (view_of l.fn.seat) (view_of l.seat);
-  made : AreMade l.low l.step l.rows l.made.items (view_of l.seat);
+  made : AreMade l.spacing.low l.spacing.step l.rows.rows.items l.made.items (view_of l.seat);
   count : length l.made.items ≡ l.i;
-  key : l.key ≡ l.low + l.i * l.step;
+  key : l.key ≡ l.spacing.low + l.i * l.spacing.step;
   giving : IsGiving l.pool l.holding.pins.items l.holding.gates.items l.holding.idle.items (view_of l.seat);
   pool : l.fn.pool ≡ l.pool ++ reverse (nodes_of_rows l.made.items);
   pins : l.holding.pins.items ≡ l.fn.holding.pins.items;

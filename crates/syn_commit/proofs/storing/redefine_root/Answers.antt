@@ -14,7 +14,7 @@ use Rattle.syn_commit.proofs.Replacing.{knows_redefine, redefined_is, root_gives
 use Rattle.syn_commit.proofs.storing.redefine_root.Goals as goal
 
 pub pin_places-requires-clause-may : goal.pin_places-requires-clause-may
-pin_places-requires-clause-may c = all_pins_may (view_of c.args.seat.now) c.args.key c.args.row c.requires.may
+pin_places-requires-clause-may c = all_pins_may (view_of c.args.seat.now) c.requires.may.0 c.args.row c.requires.may.2
 
 pub redefine-requires-clause-may : goal.redefine-requires-clause-may
 redefine-requires-clause-may c =
@@ -22,8 +22,8 @@ redefine-requires-clause-may c =
     let given = subst (IsGiving c.args.pool.now (c.args.holding.now.pins.items ++ refs_of c.args.row) c.pin_places.new.holding.gates.items c.pin_places.new.holding.idle.items) is
     (subst (λ ps. IsGiving c.args.pool.now ps c.pin_places.new.holding.gates.items c.pin_places.new.holding.idle.items (view_of c.pin_places.new.seat)) c.pin_places.ensures.pins c.pin_places.ensures.giving) in
     subst (λ (u : View). KnowsRedefine u c.args.root.node c.args.row c.args.over.now) (sym is)
-    (knows_redefine c.args.pool.now c.args.holding.now.pins.items c.pin_places.new.holding.gates.items c.pin_places.new.holding.idle.items (view_of c.args.seat.now) c.args.root.node c.args.key c.args.root.row c.args.row given
-    c.requires.root c.requires.was c.requires.gate c.args.over.now c.requires.key c.requires.may c.requires.few c.requires.over c.requires.same)
+    (knows_redefine c.args.pool.now c.args.holding.now.pins.items c.pin_places.new.holding.gates.items c.pin_places.new.holding.idle.items (view_of c.args.seat.now) c.args.root.node c.requires.may.0 c.args.root.row c.args.row given
+    c.requires.root c.requires.was c.requires.gate c.args.over.now c.requires.may.1 c.requires.may.2 c.requires.few c.requires.over c.requires.same)
 
 pub returns-clause-giving : goal.returns-clause-giving
 returns-clause-giving c =
@@ -31,10 +31,10 @@ returns-clause-giving c =
     let given = subst (IsGiving c.args.pool.now (c.args.holding.now.pins.items ++ refs_of c.args.row) c.pin_places.new.holding.gates.items c.pin_places.new.holding.idle.items) is
     (subst (λ ps. IsGiving c.args.pool.now ps c.pin_places.new.holding.gates.items c.pin_places.new.holding.idle.items (view_of c.pin_places.new.seat)) c.pin_places.ensures.pins c.pin_places.ensures.giving) in
     let r = c.redefine.ensures.known in
-    let stands = root_gives c.args.pool.now c.args.holding.now.pins.items c.pin_places.new.holding.gates.items c.pin_places.new.holding.idle.items (view_of c.args.seat.now) c.args.root.node c.args.key c.args.root.row c.args.row given
+    let stands = root_gives c.args.pool.now c.args.holding.now.pins.items c.pin_places.new.holding.gates.items c.pin_places.new.holding.idle.items (view_of c.args.seat.now) c.args.root.node c.requires.may.0 c.args.root.row c.args.row given
     c.requires.root c.requires.was c.requires.gate in
     let view : view_of c.redefine.new.seat ≡ redefined (with_pins (refs_of c.args.row) (view_of c.args.seat.now)) c.args.root.node c.args.root.row c.args.row =
-    redefined_is c.args.pool.now c.args.holding.now.pins.items c.pin_places.new.holding.gates.items c.pin_places.new.holding.idle.items (view_of c.args.seat.now) c.args.root.node c.args.key c.args.root.row c.args.row given
+    redefined_is c.args.pool.now c.args.holding.now.pins.items c.pin_places.new.holding.gates.items c.pin_places.new.holding.idle.items (view_of c.args.seat.now) c.args.root.node c.requires.may.0 c.args.root.row c.args.row given
     c.requires.root c.requires.was c.requires.gate (view_of c.pin_places.new.seat) (view_of c.redefine.new.seat) r.0 is r.1 (ap (λ (k : Known). k.core) r.2) in
     let pins : c.add_refs.new.pins.items ≡ c.args.holding.now.pins.items ++ refs_of c.args.root.row =
     c.add_refs.ensures ∙ ap (λ ps. ps ++ refs_of c.args.root.row) (c.truncate.ensures.items ∙ (ap (take c.len-before.result) c.pin_places.ensures.pins ∙ take_at c.args.holding.now.pins.items (refs_of c.args.row) c.len-before.result (sym c.len-before.ensures.value))) in
@@ -50,11 +50,11 @@ returns-clause-turns c over =
     (subst (λ ps. IsGiving c.args.pool.now ps c.pin_places.new.holding.gates.items c.pin_places.new.holding.idle.items (view_of c.pin_places.new.seat)) c.pin_places.ensures.pins c.pin_places.ensures.giving) in
     let r = c.redefine.ensures.known in
     let view : view_of c.redefine.new.seat ≡ redefined (with_pins (refs_of c.args.row) (view_of c.args.seat.now)) c.args.root.node c.args.root.row c.args.row =
-    redefined_is c.args.pool.now c.args.holding.now.pins.items c.pin_places.new.holding.gates.items c.pin_places.new.holding.idle.items (view_of c.args.seat.now) c.args.root.node c.args.key c.args.root.row c.args.row given
+    redefined_is c.args.pool.now c.args.holding.now.pins.items c.pin_places.new.holding.gates.items c.pin_places.new.holding.idle.items (view_of c.args.seat.now) c.args.root.node c.requires.may.0 c.args.root.row c.args.row given
     c.requires.root c.requires.was c.requires.gate (view_of c.pin_places.new.seat) (view_of c.redefine.new.seat) r.0 is r.1 (ap (λ (k : Known). k.core) r.2) in
     let there : c.args.root.node < nodes_of c.args.shared.now = (c.seats_reach_nodes.ensures.shown.rows c.args.root.node c.args.root.row c.requires.root).0 in
-    let served = root_served c.args.pool.now c.args.holding.now.pins.items c.pin_places.new.holding.gates.items c.pin_places.new.holding.idle.items (view_of c.args.seat.now) c.args.root.node c.args.key c.args.root.row c.args.row given
-    c.requires.root c.requires.was c.requires.gate c.requires.may in
+    let served = root_served c.args.pool.now c.args.holding.now.pins.items c.pin_places.new.holding.gates.items c.pin_places.new.holding.idle.items (view_of c.args.seat.now) c.args.root.node c.requires.may.0 c.args.root.row c.args.row given
+    c.requires.root c.requires.was c.requires.gate c.requires.may.2 in
     subst (TurnsAll (nodes_of c.args.shared.now) (view_of c.args.seat.now) (redefines_row c.args.root.node c.args.row over)) (sym view)
-    (root_turns c.args.pool.now c.args.holding.now.pins.items c.pin_places.new.holding.gates.items c.pin_places.new.holding.idle.items (view_of c.args.seat.now) c.args.root.node c.args.key c.args.root.row c.args.row given
+    (root_turns c.args.pool.now c.args.holding.now.pins.items c.pin_places.new.holding.gates.items c.pin_places.new.holding.idle.items (view_of c.args.seat.now) c.args.root.node c.requires.may.0 c.args.root.row c.args.row given
     c.requires.root c.requires.was c.requires.gate (nodes_of c.args.shared.now) over there served)

@@ -5,8 +5,8 @@ use Rattle.syn_cuts.proofs.Putting.{leaves_length}
 use Rattle.syn_cuts.proofs.Refusing.{longer_behind, put_last}
 use Rattle.syn_cuts.proofs.unions.most_leaves.Goals as goal
 
-pub returns-then-last-k-clause-larger : goal.returns-then-last-k-clause-larger
-returns-then-last-k-clause-larger c = λ cut more small.
+pub returns-then-last-k-clause-longer : goal.returns-then-last-k-clause-longer
+returns-then-last-k-clause-longer c = λ cut more small.
     let cuts = c.args.cuts.now in
     let full = c.if-cuts-lt-KEPT.false in
     let size = leaves_length cuts in

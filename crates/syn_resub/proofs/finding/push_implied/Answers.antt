@@ -19,10 +19,10 @@ returns-clause-found c =
     let opposite = values_not (length leaves) c.and-table.result c.not.result both c.not.ensures.vars c.not.ensures.values table in
     found_two 16 (stands_for rows leaves node) c.args.found.now.items c.push_form.new.found.items c.push_form-2.new.found.items (Both l m false) (Both l m true) c.stands-plain.result c.stands-complemented.result
     (c.stands-plain.ensures (length leaves) both (value_over rows leaves node) table c.requires.divided.table
-    ∙ ap (λ b. b && stands_for rows leaves node (Both l m false)) c.requires.plain
+    ∙ ap (λ b. b && stands_for rows leaves node (Both l m false)) c.both.ensures
     ∙ plain_stands rows leaves node l m c.args.first.now.above c.args.second.now.above c.requires.first.above c.requires.second.above)
     (c.stands-complemented.ensures (length leaves) (λ xs. not (both xs)) (value_over rows leaves node) opposite c.requires.divided.table
-    ∙ ap (λ b. b && stands_for rows leaves node (Both l m true)) c.requires.complemented
+    ∙ ap (λ b. b && stands_for rows leaves node (Both l m true)) c.both-2.ensures
     ∙ complemented_stands rows leaves node l m c.args.first.now.above_not c.args.second.now.above_not c.requires.first.above_not c.requires.second.above_not)
     c.push_form.ensures.found
     c.push_form-2.ensures.found

@@ -4,7 +4,7 @@ use Rattle.syn_rows.specs.Rows.{InOrder}
 use Rattle.syn_fanout_free.specs.Saved.{count_in}
 use Rattle.syn_fanout_free.proofs.Ends.{reached_referred}
 use Rattle.syn_gain.proofs.Owning.{as_owned, graph_order}
-use Rattle.syn_resub.proofs.Saving.{extra_is, form_replacement, nothing_saved, row_is, rows_become, some_saved}
+use Rattle.syn_resub.proofs.Saving.{extra_is, form_replacement, nothing_saved, some_saved}
 use Rattle.syn_resub.proofs.placing.form_saves.Goals as goal
 
 pub saves_near-requires-clause-order : goal.saves_near-requires-clause-order
@@ -12,36 +12,26 @@ saves_near-requires-clause-order c = subst (λ (r : List Row). InOrder r) (sym c
 
 pub saves_near-requires-clause-referred : goal.saves_near-requires-clause-referred
 saves_near-requires-clause-referred c =
-    reached_referred c.as_slice-rows.result.now c.args.graph.now.observed (count_in c.as_slice.result.now) c.args.node
-    (as_owned c.args.graph.now c.args.uses.now c.args.node c.requires.uses c.requires.gate c.as_slice-rows.result.now c.as_slice.result.now c.as_slice-rows.ensures c.as_slice.ensures.value)
+    reached_referred c.as_slice-rows.result.now c.args.graph.now.observed (count_in c.as_slice-counts.result.now) c.args.node
+    (as_owned c.args.graph.now c.args.uses.now c.args.node c.requires.uses c.requires.gate c.as_slice-rows.result.now c.as_slice-counts.result.now c.as_slice-rows.ensures c.as_slice-counts.ensures.value)
 
 pub saves_near-requires-clause-extra : goal.saves_near-requires-clause-extra
 saves_near-requires-clause-extra c =
-    let extra = c.as_slice-extra.ensures.value ∙ c.place-placed.ensures.extra in
-    extra_is c.args.graph.now c.args.node c.args.divided.now c.requires.divided c.args.form c.requires.made c.as_slice-rows.result.now c.as_slice-extra.result.now c.root_of-row.result c.as_slice-rows.ensures
-    (row_is c.args.graph.now c.args.node c.args.divided.now c.requires.divided c.args.form c.requires.made c.as_slice-rows.result.now c.as_slice-extra.result.now c.root_of-row.result c.place-placed.result.literal c.as_slice-rows.ensures extra c.place-placed.ensures.literal c.root_of-row.ensures)
-    extra
+    extra_is c.args.graph.now c.args.node c.args.divided.now c.requires.divided c.args.form c.requires.made c.as_slice-rows.result.now c.as_slice-extra.result.now c.new_rows-made.result.root
+    c.as_slice-rows.ensures c.new_rows-made.ensures.root (c.as_slice-extra.ensures.value ∙ c.new_rows-made.ensures.extra)
 
 pub returns-clause-some : goal.returns-clause-some
 returns-clause-some c =
     let graph = c.args.graph.now in
-    let d = c.args.divided.now in
-    let extra = c.as_slice-extra.ensures.value ∙ c.place-placed.ensures.extra in
-    some_saved graph.rows c.as_slice-rows.result.now c.as_slice-extra.result.now graph.observed (count_in c.as_slice.result.now) (form_replacement graph c.args.node d c.requires.divided c.args.form c.requires.made) c.root_of-row.result c.saves_near.result
-    c.as_slice-rows.ensures
-    (row_is graph c.args.node d c.requires.divided c.args.form c.requires.made c.as_slice-rows.result.now c.as_slice-extra.result.now c.root_of-row.result c.place-placed.result.literal c.as_slice-rows.ensures extra c.place-placed.ensures.literal c.root_of-row.ensures)
-    (extra ∙ rows_become graph c.args.node d c.requires.divided c.args.form c.requires.made)
-    (as_owned graph c.args.uses.now c.args.node c.requires.uses c.requires.gate c.as_slice-rows.result.now c.as_slice.result.now c.as_slice-rows.ensures c.as_slice.ensures.value)
+    some_saved graph.rows c.as_slice-rows.result.now c.as_slice-extra.result.now graph.observed (count_in c.as_slice-counts.result.now) (form_replacement graph c.args.node c.args.divided.now c.requires.divided c.args.form c.requires.made) c.new_rows-made.result.root c.saves_near.result
+    c.as_slice-rows.ensures c.new_rows-made.ensures.root (c.as_slice-extra.ensures.value ∙ c.new_rows-made.ensures.extra)
+    (as_owned graph c.args.uses.now c.args.node c.requires.uses c.requires.gate c.as_slice-rows.result.now c.as_slice-counts.result.now c.as_slice-rows.ensures c.as_slice-counts.ensures.value)
     c.saves_near.ensures.some
 
 pub returns-clause-none : goal.returns-clause-none
 returns-clause-none c =
     let graph = c.args.graph.now in
-    let d = c.args.divided.now in
-    let extra = c.as_slice-extra.ensures.value ∙ c.place-placed.ensures.extra in
-    nothing_saved graph.rows c.as_slice-rows.result.now c.as_slice-extra.result.now graph.observed (count_in c.as_slice.result.now) (form_replacement graph c.args.node d c.requires.divided c.args.form c.requires.made) c.root_of-row.result c.saves_near.result
-    c.as_slice-rows.ensures
-    (row_is graph c.args.node d c.requires.divided c.args.form c.requires.made c.as_slice-rows.result.now c.as_slice-extra.result.now c.root_of-row.result c.place-placed.result.literal c.as_slice-rows.ensures extra c.place-placed.ensures.literal c.root_of-row.ensures)
-    (extra ∙ rows_become graph c.args.node d c.requires.divided c.args.form c.requires.made)
-    (as_owned graph c.args.uses.now c.args.node c.requires.uses c.requires.gate c.as_slice-rows.result.now c.as_slice.result.now c.as_slice-rows.ensures c.as_slice.ensures.value)
+    nothing_saved graph.rows c.as_slice-rows.result.now c.as_slice-extra.result.now graph.observed (count_in c.as_slice-counts.result.now) (form_replacement graph c.args.node c.args.divided.now c.requires.divided c.args.form c.requires.made) c.new_rows-made.result.root c.saves_near.result
+    c.as_slice-rows.ensures c.new_rows-made.ensures.root (c.as_slice-extra.ensures.value ∙ c.new_rows-made.ensures.extra)
+    (as_owned graph c.args.uses.now c.args.node c.requires.uses c.requires.gate c.as_slice-rows.result.now c.as_slice-counts.result.now c.as_slice-rows.ensures c.as_slice-counts.ensures.value)
     c.saves_near.ensures.none

@@ -15,5 +15,5 @@ loop-i-init c =
 
 pub returns : goal.returns
 returns c =
-    need_ends c.args.graph.now.rows c.args.leaves.now c.args.node c.args.nodes.now c.args.roots.now c.requires.divisors c.loop-i.wanted.items c.loop-i.inner.items
-    (subst (λ k. Needs c.args.graph.now.rows c.args.leaves.now c.args.nodes.now c.args.node c.args.roots.now k c.loop-i.wanted.items c.loop-i.inner.items) (let past = c.loop-i-test.false in let none : c.loop-i.i ≡ 0 = omega (arith, past) in none) c.loop-i.invariant.needs)
+    need_ends c.args.graph.now.rows c.args.leaves.now c.args.node c.args.nodes.now c.args.roots.now c.requires.divisors c.loop-i.gathered.wanted.items c.loop-i.gathered.inner.items
+    (subst (λ k. Needs c.args.graph.now.rows c.args.leaves.now c.args.nodes.now c.args.node c.args.roots.now k c.loop-i.gathered.wanted.items c.loop-i.gathered.inner.items) (let past = c.loop-i-test.false in let none : c.loop-i.i ≡ 0 = omega (arith, past) in none) c.loop-i.invariant.needs)

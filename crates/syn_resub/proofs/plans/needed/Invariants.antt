@@ -11,7 +11,7 @@ invariant-loop-root l = record {
 abbrev pub invariant-loop-i : goal.invariant-loop-i
 invariant-loop-i l = record {
   within : l.i ≤ length l.nodes;
-  needs : Needs l.graph.rows l.leaves l.nodes l.node l.roots l.i l.wanted.items l.inner.items;
+  needs : Needs l.graph.rows l.leaves l.nodes l.node l.roots l.i l.gathered.wanted.items l.gathered.inner.items;
 }
 
 abbrev pub decreases-loop-i : goal.decreases-loop-i
