@@ -10,12 +10,3 @@ chained a b c j k l le first second = record {
   values = λ bits. second.values bits ∙ first.values bits;
   count = let x = first.count in let y = second.count in omega arith;
 }
-
--- what gains so much follows
-pub follows_at_all : (a b : Graph) (k : ℕ) → Follows a k b → Follows a 0 b
-follows_at_all a b k follows = record {
-  frame = follows.frame;
-  names = follows.names;
-  values = follows.values;
-  count = let x = follows.count in omega arith;
-}

@@ -19,4 +19,4 @@ IsFewer was report now = Follows was report.gained now × (length now.rows < len
 abbrev pub IsStepOf : {L : Type 0} → Graph → (List Row → ℕ → List Replacement) → Bool → Step L → Type 0
 IsStepOf was proposals strict Stays = Closed was.rows was.observed (proposals was.rows)
 IsStepOf was proposals strict (Ends now report) = Follows was report.gained now × Closed now.rows now.observed (proposals now.rows) × IsGain strict report × IsReport report
-IsStepOf was proposals strict (GoesOn now report _) = Follows was report.gained now × (length now.rows < length was.rows) × IsGain strict report × IsReport report
+IsStepOf was proposals strict (GoesOn now report _ _) = Follows was report.gained now × (length now.rows < length was.rows) × IsGain strict report × IsReport report

@@ -26,6 +26,7 @@ mod sharing;
 mod steps;
 mod sweeping;
 mod trying;
+mod visited;
 mod weighing;
 mod working;
 

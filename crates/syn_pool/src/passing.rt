@@ -11,28 +11,23 @@ ghost use Rattle.syn_pool.specs.Steps.{IsStepOf};
 
 use crate::scene::Course;
 use crate::steps::{NOTHING, Step, both, one_step};
+use crate::visited::Visited;
 use std::alloc::{AllocError, Global};
 use std::thread::Threads;
 use syn_commit::Gate;
 use syn_graph::Graph;
 use syn_proposals::{Proposer, Report};
 
-// Commits of gain 0 are worth another round where the last one took away one in so many of the ANDs.
-const LEAST_SHARE: usize = 1024;
-
-// Whether they are, where there were so many nodes before the last round and so many after it.
-fn is_worth_another(before: usize, after: usize) -> bool {
-    before.saturating_sub(after).saturating_mul(LEAST_SHARE) >= before
-}
-
-// Steps on a graph in place of another, until it is closed; the lists are those of one before it. Workers commit for all ANDs
-// in them only where gains of 0 are let through, and for as long as these lead to much.
+// Steps on a graph in place of another, until it is closed; the lists are those of one before it. Whether workers commit in the
+// first of them is given; in a later one they do if the one before it says so.
 fn close<R: Threads + Sync, P: Proposer, G: Gate>(
     course: &Course<'_, R, P, G>,
     start: &Graph,
     graph: Graph,
     report: Report,
     lists: P::Lists,
+    commits: bool,
+    visited: &mut Visited,
 ) -> Result<(Graph, Report), AllocError>
     requires follows { Follows start.now report.gained graph }
     requires gain { IsGain (not course.now.zero_gain) report }
@@ -46,15 +41,14 @@ fn close<R: Threads + Sync, P: Proposer, G: Gate>(
     let mut graph = graph;
     let mut report = report;
     let mut lists = lists;
-    let mut commits = course.zero_gain;
+    let mut commits = commits;
     loop {
         let before = Some(lists);
-        match one_step(course, &graph, before, commits)? {
+        match one_step(course, &graph, before, commits, visited)? {
             Step::Stays => return Ok((graph, report)),
             Step::Ends(next, more) => return Ok((next, both(report, more))),
-            Step::GoesOn(next, more, used) => {
-                commits = commits
-                    && is_worth_another(graph.rows.as_slice().len(), next.rows.as_slice().len());
+            Step::GoesOn(next, more, used, again) => {
+                commits = again;
                 graph = next;
                 report = both(report, more);
                 lists = used;
@@ -63,7 +57,7 @@ fn close<R: Threads + Sync, P: Proposer, G: Gate>(
     }
 }
 
-/// A closed graph in place of the given one; none where that is closed. Workers commit for all ANDs in the first round.
+/// A closed graph in place of the given one; none where that is closed. Workers commit in the first step.
 pub(crate) fn closed<R: Threads + Sync, P: Proposer, G: Gate>(
     course: &Course<'_, R, P, G>,
     graph: &Graph,
@@ -71,11 +65,12 @@ pub(crate) fn closed<R: Threads + Sync, P: Proposer, G: Gate>(
     ensures some { IfOk result (λ made. IfSome made (λ r. Follows graph.now r.1.gained r.0 × Closed r.0.rows r.0.observed (P.proposals course.now.proposer.now r.0.rows) × IsGain (not course.now.zero_gain) r.1 × IsReport r.1)) }
     ensures none { IfOk result (λ made. IfNone made (Closed graph.now.rows graph.now.observed (P.proposals course.now.proposer.now graph.now.rows))) }
 {
-    match one_step(course, graph, None, true)? {
+    let mut visited = Visited::new(course.alloc, graph)?;
+    match one_step(course, graph, None, true, &mut visited)? {
         Step::Stays => Ok(None),
         Step::Ends(next, report) => Ok(Some((next, report))),
-        Step::GoesOn(next, report, lists) => {
-            Ok(Some(close(course, graph, next, report, lists)?))
+        Step::GoesOn(next, report, lists, again) => {
+            Ok(Some(close(course, graph, next, report, lists, again, &mut visited)?))
         }
     }
 }
@@ -83,9 +78,9 @@ pub(crate) fn closed<R: Threads + Sync, P: Proposer, G: Gate>(
 /// Lets workers commit proposals on a graph, and then checks it; workers commit for what the check finds, or it is applied,
 /// again and again until no proposal saves: the same frame, the same values of the observed signals, fewer ANDs by at least
 /// what the report says, and closed. The report has what the workers' commits did and gained, and nothing of what was applied
-/// without them. Where `zero_gain` is true, commits of gain 0 are let through, and workers commit for all ANDs again before
-/// each check for as long as a round leads to much. The gate is told of each commit. Where memory is refused, the same graph
-/// comes back.
+/// without them. Where `zero_gain` is true, commits of gain 0 are let through, and workers commit again before the first check
+/// for as long as a round leads to much, for ANDs in whose neighbourhood something is new. The gate is told of each commit.
+/// Where memory is refused, the same graph comes back.
 #[tactic(auto, using(crate::proofs::Sums::no_report))]
 pub fn pass<R: Threads + Sync, P: Proposer, G: Gate>(
     rt: &R,

@@ -15,6 +15,7 @@ use crate::opening::{Order, SPARE, gates_of, noted, opened};
 use crate::queues::{queues_of, thieves_of};
 use crate::scene::{Board, Course, Crew, Tour};
 use crate::sharing::{Swept, swept_by_all};
+use crate::visited::Visited;
 use std::alloc::{AllocError, Global};
 use std::thread::Threads;
 use syn_commit::Gate;
@@ -145,20 +146,26 @@ pub(crate) fn round_at<R: Threads + Sync, P: Proposer, G: Gate>(
     Ok(Some(made))
 }
 
-/// A round on all ANDs of the graph, the last one first, with the workers of the pass.
+/// A round on the ANDs of the graph, the last one first, with the workers of the pass: where gains of 0 are let through, on those
+/// whose neighbourhoods weren't visited.
 pub(crate) fn round<R: Threads + Sync, P: Proposer, G: Gate>(
     course: &Course<'_, R, P, G>,
     graph: &Graph,
     lists: &P::Lists,
+    visited: &mut Visited,
 ) -> Result<Option<Improved>, AllocError>
     requires lists { P.is_lists_of course.now.proposer.now lists.now graph.now.rows }
     ensures follows { IfOk result (λ made. IfSome made (λ m. Follows graph.now m.report.gained m.graph)) }
     ensures gain { IfOk result (λ made. IfSome made (λ m. IsGain (not course.now.zero_gain) m.report)) }
     ensures report { IfOk result (λ made. IfSome made (λ m. IsReport m.report)) }
 {
-    let gates = gates_of(course.alloc, graph)?;
+    let nodes = if course.zero_gain {
+        visited.visit(course.alloc, graph)?
+    } else {
+        gates_of(course.alloc, graph)?
+    };
     let tour = Tour {
-        nodes: gates.as_slice(),
+        nodes: nodes.as_slice(),
         order: Order::Levels,
         workers: course.workers,
         zero_gain: course.zero_gain,

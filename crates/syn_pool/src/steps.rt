@@ -17,6 +17,7 @@ ghost use Rattle.syn_pool.specs.Steps.{IsFewer, IsStepOf};
 use crate::opening::Order;
 use crate::rounds::{round, round_at};
 use crate::scene::{Course, Tour};
+use crate::visited::Visited;
 use std::alloc::{AllocError, Global};
 use std::thread::Threads;
 use syn_commit::Gate;
@@ -34,8 +35,9 @@ pub(crate) enum Step<L> {
     Stays,
     /// This graph in its place is closed.
     Ends(Graph, Report),
-    /// This graph is in its place, with fewer ANDs; these are the lists of one before it.
-    GoesOn(Graph, Report, L),
+    /// This graph is in its place, with fewer ANDs; these are the lists of one before it, and whether workers commit again
+    /// before the check.
+    GoesOn(Graph, Report, L, bool),
 }
 
 // The roots of proposals, the last one first.
@@ -52,6 +54,9 @@ const MOST_COMMITTED: usize = 1024;
 
 // The most leftovers that are left to one worker: several would meet around so few, and leave more to the next check.
 const MOST_ALONE: usize = 256;
+
+// Gains of 0 are worth another round where the last one took away one in so many of the ANDs.
+const LEAST_SHARE: usize = 4096;
 
 // How many workers commit for so many leftovers.
 fn workers_for(leftovers: usize, workers: u8) -> u8 {
@@ -134,7 +139,7 @@ fn check_given<R: Threads + Sync, P: Proposer, G: Gate>(
     ensures { (strict : Bool) → IfOk result (IsStepOf graph.now (P.proposals course.now.proposer.now) strict) }
 {
     match check(course, graph, &lists)? {
-        Some(next) => Ok(Step::GoesOn(next.graph, next.report, lists)),
+        Some(next) => Ok(Step::GoesOn(next.graph, next.report, lists, false)),
         None => Ok(Step::Stays),
     }
 }
@@ -167,9 +172,34 @@ fn check_improved<R: Threads + Sync, P: Proposer, G: Gate>(
     let _count = graph.count();
     let lists = listed(course, &improved.graph, Some(lists))?;
     match check(course, &improved.graph, &lists)? {
-        Some(next) => Ok(Step::GoesOn(next.graph, both(report, next.report), lists)),
+        Some(next) => Ok(Step::GoesOn(next.graph, both(report, next.report), lists, false)),
         None => Ok(Step::Ends(improved.graph, report)),
     }
+}
+
+// Whether another round of gains of 0 is worth it, where the last one made one graph of another.
+fn is_worth_another(graph: &Graph, next: &Graph) -> bool
+    ensures { result ≡ true → length next.now.rows < length graph.now.rows }
+{
+    let (before, after) = (graph.rows.as_slice().len(), next.rows.as_slice().len());
+    after < before && (before - after).saturating_mul(LEAST_SHARE) >= before
+}
+
+// What comes after a round that made a graph in place of the given one, which has these lists: another round, or the check.
+fn goes_on<R: Threads + Sync, P: Proposer, G: Gate>(
+    course: &Course<'_, R, P, G>,
+    graph: &Graph,
+    improved: Improved,
+    lists: P::Lists,
+) -> Result<Step<P::Lists>, AllocError>
+    requires follows { Follows graph.now improved.report.gained improved.graph }
+    requires report { IsReport improved.report }
+    ensures { (strict : Bool) → IsGain strict improved.report → IfOk result (IsStepOf graph.now (P.proposals course.now.proposer.now) strict) }
+{
+    if course.zero_gain && is_worth_another(graph, &improved.graph) {
+        return Ok(Step::GoesOn(improved.graph, improved.report, lists, true));
+    }
+    check_improved(course, graph, improved, lists)
 }
 
 // The lists of a graph, where these are those of one before it, if there was one.
@@ -189,18 +219,19 @@ fn listed<R: Threads + Sync, P: Proposer, G: Gate>(
     }
 }
 
-// A round of workers on all ANDs, unless its graph may not take the place of the given one.
+// A round of workers, unless its graph may not take the place of the given one.
 fn round_taken<R: Threads + Sync, P: Proposer, G: Gate>(
     course: &Course<'_, R, P, G>,
     graph: &Graph,
     lists: &P::Lists,
+    visited: &mut Visited,
 ) -> Result<Option<Improved>, AllocError>
     requires lists { P.is_lists_of course.now.proposer.now lists.now graph.now.rows }
     ensures follows { IfOk result (λ made. IfSome made (λ m. Follows graph.now m.report.gained m.graph)) }
     ensures gain { IfOk result (λ made. IfSome made (λ m. IsGain (not course.now.zero_gain) m.report)) }
     ensures report { IfOk result (λ made. IfSome made (λ m. IsReport m.report)) }
 {
-    match round(course, graph, lists)? {
+    match round(course, graph, lists, visited)? {
         Some(improved) => {
             let may = course
                 .proposer
@@ -211,13 +242,15 @@ fn round_taken<R: Threads + Sync, P: Proposer, G: Gate>(
     }
 }
 
-/// One step on a graph: workers commit, if they are to, and the graph that they leave is checked. Where they are not to, the
-/// graph has no room for them, nothing was done, or the proposer wouldn't take what they leave, the given graph is checked. The lists are those of a graph before it, if there was one.
+/// One step on a graph: workers commit, if they are to, and the graph that they leave is checked, unless they are to commit again
+/// first. Where they are not to, the graph has no room for them, nothing was done, or the proposer wouldn't take what they
+/// leave, the given graph is checked. The lists are those of a graph before it, if there was one.
 pub(crate) fn one_step<R: Threads + Sync, P: Proposer, G: Gate>(
     course: &Course<'_, R, P, G>,
     graph: &Graph,
     before: Option<P::Lists>,
     commits: bool,
+    visited: &mut Visited,
 ) -> Result<Step<P::Lists>, AllocError>
     ensures { IfOk result (IsStepOf graph.now (P.proposals course.now.proposer.now) (not course.now.zero_gain)) }
 {
@@ -225,10 +258,8 @@ pub(crate) fn one_step<R: Threads + Sync, P: Proposer, G: Gate>(
     if !commits {
         return check_given(course, graph, lists);
     }
-    match round_taken(course, graph, &lists)? {
-        Some(improved) if improved.report.done > 0 => {
-            check_improved(course, graph, improved, lists)
-        }
+    match round_taken(course, graph, &lists, visited)? {
+        Some(improved) if improved.report.done > 0 => { goes_on(course, graph, improved, lists) }
         _ => check_given(course, graph, lists),
     }
 }

@@ -4,14 +4,14 @@ use Rattle.syn_proposals.proofs.Maps.{IfSome-at}
 use Rattle.syn_pool.specs.Reports.{IsReport}
 use Rattle.syn_pool.proofs.steps.one_step.Goals as goal
 
-pub check_improved-requires-clause-report : goal.check_improved-requires-clause-report
-check_improved-requires-clause-report g c κs within =
+pub goes_on-requires-clause-report : goal.goes_on-requires-clause-report
+goes_on-requires-clause-report g c κs within =
     IfSome-at (λ m. IsReport m.report) c.in_ok-improved.field-0 c.in-Some.improved c.in-Some.is c.in_ok-improved.ensures.report
 
 pub returns-in-Some : goal.returns-in-Some
 returns-in-Some g c =
     let strict = not c.args.course.now.zero_gain in
-    c.check_improved.ensures strict (IfSome-at (λ m. IsGain strict m.report) c.in_ok-improved.field-0 c.in-Some.improved c.in-Some.is c.in_ok-improved.ensures.gain)
+    c.goes_on.ensures strict (IfSome-at (λ m. IsGain strict m.report) c.in_ok-improved.field-0 c.in-Some.improved c.in-Some.is c.in_ok-improved.ensures.gain)
 
 pub returns-then-not-commits : goal.returns-then-not-commits
 returns-then-not-commits g c = c.check_given.ensures (not c.args.course.now.zero_gain)
