@@ -12,7 +12,7 @@ returns-in-Ok-clause-refactored g c =
     let graph = c.args.graph in
     let new = c.in-Ok.new in
     let h = c.in-Ok.ensures in
-    subst (λ (b : Bool). IsPassed b refactorings (graph_network (graphs.network_of graph)) (graph_network (graphs.network_of new))) (sym c.if-branch.true)
+    subst (λ (b : Bool). IsPassed b refactorings (graph_network (graphs.network_of graph)) (graph_network (graphs.network_of new))) (sym c.if-options.true)
     (closed_keeping_levels c.network_of_graph.ensures c.graph_has_function.ensures c.same_from_function.ensures refactorings (frame_in graph.frame) (frame_in new.frame) graph.rows new.rows graph.observed new.observed h.frame
     graph.frame.clocks_once graph.frame.sources_once graph.graph new.graph h.values h.count h.levels h.closed)
 
@@ -21,6 +21,6 @@ returns-in-Ok-refactor-clause-refactored g c =
     let graph = c.args.graph in
     let new = c.in-Ok-refactor.new in
     let h = c.in-Ok-refactor.ensures in
-    subst (λ (b : Bool). IsPassed b refactorings (graph_network (graphs.network_of graph)) (graph_network (graphs.network_of new))) (sym c.if-branch.false)
+    subst (λ (b : Bool). IsPassed b refactorings (graph_network (graphs.network_of graph)) (graph_network (graphs.network_of new))) (sym c.if-options.false)
     (closed_for c.network_of_graph.ensures c.graph_has_function.ensures c.same_from_function.ensures refactorings (frame_in graph.frame) (frame_in new.frame) graph.rows new.rows graph.observed new.observed h.frame
     graph.frame.clocks_once graph.frame.sources_once graph.graph new.graph h.values h.count h.closed)
