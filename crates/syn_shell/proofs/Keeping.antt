@@ -7,16 +7,20 @@ use Rattle.syn_netlist.specs.Order.{Ordered}
 use Rattle.syn_shapes.specs.GraphShape.{GraphHasFunction, GraphShape}
 use Rattle.syn_seq.specs.Laws.{SameMeaningIsSequential, SequentialIsTransitive}
 use Rattle.syn_aiger.specs.Writing.{aig_of}
+use Rattle.syn_refactor.specs.Refactoring.{refactorings}
+use Rattle.syn_resub.specs.Resubstitution.{resubstitutions}
+use Rattle.syn_rewrite.specs.Rewriting.{rewritings}
 use Rattle.syn_words.specs.declared.Command.{Command}
 use Rattle.syn_words.specs.declared.Command.TheVariants as commands
 use Rattle.syn_shell.specs.declared.refusal.Refusal.{Refusal}
 use Rattle.syn_shell.specs.Networks.{Network, graph_network}
 use Rattle.syn_shell.specs.Outside.{State}
-use Rattle.syn_shell.specs.Steps.{Denied, IsSweptTo, Kind, Reading, ReadingAiger, Generating, Printing, Writing, WritingAiger, Making, Makes, OnGraph, Remakes, SessionStep, kind_of}
+use Rattle.syn_shell.specs.Steps.{Denied, IsPassed, IsSweptTo, Kind, Reading, ReadingAiger, Generating, Printing, Writing, WritingAiger, Making, Makes, OnGraph, Remakes, SessionStep, kind_of}
 use Rattle.syn_shell.specs.Scripts.{Refused, RunsCommands, RunsScript}
 use Rattle.syn_shell.specs.LineMode.{EndsBySink, GoesOn, RunsLines}
 use Rattle.syn_shell.specs.Usage.{Usage, OneScript, EachLine, Faulty, usage_of}
 use Rattle.syn_shell.specs.Runs.{RunsUsage, RunsWords}
+use Rattle.syn_shell.proofs.Staying.{passed_remade}
 use Rattle.syn_shell.specs.Origins.{EachWriteKeeps, Gives, IsSameBy, Keeps, Origin, Step, origin_after, origin_behind, swept_since, steps_of_commands, steps_of_lines, steps_of_script, steps_of_usage, steps_of_words, writes}
 
 -- the laws that say how sameness begins, at a graph, and goes on from step to step
@@ -63,9 +67,12 @@ kept_on_graph laws swept makes kept true old new (graph, is, made) = (same_then 
 made_kept : AreLaws → (c : Command) (old new : Network) → kind_of c ≡ Making → Makes c old new → IsKeptIn (sweeps c) old new
 made_kept laws commands.Strash old new making made = (made.same, made.ordered)
 made_kept laws commands.Balance old new making made = kept_on_graph laws false _ (λ a b h. (h.remade.same, h.remade.ordered)) old.mapped old new made
-made_kept laws (commands.Rewrite zero workers) old new making made = kept_on_graph laws false _ (λ a b h. (h.remade.same, h.remade.ordered)) old.mapped old new made
-made_kept laws (commands.Refactor zero workers) old new making made = kept_on_graph laws false _ (λ a b h. (h.remade.same, h.remade.ordered)) old.mapped old new made
-made_kept laws (commands.Resubstitute zero workers) old new making made = kept_on_graph laws false _ (λ a b h. (h.remade.same, h.remade.ordered)) old.mapped old new made
+made_kept laws (commands.Rewrite options) old new making made =
+    kept_on_graph laws false (IsPassed options.levels rewritings) (λ a b h. let remade = passed_remade options.levels rewritings a b h in (remade.same, remade.ordered)) old.mapped old new made
+made_kept laws (commands.Refactor options) old new making made =
+    kept_on_graph laws false (IsPassed options.levels refactorings) (λ a b h. let remade = passed_remade options.levels refactorings a b h in (remade.same, remade.ordered)) old.mapped old new made
+made_kept laws (commands.Resubstitute options) old new making made =
+    kept_on_graph laws false (IsPassed options.levels resubstitutions) (λ a b h. let remade = passed_remade options.levels resubstitutions a b h in (remade.same, remade.ordered)) old.mapped old new made
 made_kept laws (commands.Map false inputs) old new making made = kept_on_graph laws false _ (λ a b h. (h.luts.same, h.luts.ordered)) old.mapped old new made
 made_kept laws (commands.Map true inputs) old new making made = kept_on_graph laws false _ (λ a b h. (h.luts.same, h.luts.ordered)) old.mapped old new made
 made_kept laws (commands.MapByFlow inputs) old new making made = kept_on_graph laws false _ (λ a b h. (h.luts.same, h.luts.ordered)) old.mapped old new made
@@ -122,9 +129,9 @@ accepted_kept laws (commands.WriteAiger ascii name) before after origin (net, by
 accepted_kept laws commands.Sweep before after origin (made, files, sink) kept = remade_kept laws commands.Sweep origin before.network after.network refl made kept
 accepted_kept laws commands.Strash before after origin (made, files, sink) kept = remade_kept laws commands.Strash origin before.network after.network refl made kept
 accepted_kept laws commands.Balance before after origin (made, files, sink) kept = remade_kept laws commands.Balance origin before.network after.network refl made kept
-accepted_kept laws (commands.Rewrite zero workers) before after origin (made, files, sink) kept = remade_kept laws (commands.Rewrite zero workers) origin before.network after.network refl made kept
-accepted_kept laws (commands.Refactor zero workers) before after origin (made, files, sink) kept = remade_kept laws (commands.Refactor zero workers) origin before.network after.network refl made kept
-accepted_kept laws (commands.Resubstitute zero workers) before after origin (made, files, sink) kept = remade_kept laws (commands.Resubstitute zero workers) origin before.network after.network refl made kept
+accepted_kept laws (commands.Rewrite options) before after origin (made, files, sink) kept = remade_kept laws (commands.Rewrite options) origin before.network after.network refl made kept
+accepted_kept laws (commands.Refactor options) before after origin (made, files, sink) kept = remade_kept laws (commands.Refactor options) origin before.network after.network refl made kept
+accepted_kept laws (commands.Resubstitute options) before after origin (made, files, sink) kept = remade_kept laws (commands.Resubstitute options) origin before.network after.network refl made kept
 accepted_kept laws (commands.MapByFlow inputs) before after origin (made, files, sink) kept = remade_kept laws (commands.MapByFlow inputs) origin before.network after.network refl made kept
 accepted_kept laws (commands.Map area inputs) before after origin (made, files, sink) kept = remade_kept laws (commands.Map area inputs) origin before.network after.network refl made kept
 

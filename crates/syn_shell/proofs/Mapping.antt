@@ -19,12 +19,16 @@ use Rattle.syn_lutshapes.specs.LutSpelling.{NetworkOfLuts, NetworkSpellsLuts, lu
 use Rattle.syn_flow.specs.Coverings.{IsLeastDepth}
 use Rattle.syn_map.specs.Labels.{label_of}
 use Rattle.syn_area.specs.Plain.{AreNeeded}
+use Rattle.syn_refactor.specs.Refactoring.{refactorings}
+use Rattle.syn_resub.specs.Resubstitution.{resubstitutions}
+use Rattle.syn_rewrite.specs.Rewriting.{rewritings}
 use Rattle.syn_words.specs.declared.Command.{Command}
 use Rattle.syn_words.specs.declared.Command.TheVariants as commands
 use Rattle.syn_seq.proofs.Fewer.{fewer_sources}
 use Rattle.syn_build_luts.specs.Refusals.{most_gates}
 use Rattle.syn_shell.specs.Networks.{Network, ands_by, gates_by, gates_in, graph_network, mapped_network, IsSmall}
-use Rattle.syn_shell.specs.Steps.{IsInLuts, IsLeastMappedTo, IsMappedForArea, IsMappedTo, IsRemade, IsSweptTo, Makes, Making, NoMoreBy, OnGraph, kind_of}
+use Rattle.syn_shell.specs.Steps.{IsInLuts, IsLeastMappedTo, IsMappedForArea, IsMappedTo, IsPassed, IsRemade, IsSweptTo, Makes, Making, NoMoreBy, OnGraph, kind_of}
+use Rattle.syn_shell.proofs.Staying.{passed_remade}
 
 -- the laws that say what a graph and a net of LUTs are as netlists
 pub record SpellingLaws : Type 0 where
@@ -127,9 +131,9 @@ behind_hashing transitive commands.Strash making m graph new is made = record {
   fewer = omega (arith, is.fewer, made.fewer);
 }
 behind_hashing transitive commands.Balance making m graph new is made = (graph_network graph, is, made)
-behind_hashing transitive (commands.Rewrite zero workers) making m graph new is made = (graph_network graph, is, made)
-behind_hashing transitive (commands.Refactor zero workers) making m graph new is made = (graph_network graph, is, made)
-behind_hashing transitive (commands.Resubstitute zero workers) making m graph new is made = (graph_network graph, is, made)
+behind_hashing transitive (commands.Rewrite options) making m graph new is made = (graph_network graph, is, made)
+behind_hashing transitive (commands.Refactor options) making m graph new is made = (graph_network graph, is, made)
+behind_hashing transitive (commands.Resubstitute options) making m graph new is made = (graph_network graph, is, made)
 behind_hashing transitive (commands.Map false inputs) making m graph new is made = (graph_network graph, is, made)
 behind_hashing transitive (commands.Map true inputs) making m graph new is made = (graph_network graph, is, made)
 behind_hashing transitive (commands.MapByFlow inputs) making m graph new is made = (graph_network graph, is, made)
@@ -183,9 +187,12 @@ small_on_graph makes kept true old new is (graph, remade, made) gates small = ke
 pub small_kept : (c : Command) (old new : Network) → Makes c old new → gates_in old ≤ most_gates → IsSmall old → IsSmall new
 small_kept commands.Strash old new made = remade_small old new made
 small_kept commands.Balance old new made = small_on_graph _ (λ a b is h. remade_small a b h.remade (no_gates a is)) old.mapped old new refl made
-small_kept (commands.Rewrite zero workers) old new made = small_on_graph _ (λ a b is h. remade_small a b h.remade (no_gates a is)) old.mapped old new refl made
-small_kept (commands.Refactor zero workers) old new made = small_on_graph _ (λ a b is h. remade_small a b h.remade (no_gates a is)) old.mapped old new refl made
-small_kept (commands.Resubstitute zero workers) old new made = small_on_graph _ (λ a b is h. remade_small a b h.remade (no_gates a is)) old.mapped old new refl made
+small_kept (commands.Rewrite options) old new made =
+    small_on_graph (IsPassed options.levels rewritings) (λ a b is h. remade_small a b (passed_remade options.levels rewritings a b h) (no_gates a is)) old.mapped old new refl made
+small_kept (commands.Refactor options) old new made =
+    small_on_graph (IsPassed options.levels refactorings) (λ a b is h. remade_small a b (passed_remade options.levels refactorings a b h) (no_gates a is)) old.mapped old new refl made
+small_kept (commands.Resubstitute options) old new made =
+    small_on_graph (IsPassed options.levels resubstitutions) (λ a b is h. remade_small a b (passed_remade options.levels resubstitutions a b h) (no_gates a is)) old.mapped old new refl made
 small_kept (commands.Map false inputs) old new made = small_on_graph _ (λ a b is h. luts_small inputs a b h.luts) old.mapped old new refl made
 small_kept (commands.Map true inputs) old new made = small_on_graph _ (λ a b is h. luts_small inputs a b h.luts) old.mapped old new refl made
 small_kept (commands.MapByFlow inputs) old new made = small_on_graph _ (λ a b is h. luts_small inputs a b h.luts) old.mapped old new refl made

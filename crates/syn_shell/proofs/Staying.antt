@@ -1,5 +1,5 @@
 -- The netlist of a graph that is hashed, balanced, rewritten or refactored is what these commands may make of the one before.
-use Rattle.std.proofs.Common.{◌≡◌, ℕ, ◌+◌, ◌<◌, ◌≤◌, Bool, true, List, map, length, refl, sym, ap, ap₂, ◌∙◌, subst, arith}
+use Rattle.std.proofs.Common.{◌≡◌, ℕ, ◌+◌, ◌<◌, ◌≤◌, Bool, true, false, List, map, length, refl, sym, ap, ap₂, ◌∙◌, subst, arith}
 use Rattle.std.proofs.lemmas.List.{length-drop}
 use Rattle.syn_rows.specs.declared.Lit.{Lit}
 use Rattle.syn_rows.specs.declared.Row.{Row}
@@ -12,10 +12,11 @@ use Rattle.syn_shapes.specs.GraphShape.{GraphHasFunction, rows_of, observed_of}
 use Rattle.syn_shapes.specs.Graphs.{IsGraph, lit_at}
 use Rattle.syn_shapes.specs.Spelling.{NetworkOfGraph, NetworkSpells, network}
 use Rattle.syn_hashed.specs.Growing.{level_by}
-use Rattle.syn_shell.specs.Networks.{graph_network}
 use Rattle.syn_proposals.specs.Closing.{Closed}
 use Rattle.syn_gain.specs.Replacements.{Replacement}
-use Rattle.syn_shell.specs.Steps.{IsBalanced, IsClosedFor, IsRemade, level_at}
+use Rattle.syn_levels.specs.Levels.{keeping}
+use Rattle.syn_shell.specs.Networks.{Network, graph_network}
+use Rattle.syn_shell.specs.Steps.{IsBalanced, IsClosedFor, IsClosedKeepingLevels, IsPassed, IsRemade, level_at}
 
 has_same_function : (m : Netlist) (F G : List Bool → List Bool) → ((bits : List Bool) → G bits ≡ F bits) → HasFunction m G → HasFunction m F
 has_same_function m F G same h = record { total = h.total; value = λ v c. h.value v c ∙ same (map v (sources m.frame)) }
@@ -113,3 +114,18 @@ pub closed_for : NetworkOfGraph → GraphHasFunction → SameFromFunction → (p
 closed_for spells has_function same_meaning proposals frame new_frame rows new_rows lits new_lits same_frame clocks once graph new_graph same fewer closed =
     subst (λ (f : Frame). IsGraph f new_rows new_lits → IsClosedFor proposals (graph_network (network frame rows lits)) (graph_network (network f new_rows new_lits))) (sym same_frame)
     (λ g. closed_in spells has_function same_meaning proposals frame rows new_rows lits new_lits clocks once graph g same fewer closed) new_graph
+
+-- the same of proposals that keep their roots' levels, where no observed one is higher
+pub closed_keeping_levels : NetworkOfGraph → GraphHasFunction → SameFromFunction → (proposals : List Row → ℕ → List Replacement) (frame new_frame : Frame) (rows new_rows : List Row) (lits new_lits : List Lit) → new_frame ≡ frame → distinct frame.clocks ≡ true → distinct (sources frame) ≡ true
+    → IsGraph frame rows lits → IsGraph new_frame new_rows new_lits → ((bits : List Bool) → rows_function new_rows new_lits bits ≡ rows_function rows lits bits) → length new_rows ≤ length rows
+    → ((i : ℕ) → level_by new_rows (lit_at new_lits i) ≤ level_by rows (lit_at lits i)) → Closed new_rows new_lits (keeping proposals new_rows)
+    → IsClosedKeepingLevels proposals (graph_network (network frame rows lits)) (graph_network (network new_frame new_rows new_lits))
+closed_keeping_levels spells has_function same_meaning proposals frame new_frame rows new_rows lits new_lits same_frame clocks once graph new_graph same fewer levels closed = record {
+  closed = closed_for spells has_function same_meaning (keeping proposals) frame new_frame rows new_rows lits new_lits same_frame clocks once graph new_graph same fewer closed;
+  levels = (rebalanced spells has_function same_meaning frame new_frame rows new_rows lits new_lits same_frame clocks once graph new_graph same fewer (λ i lt. levels i)).levels;
+}
+
+-- either is remade
+pub passed_remade : (levels : Bool) (proposals : List Row → ℕ → List Replacement) (old new : Network) → IsPassed levels proposals old new → IsRemade old new
+passed_remade false proposals old new passed = passed.remade
+passed_remade true proposals old new passed = passed.closed.remade

@@ -15,6 +15,7 @@ use Rattle.syn_lutshapes.specs.LutShape.{LutShape, count_of, depth_of, gates_of}
 use Rattle.syn_map.specs.Labels.{label_of}
 use Rattle.syn_area.specs.Plain.{AreNeeded}
 use Rattle.syn_build_luts.specs.Refusals.{most_gates}
+use Rattle.syn_levels.specs.Levels.{keeping}
 use Rattle.syn_proposals.specs.Closing.{Closed}
 use Rattle.syn_gain.specs.Replacements.{Replacement}
 use Rattle.syn_flow.specs.Coverings.{IsLeastDepth}
@@ -141,10 +142,14 @@ pub record IsRemade (old new : Network) : Type 0 where
 abbrev pub level_at : Netlist → ℕ → ℕ
 level_at m i = level_in (levels_of (rows_of m)) (node_of (lit_at (observed_of m) i))
 
+-- No observed signal of the second netlist has a higher level than in the first.
+abbrev pub NoDeeper : Netlist → Netlist → Type 0
+NoDeeper old new = (i : ℕ) → i < length (observed_of new) → level_at new i ≤ level_at old i
+
 -- What balancing makes of a graph: it is remade, and no observed signal has a higher level than before.
 pub record IsBalanced (old new : Network) : Type 0 where
   pub remade : IsRemade old new
-  pub levels : (i : ℕ) → i < length (observed_of new.netlist) → level_at new.netlist i ≤ level_at old.netlist i
+  pub levels : NoDeeper old.netlist new.netlist
 
 -- The graph as which a network is written in the AIGER format, by the mark: itself, or what hashing makes of a net of LUTs.
 abbrev pub IsGraphFor : Bool → Network → Network → Type 0
@@ -178,6 +183,16 @@ AigerWriteRefused m name before after other = WriteRefused m name before after o
 pub record IsClosedFor (proposals : List Row → ℕ → List Replacement) (old new : Network) : Type 0 where
   pub remade : IsRemade old new
   pub closed : Closed (rows_of new.netlist) (observed_of new.netlist) (proposals (rows_of new.netlist))
+
+-- What they make of it where levels are kept: it is remade, no proposal that keeps its root's level saves, and no observed signal has a higher level than before.
+pub record IsClosedKeepingLevels (proposals : List Row → ℕ → List Replacement) (old new : Network) : Type 0 where
+  pub closed : IsClosedFor (keeping proposals) old new
+  pub levels : NoDeeper old.netlist new.netlist
+
+-- Either, by whether levels are kept.
+abbrev pub IsPassed : Bool → (List Row → ℕ → List Replacement) → Network → Network → Type 0
+IsPassed false proposals old new = IsClosedFor proposals old new
+IsPassed true proposals old new = IsClosedKeepingLevels proposals old new
 
 -- What any mapping makes of a graph, a net of LUTs: it means the same, reads only earlier signals, has the shape of LUTs of so many inputs at most, and has no more LUTs than the graph has ANDs.
 pub record IsInLuts (inputs : ℕ) (old new : Network) : Type 0 where
@@ -217,9 +232,9 @@ OnGraph makes true old new = (graph : Network) × IsRemade old graph × makes gr
 abbrev pub Makes : Command → Network → Network → Type 0
 Makes commands.Strash old new = IsRemade old new
 Makes commands.Balance old new = OnGraph IsBalanced old.mapped old new
-Makes (commands.Rewrite zero workers) old new = OnGraph (IsClosedFor rewritings) old.mapped old new
-Makes (commands.Refactor zero workers) old new = OnGraph (IsClosedFor refactorings) old.mapped old new
-Makes (commands.Resubstitute zero workers) old new = OnGraph (IsClosedFor resubstitutions) old.mapped old new
+Makes (commands.Rewrite options) old new = OnGraph (IsPassed options.levels rewritings) old.mapped old new
+Makes (commands.Refactor options) old new = OnGraph (IsPassed options.levels refactorings) old.mapped old new
+Makes (commands.Resubstitute options) old new = OnGraph (IsPassed options.levels resubstitutions) old.mapped old new
 Makes (commands.Map false inputs) old new = OnGraph (IsMappedTo inputs) old.mapped old new
 Makes (commands.Map true inputs) old new = OnGraph (IsMappedForArea inputs) old.mapped old new
 Makes (commands.MapByFlow inputs) old new = OnGraph (IsLeastMappedTo inputs) old.mapped old new

@@ -8,7 +8,7 @@ ghost use Rattle.syn_refactor.specs.Refactoring.{refactorings};
 ghost use Rattle.syn_resub.specs.Resubstitution.{resubstitutions};
 ghost use Rattle.syn_rewrite.specs.Rewriting.{rewritings};
 ghost use Rattle.syn_shell.specs.Networks.{gates_in, graph_network, IsSmall, mapped_network, network_of};
-ghost use Rattle.syn_shell.specs.Steps.{IsBalanced, IsClosedFor, IsLeastMappedTo, IsMappedForArea, IsMappedTo, IsRemade, IsSweptTo, kind_of, Makes, Making, MakingRefused};
+ghost use Rattle.syn_shell.specs.Steps.{IsBalanced, IsLeastMappedTo, IsMappedForArea, IsMappedTo, IsPassed, IsRemade, IsSweptTo, kind_of, Makes, Making, MakingRefused};
 
 use crate::network::Kept;
 use crate::refusal::Refusal;
@@ -18,7 +18,7 @@ use syn_build_luts::{BuildFault, build_luts};
 use syn_commit::Gate;
 use syn_graph::Graph;
 use syn_lutnet::LutNet;
-use syn_words::{Command, LutInputs};
+use syn_words::{Command, LutInputs, PassOptions};
 
 // A graph, hashed and compacted: it is so already, and stays.
 fn hashed(graph: Graph) -> Kept
@@ -44,63 +44,95 @@ fn balanced(alloc: Global, graph: Graph) -> Result<Kept, (Graph, Refusal)>
     }
 }
 
-// A graph, rewritten by so many workers; refused, the graph as it was.
+// The number of workers of a command: the one that it names, else the session's.
+fn workers_of(named: Option<u8>, workers: u8) -> u8 {
+    match named {
+        Some(named) => named,
+        None => workers,
+    }
+}
+
+// A graph, rewritten as the options say, by so many workers where these name none; refused, the graph as it was.
 fn rewritten<R: Threads + Sync, G: Gate>(
     rt: &R,
     alloc: Global,
     graph: Graph,
+    options: &PassOptions,
     workers: u8,
-    zero: bool,
     gate: &G,
 ) -> Result<Kept, (Graph, Refusal)>
-    ensures rewritten { IfOk result (λ new. IsClosedFor rewritings (graph_network (graphs.network_of graph)) (network_of new)) }
+    ensures rewritten { IfOk result (λ new. IsPassed options.now.levels rewritings (graph_network (graphs.network_of graph)) (network_of new)) }
     ensures refused { IfErr result (λ back. (graphs.network_of back.0 ≡ graphs.network_of graph) × (back.1 ≡ Refusal.NoMemory)) }
 {
     syn_shapes::network_of_graph();
     syn_shapes::graph_has_function();
     syn_netlist::same_from_function();
+    let workers = workers_of(options.workers, workers);
+    let zero = options.zero;
+    if options.levels {
+        return match syn_rewrite::rewrite_keeping_levels(rt, alloc, graph, workers, zero, gate) {
+            Ok(new) => Ok(Kept::Graph(new)),
+            Err((graph, _)) => Err((graph, Refusal::NoMemory)),
+        };
+    }
     match syn_rewrite::rewrite(rt, alloc, graph, workers, zero, gate) {
         Ok(new) => Ok(Kept::Graph(new)),
         Err((graph, _)) => Err((graph, Refusal::NoMemory)),
     }
 }
 
-// A graph, refactored by so many workers; refused, the graph as it was.
+// A graph, refactored as the options say, by so many workers where these name none; refused, the graph as it was.
 fn refactored<R: Threads + Sync, G: Gate>(
     rt: &R,
     alloc: Global,
     graph: Graph,
+    options: &PassOptions,
     workers: u8,
-    zero: bool,
     gate: &G,
 ) -> Result<Kept, (Graph, Refusal)>
-    ensures refactored { IfOk result (λ new. IsClosedFor refactorings (graph_network (graphs.network_of graph)) (network_of new)) }
+    ensures refactored { IfOk result (λ new. IsPassed options.now.levels refactorings (graph_network (graphs.network_of graph)) (network_of new)) }
     ensures refused { IfErr result (λ back. (graphs.network_of back.0 ≡ graphs.network_of graph) × (back.1 ≡ Refusal.NoMemory)) }
 {
     syn_shapes::network_of_graph();
     syn_shapes::graph_has_function();
     syn_netlist::same_from_function();
+    let workers = workers_of(options.workers, workers);
+    let zero = options.zero;
+    if options.levels {
+        return match syn_refactor::refactor_keeping_levels(rt, alloc, graph, workers, zero, gate) {
+            Ok(new) => Ok(Kept::Graph(new)),
+            Err((graph, _)) => Err((graph, Refusal::NoMemory)),
+        };
+    }
     match syn_refactor::refactor(rt, alloc, graph, workers, zero, gate) {
         Ok(new) => Ok(Kept::Graph(new)),
         Err((graph, _)) => Err((graph, Refusal::NoMemory)),
     }
 }
 
-// A graph, resubstituted in by so many workers; refused, the graph as it was.
+// A graph, resubstituted in as the options say, by so many workers where these name none; refused, the graph as it was.
 fn resubstituted<R: Threads + Sync, G: Gate>(
     rt: &R,
     alloc: Global,
     graph: Graph,
+    options: &PassOptions,
     workers: u8,
-    zero: bool,
     gate: &G,
 ) -> Result<Kept, (Graph, Refusal)>
-    ensures resubstituted { IfOk result (λ new. IsClosedFor resubstitutions (graph_network (graphs.network_of graph)) (network_of new)) }
+    ensures resubstituted { IfOk result (λ new. IsPassed options.now.levels resubstitutions (graph_network (graphs.network_of graph)) (network_of new)) }
     ensures refused { IfErr result (λ back. (graphs.network_of back.0 ≡ graphs.network_of graph) × (back.1 ≡ Refusal.NoMemory)) }
 {
     syn_shapes::network_of_graph();
     syn_shapes::graph_has_function();
     syn_netlist::same_from_function();
+    let workers = workers_of(options.workers, workers);
+    let zero = options.zero;
+    if options.levels {
+        return match syn_resub::resub_keeping_levels(rt, alloc, graph, workers, zero, gate) {
+            Ok(new) => Ok(Kept::Graph(new)),
+            Err((graph, _)) => Err((graph, Refusal::NoMemory)),
+        };
+    }
     match syn_resub::resub(rt, alloc, graph, workers, zero, gate) {
         Ok(new) => Ok(Kept::Graph(new)),
         Err((graph, _)) => Err((graph, Refusal::NoMemory)),
@@ -178,14 +210,6 @@ fn mapped_by_flow(alloc: Global, graph: Graph, inputs: &LutInputs) -> Result<Kep
     }
 }
 
-// The number of workers of a command: the one that it names, else the session's.
-fn workers_of(named: Option<u8>, workers: u8) -> u8 {
-    match named {
-        Some(named) => named,
-        None => workers,
-    }
-}
-
 // What a command makes of a graph; refused, the graph as it was. A command that makes none leaves it.
 fn remake_graph<R: Threads + Sync, G: Gate>(
     rt: &R,
@@ -201,18 +225,9 @@ fn remake_graph<R: Threads + Sync, G: Gate>(
     match command {
         Command::Strash => Ok(hashed(graph)),
         Command::Balance => balanced(alloc, graph),
-        Command::Rewrite {
-            zero,
-            workers: named,
-        } => rewritten(rt, alloc, graph, workers_of(*named, workers), *zero, gate),
-        Command::Refactor {
-            zero,
-            workers: named,
-        } => refactored(rt, alloc, graph, workers_of(*named, workers), *zero, gate),
-        Command::Resubstitute {
-            zero,
-            workers: named,
-        } => resubstituted(rt, alloc, graph, workers_of(*named, workers), *zero, gate),
+        Command::Rewrite(options) => rewritten(rt, alloc, graph, options, workers, gate),
+        Command::Refactor(options) => refactored(rt, alloc, graph, options, workers, gate),
+        Command::Resubstitute(options) => resubstituted(rt, alloc, graph, options, workers, gate),
         Command::Map {
             area: false,
             inputs,

@@ -196,9 +196,9 @@ impl Session {
             },
             Command::Strash
             | Command::Balance
-            | Command::Rewrite { .. }
-            | Command::Refactor { .. }
-            | Command::Resubstitute { .. }
+            | Command::Rewrite(_)
+            | Command::Refactor(_)
+            | Command::Resubstitute(_)
             | Command::Map { .. }
             | Command::MapByFlow(_)
             | Command::Sweep => self.make(rt, alloc, command, gate),

@@ -1,5 +1,5 @@
 -- The table of commands: their names, what may stand behind each, and the commands that it then spells.
-use Rattle.std.specs.Prelude.{ℕ, true, false, min, max, option_map, if◌then◌else◌, List, [], ◌∷◌, Option, Some, None, Result, Ok, Err, bytes_eq, codes}
+use Rattle.std.specs.Prelude.{ℕ, Bool, true, false, min, max, option_map, if◌then◌else◌, List, [], ◌∷◌, Option, Some, None, Result, Ok, Err, bytes_eq, codes}
 use Rattle.syn_words.specs.declared.words.Phrase.{Phrase}
 use Rattle.syn_words.specs.Forms.{and_then, given_by}
 use Rattle.syn_words.specs.declared.forms.Form.{Form}
@@ -8,6 +8,7 @@ use Rattle.syn_words.specs.declared.forms.Operands.TheVariants as operands
 use Rattle.syn_words.specs.declared.reading.Given.{Given}
 use Rattle.syn_words.specs.declared.table.Keyword.{Keyword}
 use Rattle.syn_words.specs.declared.table.Keyword.TheVariants as keywords
+use Rattle.syn_words.specs.declared.PassOptions.{PassOptions}
 use Rattle.syn_words.specs.declared.Command.{Command}
 use Rattle.syn_words.specs.declared.Command.TheVariants as commands
 use Rattle.syn_words.specs.declared.ScriptFault.{ScriptFault}
@@ -32,6 +33,7 @@ names =
     ∷ (codes "rfz", keywords.RefactorZero)
     ∷ (codes "if", keywords.Map)
     ∷ (codes "resyn2", keywords.Resyn2)
+    ∷ (codes "resyn2l", keywords.Resyn2Levels)
     ∷ (codes "gen", keywords.Generate)
     ∷ (codes "scl", keywords.Sweep)
     ∷ (codes "resub", keywords.Resubstitute)
@@ -49,15 +51,15 @@ named_in (line ∷ lines) word = if bytes_eq line.0 word then Some line.1 else n
 
 -- No option, and these words.
 abbrev pub words_alone : Operands → Form
-words_alone words = record { flag = None; numbered = None; operands = words }
+words_alone words = record { flags = (None, None); numbered = None; operands = words }
 
--- Options alone: one without a number, where there is one, and `-w` with a number of workers from 1 to 16.
+-- Options alone: `-z`, where it may stand, `-l`, and `-w` with a number of workers from 1 to 16.
 abbrev pub with_workers : Option ℕ → Form
-with_workers flag = record { flag = flag; numbered = Some (record { letter = 119; range = record { least = 1; most = 16 } }); operands = operands.Nothing }
+with_workers zero = record { flags = (zero, Some 108); numbered = Some (record { letter = 119; range = record { least = 1; most = 16 } }); operands = operands.Nothing }
 
 -- Options alone: one without a number, where there is one, and `-K` with a number of inputs from 2 to 8.
 abbrev pub with_inputs : Option ℕ → Form
-with_inputs flag = record { flag = flag; numbered = Some (record { letter = 75; range = record { least = 2; most = 8 } }); operands = operands.Nothing }
+with_inputs flag = record { flags = (flag, None); numbered = Some (record { letter = 75; range = record { least = 2; most = 8 } }); operands = operands.Nothing }
 
 -- Two numbers alone: a seed of 64 bits, and a number of tables from 1 to 32768.
 abbrev pub seed_and_size : Form
@@ -65,9 +67,9 @@ seed_and_size = words_alone (operands.TwoNumbers (record { least = 0; most = 184
 
 -- An option without a number, and then a file's name.
 abbrev pub flag_and_name : ℕ → Form
-flag_and_name letter = record { flag = Some letter; numbered = None; operands = operands.Name }
+flag_and_name letter = record { flags = (Some letter, None); numbered = None; operands = operands.Name }
 
--- What may stand behind a name. The option without a number of `rewrite`, `refactor` and `resub` is `-z`; `rwz`, `rfz` and `rsz` have it set. That of `if` and `write_aiger` is `-a`.
+-- What may stand behind a name. The options without a number of `rewrite`, `refactor` and `resub` are `-z` and `-l`; `rwz`, `rfz` and `rsz` have `-z` set. That of `if` and `write_aiger` is `-a`.
 abbrev pub form_of : Keyword → Form
 form_of keywords.ReadBlif = words_alone operands.Name
 form_of keywords.WriteBlif = words_alone operands.Name
@@ -80,6 +82,7 @@ form_of keywords.Refactor = with_workers (Some 122)
 form_of keywords.RefactorZero = with_workers None
 form_of keywords.Map = with_inputs (Some 97)
 form_of keywords.Resyn2 = words_alone operands.Nothing
+form_of keywords.Resyn2Levels = words_alone operands.Nothing
 form_of keywords.Generate = seed_and_size
 form_of keywords.Sweep = words_alone operands.Nothing
 form_of keywords.Resubstitute = with_workers (Some 122)
@@ -105,18 +108,22 @@ given_inputs (Some number) = inputs_of number
 abbrev pub size_of : ℕ → ℕ
 size_of number = min number 32768
 
--- What `resyn2` spells: b; rw; rf; b; rw; rwz; b; rfz; rwz; b.
-abbrev pub resyn2 : List Command
-resyn2 =
+-- How a pass goes: with `-z`, with `-l`, and by how many workers.
+abbrev pub options : Bool → Bool → Option ℕ → PassOptions
+options zero levels workers = record { zero = zero; levels = levels; workers = workers }
+
+-- What `resyn2` spells: b; rw; rf; b; rw; rwz; b; rfz; rwz; b. What `resyn2l` spells: the same, with `-l` on all that take it.
+abbrev pub resyn2 : Bool → List Command
+resyn2 levels =
     commands.Balance
-    ∷ commands.Rewrite false None
-    ∷ commands.Refactor false None
+    ∷ commands.Rewrite (options false levels None)
+    ∷ commands.Refactor (options false levels None)
     ∷ commands.Balance
-    ∷ commands.Rewrite false None
-    ∷ commands.Rewrite true None
+    ∷ commands.Rewrite (options false levels None)
+    ∷ commands.Rewrite (options true levels None)
     ∷ commands.Balance
-    ∷ commands.Refactor true None
-    ∷ commands.Rewrite true None
+    ∷ commands.Refactor (options true levels None)
+    ∷ commands.Rewrite (options true levels None)
     ∷ commands.Balance
     ∷ []
 
@@ -127,19 +134,20 @@ commands_of keywords.WriteBlif given = commands.Write given.name ∷ []
 commands_of keywords.PrintStats given = commands.Stats ∷ []
 commands_of keywords.Strash given = commands.Strash ∷ []
 commands_of keywords.Balance given = commands.Balance ∷ []
-commands_of keywords.Rewrite given = commands.Rewrite given.flag (option_map workers_of given.number) ∷ []
-commands_of keywords.RewriteZero given = commands.Rewrite true (option_map workers_of given.number) ∷ []
-commands_of keywords.Refactor given = commands.Refactor given.flag (option_map workers_of given.number) ∷ []
-commands_of keywords.RefactorZero given = commands.Refactor true (option_map workers_of given.number) ∷ []
-commands_of keywords.Map given = commands.Map given.flag (given_inputs given.number) ∷ []
-commands_of keywords.Resyn2 given = resyn2
+commands_of keywords.Rewrite given = commands.Rewrite (options given.flags.0 given.flags.1 (option_map workers_of given.number)) ∷ []
+commands_of keywords.RewriteZero given = commands.Rewrite (options true given.flags.1 (option_map workers_of given.number)) ∷ []
+commands_of keywords.Refactor given = commands.Refactor (options given.flags.0 given.flags.1 (option_map workers_of given.number)) ∷ []
+commands_of keywords.RefactorZero given = commands.Refactor (options true given.flags.1 (option_map workers_of given.number)) ∷ []
+commands_of keywords.Map given = commands.Map given.flags.0 (given_inputs given.number) ∷ []
+commands_of keywords.Resyn2 given = resyn2 false
+commands_of keywords.Resyn2Levels given = resyn2 true
 commands_of keywords.Generate given = commands.Generate given.numbers.0 (size_of given.numbers.1) ∷ []
 commands_of keywords.Sweep given = commands.Sweep ∷ []
-commands_of keywords.Resubstitute given = commands.Resubstitute given.flag (option_map workers_of given.number) ∷ []
-commands_of keywords.ResubstituteZero given = commands.Resubstitute true (option_map workers_of given.number) ∷ []
+commands_of keywords.Resubstitute given = commands.Resubstitute (options given.flags.0 given.flags.1 (option_map workers_of given.number)) ∷ []
+commands_of keywords.ResubstituteZero given = commands.Resubstitute (options true given.flags.1 (option_map workers_of given.number)) ∷ []
 commands_of keywords.MapByFlow given = commands.MapByFlow (given_inputs given.number) ∷ []
 commands_of keywords.ReadAiger given = commands.ReadAiger given.name ∷ []
-commands_of keywords.WriteAiger given = commands.WriteAiger given.flag given.name ∷ []
+commands_of keywords.WriteAiger given = commands.WriteAiger given.flags.0 given.name ∷ []
 
 -- What a phrase says by what its name is: the commands that it spells, or its first fault.
 abbrev pub said_by : Option Keyword → Phrase → Result (List Command) ScriptFault

@@ -23,7 +23,7 @@ and_then (Err fault) next = Err fault
 abbrev pub is_option : ℕ → List ℕ → Bool
 is_option letter text = bytes_eq (45 ∷ letter ∷ []) text
 
--- The word is the form's option without a number.
+-- The word is this option without a number, where there is one.
 abbrev pub is_flag : Option ℕ → List ℕ → Bool
 is_flag None text = false
 is_flag (Some letter) text = is_option letter text
@@ -35,16 +35,16 @@ number_behind (Some numbered) text = if is_option numbered.letter text then Some
 
 -- Nothing was given yet.
 abbrev pub nothing_given : Given
-nothing_given = record { flag = false; number = None; name = []; numbers = (0, 0) }
+nothing_given = record { flags = (false, false); number = None; name = []; numbers = (0, 0) }
 
 -- The words behind a name are read from here.
 abbrev pub from_the_name : Progress
 from_the_name = record { given = nothing_given; awaits = awaits.Options }
 
--- The option without a number, once.
-abbrev pub with_flag : Given → Word → Result Progress ScriptFault
-with_flag given word =
-    if given.flag then Err (ExtraWord word.at) else Ok (record { given = record { flag = true; number = given.number; name = given.name; numbers = given.numbers }; awaits = awaits.Options })
+-- An option without a number, once: by it these are given.
+abbrev pub with_flag : Bool → Bool × Bool → Given → Word → Result Progress ScriptFault
+with_flag given_before flags given word =
+    if given_before then Err (ExtraWord word.at) else Ok (record { given = record { flags = flags; number = given.number; name = given.name; numbers = given.numbers }; awaits = awaits.Options })
 
 -- The option with a number, once.
 abbrev pub with_numbered : NumberRange → Given → Word → Result Progress ScriptFault
@@ -53,9 +53,9 @@ with_numbered range given word = if is_some given.number then Err (ExtraWord wor
 -- The first word that is no option.
 abbrev pub with_first : Operands → Given → Word → Result Progress ScriptFault
 with_first operands.Nothing given word = Err (ExtraWord word.at)
-with_first operands.Name given word = Ok (record { given = record { flag = given.flag; number = given.number; name = word.text; numbers = given.numbers }; awaits = awaits.Nothing })
+with_first operands.Name given word = Ok (record { given = record { flags = given.flags; number = given.number; name = word.text; numbers = given.numbers }; awaits = awaits.Nothing })
 with_first (operands.TwoNumbers first second) given word =
-    and_then (number_at first word) (λ n. Ok (record { given = record { flag = given.flag; number = given.number; name = given.name; numbers = (n, 0) }; awaits = awaits.SecondNumber second }))
+    and_then (number_at first word) (λ n. Ok (record { given = record { flags = given.flags; number = given.number; name = given.name; numbers = (n, 0) }; awaits = awaits.SecondNumber second }))
 
 -- Of a word that may be an option with a number: it is one, or the first word that is none.
 abbrev pub with_further : Option NumberRange → Form → Given → Word → Result Progress ScriptFault
@@ -64,11 +64,14 @@ with_further None form given word = with_first form.operands given word
 
 -- One word further, by what is awaited.
 abbrev pub after_word : Form → Awaits → Given → Word → Result Progress ScriptFault
-after_word form awaits.Options given word = if is_flag form.flag word.text then with_flag given word else with_further (number_behind form.numbered word.text) form given word
+after_word form awaits.Options given word =
+    if is_flag form.flags.0 word.text
+    then with_flag given.flags.0 (true, given.flags.1) given word
+    else (if is_flag form.flags.1 word.text then with_flag given.flags.1 (given.flags.0, true) given word else with_further (number_behind form.numbered word.text) form given word)
 after_word form (awaits.OptionNumber range) given word =
-    and_then (number_at range word) (λ n. Ok (record { given = record { flag = given.flag; number = Some n; name = given.name; numbers = given.numbers }; awaits = awaits.Options }))
+    and_then (number_at range word) (λ n. Ok (record { given = record { flags = given.flags; number = Some n; name = given.name; numbers = given.numbers }; awaits = awaits.Options }))
 after_word form (awaits.SecondNumber range) given word =
-    and_then (number_at range word) (λ n. Ok (record { given = record { flag = given.flag; number = given.number; name = given.name; numbers = (given.numbers.0, n) }; awaits = awaits.Nothing }))
+    and_then (number_at range word) (λ n. Ok (record { given = record { flags = given.flags; number = given.number; name = given.name; numbers = (given.numbers.0, n) }; awaits = awaits.Nothing }))
 after_word form awaits.Nothing given word = Err (ExtraWord word.at)
 
 -- No further word, where a first one may be awaited.

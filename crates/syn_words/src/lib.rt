@@ -5,7 +5,7 @@
 //! words is skipped. The whole script is read before anything runs, and the first fault in text
 //! order is answered, alone.
 //!
-//! What may stand behind a name is data, a form: an option without a number, an option with a
+//! What may stand behind a name is data, a form: two options without a number, an option with a
 //! number in a range, and then a file's name or two numbers. One function reads words by a form,
 //! and one table says which form and which commands belong to a name: `specs/Commands.antt`, and
 //! in the code `table.rt`. No memory is taken but for the list and the names of files.
@@ -33,6 +33,17 @@ use table::push_commands;
 use thiserror::Error;
 use words::{Phrases, bad_byte};
 
+/// How a command rewrites, refactors or resubstitutes.
+#[derive(Clone, Copy, Debug)]
+pub struct PassOptions {
+    /// Whether a replacement that saves nothing may be made too.
+    pub zero: bool,
+    /// Whether only replacements that keep their root's level are made.
+    pub levels: bool,
+    /// The number of workers, where one is named.
+    pub workers: Option<u8>,
+}
+
 /// A command of a script. Contracts see the names of files as bytes, and numbers of inputs as numbers.
 #[derive(Debug, Drop)]
 pub enum Command {
@@ -55,20 +66,10 @@ pub enum Command {
     Strash,
     /// `balance`, `b`: balances the graph.
     Balance,
-    /// `rewrite [-z] [-w N]`, `rw`; `rwz` has `-z` set: rewrites the graph until no listed replacement saves a node.
-    Rewrite {
-        /// Whether a replacement that saves nothing may be made too.
-        zero: bool,
-        /// The number of workers, where one is named.
-        workers: Option<u8>,
-    },
-    /// `refactor [-z] [-w N]`, `rf`; `rfz` has `-z` set: refactors the graph until no cone's replacement saves a node.
-    Refactor {
-        /// Whether a replacement that saves nothing may be made too.
-        zero: bool,
-        /// The number of workers, where one is named.
-        workers: Option<u8>,
-    },
+    /// `rewrite [-z] [-l] [-w N]`, `rw`; `rwz` has `-z` set: rewrites the graph until no listed replacement saves a node.
+    Rewrite(PassOptions),
+    /// `refactor [-z] [-l] [-w N]`, `rf`; `rfz` has `-z` set: refactors the graph until no cone's replacement saves a node.
+    Refactor(PassOptions),
     /// `if [-a] [-K n]`: maps the network to LUTs of so many inputs at most.
     Map {
         /// Whether few LUTs are looked for.
@@ -87,13 +88,8 @@ pub enum Command {
     },
     /// `scl`: drops latches that no output needs, and makes one of latches that always hold the same.
     Sweep,
-    /// `resub [-z] [-w N]`, `rs`; `rsz` has `-z` set: expresses nodes by others that are there, until no such replacement saves a node.
-    Resubstitute {
-        /// Whether a replacement that saves nothing may be made too.
-        zero: bool,
-        /// The number of workers, where one is named.
-        workers: Option<u8>,
-    },
+    /// `resub [-z] [-l] [-w N]`, `rs`; `rsz` has `-z` set: expresses nodes by others that are there, until no such replacement saves a node.
+    Resubstitute(PassOptions),
 }
 
 /// Why a text is no script. A place is an offset in bytes, from 0.

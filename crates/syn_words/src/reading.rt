@@ -1,7 +1,7 @@
 //! Reading the words behind a command's name by what may stand there.
 
 ghost use Rattle.std.specs.Prelude.{◌≡◌};
-ghost use Rattle.syn_words.specs.Forms.{after_word, at_end, given_by, is_flag, is_option, nothing_given, number_behind, with_first};
+ghost use Rattle.syn_words.specs.Forms.{after_word, at_end, given_by, is_flag, is_option, nothing_given, number_behind, with_first, with_flag};
 
 use crate::ScriptFault;
 use crate::forms::{Form, NumberRange, Numbered, Operands};
@@ -12,8 +12,8 @@ use crate::words::{CommandWords, Word, next_word};
 /// What was given behind a command's name.
 #[derive(Debug, Drop)]
 pub struct Given<'a> {
-    /// Whether the option without a number was given.
-    pub flag: bool,
+    /// Whether each option without a number was given.
+    pub flags: (bool, bool),
     /// The number of the option with one, where it was given.
     pub number: Option<u64>,
     /// The file's name, empty where none is expected.
@@ -49,7 +49,7 @@ fn is_option(letter: u8, text: &[u8]) -> bool
     [b'-', letter].as_slice() == text
 }
 
-// Whether a word is the option without a number.
+// Whether a word is this option without a number, where there is one.
 fn is_flag(flag: Option<u8>, text: &[u8]) -> bool
     ensures { result ≡ is_flag flag text.now }
 {
@@ -75,7 +75,7 @@ impl<'a> Given<'a> {
         ensures { result ≡ nothing_given }
     {
         Given {
-            flag: false,
+            flags: (false, false),
             number: None,
             name: WordText::empty(),
             numbers: (0, 0),
@@ -109,16 +109,32 @@ impl<'a> Given<'a> {
         }
     }
 
+    // With a word that is an option without a number, by which these are given, unless it was given before.
+    fn with_flag(
+        mut self,
+        given_before: bool,
+        flags: (bool, bool),
+        word: Word<'a>,
+    ) -> Result<Progress<'a>, ScriptFault>
+        ensures { result ≡ with_flag given_before flags self.entry word.entry }
+    {
+        if given_before {
+            return Err(ScriptFault::ExtraWord(word.at));
+        }
+        self.flags = flags;
+        Ok(self.before(Awaits::Options))
+    }
+
     // With an option, or with the first word that is none.
-    fn with_option(mut self, form: Form, word: Word<'a>) -> Result<Progress<'a>, ScriptFault>
+    fn with_option(self, form: Form, word: Word<'a>) -> Result<Progress<'a>, ScriptFault>
         ensures { result ≡ after_word form Awaits.Options self.entry word.entry }
     {
-        if is_flag(form.flag, word.text.as_slice()) {
-            if self.flag {
-                return Err(ScriptFault::ExtraWord(word.at));
-            }
-            self.flag = true;
-            return Ok(self.before(Awaits::Options));
+        let (first, second) = self.flags;
+        if is_flag(form.flags.0, word.text.as_slice()) {
+            return self.with_flag(first, (true, second), word);
+        }
+        if is_flag(form.flags.1, word.text.as_slice()) {
+            return self.with_flag(second, (first, true), word);
         }
         match number_behind(form.numbered, word.text.as_slice()) {
             None => self.with_first(form.operands, word),

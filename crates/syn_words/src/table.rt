@@ -1,7 +1,7 @@
 //! The table of commands: their names, what may stand behind each, and what it then says.
 
 ghost use Rattle.std.specs.Prelude.{◌≡◌, ◌⊎◌, [], ◌∷◌, Err, None, Ok, IfOk, OnOk, IfErr, option_map};
-ghost use Rattle.syn_words.specs.Commands.{commands_of, flag_and_name, form_of, named_in, names, resyn2, said, size_of, with_inputs, with_workers, words_alone, workers_of};
+ghost use Rattle.syn_words.specs.Commands.{commands_of, flag_and_name, form_of, named_in, names, options, resyn2, said, size_of, with_inputs, with_workers, words_alone, workers_of};
 ghost use Rattle.syn_words.specs.Scripts.{said_onto};
 
 use crate::forms::{Form, NumberRange, Numbered, Operands};
@@ -9,7 +9,7 @@ use crate::inputs::LutInputs;
 use crate::names::FileName;
 use crate::reading::{Given, given_by};
 use crate::words::Phrase;
-use crate::{Command, ScriptFault};
+use crate::{Command, PassOptions, ScriptFault};
 use std::alloc::{AllocError, Global};
 
 /// What the names of commands say, long and short ones together.
@@ -26,6 +26,7 @@ pub enum Keyword {
     RefactorZero,
     Map,
     Resyn2,
+    Resyn2Levels,
     Generate,
     Sweep,
     Resubstitute,
@@ -61,6 +62,8 @@ fn keyword_of(word: &[u8]) -> Option<Keyword>
         Some(Keyword::Map)
     } else if b"resyn2".as_slice() == word {
         Some(Keyword::Resyn2)
+    } else if b"resyn2l".as_slice() == word {
+        Some(Keyword::Resyn2Levels)
     } else if b"gen".as_slice() == word {
         Some(Keyword::Generate)
     } else if b"scl".as_slice() == word {
@@ -118,18 +121,18 @@ fn words_alone(operands: Operands) -> Form
     ensures { result ≡ words_alone operands }
 {
     Form {
-        flag: None,
+        flags: (None, None),
         numbered: None,
         operands,
     }
 }
 
-// An option without a number, where it has one, and a number of workers.
-fn with_workers(flag: Option<u8>) -> Form
-    ensures { result ≡ with_workers flag }
+// `-z`, where it may stand, `-l`, and a number of workers.
+fn with_workers(zero: Option<u8>) -> Form
+    ensures { result ≡ with_workers zero }
 {
     Form {
-        flag,
+        flags: (zero, Some(b'l')),
         numbered: Some(WORKERS),
         operands: Operands::Nothing,
     }
@@ -140,7 +143,7 @@ fn with_inputs(flag: Option<u8>) -> Form
     ensures { result ≡ with_inputs flag }
 {
     Form {
-        flag,
+        flags: (flag, None),
         numbered: Some(INPUTS),
         operands: Operands::Nothing,
     }
@@ -151,7 +154,7 @@ fn flag_and_name(flag: u8) -> Form
     ensures { result ≡ flag_and_name flag }
 {
     Form {
-        flag: Some(flag),
+        flags: (Some(flag), None),
         numbered: None,
         operands: Operands::Name,
     }
@@ -170,6 +173,7 @@ fn form_of(keyword: Keyword) -> Form
         | Keyword::Strash
         | Keyword::Balance
         | Keyword::Resyn2
+        | Keyword::Resyn2Levels
         | Keyword::Sweep => words_alone(Operands::Nothing),
         Keyword::Rewrite | Keyword::Refactor | Keyword::Resubstitute => with_workers(Some(b'z')),
         Keyword::RewriteZero | Keyword::RefactorZero | Keyword::ResubstituteZero => {
@@ -220,40 +224,33 @@ fn one(alloc: Global, command: Command) -> Result<Vec<Command>, AllocError>
     Ok(vec![in alloc; command]?)
 }
 
-// Rewriting by as many workers as the session has.
-fn rewriting(zero: bool) -> Command
-    ensures { result ≡ Command.Rewrite zero None }
+// These options.
+fn options(zero: bool, levels: bool, workers: Option<u8>) -> PassOptions
+    ensures { result ≡ options zero levels workers }
 {
-    Command::Rewrite {
+    PassOptions {
         zero,
-        workers: None,
+        levels,
+        workers,
     }
 }
 
-// Refactoring by as many workers as the session has.
-fn refactoring(zero: bool) -> Command
-    ensures { result ≡ Command.Refactor zero None }
+// The commands of `resyn2`, or of `resyn2l`, by as many workers as the session has.
+fn resyn2(alloc: Global, levels: bool) -> Result<Vec<Command>, AllocError>
+    ensures { IfOk result (λ v. v.items ≡ resyn2 levels) }
 {
-    Command::Refactor {
-        zero,
-        workers: None,
-    }
-}
-
-// The commands of `resyn2`.
-fn resyn2(alloc: Global) -> Result<Vec<Command>, AllocError>
-    ensures { IfOk result (λ v. v.items ≡ resyn2) }
-{
+    let plain = options(false, levels, None);
+    let zero = options(true, levels, None);
     Ok(vec![in alloc;
         Command::Balance,
-        rewriting(false),
-        refactoring(false),
+        Command::Rewrite(plain),
+        Command::Refactor(plain),
         Command::Balance,
-        rewriting(false),
-        rewriting(true),
+        Command::Rewrite(plain),
+        Command::Rewrite(zero),
         Command::Balance,
-        refactoring(true),
-        rewriting(true),
+        Command::Refactor(zero),
+        Command::Rewrite(zero),
         Command::Balance,
     ]?)
 }
@@ -266,6 +263,7 @@ fn commands_of(
 ) -> Result<Vec<Command>, AllocError>
     ensures { IfOk result (λ v. v.items ≡ commands_of keyword given.entry) }
 {
+    let (flag, levels) = given.flags;
     let workers = given_workers(given.number);
     match keyword {
         Keyword::ReadBlif => one(alloc, Command::Read(FileName::of(alloc, given.name)?)),
@@ -274,49 +272,26 @@ fn commands_of(
         Keyword::WriteAiger => one(
             alloc,
             Command::WriteAiger {
-                ascii: given.flag,
+                ascii: flag,
                 name: FileName::of(alloc, given.name)?,
             },
         ),
         Keyword::PrintStats => one(alloc, Command::Stats),
         Keyword::Strash => one(alloc, Command::Strash),
         Keyword::Balance => one(alloc, Command::Balance),
-        Keyword::Rewrite => one(
-            alloc,
-            Command::Rewrite {
-                zero: given.flag,
-                workers,
-            },
-        ),
-        Keyword::RewriteZero => one(
-            alloc,
-            Command::Rewrite {
-                zero: true,
-                workers,
-            },
-        ),
-        Keyword::Refactor => one(
-            alloc,
-            Command::Refactor {
-                zero: given.flag,
-                workers,
-            },
-        ),
-        Keyword::RefactorZero => one(
-            alloc,
-            Command::Refactor {
-                zero: true,
-                workers,
-            },
-        ),
+        Keyword::Rewrite => one(alloc, Command::Rewrite(options(flag, levels, workers))),
+        Keyword::RewriteZero => one(alloc, Command::Rewrite(options(true, levels, workers))),
+        Keyword::Refactor => one(alloc, Command::Refactor(options(flag, levels, workers))),
+        Keyword::RefactorZero => one(alloc, Command::Refactor(options(true, levels, workers))),
         Keyword::Map => one(
             alloc,
             Command::Map {
-                area: given.flag,
+                area: flag,
                 inputs: LutInputs::of(given.number),
             },
         ),
-        Keyword::Resyn2 => resyn2(alloc),
+        Keyword::Resyn2 => resyn2(alloc, false),
+        Keyword::Resyn2Levels => resyn2(alloc, true),
         Keyword::Generate => one(
             alloc,
             Command::Generate {
@@ -326,19 +301,10 @@ fn commands_of(
         ),
         Keyword::Sweep => one(alloc, Command::Sweep),
         Keyword::MapByFlow => one(alloc, Command::MapByFlow(LutInputs::of(given.number))),
-        Keyword::Resubstitute => one(
-            alloc,
-            Command::Resubstitute {
-                zero: given.flag,
-                workers,
-            },
-        ),
+        Keyword::Resubstitute => one(alloc, Command::Resubstitute(options(flag, levels, workers))),
         Keyword::ResubstituteZero => one(
             alloc,
-            Command::Resubstitute {
-                zero: true,
-                workers,
-            },
+            Command::Resubstitute(options(true, levels, workers)),
         ),
     }
 }
