@@ -5,11 +5,16 @@ use Rattle.syn_rows.specs.declared.Row.{Row}
 use Rattle.syn_rows.specs.Rows.{node_of, row_at, AllRefs, InOrder, is_derived}
 use Rattle.syn_rows.specs.Reach.{Ands, Reached}
 use Rattle.syn_rows.specs.References.{refs_by_rows, refs_by_literals}
+use Rattle.syn_fanout_free.specs.declared.saving.Change.{Change}
 use Rattle.syn_fanout_free.specs.Freed.{is_free}
 
 -- the row of n replaced, and new rows at the end
 abbrev pub replaced : List Row → ℕ → Row → List Row → List Row
 replaced was n row extra = slice_set was n row ++ extra
+
+-- the same, of a change
+abbrev pub changed : List Row → Change → List Row
+changed was c = replaced was c.node c.row c.extra.now
 
 -- s is the number of ANDs reached before, less the number of those reached afterwards
 abbrev pub IsSaved : List Row → List Row → List Lit → ℤ → Type 0

@@ -8,11 +8,11 @@ ghost use Rattle.syn_rows.specs.Rows.{InOrder, row_at};
 ghost use Rattle.syn_fanout_free.specs.Bounding.{IsHeld, IsLostBut, IsMostLost};
 ghost use Rattle.syn_fanout_free.specs.Freed.{refers};
 ghost use Rattle.syn_fanout_free.specs.Freeing.{AllReferred};
-ghost use Rattle.syn_fanout_free.specs.Saved.{count_in, IsExtra, IsOwned, IsSaved, replaced};
+ghost use Rattle.syn_fanout_free.specs.Saved.{count_in, IsExtra, IsOwned, IsSaved, changed};
 
 use crate::cone::{and_count, freed};
 use crate::extra::{KeptRows, keep};
-use crate::saving::{added_ands, saves_of_kept};
+use crate::saving::{Change, added_ands, saves_of_kept};
 use std::alloc::{AllocError, Global};
 use syn_rows::Row;
 
@@ -90,35 +90,33 @@ fn are_held(was: &[Row], n: u32, used: &[u32], spared: &[u32]) -> bool
     true
 }
 
-/// Whether a replacement of the row of n saves, the new rows standing at the end. No more than `most` ANDs go with the row
-/// where the spared nodes stay: where it holds these and adds as many, it saves nothing, and the cone that goes isn't followed. It
-/// holds for all observed literals that the counts count. `kept` is room that is used again. The only error is want of
-/// memory, which a small cone doesn't take.
+/// Whether a change saves. No more than `most` ANDs go with the node's row where the spared nodes stay: where the change
+/// holds these and adds as many, it saves nothing, and the cone that goes isn't followed. It holds for all observed literals
+/// that the counts count. `kept` is room that is used again. The only error is want of memory, which a small cone doesn't
+/// take.
 pub fn saves_near(
     alloc: Global,
     was: &[Row],
     counts: &[u32],
-    n: u32,
-    row: Row,
-    extra: &[Row],
+    change: Change,
     spared: &[u32],
     most: u32,
     kept: &mut KeptRows,
 ) -> Result<bool, AllocError>
-    requires few { length was.now + length extra.now < 2 ^ 31 }
-    requires there { n < length was.now }
+    requires few { length was.now + length change.extra.now < 2 ^ 31 }
+    requires there { change.node < length was.now }
     requires same { length counts.now ≡ length was.now }
     requires order { InOrder was.now }
     requires referred { AllReferred was.now (count_in counts.now) }
-    requires extra { IsExtra (length was.now) row extra.now }
-    requires most { IsMostLost was.now (count_in counts.now) n spared.now most }
-    ensures some { IfOk result (λ some. some ≡ true → (observed : List Lit) → IsOwned was.now observed (count_in counts.now) n → (s : ℤ) × IsSaved was.now (replaced was.now n row extra.now) observed s × (pos 1 ≤ℤ s)) }
-    ensures none { IfOk result (λ some. some ≡ false → (observed : List Lit) → IsOwned was.now observed (count_in counts.now) n → (s : ℤ) × IsSaved was.now (replaced was.now n row extra.now) observed s × (s ≤ℤ pos 0)) }
+    requires extra { IsExtra (length was.now) change.row change.extra.now }
+    requires most { IsMostLost was.now (count_in counts.now) change.node spared.now most }
+    ensures some { IfOk result (λ some. some ≡ true → (observed : List Lit) → IsOwned was.now observed (count_in counts.now) change.entry.node → (s : ℤ) × IsSaved was.now (changed was.now change.entry) observed s × (pos 1 ≤ℤ s)) }
+    ensures none { IfOk result (λ some. some ≡ false → (observed : List Lit) → IsOwned was.now observed (count_in counts.now) change.entry.node → (s : ℤ) × IsSaved was.now (changed was.now change.entry) observed s × (s ≤ℤ pos 0)) }
 {
-    keep(was.len() as u32, row, extra, kept)?;
-    let added = added_ands(row, extra, kept);
-    if most <= added && are_held(was, n, kept.used.as_slice(), spared) {
+    keep(was.len() as u32, change.row, change.extra, kept)?;
+    let added = added_ands(change.row, change.extra, kept);
+    if most <= added && are_held(was, change.node, kept.used.as_slice(), spared) {
         return Ok(false);
     }
-    saves_of_kept(alloc, was, counts, n, row, extra, added, kept)
+    saves_of_kept(alloc, was, counts, change, added, kept)
 }

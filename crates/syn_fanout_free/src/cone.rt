@@ -43,7 +43,8 @@ fn has_node(nodes: &[u32], node: u32) -> bool
 
 /// 1 for an AND, else 0.
 pub fn and_count(row: Row) -> u32
-    ensures { result ≡ and_count row }
+    ensures number { result ≡ and_count row }
+    ensures few { result < 2 }
 {
     match row {
         Row::And(_, _) => 1,

@@ -7,7 +7,7 @@ ghost use Rattle.syn_rows.specs.Rows.{InOrder, lits_within, refs_within};
 ghost use Rattle.syn_fanout_free.specs.Freeing.{AllReferred};
 ghost use Rattle.syn_fanout_free.specs.Laws.{AllAndsReached, CountsTell, FewerAreUnreached, FreedAreUnreached, SavedIsLocal, SavedTells, ValuesAreKept};
 ghost use Rattle.syn_fanout_free.specs.Bounding.{SavedIsBounded};
-ghost use Rattle.syn_fanout_free.specs.Saved.{count_in, IsExtra, IsOwned, IsSaved, replaced};
+ghost use Rattle.syn_fanout_free.specs.Saved.{count_in, IsExtra, IsOwned, IsSaved, changed};
 
 mod bounding;
 mod cone;
@@ -18,7 +18,9 @@ mod waiting;
 use crate::extra::keep;
 use crate::saving::{difference, saved_of_kept};
 pub use bounding::{lost_but, saves_near};
+pub use cone::and_count;
 pub use extra::KeptRows;
+pub use saving::Change;
 use std::alloc::{AllocError, Global};
 use syn_rows::{Lit, Row};
 
@@ -59,26 +61,24 @@ pub fn saved_by_sweeps(
     Ok(difference(before, after))
 }
 
-/// What a replacement of the row of n saves, the new rows standing at the end: the same number, found in the cone that
-/// goes, the new rows and what both refer to. `counts` are all references to each node, and the number holds for all
-/// observed literals that they count. The only error is want of memory, which a small cone doesn't take.
+/// The number of ANDs that a change saves, found in the cone that goes, the new rows and what both refer to. `counts` are
+/// all references to each node, and the number holds for all observed literals that they count. The only error is want of
+/// memory, which a small cone doesn't take.
 pub fn saved_near(
     alloc: Global,
     was: &[Row],
     counts: &[u32],
-    n: u32,
-    row: Row,
-    extra: &[Row],
+    change: Change,
 ) -> Result<i64, AllocError>
-    requires few { length was.now + length extra.now < 2 ^ 31 }
-    requires there { n < length was.now }
+    requires few { length was.now + length change.extra.now < 2 ^ 31 }
+    requires there { change.node < length was.now }
     requires same { length counts.now ≡ length was.now }
     requires order { InOrder was.now }
     requires referred { AllReferred was.now (count_in counts.now) }
-    requires extra { IsExtra (length was.now) row extra.now }
-    ensures { IfOk result (λ s. (observed : List Lit) → IsOwned was.now observed (count_in counts.now) n → IsSaved was.now (replaced was.now n row extra.now) observed s) }
+    requires extra { IsExtra (length was.now) change.row change.extra.now }
+    ensures { IfOk result (λ s. (observed : List Lit) → IsOwned was.now observed (count_in counts.now) change.entry.node → IsSaved was.now (changed was.now change.entry) observed s) }
 {
     let mut kept = KeptRows::new(alloc);
-    keep(was.len() as u32, row, extra, &mut kept)?;
-    saved_of_kept(alloc, was, counts, n, row, extra, &mut kept)
+    keep(was.len() as u32, change.row, change.extra, &mut kept)?;
+    saved_of_kept(alloc, was, counts, change, &mut kept)
 }

@@ -1,15 +1,18 @@
--- No row refers to a node behind the last one; and leaves that rise don't fall.
-use Rattle.std.proofs.Common.{◌≡◌, ◌⊎◌, ℕ, zero, suc, ◌<◌, ◌≤◌, nat_lt, true, false, List, [], ◌∷◌, length, get_or, refl, ap, ◌∙◌, subst, arith, inl, inr}
-use Rattle.std.proofs.lemmas.Bool.{cond_both, and_parts, ltb-true}
+-- No row refers to a node behind the last one, and no new row to one behind itself; and leaves that rise don't fall.
+use Rattle.std.proofs.Common.{◌≡◌, ◌⊎◌, ℕ, zero, suc, ◌+◌, ◌<◌, ◌≤◌, ◌&&◌, ◌==◌, nat_lt, true, false, List, [], ◌∷◌, length, get_or, None, Some, refl, ap, ◌∙◌, subst, arith, inl, inr}
+use Rattle.std.proofs.lemmas.Bool.{cases_Bool, cond-false, cond_both, and_parts, eqb-true, ltb-true, or_cases}
 use Rattle.std.specs.List.Sorted.{IsNonDecreasing}
 use Rattle.syn_rows.specs.declared.Lit.{Lit}
 use Rattle.syn_rows.specs.declared.Row.{Row}
-use Rattle.syn_rows.specs.declared.Row.TheVariants.{And}
+use Rattle.syn_rows.specs.declared.Row.TheVariants.{Free, Source, And, Alias}
 use Rattle.syn_rows.specs.Rows.{node_of, row_at, AllRefs, InOrder}
-use Rattle.syn_rows.specs.Joining.{ordered_and}
-use Rattle.syn_fanout_free.specs.Freed.{is_free}
-use Rattle.syn_fanout_free.proofs.Pointwise.{inside}
+use Rattle.syn_rows.specs.Joining.{is_and_of, lit_of, ordered_and, same_pair}
+use Rattle.syn_rows.proofs.JoinLaws.{same_lit}
+use Rattle.syn_fanout_free.specs.Freed.{is_free, refers}
+use Rattle.syn_fanout_free.proofs.Pointwise.{at_ref, inside, refers_first, refers_second}
+use Rattle.syn_gain.specs.Laws.{IsBefore}
 use Rattle.syn_gain.specs.Leaves.{rise_above}
+use Rattle.syn_gain.specs.Searching.{literal_new}
 
 pair_refs : (P : ℕ → Type 0) (x y : Lit) → AllRefs P (ordered_and x y) → P (node_of x) × P (node_of y)
 pair_refs P x y = cond_both (nat_lt x.0 y.0) (And x y) (And y x) (λ row. AllRefs P row → P (node_of x) × P (node_of y)) (λ _ h. h) (λ _ h. (h.1, h.0))
@@ -44,3 +47,46 @@ not_falling low (n ∷ ns) h (suc i) (suc j) d le lt = not_falling n ns (and_par
 
 pub rising_leaves : (leaves : List ℕ) → rise_above 0 leaves ≡ true → IsNonDecreasing leaves
 rising_leaves leaves h i j d le lt = not_falling 0 leaves h i j d le lt
+
+-- a row of a pair refers to both of its nodes
+same_refers : (x y a b : Lit) → same_pair x y a b ≡ true → (refers (And a b) (node_of x) ≡ true) × (refers (And a b) (node_of y) ≡ true)
+same_refers x y a b h = elim (or_cases (x.0 == a.0 && y.0 == b.0) (x.0 == b.0 && y.0 == a.0) h) [
+  | inl e ↦
+      let parts = and_parts (x.0 == a.0) (y.0 == b.0) e in
+      let xa : x ≡ a = same_lit x a (eqb-true x.0 a.0 parts.0) in
+      let yb : y ≡ b = same_lit y b (eqb-true y.0 b.0 parts.1) in
+      (ap (λ (l : Lit). refers (And a b) (node_of l)) xa ∙ refers_first a b, ap (λ (l : Lit). refers (And a b) (node_of l)) yb ∙ refers_second a b)
+  | inr e ↦
+      let parts = and_parts (x.0 == b.0) (y.0 == a.0) e in
+      let xb : x ≡ b = same_lit x b (eqb-true x.0 b.0 parts.0) in
+      let ya : y ≡ a = same_lit y a (eqb-true y.0 a.0 parts.1) in
+      (ap (λ (l : Lit). refers (And a b) (node_of l)) xb ∙ refers_second a b, ap (λ (l : Lit). refers (And a b) (node_of l)) ya ∙ refers_first a b)
+]
+
+pair_refers : (x y : Lit) (row : Row) → is_and_of x y row ≡ true → (refers row (node_of x) ≡ true) × (refers row (node_of y) ≡ true)
+pair_refers x y Free h = absurd (cc)
+pair_refers x y Source h = absurd (cc)
+pair_refers x y (And a b) h = same_refers x y a b h
+pair_refers x y (Alias a) h = absurd (cc)
+
+-- no new row has a pair where none of the first ones has
+pub none_new : (first : ℕ) (extra : List Row) (k : ℕ) (x y : Lit) → ((i : ℕ) → i < k → is_and_of x y (row_at extra i) ≡ false) → literal_new first extra k x y ≡ None
+none_new first extra zero x y each = refl
+none_new first extra (suc k) x y each =
+    cond-false (is_and_of x y (row_at extra k)) (Some (lit_of (first + k))) (literal_new first extra k x y) (each k (omega arith)) ∙ none_new first extra k x y (λ i lt. each i (omega arith))
+
+-- a new row refers to no node behind it
+pub not_behind : (root first : ℕ) (extra : List Row) (x y l : Lit) (i : ℕ) → root ≤ first → AllRefs (IsBefore root first (first + i)) (row_at extra i) → (l ≡ x) ⊎ (l ≡ y) → first + i ≤ node_of l → is_and_of x y (row_at extra i) ≡ false
+not_behind root first extra x y l i low before one far = elim (cases_Bool (is_and_of x y (row_at extra i))) [
+  | inr f ↦ f
+  | inl t ↦
+      let refs = pair_refers x y (row_at extra i) t in
+      let named : refers (row_at extra i) (node_of l) ≡ true = elim one [
+        | inl e ↦ ap (λ (z : Lit). refers (row_at extra i) (node_of z)) e ∙ refs.0
+        | inr e ↦ ap (λ (z : Lit). refers (row_at extra i) (node_of z)) e ∙ refs.1
+      ] in
+      absurd (elim (at_ref (IsBefore root first (first + i)) (row_at extra i) before (node_of l) named) [
+        | inl old ↦ omega (arith, old, low, far)
+        | inr new ↦ omega (arith, new.1, far)
+      ])
+]

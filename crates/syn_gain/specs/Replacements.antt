@@ -1,5 +1,5 @@
 -- Proposals as data, and the rows that one makes of a graph's.
-use Rattle.std.specs.Prelude.{ℕ, ℤ, Bool, false, List, length, slice_index_or}
+use Rattle.std.specs.Prelude.{ℕ, ℤ, pos, ◌≤ℤ◌, Bool, false, List, length, slice_index_or}
 use Rattle.syn_rows.specs.declared.Lit.{Lit}
 use Rattle.syn_rows.specs.declared.Row.{Row}
 use Rattle.syn_plan.specs.declared.PLit.{PLit}
@@ -37,3 +37,11 @@ rows_after_by rows r = replaced rows r.root (new_root_by rows r) (new_rows_by ro
 -- s is what it saves: the ANDs that are reached before, less those afterwards
 abbrev pub SavedBy : List Row → List Lit → Replacement → ℤ → Type 0
 SavedBy rows observed r s = IsSaved rows (rows_after_by rows r) observed s
+
+-- what it saves is at most 0
+unfoldable pub SavesNothing : List Row → List Lit → Replacement → Type 0
+SavesNothing rows observed r = (s : ℤ) × SavedBy rows observed r s × (s ≤ℤ pos 0)
+
+-- what it saves is at least 1
+unfoldable pub SavesSome : List Row → List Lit → Replacement → Type 0
+SavesSome rows observed r = (s : ℤ) × SavedBy rows observed r s × (pos 1 ≤ℤ s)

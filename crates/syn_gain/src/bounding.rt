@@ -1,21 +1,21 @@
 //! Whether a proposal saves, where a bound is asked first.
 
-ghost use Rattle.std.specs.Prelude.{◌≡◌, ℤ, pos, ◌≤ℤ◌, ◌≤◌, true, false, length, nat_lt, IfOk};
+ghost use Rattle.std.specs.Prelude.{◌≡◌, ◌≤◌, true, false, length, nat_lt, IfOk};
 ghost use Rattle.syn_rows.specs.Rows.{row_at};
 ghost use Rattle.syn_rows.specs.Reach.{is_and};
 ghost use Rattle.syn_fanout_free.specs.Bounding.{IsLostBut, IsMostLost};
 ghost use Rattle.syn_fanout_free.specs.Saved.{count_in};
 ghost use Rattle.syn_gain.specs.Leaves.{rise_above};
 ghost use Rattle.syn_gain.specs.Proposals.{replacement_of};
-ghost use Rattle.syn_gain.specs.Replacements.{SavedBy};
+ghost use Rattle.syn_gain.specs.Replacements.{SavesNothing, SavesSome};
 ghost use Rattle.syn_gain.specs.Searching.{new_rows_anywhere};
 ghost use Rattle.syn_gain.specs.Uses.{IsUsesOf};
 
-use crate::placing::{INLINE_LITERALS, INLINE_ROWS, place_below, place_into};
+use crate::placing::{INLINE_LITERALS, INLINE_ROWS, adds_fewer_anywhere, place_into};
 use crate::{Candidate, Uses};
 use smallvec::SmallVec;
 use std::alloc::{AllocError, Global};
-use syn_fanout_free::KeptRows;
+use syn_fanout_free::{Change, KeptRows};
 use syn_graph::Graph;
 use syn_rows::{Lit, Row};
 
@@ -79,8 +79,8 @@ pub fn saves(
     requires uses { IsUsesOf uses.now graph.now }
     requires root { is_and (row_at graph.now.rows candidate.root) ≡ true }
     requires most { IsMostLost graph.now.rows (count_in uses.now.counts.items) candidate.root candidate.leaves.now most }
-    ensures some { IfOk result (λ some. some ≡ true → (s : ℤ) × SavedBy graph.now.rows graph.now.observed (replacement_of candidate.entry) s × (pos 1 ≤ℤ s)) }
-    ensures none { IfOk result (λ some. some ≡ false → (s : ℤ) × SavedBy graph.now.rows graph.now.observed (replacement_of candidate.entry) s × (s ≤ℤ pos 0)) }
+    ensures some { IfOk result (λ some. some ≡ true → SavesSome graph.now.rows graph.now.observed (replacement_of candidate.entry)) }
+    ensures none { IfOk result (λ some. some ≡ false → SavesNothing graph.now.rows graph.now.observed (replacement_of candidate.entry)) }
 {
     let rows = graph.rows.as_slice();
     let row = place_into(
@@ -94,9 +94,11 @@ pub fn saves(
         alloc,
         rows,
         uses.counts.as_slice(),
-        candidate.root,
-        row,
-        room.extra.as_slice(),
+        Change {
+            node: candidate.root,
+            row,
+            extra: room.extra.as_slice(),
+        },
         candidate.leaves,
         most,
         &mut room.kept,
@@ -104,7 +106,8 @@ pub fn saves(
 }
 
 /// Whether a proposal for an AND adds fewer than so many new rows where its gates may be those of any row, also of one behind
-/// the root. The only error is want of memory, which a small plan doesn't take.
+/// the root. Its plan is placed no further once as many rows are new. The only error is want of memory, which a small plan
+/// doesn't take.
 pub fn adds_fewer(
     graph: &Graph,
     uses: &Uses,
@@ -117,13 +120,12 @@ pub fn adds_fewer(
     ensures { IfOk result (λ fewer. fewer ≡ nat_lt (length (new_rows_anywhere graph.now.rows (replacement_of candidate.entry))) limit) }
 {
     let rows = graph.rows.as_slice();
-    place_below(
+    adds_fewer_anywhere(
         rows,
         &uses.pairs,
-        rows.len() as u32,
         candidate,
+        limit,
         &mut room.literals,
         &mut room.extra,
-    )?;
-    Ok(room.extra.as_slice().len() < limit as usize)
+    )
 }

@@ -1,19 +1,12 @@
 -- Rows on which no proposal saves anything.
-use Rattle.std.specs.Prelude.{◌≡◌, ℕ, ◌<◌, ℤ, pos, ◌≤ℤ◌, true, All, List, length, slice_index_or}
+use Rattle.std.specs.Prelude.{◌≡◌, ℕ, ◌<◌, true, All, List, length, slice_index_or}
 use Rattle.std.specs.List.{AllWithin}
 use Rattle.syn_rows.specs.declared.Lit.{Lit}
 use Rattle.syn_rows.specs.declared.Row.{Row}
 use Rattle.syn_rows.specs.Rows.{row_at}
 use Rattle.syn_rows.specs.Reach.{is_and}
-use Rattle.syn_gain.specs.Replacements.{Replacement, SavedBy}
-
--- what it saves is at most 0
-unfoldable pub SavesNothing : List Row → List Lit → Replacement → Type 0
-SavesNothing rows observed r = (s : ℤ) × SavedBy rows observed r s × (s ≤ℤ pos 0)
-
--- what it saves is at least 1
-unfoldable pub SavesSome : List Row → List Lit → Replacement → Type 0
-SavesSome rows observed r = (s : ℤ) × SavedBy rows observed r s × (pos 1 ≤ℤ s)
+use Rattle.syn_gain.specs.Replacements.{Replacement}
+pub use Rattle.syn_gain.specs.Replacements.{SavesNothing, SavesSome}
 
 -- Closed rows: each proposal of each AND saves nothing.
 abbrev pub Closed : List Row → List Lit → (ℕ → List Replacement) → Type 0

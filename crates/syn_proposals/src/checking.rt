@@ -230,29 +230,10 @@ fn found_in_parts<P: Proposer>(
     for part in parts {
         reached = take_part(graph, proposer, &mut found, part, reached)?;
     }
-    let mut more = rest(alloc, graph, uses, proposer, lists, reached)?;
+    let count = graph.rows.as_slice().len() as u32;
+    let mut more = found_between(alloc, graph, uses, proposer, lists, reached, count)?;
     found.append(&mut more)?;
     Ok(found)
-}
-
-// The leftovers of the nodes from one on.
-fn rest<P: Proposer>(
-    alloc: Global,
-    graph: &Graph,
-    uses: &Uses,
-    proposer: &P,
-    lists: &P::Lists,
-    reached: u32,
-) -> Result<Vec<Proposal>, AllocError>
-    requires uses { IsUsesOf uses.now graph.now }
-    requires lists { P.is_lists_of proposer.now lists.now graph.now.rows }
-    requires few { length graph.now.rows < NODE_LIMIT }
-    requires within { reached ≤ length graph.now.rows }
-    ensures all { IfOk result (λ found. AreLeftovers graph.now.rows graph.now.observed (P.proposals proposer.now graph.now.rows) reached (length graph.now.rows - reached) (map replacement found.items)) }
-    ensures sound { IfOk result (λ found. All (IsSound graph.now.rows) found.items) }
-{
-    let to = graph.rows.as_slice().len() as u32;
-    found_between(alloc, graph, uses, proposer, lists, reached, to)
 }
 
 /// The leftovers of a proposer on a graph with these lists: of each AND in node order the first proposal that saves, if one

@@ -15,6 +15,6 @@ pub use checking::leftovers;
 pub use gains::{Improved, Report};
 pub use keeping::{Keeping, Leveled};
 pub use laws::{closed_saves_nothing, first_of_parts};
-pub use proposing::{Proposer, saves, saves_bounded};
+pub use proposing::{Proposer, saves};
 pub use syn_gain::owned;
 pub use turns::Turns;

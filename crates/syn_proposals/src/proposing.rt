@@ -6,17 +6,15 @@ ghost use Rattle.std.specs.Thread.{IsSync};
 ghost use Rattle.syn_rows.specs.declared.Row.{Row};
 ghost use Rattle.syn_rows.specs.Rows.{row_at};
 ghost use Rattle.syn_rows.specs.Reach.{is_and};
-ghost use Rattle.syn_fanout_free.specs.Bounding.{IsMostLost};
-ghost use Rattle.syn_fanout_free.specs.Saved.{count_in};
 ghost use Rattle.syn_gain.specs.Proposals.{replacement, replacement_of};
-ghost use Rattle.syn_gain.specs.Replacements.{Replacement};
+ghost use Rattle.syn_gain.specs.Replacements.{Replacement, SavesNothing, SavesSome};
 ghost use Rattle.syn_gain.specs.Uses.{IsUsesOf};
 ghost use Rattle.syn_proposals.specs.Sound.{IsSound};
-ghost use Rattle.syn_proposals.specs.Closing.{IsFirst, SavesNothing, SavesSome};
+ghost use Rattle.syn_proposals.specs.Closing.{IsFirst};
 
 use std::alloc::{AllocError, Global};
 use std::thread::Threads;
-use syn_gain::{Candidate, Proposal, Room, Uses, saved};
+use syn_gain::{Candidate, Proposal, Uses, saved};
 use syn_graph::Graph;
 use syn_plan::Plan;
 
@@ -181,7 +179,7 @@ fn place_of_first(
 }
 
 /// Whether a proposal for an AND saves.
-#[tactic(auto, unfolding(crate::specs::Closing::SavesNothing, crate::specs::Closing::SavesSome))]
+#[tactic(auto, unfolding(syn_gain::specs::Replacements::SavesNothing, syn_gain::specs::Replacements::SavesSome))]
 pub fn saves(
     alloc: Global,
     graph: &Graph,
@@ -194,23 +192,4 @@ pub fn saves(
     ensures none { IfOk result (λ some. some ≡ false → SavesNothing graph.now.rows graph.now.observed (replacement_of candidate.entry)) }
 {
     Ok(saved(alloc, graph, uses, candidate)? > 0)
-}
-
-/// The same, where `most` ANDs go with the root's row if the leaves stay: a bound is asked first. `room` is used again.
-#[tactic(auto, unfolding(crate::specs::Closing::SavesNothing, crate::specs::Closing::SavesSome))]
-pub fn saves_bounded(
-    alloc: Global,
-    graph: &Graph,
-    uses: &Uses,
-    candidate: Candidate,
-    most: u32,
-    room: &mut Room,
-) -> Result<bool, AllocError>
-    requires uses { IsUsesOf uses.now graph.now }
-    requires root { is_and (row_at graph.now.rows candidate.root) ≡ true }
-    requires most { IsMostLost graph.now.rows (count_in uses.now.counts.items) candidate.root candidate.leaves.now most }
-    ensures some { IfOk result (λ some. some ≡ true → SavesSome graph.now.rows graph.now.observed (replacement_of candidate.entry)) }
-    ensures none { IfOk result (λ some. some ≡ false → SavesNothing graph.now.rows graph.now.observed (replacement_of candidate.entry)) }
-{
-    syn_gain::saves(alloc, graph, uses, candidate, most, room)
 }

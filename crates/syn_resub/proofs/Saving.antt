@@ -2,23 +2,22 @@
 use Rattle.std.specs.List.{AllWithin}
 use Rattle.std.proofs.lemmas.Bool.{cases_lt}
 use Rattle.std.proofs.lemmas.List.{get_or_default}
-use Rattle.std.proofs.Common.{◌≡◌, ℕ, ◌+◌, ◌<◌, get_or, sym, subst, inl, inr, true, false, Bool, List, length, ℤ, pos, ◌≤ℤ◌, Result, Ok, Err, IfOk, ap, ap₂, ◌∙◌, arith}
+use Rattle.std.proofs.Common.{◌≡◌, ℕ, ◌+◌, ◌<◌, get_or, sym, subst, inl, inr, List, length, ap, ap₂, ◌∙◌, arith}
 use Rattle.syn_rows.specs.declared.Lit.{Lit}
 use Rattle.syn_rows.specs.declared.Row.{Row}
 use Rattle.syn_rows.specs.declared.Row.TheVariants.{And}
 use Rattle.syn_rows.specs.Rows.{row_at}
 use Rattle.syn_rows.proofs.JoinLaws.{NeedRow}
 use Rattle.syn_hashed.proofs.Looking.{gate_needs}
-use Rattle.syn_fanout_free.specs.Saved.{IsExtra, IsOwned, IsSaved, replaced}
+use Rattle.syn_fanout_free.specs.Saved.{IsExtra}
 use Rattle.syn_netlist.specs.Frames.{frame_in}
 use Rattle.syn_netlist.specs.Lists.{sources}
 use Rattle.syn_graph.specs.declared.Graph.{Graph}
 use Rattle.syn_gain.specs.Placing.{root_row}
 use Rattle.syn_gain.specs.Replacements.{Replacement, new_root_by, new_rows_by}
-use Rattle.syn_gain.proofs.Owning.{IsBelow, and_inside, as_extra, as_saved, graph_order, graph_pairs}
+use Rattle.syn_gain.proofs.Owning.{IsBelow, and_inside, as_extra, graph_order, graph_pairs}
 use Rattle.syn_growing.specs.Plans.{over}
 use Rattle.syn_growing.proofs.Sorted.{below_from}
-use Rattle.syn_proposals.specs.Closing.{SavesNothing, SavesSome}
 use Rattle.syn_resub.specs.declared.divided.Divided.{Divided}
 use Rattle.syn_resub.specs.declared.forms.Form.{Form}
 use Rattle.syn_resub.specs.Divided.{AreDivided}
@@ -56,26 +55,6 @@ module _ (graph : Graph) (node : ℕ) (d : Divided) (divided : AreDivided graph.
 
   pub extra_is : (slice extra : List Row) (row : Row) → slice ≡ graph.rows → row ≡ new_root_by graph.rows form_replacement → extra ≡ new_rows_by graph.rows form_replacement → IsExtra (length slice) row extra
   extra_is = as_extra graph form_replacement is_below divided.gate
-
--- what the code's lists save is what the proposal saves
-
-pub some_saved : {E : Type 0} (rows slice extra : List Row) (lits : List Lit) (counts : ℕ → ℕ) (r : Replacement) (row : Row) (result : Result Bool E)
-    → slice ≡ rows → row ≡ new_root_by rows r → extra ≡ new_rows_by rows r → IsOwned slice lits counts r.root
-    → IfOk result (λ some. some ≡ true → (observed : List Lit) → IsOwned slice observed counts r.root → (s : ℤ) × IsSaved slice (replaced slice r.root row extra) observed s × (pos 1 ≤ℤ s))
-    → IfOk result (λ some. some ≡ true → SavesSome rows lits r)
-unfolding SavesSome
-some_saved rows slice extra lits counts r row (Ok some) same_rows same_row same_extra owned h =
-    λ p. let found = h p lits owned in (found.0, as_saved rows slice extra lits r row found.0 same_rows same_row same_extra found.1, found.2)
-some_saved rows slice extra lits counts r row (Err e) same_rows same_row same_extra owned h = h
-
-pub nothing_saved : {E : Type 0} (rows slice extra : List Row) (lits : List Lit) (counts : ℕ → ℕ) (r : Replacement) (row : Row) (result : Result Bool E)
-    → slice ≡ rows → row ≡ new_root_by rows r → extra ≡ new_rows_by rows r → IsOwned slice lits counts r.root
-    → IfOk result (λ some. some ≡ false → (observed : List Lit) → IsOwned slice observed counts r.root → (s : ℤ) × IsSaved slice (replaced slice r.root row extra) observed s × (s ≤ℤ pos 0))
-    → IfOk result (λ some. some ≡ false → SavesNothing rows lits r)
-unfolding SavesNothing
-nothing_saved rows slice extra lits counts r row (Ok some) same_rows same_row same_extra owned h =
-    λ p. let found = h p lits owned in (found.0, as_saved rows slice extra lits r row found.0 same_rows same_row same_extra found.1, found.2)
-nothing_saved rows slice extra lits counts r row (Err e) same_rows same_row same_extra owned h = h
 
 -- the forms up to a place save nothing, and the one there doesn't
 pub nothing_more : {X : Type 0} (P : X → Type 0) (xs : List X) (i : ℕ) (x : X) → i < length xs → x ≡ get_or xs i x → AllWithin P xs 0 i → P x → AllWithin P xs 0 (i + 1)

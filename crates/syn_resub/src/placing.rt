@@ -22,7 +22,7 @@ use crate::Form;
 use crate::divided::Divided;
 use arrayvec::ArrayVec;
 use std::alloc::{AllocError, Global};
-use syn_fanout_free::{KeptRows, saves_near};
+use syn_fanout_free::{Change, KeptRows, saves_near};
 use syn_gain::{Uses, literal_below, lost_but};
 use syn_graph::Graph;
 use syn_rows::{FALSE, Lit, Row, ordered_and, simple_and};
@@ -167,17 +167,12 @@ fn form_saves(
     let counts = uses.counts.as_slice();
     let extra = made.extra.as_slice();
     let mut kept = KeptRows::new(alloc);
-    saves_near(
-        alloc,
-        rows,
-        counts,
+    let change = Change {
         node,
-        made.root,
+        row: made.root,
         extra,
-        &[],
-        most,
-        &mut kept,
-    )
+    };
+    saves_near(alloc, rows, counts, change, &[], most, &mut kept)
 }
 
 /// The form at a place.

@@ -26,11 +26,11 @@ use crate::telling::saves_nothing;
 use crate::weighing::Weighed;
 use std::alloc::{AllocError, Global};
 use std::thread::Threads;
-use syn_gain::{Candidate, Proposal, Room, Uses, lost_but, owned};
+use syn_gain::{Candidate, Proposal, Room, Uses, lost_but, owned, saves};
 use syn_graph::Graph;
 use syn_library::Prepared as Classes;
 use syn_plan::Plan;
-use syn_proposals::{Proposer, saves_bounded};
+use syn_proposals::Proposer;
 
 /// How many ANDs that go with a row are counted before its plans are looked at; hardly a plan of four leaves adds as many.
 pub(crate) const MOST_COUNTED: u32 = 16;
@@ -161,7 +161,7 @@ fn some_saves(
             continue;
         }
         let bound = bound_over(alloc, graph, uses, node, leaves, counted)?;
-        if saves_bounded(alloc, graph, uses, candidate, bound, room)? {
+        if saves(alloc, graph, uses, candidate, bound, room)? {
             return Ok(true);
         }
         counted = Some(bound);
@@ -245,7 +245,7 @@ fn first_over(
     let most = lost_but(alloc, graph, uses, node, leaves, MOST_COUNTED)?;
     for plan in plans {
         let candidate = candidate(graph, node, leaves, function, plan);
-        if saves_bounded(alloc, graph, uses, candidate, most, room)? {
+        if saves(alloc, graph, uses, candidate, most, room)? {
             return Ok(Some(owned(candidate)));
         }
     }

@@ -12,7 +12,7 @@ pub overflow_add-result : goal.overflow_add-result
 overflow_add-result c =
     omega (
       arith,
-      c.and_count.ensures,
+      c.and_count.ensures.number,
       one_if-le (is_and (row_at c.args.was.now c.args.n)),
       c.in_ok-dead.ensures.ands,
       c.requires.few,
@@ -26,9 +26,9 @@ pub returns-clause-most : goal.returns-clause-most
 returns-clause-most c =
     most_of_but c.args.was.now (count_in c.args.counts.now) c.args.n c.args.spared.now (c.and_count.result + c.in_ok-dead.dead.ands)
     (lost_is_but c.args.was.now (count_in c.args.counts.now) c.args.n c.args.spared.now c.in_ok-dead.dead.nodes.items (c.and_count.result + c.in_ok-dead.dead.ands)
-    c.requires.there (c.in_ok-dead.ensures.freed c.if-dead-limit.false) (ap₂ (λ a b. a + b) c.and_count.ensures c.in_ok-dead.ensures.ands))
+    c.requires.there (c.in_ok-dead.ensures.freed c.if-dead-limit.false) (ap₂ (λ a b. a + b) c.and_count.ensures.number c.in_ok-dead.ensures.ands))
 
 pub returns-clause-exact : goal.returns-clause-exact
 returns-clause-exact c = λ le.
     lost_is_but c.args.was.now (count_in c.args.counts.now) c.args.n c.args.spared.now c.in_ok-dead.dead.nodes.items (c.and_count.result + c.in_ok-dead.dead.ands)
-    c.requires.there (c.in_ok-dead.ensures.freed c.if-dead-limit.false) (ap₂ (λ a b. a + b) c.and_count.ensures c.in_ok-dead.ensures.ands)
+    c.requires.there (c.in_ok-dead.ensures.freed c.if-dead-limit.false) (ap₂ (λ a b. a + b) c.and_count.ensures.number c.in_ok-dead.ensures.ands)

@@ -14,7 +14,7 @@ overflow_add-dead c =
     omega (
       arith,
       c.requires.ands,
-      c.and_count.ensures,
+      c.and_count.ensures.number,
       one_if-le (is_and (row_at c.args.rows.now c.args.node)),
       c.requires.few,
       count-le (length c.args.rows.now) (λ m. is_and (row_at c.args.rows.now m) && has_node c.args.dead.now.nodes.items m),
@@ -33,5 +33,5 @@ pub returns-clause-ands : goal.returns-clause-ands
 returns-clause-ands c =
     let inside : c.args.node < length c.args.rows.now = omega (arith, c.requires.taken.below, c.requires.within) in
     let fresh = taken_fresh c.args.rows.now (count_in c.args.counts.now) c.args.n (open_to c.args.rows.now c.args.n c.args.used.now) c.args.node c.args.often c.args.dead.now.nodes.items (waits_in c.args.waiting.now) c.requires.taken in
-    ap₂ (λ a b. a + b) c.requires.ands c.and_count.ensures ∙ sym (tally_more c.args.rows.now c.args.dead.now.nodes.items c.args.node inside fresh)
+    ap₂ (λ a b. a + b) c.requires.ands c.and_count.ensures.number ∙ sym (tally_more c.args.rows.now c.args.dead.now.nodes.items c.args.node inside fresh)
     ∙ ap (ands_among c.args.rows.now) (sym c.in_ok-push.ensures.ok)

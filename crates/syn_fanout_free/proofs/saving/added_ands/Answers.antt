@@ -9,7 +9,7 @@ pub overflow_add-result : goal.overflow_add-result
 overflow_add-result c =
     omega (
       arith,
-      c.and_count.ensures,
+      c.and_count.ensures.number,
       one_if-le (is_and c.args.row),
       c.marked_ands.ensures,
       c.requires.few,

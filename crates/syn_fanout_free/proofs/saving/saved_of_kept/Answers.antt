@@ -16,8 +16,8 @@ pub overflow_add-lost : goal.overflow_add-lost
 overflow_add-lost c =
     omega (
       arith,
-      c.and_count.ensures,
-      one_if-le (is_and (row_at c.args.was.now c.args.n)),
+      c.and_count.ensures.number,
+      one_if-le (is_and (row_at c.args.was.now c.args.change.node)),
       c.in_ok-dead.ensures.ands,
       c.requires.few,
       count-le (length c.args.was.now) (λ m. is_and (row_at c.args.was.now m) && has_node c.in_ok-dead.dead.nodes.items m),
@@ -27,14 +27,14 @@ pub returns : goal.returns
 returns c observed owned =
     let f : SFits w64 c.difference.result = search rules in
     let dead : List ℕ = c.in_ok-dead.dead.nodes.items in
-    let free = subst (λ (u : List ℕ). IsFreedByCount c.args.was.now (count_in c.args.counts.now) c.args.n (open_to c.args.was.now c.args.n u) (λ m. has_node dead m))
+    let free = subst (λ (u : List ℕ). IsFreedByCount c.args.was.now (count_in c.args.counts.now) c.args.change.node (open_to c.args.was.now c.args.change.node u) (λ m. has_node dead m))
     c.as_slice.ensures (c.in_ok-dead.ensures.freed (omega arith)) in
-    subst (IsSaved c.args.was.now (replaced c.args.was.now c.args.n c.args.row c.args.extra.now) observed)
+    subst (IsSaved c.args.was.now (replaced c.args.was.now c.args.change.node c.args.change.row c.args.change.extra.now) observed)
     (sym (to_z-of_z w64 c.difference.result f ∙ c.difference.ensures))
-    (saved_by_cone c.args.was.now observed (count_in c.args.counts.now) c.args.n c.args.row c.args.extra.now
+    (saved_by_cone c.args.was.now observed (count_in c.args.counts.now) c.args.change.node c.args.change.row c.args.change.extra.now
     c.args.kept.now.marks.items c.sort_used.new.used.items dead
     (c.and_count.result + c.in_ok-dead.dead.ands) c.added_ands-added.result
     c.requires.there owned c.requires.extra
-    (keeping_sorted (length c.args.was.now) c.args.row c.args.extra.now 0 c.args.kept.now.marks.items c.args.kept.now.used.items c.sort_used.new.used.items c.sort_used.ensures.same c.requires.keeping) free
-    (ap₂ (λ a b. a + b) c.and_count.ensures c.in_ok-dead.ensures.ands)
+    (keeping_sorted (length c.args.was.now) c.args.change.row c.args.change.extra.now 0 c.args.kept.now.marks.items c.args.kept.now.used.items c.sort_used.new.used.items c.sort_used.ensures.same c.requires.keeping) free
+    (ap₂ (λ a b. a + b) c.and_count.ensures.number c.in_ok-dead.ensures.ands)
     c.added_ands-added.ensures)

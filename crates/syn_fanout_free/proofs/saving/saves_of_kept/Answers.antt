@@ -20,8 +20,8 @@ pub overflow_add-lost : goal.overflow_add-lost
 overflow_add-lost c =
     omega (
       arith,
-      c.and_count.ensures,
-      one_if-le (is_and (row_at c.args.was.now c.args.n)),
+      c.and_count.ensures.number,
+      one_if-le (is_and (row_at c.args.was.now c.args.change.node)),
       c.in_ok-dead.ensures.ands,
       c.requires.few,
       count-le (length c.args.was.now) (λ m. is_and (row_at c.args.was.now m) && has_node c.in_ok-dead.dead.nodes.items m),
@@ -34,11 +34,11 @@ returns-clause-some c = λ more observed owned.
     let dead : List ℕ = c.in_ok-dead.dead.nodes.items in
     let away : ℕ = c.and_count.result + c.in_ok-dead.dead.ands in
     let less : c.args.added < away = ltb-true c.args.added away more in
-    let free = subst (λ (u : List ℕ). AreFreed was counts c.args.n (open_to was c.args.n u) dead) c.as_slice.ensures c.in_ok-dead.ensures.sound in
-    saved_at_least was observed counts c.args.n c.args.row c.args.extra.now c.args.kept.now.marks.items c.sort_used.new.used.items dead away c.args.added
+    let free = subst (λ (u : List ℕ). AreFreed was counts c.args.change.node (open_to was c.args.change.node u) dead) c.as_slice.ensures c.in_ok-dead.ensures.sound in
+    saved_at_least was observed counts c.args.change.node c.args.change.row c.args.change.extra.now c.args.kept.now.marks.items c.sort_used.new.used.items dead away c.args.added
     c.requires.there owned c.requires.extra
-    (keeping_sorted (length was) c.args.row c.args.extra.now 0 c.args.kept.now.marks.items c.args.kept.now.used.items c.sort_used.new.used.items c.sort_used.ensures.same c.requires.keeping) free
-    (ap₂ (λ a b. a + b) c.and_count.ensures c.in_ok-dead.ensures.ands) c.requires.added less
+    (keeping_sorted (length was) c.args.change.row c.args.change.extra.now 0 c.args.kept.now.marks.items c.args.kept.now.used.items c.sort_used.new.used.items c.sort_used.ensures.same c.requires.keeping) free
+    (ap₂ (λ a b. a + b) c.and_count.ensures.number c.in_ok-dead.ensures.ands) c.requires.added less
 
 pub returns-clause-none : goal.returns-clause-none
 returns-clause-none c = λ no observed owned.
@@ -47,11 +47,11 @@ returns-clause-none c = λ no observed owned.
     let dead : List ℕ = c.in_ok-dead.dead.nodes.items in
     let away : ℕ = c.and_count.result + c.in_ok-dead.dead.ands in
     let few : away ≤ c.args.added = ltb-false c.args.added away no in
-    let free = subst (λ (u : List ℕ). IsFreedByCount was counts c.args.n (open_to was c.args.n u) (λ m. has_node dead m)) c.as_slice.ensures (c.in_ok-dead.ensures.freed (omega (arith, few))) in (
+    let free = subst (λ (u : List ℕ). IsFreedByCount was counts c.args.change.node (open_to was c.args.change.node u) (λ m. has_node dead m)) c.as_slice.ensures (c.in_ok-dead.ensures.freed (omega (arith, few))) in (
       pos away -ℤ pos c.args.added,
-      saved_by_cone was observed counts c.args.n c.args.row c.args.extra.now c.args.kept.now.marks.items c.sort_used.new.used.items dead away c.args.added
+      saved_by_cone was observed counts c.args.change.node c.args.change.row c.args.change.extra.now c.args.kept.now.marks.items c.sort_used.new.used.items dead away c.args.added
           c.requires.there owned c.requires.extra
-          (keeping_sorted (length was) c.args.row c.args.extra.now 0 c.args.kept.now.marks.items c.args.kept.now.used.items c.sort_used.new.used.items c.sort_used.ensures.same c.requires.keeping) free
-          (ap₂ (λ a b. a + b) c.and_count.ensures c.in_ok-dead.ensures.ands) c.requires.added,
+          (keeping_sorted (length was) c.args.change.row c.args.change.extra.now 0 c.args.kept.now.marks.items c.args.kept.now.used.items c.sort_used.new.used.items c.sort_used.ensures.same c.requires.keeping) free
+          (ap₂ (λ a b. a + b) c.and_count.ensures.number c.in_ok-dead.ensures.ands) c.requires.added,
       no_more away c.args.added few,
     )

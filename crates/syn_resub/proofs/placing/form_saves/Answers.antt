@@ -3,8 +3,8 @@ use Rattle.syn_rows.specs.declared.Row.{Row}
 use Rattle.syn_rows.specs.Rows.{InOrder}
 use Rattle.syn_fanout_free.specs.Saved.{count_in}
 use Rattle.syn_fanout_free.proofs.Ends.{reached_referred}
-use Rattle.syn_gain.proofs.Owning.{as_owned, graph_order}
-use Rattle.syn_resub.proofs.Saving.{extra_is, form_replacement, nothing_saved, some_saved}
+use Rattle.syn_gain.proofs.Owning.{as_owned, graph_order, nothing_saved, some_saved}
+use Rattle.syn_resub.proofs.Saving.{extra_is, form_replacement}
 use Rattle.syn_resub.proofs.placing.form_saves.Goals as goal
 
 pub saves_near-requires-clause-order : goal.saves_near-requires-clause-order

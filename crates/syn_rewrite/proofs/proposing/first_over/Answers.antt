@@ -19,7 +19,7 @@ returns-then-branch-clause-first c =
     let plan = c.plan-item.result in
     let f : Plan → Replacement = λ p. over node leaves (built_of p) in
     let same = plans_are graph.rows node c.args.function leaves c.args.plans.now (is_function graph node c.args.function leaves c.requires.node c.requires.leaves c.requires.function) c.requires.plans in
-    let some : SavesSome graph.rows graph.observed (f plan) = subst (SavesSome graph.rows graph.observed) c.candidate-candidate.ensures.is (c.in_ok-saves_bounded.ensures.some c.if-branch.true) in
+    let some : SavesSome graph.rows graph.observed (f plan) = subst (SavesSome graph.rows graph.observed) c.candidate-candidate.ensures.is (c.in_ok-saves.ensures.some c.if-branch.true) in
     subst (IsFirst graph.rows graph.observed (cut_proposals graph.rows node leaves)) (sym (c.owned.ensures ∙ c.candidate-candidate.ensures.is))
     (subst (λ (l : List Replacement). IsFirst graph.rows graph.observed l (f plan)) same
     (first_is graph.rows graph.observed f c.args.plans.now c.loop-plan.plan-index plan c.loop-plan-test.true c.plan-item.is some c.loop-plan.invariant))

@@ -49,7 +49,7 @@ loop-i-preserved c =
     let all = c.as_slice-all.result.now in
     let f : Plan → Replacement = λ p. over c.args.node c.args.leaves.now (built_of p) in
     let here : SavesNothing graph.rows graph.observed (f c.index-all-i.result) =
-    subst (SavesNothing graph.rows graph.observed) c.candidate-candidate.ensures.is (c.in_ok-saves_bounded.ensures.none (search rules)) in
+    subst (SavesNothing graph.rows graph.observed) c.candidate-candidate.ensures.is (c.in_ok-saves.ensures.none (search rules)) in
     record {
       none = λ k d le lt. elim (cases_lt k c.loop-i.i) [
         | inl less ↦ c.loop-i.invariant.none k d le less
