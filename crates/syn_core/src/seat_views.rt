@@ -1,10 +1,10 @@
 //! What a seat knows, as values.
 
-ghost use Rattle.std.specs.Prelude.{◌≡◌, ℕ, ◌+◌, ◌*◌, ◌^◌, ◌≤◌, pos, ◌<◌, ◌==◌, ◌||◌, ◌&&◌, not, true, false, [], ◌∷◌, ◌++◌, length, IfOk, Some, None, if◌then◌else◌};
+ghost use Rattle.std.specs.Prelude.{◌≡◌, ℕ, ◌+◌, ◌*◌, ◌^◌, ◌≤◌, ◌<◌, ◌==◌, ◌||◌, ◌&&◌, not, true, false, [], ◌∷◌, ◌++◌, length, IfOk, Some, None, if◌then◌else◌};
 ghost use Rattle.syn_rows.specs.Nodes.{has_node};
 ghost use Rattle.syn_core_laws.specs.Lists.{only, kept};
 ghost use Rattle.syn_core_laws.specs.Views.{differs, trimmed, claimed, missed, released, row_loaded, pinned, unpinned, count_loaded, key_loaded, key_set, last_key, made, redefined, freed, is_mine, stays_sole, is_derived_known, refs_known};
-ghost use Rattle.syn_rows.specs.References.{and_count, sum_below};
+ghost use Rattle.syn_rows.specs.References.{sum_below};
 ghost use Rattle.syn_core_laws.specs.Lists.{look};
 
 use crate::lists::{
@@ -14,6 +14,7 @@ use crate::lists::{
 use std::alloc::{AllocError, Global};
 use std::marker::Model;
 use syn_core_laws::{Change, Made, Seen, View};
+use syn_fanout_free::and_count;
 use syn_rows::{Lit, Row};
 
 /// What a seat knows.
@@ -257,10 +258,10 @@ impl SeatView {
         view.pins = with_each(alloc, old, less.as_slice())?;
         view.rows = with(alloc, (node, new), self.rows.as_slice())?;
         view.changes.push(Change { node, old, new })?;
-        let Some(more) = self.difference.checked_add(and_count(new)) else {
+        let Some(more) = self.difference.checked_add(i64::from(and_count(new))) else {
             return Err(AllocError)
         };
-        let Some(difference) = more.checked_sub(and_count(old)) else {
+        let Some(difference) = more.checked_sub(i64::from(and_count(old))) else {
             return Err(AllocError)
         };
         view.difference = difference;
@@ -279,20 +280,11 @@ impl SeatView {
             old,
             new: Row::Free,
         })?;
-        let Some(difference) = self.difference.checked_sub(and_count(old)) else {
+        let Some(difference) = self.difference.checked_sub(i64::from(and_count(old))) else {
             return Err(AllocError)
         };
         view.difference = difference;
         Ok(view)
-    }
-}
-
-fn and_count(row: Row) -> i64
-    ensures { result ≡ pos (and_count row) }
-{
-    match row {
-        Row::And(_, _) => 1,
-        _ => 0,
     }
 }
 

@@ -7,9 +7,10 @@ ghost use Rattle.syn_decide.specs.Dying as spec;
 ghost use Rattle.syn_decide.specs.Fold as fold;
 ghost use Rattle.syn_decide.specs.Walk.{nodes_of};
 
-use crate::lists::{and_count, has_counted, has_row, refs};
+use crate::lists::{has_counted, has_row, refs};
 use crate::{Counted, MOST_INNER, NodeRow};
 use arrayvec::ArrayVec;
+use syn_fanout_free::and_count;
 
 // The references of counted rows to a node.
 fn refs_by_counted(rows: &[Counted], node: u32) -> u32

@@ -2,7 +2,7 @@
 
 ghost use Rattle.std.specs.Prelude.{◌≡◌, ◌<◌};
 ghost use Rattle.syn_rows.specs.Nodes.{has_node};
-ghost use Rattle.syn_rows.specs.References.{and_count, refs};
+ghost use Rattle.syn_rows.specs.References.{refs};
 ghost use Rattle.syn_rows.specs.Rows.{refs_of};
 ghost use Rattle.syn_decide.specs.Dying.{counted_nodes};
 ghost use Rattle.syn_decide.specs.Walk.{nodes_of};
@@ -54,16 +54,5 @@ pub(crate) fn refers(row: Row, node: u32) -> bool
         Row::Free | Row::Source => false,
         Row::And(a, b) => a.node() == node || b.node() == node,
         Row::Alias(a) => a.node() == node,
-    }
-}
-
-/// 1 for an AND, else 0.
-pub(crate) fn and_count(row: Row) -> u32
-    ensures number { result ≡ and_count row }
-    ensures few { result < 2 }
-{
-    match row {
-        Row::And(_, _) => 1,
-        Row::Free | Row::Source | Row::Alias(_) => 0,
     }
 }
