@@ -5,6 +5,7 @@ use Rattle.std.proofs.lemmas.List.{get_or_append_left, get_or_push, get_or_past,
 use Rattle.std.proofs.lemmas.List.Elements.{All-head, All-tail}
 use Rattle.syn_rows.specs.declared.Lit.{Lit}
 use Rattle.syn_rows.specs.declared.Row.{Row}
+use Rattle.syn_rows.specs.declared.TheConstants.{NODE_LIMIT}
 use Rattle.syn_rows.specs.declared.Row.TheVariants.{Free, Source, And, Alias}
 use Rattle.syn_rows.specs.Rows.{node_of, row_at, AllRefs, InOrder}
 use Rattle.syn_rows.specs.Reach.{is_and}
@@ -53,15 +54,17 @@ pub grown_on : (a b c : List Row) → IsGrown a b → IsGrown b c → IsGrown a 
 grown_on a b c first second = record {
   longer = omega (arith, first.longer, second.longer);
   kept = λ given l lt. second.kept given l (omega (arith, first.longer)) ∙ first.kept given l lt;
+  few = λ room. second.few (first.few room);
 }
 
 pub grown_same : (a : List Row) → IsGrown a a
-grown_same a = record { longer = omega arith; kept = λ given l lt. refl }
+grown_same a = record { longer = omega arith; kept = λ given l lt. refl; few = λ room. room }
 
-pub grown_extends : (old new : List Row) → Extends old new → KeepsValues old new → IsGrown old new
-grown_extends old new e kept = record {
+pub grown_extends : (old new : List Row) → Extends old new → KeepsValues old new → length new < NODE_LIMIT → IsGrown old new
+grown_extends old new e kept few = record {
   longer = (let same = ap length e.is in let long = length-append old e.more in omega arith);
   kept = kept;
+  few = λ _. few;
 }
 
 -- literals that stand for nodes

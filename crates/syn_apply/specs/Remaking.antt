@@ -2,6 +2,7 @@
 use Rattle.std.specs.Prelude.{◌≡◌, ℕ, ◌+◌, ◌%◌, ◌<◌, ◌≤◌, ◌==◌, if◌then◌else◌, Bool, false, List, length, slice_index_or}
 use Rattle.syn_rows.specs.declared.Lit.{Lit}
 use Rattle.syn_rows.specs.declared.Row.{Row}
+use Rattle.syn_rows.specs.declared.TheConstants.{NODE_LIMIT}
 use Rattle.syn_rows.specs.Rows.{node_of}
 use Rattle.syn_rows.specs.Joining.{complement, constant, lit_of}
 use Rattle.syn_rows.specs.Values.{value_in, values_of}
@@ -14,10 +15,11 @@ moved literals l =
     then slice_index_or literals (node_of l) constant
     else complement (slice_index_or literals (node_of l) constant)
 
--- Rows that grow: there are no fewer, and literals of older nodes keep their values.
+-- Rows that grow: there are no fewer, literals of older nodes keep their values, and nodes still fit their limit.
 pub record IsGrown (old new : List Row) : Type 0 where
   pub longer : length old ≤ length new
   pub kept : KeepsValues old new
+  pub few : length old < NODE_LIMIT → length new < NODE_LIMIT
 
 -- A literal of new rows stands for an old node: it is there, and has the node's value, whatever the sources have.
 pub record Stands (rows new : List Row) (n : ℕ) (l : Lit) : Type 0 where

@@ -237,6 +237,7 @@ fn remade(
     requires few { length rows.now < NODE_LIMIT }
     requires sound { All (λ p. IsSoundBy rows.now (replacement p)) proposals.now }
     ensures sources { hashed.new.source_count ≡ hashed.old.source_count }
+    ensures few { OnOk result (length hashed.old.rows.items < NODE_LIMIT → length hashed.new.rows.items < NODE_LIMIT) }
     ensures all { IfOk result (λ v. length v.items ≡ length rows.now) }
     ensures standing { IfOk result (λ v. AllStand rows.now hashed.new.rows.items v.items) }
     ensures stay { IfOk result (λ v. SourcesStay hashed.old.source_count v.items) }
@@ -282,9 +283,6 @@ pub fn applied_together(
     let rows = graph.rows.as_slice();
     let literals = remade(alloc, &mut hashed, rows, proposals, taken)?;
     let observed = all_moved(alloc, literals.as_slice(), graph.observed.as_slice())?;
-    if hashed.rows.len() >= NODE_LIMIT {
-        return Err(AllocError);
-    }
     let frame = copy_frame(alloc, &graph.frame)?;
     finish(alloc, frame, hashed, observed.as_slice())
 }

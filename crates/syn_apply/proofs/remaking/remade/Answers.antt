@@ -19,6 +19,7 @@ loop-node-preserved c =
     record {
       all = omega (arith, ap length is, length_push lits l, keeps.all);
       sources = made.sources ∙ keeps.sources;
+      few = λ room. made.grown.few (keeps.few room);
       standing = subst (AllStand rows new) (sym is) (all_stand_more rows old new lits l made.grown keeps.standing (subst (λ k. Stands rows new k l) (sym keeps.all) made.stands));
       stay = subst (SourcesStay c.args.hashed.now.source_count) (sym is) (sources_stay_more c.args.hashed.now.source_count lits l keeps.stay
           (λ lt. made.source (omega (arith, lt, keeps.all, keeps.sources)) ∙ ap lit_of (sym keeps.all)));
