@@ -6,7 +6,7 @@ use Rattle.syn_rows.specs.declared.Row.{Row}
 use Rattle.syn_rows.specs.Rows.{row_at}
 use Rattle.syn_rows.specs.Reach.{is_and}
 use Rattle.syn_gain.specs.Replacements.{Replacement}
-pub use Rattle.syn_gain.specs.Replacements.{SavesNothing, SavesSome}
+unfoldable pub use Rattle.syn_gain.specs.Replacements.{SavesNothing, SavesSome}
 
 -- Closed rows: each proposal of each AND saves nothing.
 abbrev pub Closed : List Row → List Lit → (ℕ → List Replacement) → Type 0
