@@ -112,18 +112,33 @@ size_of number = min number 32768
 abbrev pub options : Bool → Bool → Option ℕ → PassOptions
 options zero levels workers = record { zero = zero; levels = levels; workers = workers }
 
--- What `resyn2` spells: b; rw; rf; b; rw; rwz; b; rfz; rwz; b. What `resyn2l` spells: the same, with `-l` on all that take it.
-abbrev pub resyn2 : Bool → List Command
-resyn2 levels =
+-- What `resyn2` spells: b; rw; rf; b; rw; rwz; b; rfz; rwz; b.
+abbrev pub resyn2 : List Command
+resyn2 =
     commands.Balance
-    ∷ commands.Rewrite (options false levels None)
-    ∷ commands.Refactor (options false levels None)
+    ∷ commands.Rewrite (options false false None)
+    ∷ commands.Refactor (options false false None)
     ∷ commands.Balance
-    ∷ commands.Rewrite (options false levels None)
-    ∷ commands.Rewrite (options true levels None)
+    ∷ commands.Rewrite (options false false None)
+    ∷ commands.Rewrite (options true false None)
     ∷ commands.Balance
-    ∷ commands.Refactor (options true levels None)
-    ∷ commands.Rewrite (options true levels None)
+    ∷ commands.Refactor (options true false None)
+    ∷ commands.Rewrite (options true false None)
+    ∷ commands.Balance
+    ∷ []
+
+-- What `resyn2l` spells: rwz; b; rf; b; rw; rwz; b; rfz; rwz; b, with `-l` on all but b.
+abbrev pub resyn2l : List Command
+resyn2l =
+    commands.Rewrite (options true true None)
+    ∷ commands.Balance
+    ∷ commands.Refactor (options false true None)
+    ∷ commands.Balance
+    ∷ commands.Rewrite (options false true None)
+    ∷ commands.Rewrite (options true true None)
+    ∷ commands.Balance
+    ∷ commands.Refactor (options true true None)
+    ∷ commands.Rewrite (options true true None)
     ∷ commands.Balance
     ∷ []
 
@@ -139,8 +154,8 @@ commands_of keywords.RewriteZero given = commands.Rewrite (options true given.fl
 commands_of keywords.Refactor given = commands.Refactor (options given.flags.0 given.flags.1 (option_map workers_of given.number)) ∷ []
 commands_of keywords.RefactorZero given = commands.Refactor (options true given.flags.1 (option_map workers_of given.number)) ∷ []
 commands_of keywords.Map given = commands.Map given.flags.0 (given_inputs given.number) ∷ []
-commands_of keywords.Resyn2 given = resyn2 false
-commands_of keywords.Resyn2Levels given = resyn2 true
+commands_of keywords.Resyn2 given = resyn2
+commands_of keywords.Resyn2Levels given = resyn2l
 commands_of keywords.Generate given = commands.Generate given.numbers.0 (size_of given.numbers.1) ∷ []
 commands_of keywords.Sweep given = commands.Sweep ∷ []
 commands_of keywords.Resubstitute given = commands.Resubstitute (options given.flags.0 given.flags.1 (option_map workers_of given.number)) ∷ []

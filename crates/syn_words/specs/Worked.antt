@@ -41,7 +41,7 @@ pub record WorkedScripts : Type 0 where
   pub ten_commands : IsScript (codes "resyn2")
       (Balance ∷ Rewrite (options false false None) ∷ Refactor (options false false None) ∷ Balance ∷ Rewrite (options false false None) ∷ Rewrite (options true false None) ∷ Balance ∷ Refactor (options true false None) ∷ Rewrite (options true false None) ∷ Balance ∷ [])
   pub ten_commands_keeping_levels : IsScript (codes "resyn2l")
-      (Balance ∷ Rewrite (options false true None) ∷ Refactor (options false true None) ∷ Balance ∷ Rewrite (options false true None) ∷ Rewrite (options true true None)
+      (Rewrite (options true true None) ∷ Balance ∷ Refactor (options false true None) ∷ Balance ∷ Rewrite (options false true None) ∷ Rewrite (options true true None)
       ∷ Balance ∷ Refactor (options true true None) ∷ Rewrite (options true true None) ∷ Balance ∷ [])
   pub keeping_levels : IsScript (codes "rw -l; rewrite -w 4 -l -z; rfz -l; refactor -l; rs -l -w 2; rsz -l")
       (Rewrite (options false true None) ∷ Rewrite (options true true (Some 4)) ∷ Refactor (options true true None) ∷ Refactor (options false true None)

@@ -1,7 +1,7 @@
 //! The table of commands: their names, what may stand behind each, and what it then says.
 
 ghost use Rattle.std.specs.Prelude.{◌≡◌, ◌⊎◌, [], ◌∷◌, Err, None, Ok, IfOk, OnOk, IfErr, option_map};
-ghost use Rattle.syn_words.specs.Commands.{commands_of, flag_and_name, form_of, named_in, names, options, resyn2, said, size_of, with_inputs, with_workers, words_alone, workers_of};
+ghost use Rattle.syn_words.specs.Commands.{commands_of, flag_and_name, form_of, named_in, names, options, resyn2, resyn2l, said, size_of, with_inputs, with_workers, words_alone, workers_of};
 ghost use Rattle.syn_words.specs.Scripts.{said_onto};
 
 use crate::forms::{Form, NumberRange, Numbered, Operands};
@@ -235,12 +235,32 @@ fn options(zero: bool, levels: bool, workers: Option<u8>) -> PassOptions
     }
 }
 
-// The commands of `resyn2`, or of `resyn2l`, by as many workers as the session has.
-fn resyn2(alloc: Global, levels: bool) -> Result<Vec<Command>, AllocError>
-    ensures { IfOk result (λ v. v.items ≡ resyn2 levels) }
+// The commands of `resyn2l`, by as many workers as the session has. Balancing first would leave rewriting no level to spare.
+fn resyn2l(alloc: Global) -> Result<Vec<Command>, AllocError>
+    ensures { IfOk result (λ v. v.items ≡ resyn2l) }
 {
-    let plain = options(false, levels, None);
-    let zero = options(true, levels, None);
+    let plain = options(false, true, None);
+    let zero = options(true, true, None);
+    Ok(vec![in alloc;
+        Command::Rewrite(zero),
+        Command::Balance,
+        Command::Refactor(plain),
+        Command::Balance,
+        Command::Rewrite(plain),
+        Command::Rewrite(zero),
+        Command::Balance,
+        Command::Refactor(zero),
+        Command::Rewrite(zero),
+        Command::Balance,
+    ]?)
+}
+
+// The commands of `resyn2`, by as many workers as the session has.
+fn resyn2(alloc: Global) -> Result<Vec<Command>, AllocError>
+    ensures { IfOk result (λ v. v.items ≡ resyn2) }
+{
+    let plain = options(false, false, None);
+    let zero = options(true, false, None);
     Ok(vec![in alloc;
         Command::Balance,
         Command::Rewrite(plain),
@@ -290,8 +310,8 @@ fn commands_of(
                 inputs: LutInputs::of(given.number),
             },
         ),
-        Keyword::Resyn2 => resyn2(alloc, false),
-        Keyword::Resyn2Levels => resyn2(alloc, true),
+        Keyword::Resyn2 => resyn2(alloc),
+        Keyword::Resyn2Levels => resyn2l(alloc),
         Keyword::Generate => one(
             alloc,
             Command::Generate {
