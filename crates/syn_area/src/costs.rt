@@ -5,7 +5,7 @@ ghost use Rattle.std.specs.Prelude.{◌<◌, ◌^◌, length};
 use crate::chosen::Chosen;
 use crate::covers::{Cover, MOST_FOLLOWED};
 use crate::figures::{
-    Figures, at_least, depth_of, expect_again, expect_first, figures_over, set_figures,
+    Cost, Figures, at_least, cost_over, depth_of, expect_again, expect_first, set_figures,
 };
 use crate::lists::Listed;
 use crate::near::{Near, Part};
@@ -43,7 +43,7 @@ const SECOND: Rank = 1 << 64;
 const THIRD: Rank = 1 << 32;
 
 // The rank of four numbers.
-#[inline]
+#[inline(always)]
 fn rank_of(first: u32, second: u32, third: u32, fourth: u32) -> Rank {
     first as u128 * FIRST + second as u128 * SECOND + third as u128 * THIRD + fourth as u128
 }
@@ -109,37 +109,35 @@ impl Costs {
         );
     }
 
+    /// What is estimated of nodes.
+    pub(crate) fn figures(&self) -> &[Figures] {
+        self.figures.as_slice()
+    }
+
     // Whether the LUT of a node is taken out of the cover while its cut is chosen.
     fn is_lifted(&self, node: u32) -> bool {
         self.aim == Aim::Area && self.cover.is_read(node)
     }
 
     /// Takes the LUT of a node out of the cover, where the round counts what it adds.
-    pub(crate) fn lift(&mut self, chosen: &Chosen, node: u32) -> Result<(), AllocError> {
+    pub(crate) fn lift(&mut self, chosen: &Chosen, node: u32) {
         if self.is_lifted(node) {
-            self.cover.remove(chosen, chosen.of(node))?;
+            self.cover.remove(chosen, chosen.of(node));
         }
-        Ok(())
     }
 
     /// Sets what is estimated of a node over its chosen cut, and puts its LUT into the cover in place of that over the cut
     /// before. What both need stays in the cover meanwhile.
-    pub(crate) fn settle(
-        &mut self,
-        chosen: &Chosen,
-        node: u32,
-        before: &[u32],
-    ) -> Result<(), AllocError> {
-        let cost = figures_over(self.figures.as_slice(), chosen.of(node));
+    pub(crate) fn settle(&mut self, chosen: &Chosen, node: u32, before: &[u32]) {
+        let cost = cost_over(self.figures.as_slice(), chosen.of(node));
         set_figures(self.figures.as_mut_slice(), node, cost);
         if self.is_lifted(node) {
             self.cover.undo_remove();
             if before != chosen.of(node) {
-                self.cover.add(chosen, chosen.of(node), MOST_FOLLOWED)?;
-                self.cover.remove(chosen, before)?;
+                self.cover.add(chosen, chosen.of(node), MOST_FOLLOWED);
+                self.cover.remove(chosen, before);
             }
         }
-        Ok(())
     }
 
     // The leaves near the node at hand whose LUTs aren't in the cover.
@@ -147,7 +145,7 @@ impl Costs {
         let mut unread = 0;
         let mut bit = 1;
         for leaf in self.near.leaves() {
-            if self.cover.is_missing(leaf.node) {
+            if self.cover.is_missing(*leaf) {
                 unread |= bit;
             }
             bit <<= 1;
@@ -156,20 +154,20 @@ impl Costs {
     }
 
     // How many LUTs a LUT over these leaves adds to the cover beside itself; more than so many are so many.
-    fn added(&mut self, chosen: &Chosen, leaves: u64, most: u32) -> Result<u32, AllocError> {
+    fn added(&mut self, chosen: &Chosen, leaves: u64, most: u32) -> u32 {
         let unread = leaves & self.unread;
         if unread == 0 {
-            return Ok(0);
+            return 0;
         }
         let nodes = self.near.nodes(unread);
-        let luts = self.cover.add(chosen, nodes.as_slice(), most)?;
+        let luts = self.cover.add(chosen, nodes.as_slice(), most);
         self.cover.undo_add();
-        Ok(luts)
+        luts
     }
 
     // The rank of a cut of so many leaves that adds so many LUTs.
-    #[inline]
-    fn rank(&self, cost: &Figures, len: u32, luts: u32) -> Rank {
+    #[inline(always)]
+    fn rank(&self, cost: &Cost, len: u32, luts: u32) -> Rank {
         match self.aim {
             Aim::Depth => rank_of(cost.arrival, len, cost.flow, 0),
             Aim::DepthThenFlow => rank_of(cost.arrival, cost.flow, cost.edges, len),
@@ -180,24 +178,16 @@ impl Costs {
     }
 
     // Picks a cut that costs so much, where it arrives in time, contains no picked one and is one of the best.
-    fn consider(
-        &mut self,
-        chosen: &Chosen,
-        leaves: u64,
-        cost: &Figures,
-        origin: Origin,
-    ) -> Result<(), AllocError> {
-        let len = leaves.count_ones();
-        let mut rank = self.rank(cost, len, 0);
+    fn consider(&mut self, chosen: &Chosen, leaves: u64, cost: &Cost, origin: Origin) {
+        let mut rank = self.rank(cost, leaves.count_ones(), 0);
         if rank >= self.picks.bound() || self.picks.are_in(leaves) {
-            return Ok(());
+            return;
         }
         if self.aim == Aim::Area {
             let most = ((self.picks.bound() / FIRST) as u32).saturating_add(1);
-            let luts = self.added(chosen, leaves, most)?;
-            rank = self.rank(cost, len, luts);
+            rank = rank.saturating_add(self.added(chosen, leaves, most) as u128 * FIRST);
             if rank >= self.picks.bound() {
-                return Ok(());
+                return;
             }
         }
         self.picks.put(Pick {
@@ -205,32 +195,25 @@ impl Costs {
             leaves,
             origin,
         });
-        Ok(())
     }
 
     // Whether no cut of at most k leaves with all these, and perhaps more, is one of the best.
-    #[inline]
-    fn is_bad(&self, leaves: u64, cost: &Figures, k: u8) -> bool {
+    #[inline(always)]
+    fn is_bad(&self, leaves: u64, cost: &Cost, k: u8) -> bool {
         let len = leaves.count_ones();
         len > k as u32 || self.rank(cost, len, 0) >= self.picks.bound()
     }
 
     // Considers the union of a cut of each fan-in, where it has at most k leaves and may be one of the best.
-    #[inline]
-    fn consider_union(
-        &mut self,
-        chosen: &Chosen,
-        left: &Part,
-        right: &Part,
-        k: u8,
-    ) -> Result<(), AllocError> {
+    #[inline(always)]
+    fn consider_union(&mut self, chosen: &Chosen, left: &Part, right: &Part, k: u8) {
         let leaves = left.leaves | right.leaves;
         if self.is_bad(leaves, &at_least(left.cost, right.cost), k) {
-            return Ok(());
+            return;
         }
-        let cost = self
-            .near
-            .with_leaves(left.cost, right.leaves & !left.leaves);
+        let figures = self.figures.as_slice();
+        let added = right.leaves & !left.leaves;
+        let cost = self.near.with_leaves(figures, left.cost, added);
         let origin = Origin::Union(left.place, right.place);
         self.consider(chosen, leaves, &cost, origin)
     }
@@ -244,38 +227,30 @@ impl Costs {
         left: &[Listed],
         right: &[Listed],
         k: u8,
-    ) -> Result<(), AllocError> {
-        let figures = self.figures.as_slice();
+    ) {
+        let cost = cost_over(self.figures.as_slice(), chosen.of(node));
         self.near.clear();
-        let own = self.near.part(figures, chosen.of(node), 0);
-        let left = self.near.parts(figures, left);
-        let right = self.near.parts(figures, right);
+        let own = self.near.word(chosen.of(node));
+        let left = self.near.parts(left);
+        let right = self.near.parts(right);
         self.required = self.cover.required(node);
         if self.aim == Aim::Area {
             self.unread = self.unread_near();
         }
         self.picks.clear();
-        self.consider(chosen, own.leaves, &own.cost, Origin::Chosen)?;
+        self.consider(chosen, own, &cost, Origin::Chosen);
         for first in left.as_slice() {
             if !self.is_bad(first.leaves, &first.cost, k) {
-                self.consider_unions(chosen, first, right.as_slice(), k)?;
+                self.consider_unions(chosen, first, right.as_slice(), k);
             }
         }
-        Ok(())
     }
 
     // Considers the unions of a cut of a fan-in with each of the other's.
-    fn consider_unions(
-        &mut self,
-        chosen: &Chosen,
-        left: &Part,
-        others: &[Part],
-        k: u8,
-    ) -> Result<(), AllocError> {
+    fn consider_unions(&mut self, chosen: &Chosen, left: &Part, others: &[Part], k: u8) {
         for right in others {
-            self.consider_union(chosen, left, right, k)?;
+            self.consider_union(chosen, left, right, k);
         }
-        Ok(())
     }
 
     /// The cuts that were picked last, the best first.

@@ -3,6 +3,7 @@
 ghost use Rattle.std.specs.Prelude.{◌<◌, ◌^◌, length};
 
 use crate::chosen::Chosen;
+use arrayvec::ArrayVec;
 use std::alloc::{AllocError, Global};
 use syn_rows::Lit;
 
@@ -15,15 +16,18 @@ pub(crate) struct Cover {
     /// The latest arrival of each node; of one that nothing reads any.
     required: Vec<u32>,
     /// ANDs whose leaves are still to be visited.
-    waiting: Vec<u32>,
+    waiting: ArrayVec<u32, MOST_TOUCHED>,
     /// The nodes that got a reader, one after the other, while LUTs were added.
-    added: Vec<u32>,
+    added: ArrayVec<u32, MOST_TOUCHED>,
     /// Those that lost one while LUTs were taken out.
-    removed: Vec<u32>,
+    removed: ArrayVec<u32, MOST_TOUCHED>,
 }
 
 /// So many LUTs are followed at most below a cut that is added or taken out, so that each node takes so much time at most.
 pub(crate) const MOST_FOLLOWED: u32 = 32;
+
+// So many leaves are those of a cut and of the LUTs that are followed below it, each of at most eight.
+const MOST_TOUCHED: usize = 264;
 
 // So many times a number.
 fn numbers(alloc: Global, count: usize, number: u32) -> Result<Vec<u32>, AllocError> {
@@ -83,9 +87,9 @@ impl Cover {
             source_count,
             refs: numbers(alloc, count, 0)?,
             required: numbers(alloc, count, u32::MAX)?,
-            waiting: Vec::new(alloc),
-            added: Vec::new(alloc),
-            removed: Vec::new(alloc),
+            waiting: ArrayVec::new(),
+            added: ArrayVec::new(),
+            removed: ArrayVec::new(),
         })
     }
 
@@ -111,35 +115,34 @@ impl Cover {
     }
 
     // Adds a reader of each leaf; the ANDs that had none wait.
-    fn read_leaves(&mut self, leaves: &[u32]) -> Result<(), AllocError> {
+    fn read_leaves(&mut self, leaves: &[u32]) {
         for leaf in leaves {
-            self.added.push(*leaf)?;
+            if self.added.is_full() || self.waiting.is_full() {
+                return;
+            }
+            self.added.push(*leaf);
             if add_one(self.refs.as_mut_slice(), *leaf) == 0 && *leaf > self.source_count {
-                self.waiting.push(*leaf)?;
+                self.waiting.push(*leaf);
             }
         }
-        Ok(())
     }
 
     // Takes a reader of each leaf away; the ANDs that have none left wait.
-    fn leave_leaves(&mut self, leaves: &[u32]) -> Result<(), AllocError> {
+    fn leave_leaves(&mut self, leaves: &[u32]) {
         for leaf in leaves {
-            self.removed.push(*leaf)?;
+            if self.removed.is_full() || self.waiting.is_full() {
+                return;
+            }
+            self.removed.push(*leaf);
             if take_one(self.refs.as_mut_slice(), *leaf) == 0 && *leaf > self.source_count {
-                self.waiting.push(*leaf)?;
+                self.waiting.push(*leaf);
             }
         }
-        Ok(())
     }
 
     /// Adds a LUT over these leaves to the cover, and those that it needs: how many they are, as far as they are followed,
     /// at most so many.
-    pub(crate) fn add(
-        &mut self,
-        chosen: &Chosen,
-        leaves: &[u32],
-        most: u32,
-    ) -> Result<u32, AllocError> {
+    pub(crate) fn add(&mut self, chosen: &Chosen, leaves: &[u32], most: u32) -> u32 {
         let most = if most < MOST_FOLLOWED {
             most
         } else {
@@ -147,14 +150,14 @@ impl Cover {
         };
         self.added.clear();
         self.waiting.clear();
-        self.read_leaves(leaves)?;
+        self.read_leaves(leaves);
         for luts in 0..most {
             let Some(node) = self.waiting.pop() else {
-                return Ok(luts);
+                return luts;
             };
-            self.read_leaves(chosen.of(node))?;
+            self.read_leaves(chosen.of(node));
         }
-        Ok(most)
+        most
     }
 
     /// Takes what was added last out again.
@@ -166,17 +169,16 @@ impl Cover {
     }
 
     /// Takes a LUT over these leaves out of the cover, and those that nothing else needs, as far as they are followed.
-    pub(crate) fn remove(&mut self, chosen: &Chosen, leaves: &[u32]) -> Result<(), AllocError> {
+    pub(crate) fn remove(&mut self, chosen: &Chosen, leaves: &[u32]) {
         self.removed.clear();
         self.waiting.clear();
-        self.leave_leaves(leaves)?;
+        self.leave_leaves(leaves);
         for _ in 0..MOST_FOLLOWED {
             let Some(node) = self.waiting.pop() else {
-                return Ok(());
+                return;
             };
-            self.leave_leaves(chosen.of(node))?;
+            self.leave_leaves(chosen.of(node));
         }
-        Ok(())
     }
 
     /// Adds what was taken out last again.

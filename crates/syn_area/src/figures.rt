@@ -19,7 +19,7 @@ pub(crate) struct Figures {
 }
 
 /// What is estimated of a node, nothing past the end.
-#[inline]
+#[inline(always)]
 pub(crate) fn figures_at(figures: &[Figures], node: u32) -> Figures {
     if (node as usize) < figures.len() {
         figures[node as usize]
@@ -28,27 +28,33 @@ pub(crate) fn figures_at(figures: &[Figures], node: u32) -> Figures {
     }
 }
 
-/// What a LUT costs to which no leaf is added yet.
-pub(crate) const NO_LEAF: Figures = Figures {
+/// What a LUT over a cut costs: when it arrives, and its flows before they are shared among its readers.
+#[derive(Clone, Copy, Debug, Default, PartialEq, Eq)]
+pub(crate) struct Cost {
+    pub(crate) arrival: u32,
+    pub(crate) flow: u32,
+    pub(crate) edges: u32,
+}
+
+// What a LUT costs to which no leaf is added yet.
+const NO_LEAF: Cost = Cost {
     arrival: 1,
     flow: UNIT,
     edges: 0,
-    readers: UNIT,
 };
 
-/// What a LUT costs with one leaf more: when it arrives, and its flows before they are shared among its readers.
-#[inline]
-pub(crate) fn with_leaf(cost: Figures, leaf: Figures) -> Figures {
-    Figures {
+/// What a LUT costs with one leaf more.
+#[inline(always)]
+pub(crate) fn with_leaf(cost: Cost, leaf: Figures) -> Cost {
+    Cost {
         arrival: greater(cost.arrival, leaf.arrival.saturating_add(1)),
         flow: cost.flow.saturating_add(leaf.flow),
         edges: cost.edges.saturating_add(leaf.edges).saturating_add(UNIT),
-        readers: cost.readers,
     }
 }
 
 /// What a LUT over these leaves costs.
-pub(crate) fn figures_over(figures: &[Figures], leaves: &[u32]) -> Figures {
+pub(crate) fn cost_over(figures: &[Figures], leaves: &[u32]) -> Cost {
     let mut cost = NO_LEAF;
     for leaf in leaves {
         cost = with_leaf(cost, figures_at(figures, *leaf));
@@ -57,18 +63,17 @@ pub(crate) fn figures_over(figures: &[Figures], leaves: &[u32]) -> Figures {
 }
 
 /// What a LUT costs at least that reads the leaves of two others.
-#[inline]
-pub(crate) fn at_least(a: Figures, b: Figures) -> Figures {
-    Figures {
+#[inline(always)]
+pub(crate) fn at_least(a: Cost, b: Cost) -> Cost {
+    Cost {
         arrival: greater(a.arrival, b.arrival),
         flow: greater(a.flow, b.flow),
         edges: greater(a.edges, b.edges),
-        readers: a.readers,
     }
 }
 
 // The greater of two numbers.
-#[inline]
+#[inline(always)]
 fn greater(a: u32, b: u32) -> u32 {
     if a < b { b } else { a }
 }
@@ -91,7 +96,7 @@ fn share(amount: u32, readers: u32) -> u32 {
 }
 
 /// Sets what is estimated of a node from what its LUT costs.
-pub(crate) fn set_figures(figures: &mut [Figures], node: u32, cost: Figures) {
+pub(crate) fn set_figures(figures: &mut [Figures], node: u32, cost: Cost) {
     if (node as usize) < figures.len() {
         let readers = figures[node as usize].readers;
         figures[node as usize] = Figures {

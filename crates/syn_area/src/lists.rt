@@ -7,13 +7,15 @@ ghost use Rattle.syn_cuts.specs.Leaves.{leaves_of};
 ghost use Rattle.syn_area.specs.Kept.{AreListed, IsKept};
 
 use crate::chosen::copied;
+use crate::figures::{Cost, Figures, cost_over};
 use std::alloc::{AllocError, Global};
 use syn_cuts::Cut;
 
-/// A cut with the node of which it is kept.
+/// A cut with the node of which it is kept, and what a LUT over it costs.
 #[derive(Debug, Default, Drop)]
 pub(crate) struct Listed {
     pub(crate) node: u32,
+    pub(crate) cost: Cost,
     pub(crate) cut: Cut,
 }
 
@@ -91,35 +93,41 @@ impl Lists {
     }
 
     // Lists a cut of a node.
-    fn push(&mut self, node: u32, leaves: &[u32]) -> Result<(), AllocError>
+    fn push(&mut self, figures: &[Figures], node: u32, leaves: &[u32]) -> Result<(), AllocError>
         requires { length leaves.now ≤ MOST_VARS }
         ensures { (rows : List Row) → AreListed rows self.old.listed.items → IsKept rows node leaves.now → OnOk result (AreListed rows self.new.listed.items) }
     {
         self.listed.push(Listed {
             node,
+            cost: cost_over(figures, leaves),
             cut: copied(leaves),
         })?;
         Ok(())
     }
 
     // Lists cuts of a node.
-    fn push_all(&mut self, node: u32, cuts: &[Cut]) -> Result<(), AllocError>
+    fn push_all(&mut self, figures: &[Figures], node: u32, cuts: &[Cut]) -> Result<(), AllocError>
         ensures { (rows : List Row) → AreListed rows self.old.listed.items → All (IsKept rows node) (leaves_of cuts.now) → OnOk result (AreListed rows self.new.listed.items) }
     {
         for cut in cuts {
-            self.push(node, cut.as_slice())?;
+            self.push(figures, node, cut.as_slice())?;
         }
         Ok(())
     }
 
-    /// Lists cuts of a node, and the node alone.
-    pub(crate) fn list(&mut self, node: u32, cuts: &[Cut]) -> Result<(), AllocError>
+    /// Lists cuts of a node, and the node alone, with what LUTs over them cost by what is estimated.
+    pub(crate) fn list(
+        &mut self,
+        figures: &[Figures],
+        node: u32,
+        cuts: &[Cut],
+    ) -> Result<(), AllocError>
         requires { 0 < node }
         ensures { (rows : List Row) → AreListed rows self.old.listed.items → All (IsKept rows node) (leaves_of cuts.now) → OnOk result (AreListed rows self.new.listed.items) }
     {
         let start = self.listed.len();
-        self.push_all(node, cuts)?;
-        self.push(node, &[node])?;
+        self.push_all(figures, node, cuts)?;
+        self.push(figures, node, &[node])?;
         self.set_span(node, start);
         Ok(())
     }

@@ -1,6 +1,6 @@
 //! The leaves near a node: those of the cuts of which its own cuts are made, as the bits of a word.
 
-use crate::figures::{Figures, NO_LEAF, figures_at, with_leaf};
+use crate::figures::{Cost, Figures, figures_at, with_leaf};
 use crate::lists::Listed;
 use arrayvec::ArrayVec;
 use std::alloc::{AllocError, Global};
@@ -12,18 +12,11 @@ pub(crate) const MOST_NEAR: usize = 64;
 /// So many cuts of a fan-in are looked at.
 pub(crate) const MOST_PARTS: usize = 9;
 
-/// A leaf near a node, with what is estimated of it.
-#[derive(Clone, Copy, Debug, Default)]
-pub(crate) struct Leaf {
-    pub(crate) node: u32,
-    figures: Figures,
-}
-
 /// A cut of a fan-in: its leaves, all bits where one has none, what a LUT over them costs, and its place in its list.
 #[derive(Clone, Copy, Debug, Default)]
 pub(crate) struct Part {
     pub(crate) leaves: u64,
-    pub(crate) cost: Figures,
+    pub(crate) cost: Cost,
     pub(crate) place: u8,
 }
 
@@ -32,7 +25,7 @@ pub(crate) struct Part {
 pub(crate) struct Near {
     /// The bit that each node had where it was near last.
     bits: Vec<u8>,
-    leaves: ArrayVec<Leaf, MOST_NEAR>,
+    leaves: ArrayVec<u32, MOST_NEAR>,
 }
 
 // No bit of any of so many nodes.
@@ -41,13 +34,13 @@ fn no_bits(alloc: Global, count: usize) -> Result<Vec<u8>, AllocError> {
 }
 
 // The lowest bit of a word.
-#[inline]
+#[inline(always)]
 fn lowest(word: u64) -> usize {
     word.trailing_zeros() as usize
 }
 
 // A word without its lowest bit.
-#[inline]
+#[inline(always)]
 fn without_lowest(word: u64) -> u64 {
     word & word.wrapping_sub(1)
 }
@@ -67,88 +60,77 @@ impl Near {
     }
 
     /// The leaves, by bit.
-    pub(crate) fn leaves(&self) -> &[Leaf] {
+    pub(crate) fn leaves(&self) -> &[u32] {
         self.leaves.as_slice()
     }
 
-    // Gives a leaf the next bit, where there is one more, and returns it.
-    fn see(&mut self, figures: &[Figures], node: u32) -> usize {
+    // Gives a leaf the next bit and returns it; all bits where there is none left.
+    #[inline]
+    fn see(&mut self, node: u32) -> u64 {
         let bit = self.leaves.len();
-        if bit < MOST_NEAR && (node as usize) < self.bits.len() {
-            self.bits[node as usize] = bit as u8;
-            self.leaves.push(Leaf {
-                node,
-                figures: figures_at(figures, node),
-            });
+        if bit >= MOST_NEAR || node as usize >= self.bits.len() {
+            return u64::MAX;
         }
-        bit
+        self.bits[node as usize] = bit as u8;
+        self.leaves.push(node);
+        1u64 << bit
     }
 
-    // The bit of a leaf; one past the last where it has none.
-    #[inline]
-    fn bit_of(&mut self, figures: &[Figures], node: u32) -> usize {
+    // The bit of a leaf; all bits where it has none.
+    #[inline(always)]
+    fn bit_of(&mut self, node: u32) -> u64 {
         if (node as usize) < self.bits.len() {
             let bit = self.bits[node as usize] as usize;
-            if bit < self.leaves.len() && self.leaves.as_slice()[bit].node == node {
-                return bit;
+            if bit < self.leaves.len() && self.leaves.as_slice()[bit] == node {
+                return 1u64 << bit;
             }
         }
-        self.see(figures, node)
+        self.see(node)
     }
 
-    // What is estimated of the leaf of a bit.
-    #[inline]
-    fn figures_of(&self, bit: usize) -> Figures {
-        if bit < self.leaves.len() {
-            self.leaves.as_slice()[bit].figures
-        } else {
-            Figures::default()
-        }
-    }
-
-    /// These leaves as bits, with what a LUT over them costs.
-    pub(crate) fn part(&mut self, figures: &[Figures], leaves: &[u32], place: u8) -> Part {
-        let mut bits = 0;
-        let mut cost = NO_LEAF;
+    /// These leaves as bits, all of them where one has none.
+    pub(crate) fn word(&mut self, leaves: &[u32]) -> u64 {
+        let mut word = 0;
         for leaf in leaves {
-            let bit = self.bit_of(figures, *leaf);
-            bits |= if bit < MOST_NEAR {
-                1u64 << bit
-            } else {
-                u64::MAX
-            };
-            cost = with_leaf(cost, self.figures_of(bit));
+            word |= self.bit_of(*leaf);
         }
-        Part {
-            leaves: bits,
-            cost,
-            place,
-        }
+        word
     }
 
     /// The first cuts of a list as parts.
-    pub(crate) fn parts(
-        &mut self,
-        figures: &[Figures],
-        listed: &[Listed],
-    ) -> ArrayVec<Part, MOST_PARTS> {
+    pub(crate) fn parts(&mut self, listed: &[Listed]) -> ArrayVec<Part, MOST_PARTS> {
         let mut parts = ArrayVec::new();
         for one in listed {
             if parts.is_full() {
                 return parts;
             }
             let place = parts.len() as u8;
-            parts.push(self.part(figures, one.cut.as_slice(), place));
+            parts.push(Part {
+                leaves: self.word(one.cut.as_slice()),
+                cost: one.cost,
+                place,
+            });
         }
         parts
     }
 
+    // What is estimated of the leaf of a bit.
+    #[inline(always)]
+    fn figures_of(&self, figures: &[Figures], bit: usize) -> Figures {
+        if bit < self.leaves.len() {
+            figures_at(figures, self.leaves.as_slice()[bit])
+        } else {
+            Figures::default()
+        }
+    }
+
     /// What a LUT costs that reads these leaves too.
-    pub(crate) fn with_leaves(&self, cost: Figures, leaves: u64) -> Figures {
+    #[inline]
+    pub(crate) fn with_leaves(&self, figures: &[Figures], cost: Cost, leaves: u64) -> Cost {
         let mut cost = cost;
         let mut rest = leaves;
         for _ in 0..leaves.count_ones() {
-            cost = with_leaf(cost, self.figures_of(lowest(rest)));
+            cost = with_leaf(cost, self.figures_of(figures, lowest(rest)));
             rest = without_lowest(rest);
         }
         cost
@@ -161,7 +143,7 @@ impl Near {
         for _ in 0..leaves.count_ones() {
             let bit = lowest(rest);
             if bit < self.leaves.len() && !nodes.is_full() {
-                nodes.push(self.leaves.as_slice()[bit].node);
+                nodes.push(self.leaves.as_slice()[bit]);
             }
             rest = without_lowest(rest);
         }

@@ -32,6 +32,16 @@ pub(crate) struct Picks {
     bound: Rank,
 }
 
+// Moves the last of some picks before those of greater rank.
+fn lift_last(picks: &mut [Pick]) {
+    for i in (1..picks.len()).rev() {
+        if i >= picks.len() || picks[i].rank >= picks[i - 1].rank {
+            return;
+        }
+        picks.swap(i - 1, i);
+    }
+}
+
 impl Picks {
     /// No cut.
     pub(crate) fn none() -> Picks {
@@ -68,6 +78,16 @@ impl Picks {
         false
     }
 
+    // Whether a picked cut contains these leaves.
+    fn contain(&self, leaves: u64) -> bool {
+        for pick in self.best.as_slice() {
+            if leaves & !pick.leaves == 0 {
+                return true;
+            }
+        }
+        false
+    }
+
     // Lets those go that contain these leaves.
     fn drop_containing(&mut self, leaves: u64) {
         for i in (0..self.best.len()).rev() {
@@ -75,16 +95,6 @@ impl Picks {
                 let _ = self.best.remove(i);
             }
         }
-    }
-
-    // How many are as good as this rank, or better.
-    fn place(&self, rank: Rank) -> usize {
-        for (i, pick) in self.best.as_slice().iter().enumerate() {
-            if rank < pick.rank {
-                return i;
-            }
-        }
-        self.best.len()
     }
 
     // The rank of the last cut; the greatest where there is room.
@@ -99,17 +109,16 @@ impl Picks {
 
     /// Picks a cut that contains none of the picked; the last goes where there is no room.
     pub(crate) fn put(&mut self, pick: Pick) {
-        self.drop_containing(pick.leaves);
-        let i = self.place(pick.rank);
-        if i >= PICKED {
-            return;
+        if self.contain(pick.leaves) {
+            self.drop_containing(pick.leaves);
         }
         if self.best.is_full() {
             self.best.pop();
         }
-        if i <= self.best.len() && !self.best.is_full() {
-            self.best.insert(i, pick);
+        if !self.best.is_full() {
+            self.best.push(pick);
         }
+        lift_last(self.best.as_mut_slice());
         self.bound = self.last_rank();
     }
 }

@@ -131,14 +131,14 @@ fn candidates_of(
     a: u32,
     b: u32,
     k: u8,
-) -> Result<ArrayVec<Cut, PICKED>, AllocError>
+) -> ArrayVec<Cut, PICKED>
     requires { k ≤ MOST_VARS }
-    ensures { IfOk result (λ kept. (rows : List Row) → Joins k rows a b node → AreListed rows lists.now.listed.items → IsLutCut k rows node (cut_in chosen.now node) → AreCandidates k rows node (leaves_of kept.items)) }
+    ensures { (rows : List Row) → Joins k rows a b node → AreListed rows lists.now.listed.items → IsLutCut k rows node (cut_in chosen.now node) → AreCandidates k rows node (leaves_of result.items) }
 {
     let left = lists.of(a);
     let right = lists.of(b);
-    costs.pick(chosen, node, left, right, k)?;
-    Ok(cuts_of(costs.picks(), chosen.of(node), left, right, a, b, k))
+    costs.pick(chosen, node, left, right, k);
+    cuts_of(costs.picks(), chosen.of(node), left, right, a, b, k)
 }
 
 // Chooses the first of these cuts for a node, where there is one.
@@ -173,11 +173,11 @@ fn visit_and(
 {
     let _ = graph;
     let before = copied(chosen.of(node));
-    costs.lift(chosen, node)?;
-    let kept = candidates_of(costs, chosen, lists, node, a.node(), b.node(), k)?;
+    costs.lift(chosen, node);
+    let kept = candidates_of(costs, chosen, lists, node, a.node(), b.node(), k);
     choose_first(chosen, node, kept.as_slice());
-    costs.settle(chosen, node, before.as_slice())?;
-    lists.list(node, kept.as_slice())?;
+    costs.settle(chosen, node, before.as_slice());
+    lists.list(costs.figures(), node, kept.as_slice())?;
     Ok(())
 }
 
@@ -207,7 +207,7 @@ fn visit(
 {
     match row_of(graph.rows.as_slice(), node) {
         Row::And(a, b) => visit_and(graph, costs, chosen, lists, node, a, b, k),
-        _ => lists.list(node, &[]),
+        _ => lists.list(costs.figures(), node, &[]),
     }
 }
 

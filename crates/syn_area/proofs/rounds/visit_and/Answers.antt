@@ -12,9 +12,9 @@ returns c =
     let gr = c.args.graph.now in
     let k = c.args.k in
     let node = c.args.node in
-    let kept = c.in_ok-kept.kept.items in
+    let kept = c.candidates_of-kept.result.items in
     let was = c.requires.visited in
-    let all = joined gr k node c.args.a c.args.b c.node.result c.node-2.result c.args.lists.now.listed.items c.args.chosen.now (leaves_of kept) c.requires.gate c.requires.node c.node.ensures c.node-2.ensures was c.in_ok-kept.ensures in
+    let all = joined gr k node c.args.a c.args.b c.node.result c.node-2.result c.args.lists.now.listed.items c.args.chosen.now (leaves_of kept) c.requires.gate c.requires.node c.node.ensures c.node-2.ensures was c.candidates_of-kept.ensures in
     let first = All-same (IsLutCut k gr.rows node) (leaves_of c.as_slice.result.now) (leaves_of kept) (ap leaves_of c.as_slice.ensures.value) all in
     let last = All-same (IsKept gr.rows node) (leaves_of c.as_slice-3.result.now) (leaves_of kept) (ap leaves_of c.as_slice-3.ensures.value) (candidates_kept k gr.rows node (leaves_of kept) all) in
     visited k gr.rows c.args.lists.now.listed.items c.list.new.self.listed.items c.args.chosen.now c.choose_first.new.chosen was
