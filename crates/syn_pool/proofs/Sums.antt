@@ -31,10 +31,6 @@ told_both a b =
     told_told a (told b)
     ∙ (ap told (omega arith) ∙ told_told b a) ∙ ap told (omega arith)
 
--- two numbers whose sum is in range add up as they are
-pub told_sum : (a b : ℕ) → told a + told b < 2 ^ 64 → told a + told b ≡ told (a + b)
-told_sum a b lt = sym (told_low (told a + told b) (omega (arith, lt))) ∙ told_both a b
-
 -- ---- answers one after the other
 pub dones_append : (xs ys : List Answer) → dones (xs ++ ys) ≡ dones xs + dones ys
 dones_append [] ys = omega arith
@@ -106,11 +102,10 @@ pub no_report : (r : Report) → r.done ≡ 0 → r.gained ≡ 0 → IsReport r
 no_report r d g = ([], record { done = d; gained = g })
 
 -- what one round did, and what the next did
-pub report_both : (r s t : Report) → r.gained + s.gained < 2 ^ 64 → IsReport r → IsReport s → t.done ≡ told (r.done + s.done) → t.gained ≡ r.gained + s.gained → IsReport t
-report_both r s t low f g done gained = (
+pub report_both : (r s t : Report) → IsReport r → IsReport s → t.done ≡ told (r.done + s.done) → t.gained ≡ told (r.gained + s.gained) → IsReport t
+report_both r s t f g done gained = (
   f.0 ++ g.0,
-  subst (λ (xs : List Answer). IsSum xs t) (sym (all_append f.0 g.0))
-      (sum_both (all_answers f.0) (all_answers g.0) r s t f.1 g.1 done (gained ∙ sym (told_low (r.gained + s.gained) (omega (arith, low))))),
+  subst (λ (xs : List Answer). IsSum xs t) (sym (all_append f.0 g.0)) (sum_both (all_answers f.0) (all_answers g.0) r s t f.1 g.1 done gained),
 )
 
 -- a commit redefines one row where it was done, and none else

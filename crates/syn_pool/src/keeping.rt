@@ -36,18 +36,16 @@ fn first_left_applied<K: Proposer>(
 }
 
 // One check of a graph: one with fewer ANDs in place of it, in which no observed signal is deeper, and none where it is closed.
-fn checked<R: Threads + Sync, K: Proposer>(
-    rt: &R,
-    alloc: Global,
+fn checked<R: Threads + Sync, K: Proposer, G: Gate>(
+    course: &Course<'_, R, K, G>,
     graph: &Graph,
-    proposer: &K,
-    workers: u8,
 ) -> Result<Option<Graph>, AllocError>
-    requires keep { AllKeep (K.proposals proposer.now) }
+    requires keep { AllKeep (K.proposals course.now.proposer.now) }
     ensures follows { IfOk result (λ made. IfSome made (Follows graph.now 1)) }
     ensures levels { IfOk result (λ made. IfSome made (IsNoDeeper graph.now)) }
-    ensures none { IfOk result (λ made. IfNone made (Closed graph.now.rows graph.now.observed (K.proposals proposer.now graph.now.rows))) }
+    ensures none { IfOk result (λ made. IfNone made (Closed graph.now.rows graph.now.observed (K.proposals course.now.proposer.now graph.now.rows))) }
 {
+    let (rt, alloc, proposer, workers) = (course.rt, course.alloc, course.proposer, course.workers);
     let lists = proposer.prepare(rt, alloc, graph, workers)?;
     let uses = Uses::new(alloc, graph)?;
     let found = leftovers(rt, alloc, graph, &uses, proposer, &lists, workers)?;
@@ -65,30 +63,28 @@ fn checked<R: Threads + Sync, K: Proposer>(
 }
 
 // A closed graph in place of the given one, in which no observed signal is deeper, by checks alone; none where that is closed.
-fn closed_by_checks<R: Threads + Sync, K: Proposer>(
-    rt: &R,
-    alloc: Global,
+fn closed_by_checks<R: Threads + Sync, K: Proposer, G: Gate>(
+    course: &Course<'_, R, K, G>,
     start: &Graph,
-    proposer: &K,
-    workers: u8,
 ) -> Result<Option<Graph>, AllocError>
-    requires keep { AllKeep (K.proposals proposer.now) }
+    requires keep { AllKeep (K.proposals course.now.proposer.now) }
     ensures follows { IfOk result (λ made. IfSome made (Follows start.now 0)) }
     ensures levels { IfOk result (λ made. IfSome made (IsNoDeeper start.now)) }
-    ensures closed { IfOk result (λ made. IfSome made (λ g. Closed g.rows g.observed (K.proposals proposer.now g.rows))) }
-    ensures none { IfOk result (λ made. IfNone made (Closed start.now.rows start.now.observed (K.proposals proposer.now start.now.rows))) }
+    ensures closed { IfOk result (λ made. IfSome made (λ g. Closed g.rows g.observed (K.proposals course.now.proposer.now g.rows))) }
+    ensures none { IfOk result (λ made. IfNone made (Closed start.now.rows start.now.observed (K.proposals course.now.proposer.now start.now.rows))) }
 {
-    let Some(first) = checked(rt, alloc, start, proposer, workers)? else {
+    let Some(first) = checked(course, start)? else {
         return Ok(None);
     };
     let mut graph = first;
-    while let Some(next) = checked(rt, alloc, &graph, proposer, workers)? {
+    while let Some(next) = checked(course, &graph)? {
         graph = next;
     }
     Ok(Some(graph))
 }
 
-// What a pass makes of a graph, where no observed signal is deeper in it; else what checks alone make of it.
+// A closed graph in place of the given one, in which no observed signal is deeper: what a pass makes, and where a signal is deeper
+// in that, what checks alone make; none where the given one is closed.
 fn kept_closed<R: Threads + Sync, K: Proposer, G: Gate>(
     course: &Course<'_, R, K, G>,
     graph: &Graph,
@@ -105,13 +101,7 @@ fn kept_closed<R: Threads + Sync, K: Proposer, G: Gate>(
             if keeps {
                 return Ok(Some(made));
             }
-            closed_by_checks(
-                course.rt,
-                course.alloc,
-                graph,
-                course.proposer,
-                course.workers,
-            )
+            closed_by_checks(course, graph)
         }
         None => Ok(None),
     }

@@ -20,6 +20,7 @@ mod looking;
 mod opening;
 mod passing;
 mod queues;
+mod reports;
 mod rounds;
 mod scene;
 mod sharing;

@@ -9,8 +9,9 @@ ghost use Rattle.syn_proposals.specs.Gains.{IsGain};
 ghost use Rattle.syn_pool.specs.Reports.{IsReport};
 ghost use Rattle.syn_pool.specs.Steps.{IsStepOf};
 
+use crate::reports::{NOTHING, both};
 use crate::scene::Course;
-use crate::steps::{NOTHING, Step, both, one_step};
+use crate::steps::{Step, one_step};
 use crate::visited::Visited;
 use std::alloc::{AllocError, Global};
 use std::thread::Threads;
@@ -37,7 +38,6 @@ fn close<R: Threads + Sync, P: Proposer, G: Gate>(
     ensures gain { IfOk result (λ r. IsGain (not course.now.zero_gain) r.1) }
     ensures report { IfOk result (λ r. IsReport r.1) }
 {
-    let _count = start.count();
     let mut graph = graph;
     let mut report = report;
     let mut lists = lists;

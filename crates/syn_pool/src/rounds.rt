@@ -147,7 +147,7 @@ pub(crate) fn round_at<R: Threads + Sync, P: Proposer, G: Gate>(
 }
 
 /// A round on the ANDs of the graph, the last one first, with the workers of the pass: where gains of 0 are let through, on those
-/// whose neighbourhoods weren't visited.
+/// whose neighbourhoods weren't visited. None comes where the graph has no room, or the proposer wouldn't take what they leave.
 pub(crate) fn round<R: Threads + Sync, P: Proposer, G: Gate>(
     course: &Course<'_, R, P, G>,
     graph: &Graph,
@@ -170,5 +170,11 @@ pub(crate) fn round<R: Threads + Sync, P: Proposer, G: Gate>(
         workers: course.workers,
         zero_gain: course.zero_gain,
     };
-    round_at(course, graph, lists, tour)
+    let Some(improved) = round_at(course, graph, lists, tour)? else {
+        return Ok(None);
+    };
+    let may = course
+        .proposer
+        .may_take(course.alloc, graph, &improved.graph)?;
+    if may { Ok(Some(improved)) } else { Ok(None) }
 }

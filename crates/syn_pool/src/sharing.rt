@@ -10,6 +10,7 @@ ghost use Rattle.syn_pool.specs.Reports.{told};
 ghost use Rattle.syn_pool.specs.Working.{HasSwept};
 
 use crate::opening::SPARE;
+use crate::reports::{NOTHING, both};
 use crate::scene::{Board, Crew, Scene, Start};
 use crate::sweeping::take_all;
 use crate::working::Worker;
@@ -31,18 +32,6 @@ pub(crate) struct Swept {
     pub memory: Result<(), AllocError>,
 }
 
-// The report of two workers together.
-fn added(first: Report, second: Report) -> Report
-    ensures sum { (result.done ≡ told (first.done + second.done)) × (result.gained ≡ told (first.gained + second.gained)) }
-    ensures gained { result.gained ≤ first.gained + second.gained }
-    ensures done { first.done ≤ first.gained → second.done ≤ second.gained → result.done ≤ result.gained }
-{
-    Report {
-        done: first.done.saturating_add(second.done),
-        gained: first.gained.saturating_add(second.gained),
-    }
-}
-
 // What two workers have done, where the second one's seat was split from the first one's: its seat is taken in.
 fn joined(shared: &Shared, first: Swept, second: Swept) -> Swept
     requires table { IsOf first.seat shared.now }
@@ -58,7 +47,7 @@ fn joined(shared: &Shared, first: Swept, second: Swept) -> Swept
     shared.join(&mut seat, second.seat);
     Swept {
         seat,
-        report: added(first.report, second.report),
+        report: both(first.report, second.report),
         memory: first.memory.and(second.memory),
     }
 }
@@ -71,7 +60,7 @@ fn unswept(seat: Seat, memory: Result<(), AllocError>) -> Swept
 {
     Swept {
         seat,
-        report: Report { done: 0, gained: 0 },
+        report: NOTHING,
         memory,
     }
 }

@@ -1,6 +1,6 @@
 //! One step of a pass: a round of workers, then the check, and what it finds is committed or applied.
 
-ghost use Rattle.std.specs.Prelude.{◌≡◌, ◌+◌, ◌<◌, ◌≤◌, ◌^◌, ℕ, Bool, not, true, List, All, IfNone, IfOk, IfSome, length};
+ghost use Rattle.std.specs.Prelude.{◌≡◌, ◌<◌, ℕ, Bool, not, true, List, All, IfNone, IfOk, IfSome, length};
 ghost use Rattle.syn_rows.specs.declared.Row.{Row};
 ghost use Rattle.syn_rows.specs.Reach.{is_and};
 ghost use Rattle.syn_rows.specs.Rows.{row_at};
@@ -15,6 +15,7 @@ ghost use Rattle.syn_pool.specs.Reports.{IsReport};
 ghost use Rattle.syn_pool.specs.Steps.{IsFewer, IsStepOf};
 
 use crate::opening::Order;
+use crate::reports::{NOTHING, both};
 use crate::rounds::{round, round_at};
 use crate::scene::{Course, Tour};
 use crate::visited::Visited;
@@ -24,9 +25,6 @@ use syn_commit::Gate;
 use syn_gain::{Proposal, Uses};
 use syn_graph::Graph;
 use syn_proposals::{Improved, Proposer, Report, is_better, leftovers, smaller};
-
-/// No gain.
-pub(crate) const NOTHING: Report = Report { done: 0, gained: 0 };
 
 /// What a step makes of a graph.
 #[derive(Drop)]
@@ -144,19 +142,6 @@ fn check_given<R: Threads + Sync, P: Proposer, G: Gate>(
     }
 }
 
-// Two reports as one; a number of applied proposals past the largest is the largest.
-pub(crate) fn both(first: Report, second: Report) -> Report
-    requires { first.gained + second.gained < 2 ^ 64 }
-    ensures gained { result.gained ≡ first.gained + second.gained }
-    ensures report { IsReport first → IsReport second → IsReport result }
-    ensures done { first.done ≤ first.gained → second.done ≤ second.gained → result.done ≤ result.gained }
-{
-    Report {
-        done: first.done.saturating_add(second.done),
-        gained: first.gained + second.gained,
-    }
-}
-
 // The check of a graph in place of a given one, which has these lists.
 fn check_improved<R: Threads + Sync, P: Proposer, G: Gate>(
     course: &Course<'_, R, P, G>,
@@ -169,7 +154,6 @@ fn check_improved<R: Threads + Sync, P: Proposer, G: Gate>(
     ensures { (strict : Bool) → IsGain strict improved.report → IfOk result (IsStepOf graph.now (P.proposals course.now.proposer.now) strict) }
 {
     let report = improved.report;
-    let _count = graph.count();
     let lists = listed(course, &improved.graph, Some(lists))?;
     match check(course, &improved.graph, &lists)? {
         Some(next) => Ok(Step::GoesOn(next.graph, both(report, next.report), lists, false)),
@@ -219,29 +203,6 @@ fn listed<R: Threads + Sync, P: Proposer, G: Gate>(
     }
 }
 
-// A round of workers, unless its graph may not take the place of the given one.
-fn round_taken<R: Threads + Sync, P: Proposer, G: Gate>(
-    course: &Course<'_, R, P, G>,
-    graph: &Graph,
-    lists: &P::Lists,
-    visited: &mut Visited,
-) -> Result<Option<Improved>, AllocError>
-    requires lists { P.is_lists_of course.now.proposer.now lists.now graph.now.rows }
-    ensures follows { IfOk result (λ made. IfSome made (λ m. Follows graph.now m.report.gained m.graph)) }
-    ensures gain { IfOk result (λ made. IfSome made (λ m. IsGain (not course.now.zero_gain) m.report)) }
-    ensures report { IfOk result (λ made. IfSome made (λ m. IsReport m.report)) }
-{
-    match round(course, graph, lists, visited)? {
-        Some(improved) => {
-            let may = course
-                .proposer
-                .may_take(course.alloc, graph, &improved.graph)?;
-            if may { Ok(Some(improved)) } else { Ok(None) }
-        }
-        None => Ok(None),
-    }
-}
-
 /// One step on a graph: workers commit, if they are to, and the graph that they leave is checked, unless they are to commit again
 /// first. Where they are not to, the graph has no room for them, nothing was done, or the proposer wouldn't take what they
 /// leave, the given graph is checked. The lists are those of a graph before it, if there was one.
@@ -258,7 +219,7 @@ pub(crate) fn one_step<R: Threads + Sync, P: Proposer, G: Gate>(
     if !commits {
         return check_given(course, graph, lists);
     }
-    match round_taken(course, graph, &lists, visited)? {
+    match round(course, graph, &lists, visited)? {
         Some(improved) if improved.report.done > 0 => { goes_on(course, graph, improved, lists) }
         _ => check_given(course, graph, lists),
     }

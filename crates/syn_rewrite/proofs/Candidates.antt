@@ -3,6 +3,7 @@ use Rattle.std.proofs.Common.{◌≡◌, ℕ, zero, suc, ◌+◌, ◌<◌, true,
 use Rattle.std.specs.Global.{Vec}
 use Rattle.std.specs.List.{AllZip}
 use Rattle.std.proofs.lemmas.List.{length-map, map-append}
+use Rattle.std.proofs.lemmas.List.Elements.{All-append}
 use Rattle.arrayvec.specs.ArrayVec.{ArrayVec}
 use Rattle.syn_rows.specs.declared.Lit.{Lit}
 use Rattle.syn_rows.specs.declared.Row.{Row}
@@ -81,25 +82,35 @@ more_proposals node leaves plans init old new i plan p lt is told same before =
     ∙ ap (λ xs. init ++ xs) (ap (λ r. map f (take i plans) ++ r ∷ []) same ∙ sym (map_more f plans i plan lt is))
 
 -- the first of a cut's proposals, where those of the cuts before save nothing, is the first of all
-pub first_of_all : (rows : List Row) (observed : List Lit) (node : ℕ) (cuts : List (ArrayVec ℕ)) (i : ℕ) (cut : ArrayVec ℕ) (leaves : List ℕ) (r : Replacement)
-    → leaves_of cuts ≡ cuts_of rows node → i < length cuts → cut ≡ get_or cuts i cut → leaves ≡ cut.items
+pub first_of_all : (rows : List Row) (observed : List Lit) (node : ℕ) (cuts : List (ArrayVec ℕ)) (i : ℕ) (leaves : List ℕ) (r : Replacement)
+    → leaves_of cuts ≡ cuts_of rows node → i < length cuts → leaves ≡ get_or (leaves_of cuts) i leaves
     → All (SavesNothing rows observed) (flat_map (cut_proposals rows node) (take i (leaves_of cuts)))
     → IsFirst rows observed (cut_proposals rows node leaves) r → IsFirst rows observed (rewritings rows node) r
-first_of_all rows observed node cuts i cut leaves r are lt is same nothing first =
+first_of_all rows observed node cuts i leaves r are lt here nothing first =
     let f : List ℕ → List Replacement = cut_proposals rows node in
     let xs : List (List ℕ) = leaves_of cuts in
-    let here : leaves ≡ get_or xs i cut.items = same ∙ leaves_is cuts i cut is in
     subst (λ l. IsFirst rows observed l r)
-    (flat_map_at f xs i cut.items (omega (arith, length-map cuts leaves_in)) ∙ ap (flat_map f) are)
-    (first_of_parts rows observed (flat_map f (take i xs)) (f (get_or xs i cut.items)) (flat_map f (drop (i + 1) xs)) r nothing
+    (flat_map_at f xs i leaves (omega (arith, length-map cuts leaves_in)) ∙ ap (flat_map f) are)
+    (first_of_parts rows observed (flat_map f (take i xs)) (f (get_or xs i leaves)) (flat_map f (drop (i + 1) xs)) r nothing
     (subst (λ ls. IsFirst rows observed (f ls) r) here first))
 
 -- proposals of one cut more
-pub more_cuts : (rows : List Row) (node : ℕ) (cuts : List (ArrayVec ℕ)) (i : ℕ) (cut : ArrayVec ℕ) (leaves : List ℕ) → i < length cuts → cut ≡ get_or cuts i cut → leaves ≡ cut.items
+pub more_cuts : (rows : List Row) (node : ℕ) (cuts : List (ArrayVec ℕ)) (i : ℕ) (leaves : List ℕ) → i < length cuts → leaves ≡ get_or (leaves_of cuts) i leaves
     → flat_map (cut_proposals rows node) (take i (leaves_of cuts)) ++ cut_proposals rows node leaves ≡ flat_map (cut_proposals rows node) (take (i + 1) (leaves_of cuts))
-more_cuts rows node cuts i cut leaves lt is same =
-    ap (λ ls. flat_map (cut_proposals rows node) (take i (leaves_of cuts)) ++ cut_proposals rows node ls) same
-    ∙ sym (flat_map_more (cut_proposals rows node) (leaves_of cuts) i cut.items (omega (arith, length-map cuts leaves_in)) (leaves_is cuts i cut is))
+more_cuts rows node cuts i leaves lt here = sym (flat_map_more (cut_proposals rows node) (leaves_of cuts) i leaves (omega (arith, length-map cuts leaves_in)) here)
+
+-- where the proposals of one cut more save nothing
+pub nothing_more : (rows : List Row) (observed : List Lit) (node : ℕ) (cuts : List (ArrayVec ℕ)) (i : ℕ) (leaves : List ℕ) (root : ℕ) → i < length cuts → root ≡ node → leaves ≡ get_or (leaves_of cuts) i leaves
+    → All (SavesNothing rows observed) (flat_map (cut_proposals rows node) (take i (leaves_of cuts))) → All (SavesNothing rows observed) (cut_proposals rows root leaves)
+    → All (SavesNothing rows observed) (flat_map (cut_proposals rows node) (take (i + 1) (leaves_of cuts)))
+nothing_more rows observed node cuts i leaves root lt same here before none =
+    subst (λ (l : List Replacement). All (SavesNothing rows observed) l) (more_cuts rows node cuts i leaves lt here)
+    (All-append (SavesNothing rows observed) (flat_map (cut_proposals rows node) (take i (leaves_of cuts))) (cut_proposals rows node leaves) before
+    (subst (λ (n : ℕ). All (SavesNothing rows observed) (cut_proposals rows n leaves)) same none))
+
+-- what has one root has the same one by another name
+pub same_root : (was now : List Proposal) (root node : ℕ) → root ≡ node → (All (λ p. p.root ≡ root) was → All (λ p. p.root ≡ root) now) → All (λ p. p.root ≡ node) was → All (λ p. p.root ≡ node) now
+same_root was now root node same = subst (λ (n : ℕ). All (λ p. p.root ≡ n) was → All (λ p. p.root ≡ n) now) same
 
 -- what is read of the lists
 

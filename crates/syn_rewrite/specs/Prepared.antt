@@ -21,6 +21,12 @@ pub record AreLeavesOf (rows : List Row) (node : ℕ) (leaves : List ℕ) : Type
   pub below : are_below node leaves ≡ true
   pub few : length leaves ≤ 4
 
+-- A cut of an AND, with the number of its function over it.
+pub record IsRooted (rows : List Row) (root : ℕ) (leaves : List ℕ) (number : ℕ) : Type 0 where
+  pub gate : is_and (row_at rows root) ≡ true
+  pub cut : AreLeavesOf rows root leaves
+  pub function : IsFunctionOver rows leaves root number
+
 -- each number is the function of the node over the cut at its place
 abbrev pub AreFunctionsOver : List Row → ℕ → List (List ℕ) → List ℕ → Type 0
 AreFunctionsOver rows node cuts functions = AllZip (λ c f. IsFunctionOver rows c node f) cuts functions

@@ -94,29 +94,36 @@ fn from_fan_ins(
     Some(CutFunction::of_and(node, first, left, second, right))
 }
 
-/// The function of an AND over a cut of it, which has this signature: from those of its fan-ins where some of their cuts
-/// serve, else by the rows between. The only error is want of memory.
+/// The function of an AND with these fan-ins over a cut of it, and the cut's signature: from those of its fan-ins where some of
+/// their cuts serve, else by the rows between. The only error is want of memory.
 pub(crate) fn over_cut(
     alloc: Global,
     graph: &Graph,
     cuts: &CutLists,
     lists: &[Functions],
     node: u32,
-    first: Lit,
-    second: Lit,
+    fan_ins: (Lit, Lit),
     leaves: &[u32],
-    bits: u64,
-) -> Result<CutFunction, AllocError>
+) -> Result<Carried, AllocError>
     requires node { node < length graph.now.rows }
-    requires row { row_at graph.now.rows node ≡ And first second }
+    requires row { row_at graph.now.rows node ≡ And fan_ins.0 fan_ins.1 }
     requires cuts { cuts.now ≡ listed_cuts 4 graph.now.rows }
     requires count { node ≤ length lists.now }
     requires lists { HaveCarried graph.now.rows lists.now }
     requires leaves { AreLeavesOf graph.now.rows node leaves.now }
-    ensures { IfOk result (IsCutFunction graph.now.rows leaves.now node) }
+    ensures { IfOk result (λ c. IsCutFunction graph.now.rows leaves.now node c.function) }
 {
-    if let Some(found) = from_fan_ins(cuts, lists, node, first, second, leaves, bits) {
-        return Ok(found);
+    let signature = signature(leaves);
+    let (first, second) = fan_ins;
+    if let Some(function) = from_fan_ins(cuts, lists, node, first, second, leaves, signature) {
+        return Ok(Carried {
+            function,
+            signature,
+        });
     }
-    CutFunction::of_cone(alloc, graph.rows.as_slice(), node, leaves)
+    let function = CutFunction::of_cone(alloc, graph.rows.as_slice(), node, leaves)?;
+    Ok(Carried {
+        function,
+        signature,
+    })
 }

@@ -15,7 +15,7 @@ ghost use Rattle.syn_rewrite.specs.Prepared.{AreFunctionsOver, cuts_of};
 use crate::carrying::{Carried, Functions, over_cut};
 use crate::prepared::cuts_of;
 use std::alloc::{AllocError, Global};
-use syn_cuts::{Cut, CutLists, signature};
+use syn_cuts::{Cut, CutLists};
 use syn_graph::Graph;
 use syn_rows::{Lit, Row};
 
@@ -35,11 +35,10 @@ fn carried_over(
     cuts: &CutLists,
     lists: &[Functions],
     node: u32,
-    first: Lit,
-    second: Lit,
+    fan_ins: (Lit, Lit),
 ) -> Result<Vec<Carried>, AllocError>
     requires node { node < length graph.now.rows }
-    requires row { row_at graph.now.rows node ≡ And first second }
+    requires row { row_at graph.now.rows node ≡ And fan_ins.0 fan_ins.1 }
     requires cuts { cuts.now ≡ listed_cuts 4 graph.now.rows }
     requires count { node ≤ length lists.now }
     requires lists { HaveCarried graph.now.rows lists.now }
@@ -50,12 +49,8 @@ fn carried_over(
     let mut carried = Vec::with_capacity(alloc, own.len())?;
     for i in 0..own.len() {
         let leaves = own[i].as_slice();
-        let bits = signature(leaves);
-        let function = over_cut(alloc, graph, cuts, lists, node, first, second, leaves, bits)?;
-        carried.push(Carried {
-            function,
-            signature: bits,
-        })?;
+        let one = over_cut(alloc, graph, cuts, lists, node, fan_ins, leaves)?;
+        carried.push(one)?;
     }
     Ok(carried)
 }
@@ -76,7 +71,9 @@ pub(crate) fn carried_at(
     ensures all { IfOk result (λ v. is_and (row_at graph.now.rows node) ≡ true → length (cuts_of graph.now.rows node) ≤ length v.items) }
 {
     match graph.rows.as_slice()[node as usize] {
-        Row::And(first, second) => { carried_over(alloc, graph, cuts, lists, node, first, second) }
+        Row::And(first, second) => {
+            carried_over(alloc, graph, cuts, lists, node, (first, second))
+        }
         _ => Ok(Vec::new(alloc)),
     }
 }

@@ -76,6 +76,15 @@ pub struct KnownPlans {
     places: Vec<u32>,
 }
 
+/// Where the plans of functions are found: those that were made before, and the classes by which others are made.
+#[derive(Clone, Copy)]
+pub(crate) struct PlanSource<'a> {
+    /// Those that were made before.
+    pub known: &'a KnownPlans,
+    /// The classes.
+    pub classes: &'a Classes,
+}
+
 // So many places, none of them noted.
 fn no_places(alloc: Global, count: usize) -> Result<Vec<u32>, AllocError> {
     vec![in alloc; 0; count]

@@ -14,6 +14,7 @@ mod prepared;
 mod promising;
 mod proposing;
 mod rewriting;
+mod rooted;
 mod telling;
 mod weighing;
 

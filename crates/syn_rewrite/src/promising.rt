@@ -4,13 +4,13 @@ ghost use Rattle.std.specs.Prelude.{◌≡◌, true, All, OnOk};
 ghost use Rattle.syn_rows.specs.Rows.{row_at};
 ghost use Rattle.syn_rows.specs.Reach.{is_and};
 ghost use Rattle.syn_gain.specs.Uses.{IsUsesOf};
-ghost use Rattle.syn_rewrite.specs.Functions.{IsFunctionOver};
-ghost use Rattle.syn_rewrite.specs.Prepared.{AreLeavesOf, ArePlansOf};
+ghost use Rattle.syn_rewrite.specs.Prepared.{ArePlansOf, IsRooted};
 ghost use Rattle.syn_rewrite.specs.Weighing.{BeginsWith};
 
-use crate::known_plans::{FunctionPlans, KnownPlans};
+use crate::known_plans::{FunctionPlans, PlanSource};
 use crate::prepared::MOST_LEAVES;
 use crate::proposing::{MOST_COUNTED, candidate};
+use crate::rooted::RootedCut;
 use crate::weighing::{Weighed, weigh};
 use std::alloc::{AllocError, Global};
 use syn_gain::{Candidate, Proposal, Room, Uses, adds_fewer, literal_for, lost_but, owned};
@@ -18,9 +18,9 @@ use syn_graph::Graph;
 use syn_library::Prepared as Classes;
 use syn_plan::Plan;
 
-// Which proposals are worth a commit.
+/// Which proposals are worth a commit.
 #[derive(Clone, Copy, Debug)]
-struct Worth {
+pub(crate) struct Worth {
     // They add fewer new rows than so many.
     limit: u32,
     // It may be one that becomes the row that is there.
@@ -58,28 +58,24 @@ fn is_worth(
     adds_fewer(graph, uses, candidate, worth.limit, room)
 }
 
-// Adds those of the plans of a node's function over leaves that are worth a commit, in order.
+// Adds those of the plans of an AND's function over a cut that are worth a commit, in order.
 fn push_worth(
     graph: &Graph,
     uses: &Uses,
-    node: u32,
-    leaves: &[u32],
-    function: u16,
+    cut: RootedCut,
     plans: &[Plan],
     worth: Worth,
     room: &mut Room,
     proposals: &mut Vec<Proposal>,
 ) -> Result<(), AllocError>
     requires uses { IsUsesOf uses.now graph.now }
-    requires node { is_and (row_at graph.now.rows node) ≡ true }
-    requires leaves { AreLeavesOf graph.now.rows node leaves.now }
-    requires function { IsFunctionOver graph.now.rows leaves.now node function }
-    requires plans { ArePlansOf function plans.now }
-    ensures { OnOk result (All (λ p. p.root ≡ node) proposals.old.items → All (λ p. p.root ≡ node) proposals.new.items) }
+    requires rooted { IsRooted graph.now.rows cut.root cut.leaves.now cut.function }
+    requires plans { ArePlansOf cut.function plans.now }
+    ensures { OnOk result (All (λ p. p.root ≡ cut.entry.root) proposals.old.items → All (λ p. p.root ≡ cut.entry.root) proposals.new.items) }
 {
-    let mut weighed = Weighed::over(MOST_LEAVES, leaves);
+    let mut weighed = Weighed::over(MOST_LEAVES, cut.leaves);
     for plan in plans {
-        let candidate = candidate(graph, node, leaves, function, plan);
+        let candidate = candidate(graph, cut, plan);
         if !is_worth(graph, uses, candidate, worth, &mut weighed, room)? {
             continue;
         }
@@ -94,60 +90,55 @@ fn push_fitted(
     graph: &Graph,
     uses: &Uses,
     classes: &Classes,
-    node: u32,
-    leaves: &[u32],
-    function: u16,
+    cut: RootedCut,
     worth: Worth,
     room: &mut Room,
     proposals: &mut Vec<Proposal>,
 ) -> Result<(), AllocError>
     requires uses { IsUsesOf uses.now graph.now }
-    requires node { is_and (row_at graph.now.rows node) ≡ true }
-    requires leaves { AreLeavesOf graph.now.rows node leaves.now }
-    requires function { IsFunctionOver graph.now.rows leaves.now node function }
-    ensures { OnOk result (All (λ p. p.root ≡ node) proposals.old.items → All (λ p. p.root ≡ node) proposals.new.items) }
+    requires rooted { IsRooted graph.now.rows cut.root cut.leaves.now cut.function }
+    ensures { OnOk result (All (λ p. p.root ≡ cut.entry.root) proposals.old.items → All (λ p. p.root ≡ cut.entry.root) proposals.new.items) }
 {
-    let made = FunctionPlans::fitted(classes, function);
-    let plans = made.as_slice();
-    push_worth(
-        graph, uses, node, leaves, function, plans, worth, room, proposals,
-    )
+    let plans = FunctionPlans::fitted(classes, cut.function);
+    push_worth(graph, uses, cut, plans.as_slice(), worth, room, proposals)
 }
 
-/// Adds those of the plans of a node's function over leaves that may save on a shared table of the graph, and with
-/// `zero_gain` those that lose nothing: they add fewer new rows than go with the node's row where the leaves stay, or as
-/// many. A plan that becomes the row that is there is one of those that lose nothing.
-pub(crate) fn push_promising(
+/// Which proposals over a cut are worth a commit on a shared table of the graph: those that may save, and with `zero_gain`
+/// those that lose nothing. They add fewer new rows than go with the root's row where the leaves stay, or as many; a plan that
+/// becomes the row that is there is one of those that lose nothing. The only error is want of memory.
+pub(crate) fn worth_over(
     alloc: Global,
     graph: &Graph,
     uses: &Uses,
-    classes: &Classes,
-    known: &KnownPlans,
-    node: u32,
-    leaves: &[u32],
-    function: u16,
+    cut: RootedCut,
     zero_gain: bool,
+) -> Result<Worth, AllocError>
+    requires uses { IsUsesOf uses.now graph.now }
+    requires rooted { IsRooted graph.now.rows cut.root cut.leaves.now cut.function }
+{
+    let lost = lost_but(alloc, graph, uses, cut.root, cut.leaves, MOST_COUNTED)?;
+    Ok(Worth {
+        limit: lost.saturating_add(u32::from(zero_gain)),
+        own_row: zero_gain,
+    })
+}
+
+/// Adds those of the plans of an AND's function over a cut that are worth a commit, in order.
+pub(crate) fn push_promising(
+    graph: &Graph,
+    uses: &Uses,
+    source: PlanSource,
+    cut: RootedCut,
+    worth: Worth,
     room: &mut Room,
     proposals: &mut Vec<Proposal>,
 ) -> Result<(), AllocError>
     requires uses { IsUsesOf uses.now graph.now }
-    requires node { is_and (row_at graph.now.rows node) ≡ true }
-    requires leaves { AreLeavesOf graph.now.rows node leaves.now }
-    requires function { IsFunctionOver graph.now.rows leaves.now node function }
-    ensures { OnOk result (All (λ p. p.root ≡ node) proposals.old.items → All (λ p. p.root ≡ node) proposals.new.items) }
+    requires rooted { IsRooted graph.now.rows cut.root cut.leaves.now cut.function }
+    ensures { OnOk result (All (λ p. p.root ≡ cut.entry.root) proposals.old.items → All (λ p. p.root ≡ cut.entry.root) proposals.new.items) }
 {
-    let lost = lost_but(alloc, graph, uses, node, leaves, MOST_COUNTED)?;
-    let worth = Worth {
-        limit: lost.saturating_add(u32::from(zero_gain)),
-        own_row: zero_gain,
-    };
-    if let Some(found) = known.plans(function) {
-        let plans = found.as_slice();
-        return push_worth(
-            graph, uses, node, leaves, function, plans, worth, room, proposals,
-        );
+    match source.known.plans(cut.function) {
+        Some(found) => push_worth(graph, uses, cut, found.as_slice(), worth, room, proposals),
+        None => push_fitted(graph, uses, source.classes, cut, worth, room, proposals),
     }
-    push_fitted(
-        graph, uses, classes, node, leaves, function, worth, room, proposals,
-    )
 }

@@ -13,15 +13,15 @@ ghost use Rattle.syn_gain.specs.Uses.{IsUsesOf};
 ghost use Rattle.syn_proposals.specs.Closing.{IsFirst, SavesNothing};
 ghost use Rattle.syn_proposals.specs.Sound.{IsSound};
 ghost use Rattle.syn_rewrite.specs.Apart.{are_apart};
-ghost use Rattle.syn_rewrite.specs.Functions.{IsFunctionOver};
-ghost use Rattle.syn_rewrite.specs.Prepared.{AreLeavesOf, ArePlansOf, IsPreparedFor};
+ghost use Rattle.syn_rewrite.specs.Prepared.{ArePlansOf, IsPreparedFor, IsRooted};
 ghost use Rattle.syn_rewrite.specs.Rewriting.{cut_proposals, over, rewritings};
 
 use crate::apart::{are_apart, names_within};
-use crate::known_plans::{FunctionPlans, KnownPlans};
+use crate::known_plans::{FunctionPlans, KnownPlans, PlanSource};
 use crate::plans::plans_of;
 use crate::prepared::{MOST_LEAVES, Prepared, cuts_of, prepare};
-use crate::promising::push_promising;
+use crate::promising::{push_promising, worth_over};
+use crate::rooted::{RootedCut, rooted_at};
 use crate::telling::saves_nothing;
 use crate::weighing::Weighed;
 use std::alloc::{AllocError, Global};
@@ -48,119 +48,110 @@ impl CutPlans {
             classes: Classes::new(alloc)?,
         })
     }
+
+    // The plans of functions, by the lists of a graph.
+    fn source<'a>(&'a self, lists: &'a Prepared) -> PlanSource<'a> {
+        PlanSource {
+            known: &lists.known,
+            classes: &self.classes,
+        }
+    }
 }
 
-/// A plan of a node's function over leaves, in place of the node.
-pub(crate) fn candidate<'a>(
-    graph: &Graph,
-    node: u32,
-    leaves: &'a [u32],
-    function: u16,
-    plan: &'a Plan,
-) -> Candidate<'a>
-    requires node { is_and (row_at graph.now.rows node) ≡ true }
-    requires leaves { AreLeavesOf graph.now.rows node leaves.now }
-    requires function { IsFunctionOver graph.now.rows leaves.now node function }
+/// A plan of an AND's function over a cut, in place of the AND.
+pub(crate) fn candidate<'a>(graph: &Graph, cut: RootedCut<'a>, plan: &'a Plan) -> Candidate<'a>
+    requires rooted { IsRooted graph.now.rows cut.root cut.leaves.now cut.function }
     requires count { plan.now.leaves ≡ 4 }
-    requires names { NamesOwn plan.now function }
-    ensures root { result.root ≡ node }
-    ensures leaves { result.leaves.now ≡ leaves.now }
+    requires names { NamesOwn plan.now cut.function }
+    ensures root { result.root ≡ cut.entry.root }
+    ensures leaves { result.leaves.now ≡ cut.entry.leaves.now }
     ensures plan { result.plan.now ≡ plan.now }
     ensures few { length result.leaves.now ≤ 4 }
-    ensures is { replacement_of result ≡ over node leaves.now (built_of plan.now) }
+    ensures is { replacement_of result ≡ over cut.entry.root cut.entry.leaves.now (built_of plan.now) }
 {
     Candidate {
-        root: node,
-        leaves,
+        root: cut.root,
+        leaves: cut.leaves,
         plan,
     }
 }
 
-// Adds the plans of a node's function over leaves, in order.
+// Adds the plans of an AND's function over a cut, in order.
 fn push_plans(
     graph: &Graph,
-    node: u32,
-    leaves: &[u32],
-    function: u16,
+    cut: RootedCut,
     plans: &[Plan],
     proposals: &mut Vec<Proposal>,
 ) -> Result<(), AllocError>
-    requires node { is_and (row_at graph.now.rows node) ≡ true }
-    requires leaves { AreLeavesOf graph.now.rows node leaves.now }
-    requires function { IsFunctionOver graph.now.rows leaves.now node function }
-    requires plans { ArePlansOf function plans.now }
-    ensures proposals { OnOk result (map replacement proposals.new.items ≡ map replacement proposals.old.items ++ cut_proposals graph.now.rows node leaves.now) }
-    ensures roots { OnOk result (All (λ p. p.root ≡ node) proposals.old.items → All (λ p. p.root ≡ node) proposals.new.items) }
+    requires rooted { IsRooted graph.now.rows cut.root cut.leaves.now cut.function }
+    requires plans { ArePlansOf cut.function plans.now }
+    ensures proposals { OnOk result (map replacement proposals.new.items ≡ map replacement proposals.old.items ++ cut_proposals graph.now.rows cut.entry.root cut.entry.leaves.now) }
+    ensures roots { OnOk result (All (λ p. p.root ≡ cut.entry.root) proposals.old.items → All (λ p. p.root ≡ cut.entry.root) proposals.new.items) }
     ensures sound { OnOk result (All (IsSound graph.now.rows) proposals.old.items → All (IsSound graph.now.rows) proposals.new.items) }
 {
     for plan in plans {
-        let candidate = candidate(graph, node, leaves, function, plan);
+        let candidate = candidate(graph, cut, plan);
         proposals.push(owned(candidate))?;
     }
     Ok(())
 }
 
-// No fewer ANDs than go with a node's row where these leaves stay, counted where they weren't before.
+// No fewer ANDs than go with an AND's row where a cut's leaves stay, counted where they weren't before.
 fn bound_over(
     alloc: Global,
     graph: &Graph,
     uses: &Uses,
-    node: u32,
-    leaves: &[u32],
+    cut: RootedCut,
     counted: Option<u32>,
 ) -> Result<u32, AllocError>
     requires uses { IsUsesOf uses.now graph.now }
-    requires node { is_and (row_at graph.now.rows node) ≡ true }
-    requires leaves { AreLeavesOf graph.now.rows node leaves.now }
-    requires counted { IfSome counted (IsMostLost graph.now.rows (count_in uses.now.counts.items) node leaves.now) }
-    ensures { IfOk result (IsMostLost graph.now.rows (count_in uses.now.counts.items) node leaves.now) }
+    requires rooted { IsRooted graph.now.rows cut.root cut.leaves.now cut.function }
+    requires counted { IfSome counted (IsMostLost graph.now.rows (count_in uses.now.counts.items) cut.root cut.leaves.now) }
+    ensures { IfOk result (IsMostLost graph.now.rows (count_in uses.now.counts.items) cut.entry.root cut.entry.leaves.now) }
 {
     match counted {
         Some(bound) => Ok(bound),
-        None => lost_but(alloc, graph, uses, node, leaves, MOST_COUNTED),
+        None => lost_but(alloc, graph, uses, cut.root, cut.leaves, MOST_COUNTED),
     }
 }
 
-// Whether none of a node's leaves is made of others.
-fn leaves_apart(graph: &Graph, node: u32, leaves: &[u32]) -> bool
-    requires node { is_and (row_at graph.now.rows node) ≡ true }
-    requires leaves { AreLeavesOf graph.now.rows node leaves.now }
-    ensures { result ≡ true → (levels : ℕ) × (are_apart levels graph.now.rows leaves.now ≡ true) }
+// Whether none of a cut's leaves is made of others.
+fn leaves_apart(graph: &Graph, cut: RootedCut) -> bool
+    requires rooted { IsRooted graph.now.rows cut.root cut.leaves.now cut.function }
+    ensures { result ≡ true → (levels : ℕ) × (are_apart levels graph.now.rows cut.entry.leaves.now ≡ true) }
 {
-    are_apart(graph.rows.as_slice(), leaves)
+    are_apart(graph.rows.as_slice(), cut.leaves)
 }
 
-// Whether one of the plans of a node's function over leaves saves, where no more than `most` ANDs go with the node's row.
+// Whether one of the plans of an AND's function over a cut saves, where no more than `most` ANDs go with the AND's row.
 // Most plans add so many new rows that they aren't placed. An answer without a proposal is small: most cuts have none.
 fn some_saves(
     alloc: Global,
     graph: &Graph,
     uses: &Uses,
-    node: u32,
-    leaves: &[u32],
+    cut: RootedCut,
     plans: &FunctionPlans,
     most: u32,
     room: &mut Room,
 ) -> Result<bool, AllocError>
     requires uses { IsUsesOf uses.now graph.now }
-    requires node { is_and (row_at graph.now.rows node) ≡ true }
-    requires leaves { AreLeavesOf graph.now.rows node leaves.now }
-    requires function { IsFunctionOver graph.now.rows leaves.now node plans.now.function }
-    requires most { IsMostLost graph.now.rows (count_in uses.now.counts.items) node [] most }
-    ensures none { IfOk result (λ some. some ≡ false → All (SavesNothing graph.now.rows graph.now.observed) (cut_proposals graph.now.rows node leaves.now)) }
+    requires rooted { IsRooted graph.now.rows cut.root cut.leaves.now cut.function }
+    requires function { plans.now.function ≡ cut.function }
+    requires most { IsMostLost graph.now.rows (count_in uses.now.counts.items) cut.root [] most }
+    ensures none { IfOk result (λ some. some ≡ false → All (SavesNothing graph.now.rows graph.now.observed) (cut_proposals graph.now.rows cut.entry.root cut.entry.leaves.now)) }
 {
     let all = plans.as_slice();
     let told = plans.apart.as_slice();
-    let leaves_apart = leaves_apart(graph, node, leaves);
+    let leaves_apart = leaves_apart(graph, cut);
     let mut counted = None;
-    let mut weighed = Weighed::over(MOST_LEAVES, leaves);
+    let mut weighed = Weighed::over(MOST_LEAVES, cut.leaves);
     for (i, plan) in all.iter().enumerate() {
-        let apart = leaves_apart && names_within(told, i, leaves);
-        let candidate = candidate(graph, node, leaves, plans.function, plan);
+        let apart = leaves_apart && names_within(told, i, cut.leaves);
+        let candidate = candidate(graph, cut, plan);
         if plans.lean && saves_nothing(alloc, graph, uses, candidate, most, apart, &mut weighed)? {
             continue;
         }
-        let bound = bound_over(alloc, graph, uses, node, leaves, counted)?;
+        let bound = bound_over(alloc, graph, uses, cut, counted)?;
         if saves(alloc, graph, uses, candidate, bound, room)? {
             return Ok(true);
         }
@@ -176,21 +167,17 @@ fn some_fitted_saves(
     graph: &Graph,
     uses: &Uses,
     classes: &Classes,
-    node: u32,
-    leaves: &[u32],
-    function: u16,
+    cut: RootedCut,
     most: u32,
     room: &mut Room,
 ) -> Result<bool, AllocError>
     requires uses { IsUsesOf uses.now graph.now }
-    requires node { is_and (row_at graph.now.rows node) ≡ true }
-    requires leaves { AreLeavesOf graph.now.rows node leaves.now }
-    requires function { IsFunctionOver graph.now.rows leaves.now node function }
-    requires most { IsMostLost graph.now.rows (count_in uses.now.counts.items) node [] most }
-    ensures none { IfOk result (λ some. some ≡ false → All (SavesNothing graph.now.rows graph.now.observed) (cut_proposals graph.now.rows node leaves.now)) }
+    requires rooted { IsRooted graph.now.rows cut.root cut.leaves.now cut.function }
+    requires most { IsMostLost graph.now.rows (count_in uses.now.counts.items) cut.root [] most }
+    ensures none { IfOk result (λ some. some ≡ false → All (SavesNothing graph.now.rows graph.now.observed) (cut_proposals graph.now.rows cut.entry.root cut.entry.leaves.now)) }
 {
-    let plans = FunctionPlans::fitted(classes, function);
-    some_saves(alloc, graph, uses, node, leaves, &plans, most, room)
+    let plans = FunctionPlans::fitted(classes, cut.function);
+    some_saves(alloc, graph, uses, cut, &plans, most, room)
 }
 
 // The same of the plans that were made before, or else are made here.
@@ -198,53 +185,42 @@ fn some_of_function_saves(
     alloc: Global,
     graph: &Graph,
     uses: &Uses,
-    classes: &Classes,
-    known: &KnownPlans,
-    node: u32,
-    leaves: &[u32],
-    function: u16,
+    source: PlanSource,
+    cut: RootedCut,
     most: u32,
     room: &mut Room,
 ) -> Result<bool, AllocError>
     requires uses { IsUsesOf uses.now graph.now }
-    requires node { is_and (row_at graph.now.rows node) ≡ true }
-    requires leaves { AreLeavesOf graph.now.rows node leaves.now }
-    requires function { IsFunctionOver graph.now.rows leaves.now node function }
-    requires most { IsMostLost graph.now.rows (count_in uses.now.counts.items) node [] most }
-    ensures none { IfOk result (λ some. some ≡ false → All (SavesNothing graph.now.rows graph.now.observed) (cut_proposals graph.now.rows node leaves.now)) }
+    requires rooted { IsRooted graph.now.rows cut.root cut.leaves.now cut.function }
+    requires most { IsMostLost graph.now.rows (count_in uses.now.counts.items) cut.root [] most }
+    ensures none { IfOk result (λ some. some ≡ false → All (SavesNothing graph.now.rows graph.now.observed) (cut_proposals graph.now.rows cut.entry.root cut.entry.leaves.now)) }
 {
-    if let Some(plans) = known.plans(function) {
-        return some_saves(alloc, graph, uses, node, leaves, plans, most, room);
+    match source.known.plans(cut.function) {
+        Some(plans) => some_saves(alloc, graph, uses, cut, plans, most, room),
+        None => some_fitted_saves(alloc, graph, uses, source.classes, cut, most, room),
     }
-    some_fitted_saves(
-        alloc, graph, uses, classes, node, leaves, function, most, room,
-    )
 }
 
-// The first of the plans of a node's function over leaves that saves.
+// The first of the plans of an AND's function over a cut that saves.
 fn first_over(
     alloc: Global,
     graph: &Graph,
     uses: &Uses,
-    node: u32,
-    leaves: &[u32],
-    function: u16,
+    cut: RootedCut,
     plans: &[Plan],
     room: &mut Room,
 ) -> Result<Option<Proposal>, AllocError>
     requires uses { IsUsesOf uses.now graph.now }
-    requires node { is_and (row_at graph.now.rows node) ≡ true }
-    requires leaves { AreLeavesOf graph.now.rows node leaves.now }
-    requires function { IsFunctionOver graph.now.rows leaves.now node function }
-    requires plans { ArePlansOf function plans.now }
-    ensures first { IfOk result (λ found. IfSome found (λ p. IsFirst graph.now.rows graph.now.observed (cut_proposals graph.now.rows node leaves.now) (replacement p))) }
-    ensures root { IfOk result (λ found. IfSome found (λ p. p.root ≡ node)) }
+    requires rooted { IsRooted graph.now.rows cut.root cut.leaves.now cut.function }
+    requires plans { ArePlansOf cut.function plans.now }
+    ensures first { IfOk result (λ found. IfSome found (λ p. IsFirst graph.now.rows graph.now.observed (cut_proposals graph.now.rows cut.entry.root cut.entry.leaves.now) (replacement p))) }
+    ensures root { IfOk result (λ found. IfSome found (λ p. p.root ≡ cut.entry.root)) }
     ensures sound { IfOk result (λ found. IfSome found (IsSound graph.now.rows)) }
-    ensures none { IfOk result (λ found. IfNone found (All (SavesNothing graph.now.rows graph.now.observed) (cut_proposals graph.now.rows node leaves.now))) }
+    ensures none { IfOk result (λ found. IfNone found (All (SavesNothing graph.now.rows graph.now.observed) (cut_proposals graph.now.rows cut.entry.root cut.entry.leaves.now))) }
 {
-    let most = lost_but(alloc, graph, uses, node, leaves, MOST_COUNTED)?;
+    let most = lost_but(alloc, graph, uses, cut.root, cut.leaves, MOST_COUNTED)?;
     for plan in plans {
-        let candidate = candidate(graph, node, leaves, function, plan);
+        let candidate = candidate(graph, cut, plan);
         if saves(alloc, graph, uses, candidate, most, room)? {
             return Ok(Some(owned(candidate)));
         }
@@ -252,42 +228,27 @@ fn first_over(
     Ok(None)
 }
 
-// The first of the plans of a node's function over leaves that saves: those that were made before, or else made here.
+// The first of the plans of an AND's function over a cut that saves: those that were made before, or else made here.
 fn first_of_function(
     alloc: Global,
     graph: &Graph,
     uses: &Uses,
-    classes: &Classes,
-    known: &KnownPlans,
-    node: u32,
-    leaves: &[u32],
-    function: u16,
+    source: PlanSource,
+    cut: RootedCut,
     room: &mut Room,
 ) -> Result<Option<Proposal>, AllocError>
     requires uses { IsUsesOf uses.now graph.now }
-    requires node { is_and (row_at graph.now.rows node) ≡ true }
-    requires leaves { AreLeavesOf graph.now.rows node leaves.now }
-    requires function { IsFunctionOver graph.now.rows leaves.now node function }
-    ensures first { IfOk result (λ found. IfSome found (λ p. IsFirst graph.now.rows graph.now.observed (cut_proposals graph.now.rows node leaves.now) (replacement p))) }
-    ensures root { IfOk result (λ found. IfSome found (λ p. p.root ≡ node)) }
+    requires rooted { IsRooted graph.now.rows cut.root cut.leaves.now cut.function }
+    ensures first { IfOk result (λ found. IfSome found (λ p. IsFirst graph.now.rows graph.now.observed (cut_proposals graph.now.rows cut.entry.root cut.entry.leaves.now) (replacement p))) }
+    ensures root { IfOk result (λ found. IfSome found (λ p. p.root ≡ cut.entry.root)) }
     ensures sound { IfOk result (λ found. IfSome found (IsSound graph.now.rows)) }
-    ensures none { IfOk result (λ found. IfNone found (All (SavesNothing graph.now.rows graph.now.observed) (cut_proposals graph.now.rows node leaves.now))) }
+    ensures none { IfOk result (λ found. IfNone found (All (SavesNothing graph.now.rows graph.now.observed) (cut_proposals graph.now.rows cut.entry.root cut.entry.leaves.now))) }
 {
-    if let Some(found) = known.plans(function) {
-        let plans = found.as_slice();
-        return first_over(alloc, graph, uses, node, leaves, function, plans, room);
+    if let Some(found) = source.known.plans(cut.function) {
+        return first_over(alloc, graph, uses, cut, found.as_slice(), room);
     }
-    let plans = FunctionPlans::fitted(classes, function);
-    first_over(
-        alloc,
-        graph,
-        uses,
-        node,
-        leaves,
-        function,
-        plans.as_slice(),
-        room,
-    )
+    let plans = FunctionPlans::fitted(source.classes, cut.function);
+    first_over(alloc, graph, uses, cut, plans.as_slice(), room)
 }
 
 impl Proposer for CutPlans {
@@ -328,20 +289,11 @@ impl Proposer for CutPlans {
         node: u32,
     ) -> Result<Vec<Proposal>, AllocError> {
         let cuts = cuts_of(&lists.cuts, node);
-        let functions = &lists.functions[node as usize];
         let mut proposals = Vec::new(alloc);
-        for (i, cut) in cuts.iter().enumerate() {
-            let function = functions[i];
-            let plans = plans_of(&self.classes, function);
-            let leaves = cut.as_slice();
-            push_plans(
-                graph,
-                node,
-                leaves,
-                function,
-                plans.as_slice(),
-                &mut proposals,
-            )?;
+        for i in 0..cuts.len() {
+            let cut = rooted_at(graph, lists, node, cuts, i);
+            let plans = plans_of(&self.classes, cut.function);
+            push_plans(graph, cut, plans.as_slice(), &mut proposals)?;
         }
         Ok(proposals)
     }
@@ -355,37 +307,15 @@ impl Proposer for CutPlans {
         node: u32,
     ) -> Result<Option<Proposal>, AllocError> {
         let cuts = cuts_of(&lists.cuts, node);
-        let functions = &lists.functions[node as usize];
         let most = lost_but(alloc, graph, uses, node, &[], MOST_COUNTED)?;
+        let source = self.source(lists);
         let mut room = Room::new(alloc);
-        for (i, cut) in cuts.iter().enumerate() {
-            let function = functions[i];
-            let leaves = cut.as_slice();
-            if !some_of_function_saves(
-                alloc,
-                graph,
-                uses,
-                &self.classes,
-                &lists.known,
-                node,
-                leaves,
-                function,
-                most,
-                &mut room,
-            )? {
+        for i in 0..cuts.len() {
+            let cut = rooted_at(graph, lists, node, cuts, i);
+            if !some_of_function_saves(alloc, graph, uses, source, cut, most, &mut room)? {
                 continue;
             }
-            if let Some(found) = first_of_function(
-                alloc,
-                graph,
-                uses,
-                &self.classes,
-                &lists.known,
-                node,
-                leaves,
-                function,
-                &mut room,
-            )? {
+            if let Some(found) = first_of_function(alloc, graph, uses, source, cut, &mut room)? {
                 return Ok(Some(found));
             }
         }
@@ -402,25 +332,13 @@ impl Proposer for CutPlans {
         zero_gain: bool,
     ) -> Result<Vec<Proposal>, AllocError> {
         let cuts = cuts_of(&lists.cuts, node);
-        let functions = &lists.functions[node as usize];
+        let source = self.source(lists);
         let mut room = Room::new(alloc);
         let mut proposals = Vec::new(alloc);
-        for (i, cut) in cuts.iter().enumerate() {
-            let function = functions[i];
-            let leaves = cut.as_slice();
-            push_promising(
-                alloc,
-                graph,
-                uses,
-                &self.classes,
-                &lists.known,
-                node,
-                leaves,
-                function,
-                zero_gain,
-                &mut room,
-                &mut proposals,
-            )?;
+        for i in 0..cuts.len() {
+            let cut = rooted_at(graph, lists, node, cuts, i);
+            let worth = worth_over(alloc, graph, uses, cut, zero_gain)?;
+            push_promising(graph, uses, source, cut, worth, &mut room, &mut proposals)?;
         }
         Ok(proposals)
     }

@@ -23,13 +23,13 @@ from_fan_ins-requires-clause-few c = c.requires.leaves.few
 pub from_fan_ins-requires-clause-first : goal.from_fan_ins-requires-clause-first
 from_fan_ins-requires-clause-first c =
     let graph = c.args.graph.now in
-    let low = (refs graph c.args.node c.args.first c.args.second c.requires.row).0 in
+    let low = (refs graph c.args.node c.args.fan_ins.0 c.args.fan_ins.1 c.requires.row).0 in
     (omega (arith, low, c.requires.count), within_lists c.args.cuts.now graph.rows _ c.requires.cuts (omega (arith, low, c.requires.node)))
 
 pub from_fan_ins-requires-clause-second : goal.from_fan_ins-requires-clause-second
 from_fan_ins-requires-clause-second c =
     let graph = c.args.graph.now in
-    let low = (refs graph c.args.node c.args.first c.args.second c.requires.row).1 in
+    let low = (refs graph c.args.node c.args.fan_ins.0 c.args.fan_ins.1 c.requires.row).1 in
     (omega (arith, low, c.requires.count), within_lists c.args.cuts.now graph.rows _ c.requires.cuts (omega (arith, low, c.requires.node)))
 
 pub returns-in-Some : goal.returns-in-Some

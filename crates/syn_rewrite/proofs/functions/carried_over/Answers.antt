@@ -27,9 +27,9 @@ loop-i-preserved c =
     let cuts = c.cuts_of-own.result.now in
     let i = c.loop-i.i in
     let cut = c.index-own-i.result in
-    let f = c.in_ok-function.function in
+    let f = c.in_ok-one.one.function in
     let are : leaves_of cuts ≡ cuts_of rows node = c.cuts_of-own.ensures rows c.requires.cuts in
-    let here : IsCutFunction rows cut.items node f = subst (λ ls. IsCutFunction rows ls node f) c.as_slice-leaves.ensures.value c.in_ok-function.ensures in
+    let here : IsCutFunction rows cut.items node f = subst (λ ls. IsCutFunction rows ls node f) c.as_slice-leaves.ensures.value c.in_ok-one.ensures in
     record {
       count = ap length c.in_ok-push.ensures.items ∙ length_push c.loop-i.carried.items _ ∙ ap (λ n. n + 1) c.loop-i.invariant.count;
       carried =

@@ -8,8 +8,8 @@ use Rattle.syn_rewrite.proofs.promising.push_worth.Goals as goal
 
 pub loop-plan-preserved : goal.loop-plan-preserved
 loop-plan-preserved c =
-    let node = c.args.node in
-    let leaves = c.args.leaves.now in
+    let node = c.args.cut.root in
+    let leaves = c.args.cut.leaves.now in
     let plan = c.plan-item.result in
     let one = c.owned.result in
     let old = c.loop-plan.proposals.items in

@@ -6,13 +6,14 @@ use Rattle.syn_rewrite.proofs.proposing.candidate.Goals as goal
 pub invariant_of-result : goal.invariant_of-result
 invariant_of-result c =
     let graph = c.args.graph.now in
-    let leaves = c.args.leaves.now in
+    let cut = c.args.cut in
+    let leaves = cut.leaves.now in
     let plan = c.args.plan.now in
-    let within = within_leaves graph.rows leaves c.args.node c.args.function plan c.requires.function c.requires.names in
+    let within = within_leaves graph.rows leaves cut.root cut.function plan c.requires.rooted.function c.requires.names in
     record {
-      root_is_no_constant = and_above graph c.args.node c.requires.node;
-      rising = c.requires.leaves.rise;
-      below_root = c.requires.leaves.below;
+      root_is_no_constant = and_above graph cut.root c.requires.rooted.gate;
+      rising = c.requires.rooted.cut.rise;
+      below_root = c.requires.rooted.cut.below;
       gates_name_leaves = subst (λ k. gates_within (length leaves) k plan.gates.items ≡ true) (sym c.requires.count) within.gates;
       out_names_leaf = subst (λ k. names_within (length leaves) k plan.out ≡ true) (sym c.requires.count) within.out;
     }

@@ -7,7 +7,7 @@ use Rattle.syn_rewrite.proofs.proposing.push_plans.Given as goal
 
 abbrev pub invariant-loop-plan : goal.invariant-loop-plan
 invariant-loop-plan l = record {
-  proposals : map replacement l.proposals.items ≡ map replacement l.initial.proposals.items ++ map (λ p. over l.node l.leaves (built_of p)) (take l.plan-index l.plans);
-  roots : All (λ p. p.root ≡ l.node) l.initial.proposals.items → All (λ p. p.root ≡ l.node) l.proposals.items;
+  proposals : map replacement l.proposals.items ≡ map replacement l.initial.proposals.items ++ map (λ p. over l.cut.root l.cut.leaves.now (built_of p)) (take l.plan-index l.plans);
+  roots : All (λ p. p.root ≡ l.cut.root) l.initial.proposals.items → All (λ p. p.root ≡ l.cut.root) l.proposals.items;
   sound : All (IsSound l.graph.rows) l.initial.proposals.items → All (IsSound l.graph.rows) l.proposals.items;
 }

@@ -4,35 +4,43 @@ use Rattle.std.proofs.lemmas.List.{get_or_default}
 use Rattle.std.proofs.lemmas.List.Elements.{All-map}
 use Rattle.syn_plan.specs.declared.plan.Plan.{Plan}
 use Rattle.syn_plan.specs.Naming.{built_of}
+use Rattle.syn_library.specs.Library.{NamesOwn}
 use Rattle.syn_gain.specs.Replacements.{Replacement}
 use Rattle.syn_proposals.specs.Closing.{SavesNothing}
 use Rattle.syn_rewrite.specs.Apart.{IsApartOver, IsApartPlan}
 use Rattle.syn_rewrite.specs.declared.apart.Apart.{Apart}
+use Rattle.syn_rewrite.specs.PlansOf.{ArePlansOf}
 use Rattle.syn_rewrite.specs.Rewriting.{cut_proposals, over}
 use Rattle.syn_rewrite.specs.Weighing.{BeginsWith}
 use Rattle.syn_rewrite.proofs.Candidates.{is_function, plans_are}
+use Rattle.syn_rewrite.proofs.Fitted.{All-read}
 use Rattle.syn_rewrite.proofs.proposing.some_saves.Goals.{then-leaves_apart, else-leaves_apart, else-plans-via-then-plans+in_ok-saves_nothing+else-branch, else-plans-via-else-plans}
 use Rattle.syn_rewrite.proofs.proposing.some_saves.Goals as goal
 
 pub returns : goal.returns
 returns c =
     let graph = c.args.graph.now in
-    let node = c.args.node in
-    let leaves = c.args.leaves.now in
+    let node = c.args.cut.root in
+    let leaves = c.args.cut.leaves.now in
     let all = c.as_slice-all.result.now in
     let f : Plan → Replacement = λ p. over node leaves (built_of p) in
-    let same = plans_are graph.rows node c.args.plans.now.function leaves all (is_function graph node c.args.plans.now.function leaves c.requires.node c.requires.leaves c.requires.function) c.as_slice-all.ensures.plans in
+    let same = plans_are graph.rows node c.args.cut.function leaves all (is_function graph node c.args.cut.function leaves c.requires.rooted.gate c.requires.rooted.cut c.requires.rooted.function) (subst (λ (f : ℕ). ArePlansOf f all) c.requires.function c.as_slice-all.ensures.plans) in
     let end : length all ≤ c.loop-i.i = c.loop-i-test.false in
     let none_of_all : All (λ p. SavesNothing graph.rows graph.observed (f p)) all = λ k d lt. c.loop-i.invariant.none k d (omega arith) (omega (arith, lt, end)) in
     let none : All (SavesNothing graph.rows graph.observed) (cut_proposals graph.rows node leaves) =
     subst (λ (l : List Replacement). All (SavesNothing graph.rows graph.observed) l) same (All-map (SavesNothing graph.rows graph.observed) f all none_of_all) in
     search (rules, none)
 
+pub candidate-candidate-requires-clause-names : goal.candidate-candidate-requires-clause-names
+candidate-candidate-requires-clause-names c =
+    subst (NamesOwn c.index-all-i.result) c.requires.function
+    (All-read (λ p. NamesOwn p c.args.plans.now.function) c.as_slice-all.result.now c.loop-i.i c.index-all-i.result (omega (arith, c.loop-i-test.true)) c.index-all-i.is c.as_slice-all.ensures.plans.names)
+
 pub saves_nothing-requires-clause-apart : goal.saves_nothing-requires-clause-apart
 saves_nothing-requires-clause-apart c = elim c.if-leaves_apart.branch [
   | then-leaves_apart w ↦ λ h.
       let graph = c.args.graph.now in
-      let leaves = c.args.leaves.now in
+      let leaves = c.args.cut.leaves.now in
       let all = c.as_slice-all.result.now in
       let levels = c.leaves_apart-leaves_apart.ensures w.if-leaves_apart.true in
       let within = w.names_within-apart.ensures (sym w.apart-is ∙ h) in
@@ -47,7 +55,7 @@ pub loop-i-preserved : goal.loop-i-preserved
 loop-i-preserved c =
     let graph = c.args.graph.now in
     let all = c.as_slice-all.result.now in
-    let f : Plan → Replacement = λ p. over c.args.node c.args.leaves.now (built_of p) in
+    let f : Plan → Replacement = λ p. over c.args.cut.root c.args.cut.leaves.now (built_of p) in
     let here : SavesNothing graph.rows graph.observed (f c.index-all-i.result) =
     subst (SavesNothing graph.rows graph.observed) c.candidate-candidate.ensures.is (c.in_ok-saves.ensures.none (search rules)) in
     record {
@@ -61,10 +69,10 @@ loop-i-preserved c =
       begins = elim c.else-plans.branch [
         | else-plans-via-then-plans+in_ok-saves_nothing+else-branch w ↦
             let four : c.candidate-candidate.result.plan.now.leaves ≡ 4 = ap (λ (r : Replacement). r.count) c.candidate-candidate.ensures.is in
-            subst (BeginsWith 4 c.args.leaves.now) (sym w.weighed-is)
+            subst (BeginsWith 4 c.args.cut.leaves.now) (sym w.weighed-is)
             (subst (λ (ls : List ℕ). BeginsWith 4 ls w.saves_nothing.new.weighed) c.candidate-candidate.ensures.leaves
             (subst (λ (n : ℕ). BeginsWith n c.candidate-candidate.result.leaves.now w.saves_nothing.new.weighed) four w.in_ok-saves_nothing.ensures.begins))
-        | else-plans-via-else-plans w ↦ subst (BeginsWith 4 c.args.leaves.now) (sym w.weighed-is) c.loop-i.invariant.begins
+        | else-plans-via-else-plans w ↦ subst (BeginsWith 4 c.args.cut.leaves.now) (sym w.weighed-is) c.loop-i.invariant.begins
       ];
       counted = search rules;
     }
