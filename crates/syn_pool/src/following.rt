@@ -1,6 +1,6 @@
 //! Looks around commits that were done, at the table as it stands: one gain may open the next.
 
-ghost use Rattle.std.specs.Prelude.{◌<◌, false};
+ghost use Rattle.std.specs.Prelude.{◌<◌, false, true};
 ghost use Rattle.syn_table.specs.Seating.{nodes_of};
 ghost use Rattle.syn_pool.specs.Working.{HasWorked, IsAtWork};
 
@@ -11,10 +11,10 @@ use crate::freed::going;
 use crate::functions::function_over;
 use crate::scene::Scene;
 use crate::trying::is_done;
-use crate::weighing::adds_fewer;
+use crate::weighing::added;
 use crate::working::Worker;
 use arrayvec::ArrayVec;
-use syn_commit::{Gate, Tools};
+use syn_commit::{Gate, Hints, Tools};
 use syn_gain::owned;
 use syn_graph::Graph;
 use syn_plan::Plan;
@@ -30,6 +30,9 @@ const MOST_FAN_OUTS: usize = 6;
 
 // The most looks that one commit leads to.
 const MOST_LOOKS: u32 = 1 << 24;
+
+// The functions of an AND over its fan-ins, the smaller node first.
+const FAN_IN_FUNCTIONS: [u16; 4] = [0x8888, 0x4444, 0x2222, 0x1111];
 
 /// The nodes that wait for a look, the next one last.
 pub(crate) type Pending = ArrayVec<u32, MOST_PENDING>;
@@ -124,7 +127,17 @@ fn try_plans<G: Gate>(
     let leaves = cut.leaves.as_slice();
     let freed = going(tools.shared, cut);
     for plan in plans {
-        if !adds_fewer(tools.shared, tools.hints, leaves, plan, freed.as_slice()) {
+        let most = freed.len().saturating_sub(1);
+        if added(
+            tools.shared,
+            tools.hints,
+            leaves,
+            plan,
+            freed.as_slice(),
+            most,
+        )
+        .is_none()
+        {
             continue;
         }
         let Some(candidate) = candidate(root, leaves, plan) else {
@@ -162,6 +175,77 @@ fn look<P: Proposer, G: Gate>(
         }
     }
     false
+}
+
+// The plan over a cut that seems to save most, if it saves `least` or more: with what it saves.
+fn best_over<'a>(
+    shared: &Shared,
+    hints: &Hints,
+    cut: &SeenCut,
+    plans: &'a [Plan],
+    least: usize,
+) -> Option<(&'a Plan, usize)> {
+    let freed = going(shared, cut);
+    let (leaves, freed) = (cut.leaves.as_slice(), freed.as_slice());
+    let mut least = least;
+    let mut best = None;
+    for plan in plans {
+        if freed.len() < least {
+            break;
+        }
+        let most = freed.len() - least;
+        if let Some(new) = added(shared, hints, leaves, plan, freed, most) {
+            let saved = freed.len().saturating_sub(new);
+            best = Some((plan, saved));
+            least = saved + 1;
+        }
+    }
+    best
+}
+
+/// Whether a proposer has plans over the two fan-ins of an AND, and so over more cuts.
+pub(crate) fn has_plans<P: Proposer>(proposer: &P, lists: &P::Lists) -> bool {
+    for function in FAN_IN_FUNCTIONS {
+        if !proposer.plans_over(lists, function).is_empty() {
+            return true;
+        }
+    }
+    false
+}
+
+/// Looks at the cuts of a node, and commits the plan that seems to save most, also one that saves nothing.
+#[tactic(auto, using(crate::proofs::Works::has_both, crate::proofs::Works::has_not, crate::proofs::Works::has_saved))]
+pub(crate) fn try_best<P: Proposer, G: Gate>(
+    scene: &Scene<'_, P, P::Lists, G>,
+    worker: &mut Worker,
+    cuts: &mut Cuts,
+    root: u32,
+)
+    requires at_work { IsAtWork scene.now.tools.shared.now worker.old }
+    requires root { root < nodes_of scene.now.tools.shared.now }
+    ensures at_work { IsAtWork scene.now.tools.shared.now worker.new }
+    ensures worked { HasWorked true worker.old worker.new }
+{
+    let shared = scene.tools.shared;
+    cuts.find(shared, root);
+    let mut least = 0;
+    let mut best = None;
+    for cut in cuts.as_slice() {
+        let Some(function) = function_over(shared, cut) else {
+            continue;
+        };
+        let plans = scene.proposer.plans_over(scene.lists, function);
+        if let Some((plan, saved)) = best_over(shared, scene.tools.hints, cut, plans, least) {
+            best = Some((cut, plan));
+            least = saved.saturating_add(1);
+        }
+    }
+    let Some((cut, plan)) = best else {
+        return;
+    };
+    if let Some(candidate) = candidate(root, cut.leaves.as_slice(), plan) {
+        let _done = is_done(&scene.tools, worker, &owned(candidate), true);
+    }
 }
 
 // Looks at a node that may be none of the table's, or no AND.

@@ -11,6 +11,7 @@ ghost use Rattle.syn_pool.specs.Working.{HasSwept};
 
 use crate::closing::close;
 use crate::fan_outs::FanOuts;
+use crate::following::has_plans;
 use crate::opening::{Order, SPARE, gates_of, noted, opened};
 use crate::queues::{queues_of, thieves_of};
 use crate::scene::{Board, Course, Crew, Tour};
@@ -75,6 +76,7 @@ fn swept<R: Threads + Sync, P: Proposer, G: Gate>(
         fan_outs: fan_outs_of(alloc, graph, tour.order)?,
         thieves: thieves_of(alloc, queues.as_slice())?,
         zero_gain: tour.zero_gain,
+        looks: has_plans(course.proposer, lists),
     };
     let crew = Crew { seat, queues };
     let swept = swept_by_all(
@@ -146,8 +148,9 @@ pub(crate) fn round_at<R: Threads + Sync, P: Proposer, G: Gate>(
     Ok(Some(made))
 }
 
-/// A round on the ANDs of the graph, the last one first, with the workers of the pass: where gains of 0 are let through, on those
-/// whose neighbourhoods weren't visited. None comes where the graph has no room, or the proposer wouldn't take what they leave.
+/// A round on the ANDs of the graph with the workers of the pass, the last one first: where gains of 0 are let through, on those
+/// whose neighbourhoods weren't visited, the first one first. None comes where the graph has no room, or the proposer wouldn't
+/// take what they leave.
 pub(crate) fn round<R: Threads + Sync, P: Proposer, G: Gate>(
     course: &Course<'_, R, P, G>,
     graph: &Graph,

@@ -57,6 +57,8 @@ pub(crate) struct Board {
     pub thieves: Vec<Thief>,
     /// Whether commits of gain 0 are let through.
     pub zero_gain: bool,
+    /// Whether these are looked for among the cuts of the table as it stands.
+    pub looks: bool,
 }
 
 /// Workers that haven't started yet: the seat that they share, and a queue for each, in the order of their numbers.

@@ -54,7 +54,7 @@ const MOST_COMMITTED: usize = 1024;
 const MOST_ALONE: usize = 256;
 
 // Gains of 0 are worth another round where the last one took away one in so many of the ANDs.
-const LEAST_SHARE: usize = 4096;
+const LEAST_SHARE: usize = 1024;
 
 // How many workers commit for so many leftovers.
 fn workers_for(leftovers: usize, workers: u8) -> u8 {

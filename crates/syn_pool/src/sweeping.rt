@@ -1,6 +1,6 @@
 //! What one worker does: it visits nodes.
 
-ghost use Rattle.std.specs.Prelude.{◌≡◌, ◌<◌, true, length};
+ghost use Rattle.std.specs.Prelude.{◌≡◌, ◌<◌, false, true, length};
 ghost use Rattle.syn_rows.specs.Reach.{is_and};
 ghost use Rattle.syn_rows.specs.Rows.{row_at};
 ghost use Rattle.syn_table.specs.Seating.{nodes_of};
@@ -8,7 +8,7 @@ ghost use Rattle.syn_pool.specs.Scenes.{IsReady};
 ghost use Rattle.syn_pool.specs.Working.{HasWorked, IsAtWork};
 
 use crate::cuts::Cuts;
-use crate::following::follow;
+use crate::following::{follow, try_best};
 use crate::queues::{Queue, next_node};
 use crate::scene::Scene;
 use crate::trying::{try_each, try_from_some_place};
@@ -38,11 +38,75 @@ fn may_change<G: Gate>(tools: &Tools<'_, G>, worker: &Worker, node: u32) -> bool
     matches!(row, Row::And(_, _)) && !worker.pool.has(node)
 }
 
-/// Proposes for a node on the graph that the table was opened with, and commits the proposals that are worth it in order,
-/// until one is done: the difference in ANDs falls by at least what the worker's report gains. Where the board says so and
-/// none saves, one of gain 0 is let through. A node is left as it is that is no AND of the graph, that a look at the table
-/// shows as none, or that is one of the worker's spare nodes. The only error is want of memory for the proposals; the clauses
-/// hold then too.
+// Proposes for a node on the graph that the table was opened with, and commits the proposals that may save in order, until one
+// is done; then it looks around, if workers do.
+#[tactic(auto, using(crate::proofs::Works::has_both, crate::proofs::Works::has_not, crate::proofs::Works::has_saved))]
+fn visit_for_gain<P: Proposer, G: Gate>(
+    scene: &Scene<'_, P, P::Lists, G>,
+    worker: &mut Worker,
+    cuts: &mut Cuts,
+    node: u32,
+) -> Result<bool, AllocError>
+    requires ready { IsReady P.is_lists_of scene.now }
+    requires gate { is_and (row_at scene.now.graph.now.rows node) ≡ true }
+    requires at_work { IsAtWork scene.now.tools.shared.now worker.old }
+    ensures at_work { IsAtWork scene.now.tools.shared.now worker.new }
+    ensures worked { HasWorked false worker.old worker.new }
+{
+    let Scene {
+        board,
+        graph,
+        proposer,
+        lists,
+        tools,
+    } = scene;
+    let saving = proposer.promising(board.alloc, graph, &board.uses, lists, node, false)?;
+    let done = try_each(graph, tools, worker, saving.as_slice(), false, true);
+    if done && !board.fan_outs.is_empty() {
+        follow(scene, worker, cuts, node);
+    }
+    Ok(done)
+}
+
+// The same, and where none saves, one of gain 0 is let through. Where the board says so, only the cuts of the table as it stands
+// are looked at.
+#[tactic(auto, using(crate::proofs::Works::has_both, crate::proofs::Works::has_not, crate::proofs::Works::has_saved))]
+fn visit_for_any<P: Proposer, G: Gate>(
+    scene: &Scene<'_, P, P::Lists, G>,
+    worker: &mut Worker,
+    cuts: &mut Cuts,
+    node: u32,
+) -> Result<(), AllocError>
+    requires ready { IsReady P.is_lists_of scene.now }
+    requires gate { is_and (row_at scene.now.graph.now.rows node) ≡ true }
+    requires at_work { IsAtWork scene.now.tools.shared.now worker.old }
+    ensures at_work { IsAtWork scene.now.tools.shared.now worker.new }
+    ensures worked { HasWorked true worker.old worker.new }
+{
+    if scene.board.looks {
+        try_best(scene, worker, cuts, node);
+        return Ok(());
+    }
+    if visit_for_gain(scene, worker, cuts, node)? {
+        return Ok(());
+    }
+    let Scene {
+        board,
+        graph,
+        proposer,
+        lists,
+        tools,
+    } = scene;
+    let proposals = proposer.promising(board.alloc, graph, &board.uses, lists, node, true)?;
+    try_from_some_place(graph, tools, worker, node, proposals.as_slice(), true);
+    Ok(())
+}
+
+/// Commits a proposal for a node, if one seems worth it: the difference in ANDs falls by at least what the worker's report
+/// gains. Where the board says so and none saves, one of gain 0 is let through. A node is left as it is that is no AND of the
+/// graph, that a look at the table shows as none, or that is one of the worker's spare nodes. The only error is want of memory
+/// for the proposals; the clauses hold then too.
+#[tactic(auto, using(crate::proofs::Works::has_both, crate::proofs::Works::has_not, crate::proofs::Works::has_saved))]
 fn visit<P: Proposer, G: Gate>(
     scene: &Scene<'_, P, P::Lists, G>,
     worker: &mut Worker,
@@ -54,35 +118,13 @@ fn visit<P: Proposer, G: Gate>(
     ensures at_work { IsAtWork scene.now.tools.shared.now worker.new }
     ensures worked { HasWorked scene.now.board.now.zero_gain worker.old worker.new }
 {
-    let Scene {
-        board,
-        graph,
-        proposer,
-        lists,
-        tools,
-    } = scene;
-    if !is_gate(graph, node) || !may_change(tools, worker, node) {
+    if !is_gate(scene.graph, node) || !may_change(&scene.tools, worker, node) {
         return Ok(());
     }
-    let saving = proposer.promising(board.alloc, graph, &board.uses, lists, node, false)?;
-    if try_each(graph, tools, worker, saving.as_slice(), false, true) {
-        if !board.fan_outs.is_empty() {
-            follow(scene, worker, cuts, node);
-        }
-        return Ok(());
+    if scene.board.zero_gain {
+        return visit_for_any(scene, worker, cuts, node);
     }
-    if !board.zero_gain {
-        return Ok(());
-    }
-    let proposals = proposer.promising(board.alloc, graph, &board.uses, lists, node, true)?;
-    try_from_some_place(
-        graph,
-        tools,
-        worker,
-        node,
-        proposals.as_slice(),
-        board.zero_gain,
-    );
+    let _done = visit_for_gain(scene, worker, cuts, node)?;
     Ok(())
 }
 

@@ -72,30 +72,35 @@ fn needs_row(going: &[u32], literal: Option<Lit>) -> bool {
     }
 }
 
-/// Whether a plan over leaves adds fewer rows than go, where it may use any row that stays.
-pub(crate) fn adds_fewer(
+/// How many rows a plan over leaves adds, where it may use any row that stays; none where these are more than `most`, or
+/// where the plan becomes the root itself, which is the first of those that go.
+pub(crate) fn added(
     shared: &Shared,
     hints: &Hints,
     leaves: &[u32],
     plan: &Plan,
     going: &[u32],
-) -> bool {
+    most: usize,
+) -> Option<usize> {
     let mut literals = begin(leaves, plan.leaves);
-    let mut left = going.len();
+    let mut added = 0;
     for gate in plan.gates.as_slice() {
         let x = literal_of(literals.as_slice(), gate.0);
         let y = literal_of(literals.as_slice(), gate.1);
         let literal = join(shared, hints, x, y);
         if needs_row(going, literal) {
-            if left <= 1 {
-                return false;
+            if added >= most {
+                return None;
             }
-            left -= 1;
+            added += 1;
         }
         if literals.is_full() {
-            return false;
+            return None;
         }
         literals.push(literal);
     }
-    left > 0
+    match literal_of(literals.as_slice(), plan.out) {
+        Some(out) if going.first() == Some(&out.node()) => None,
+        _ => Some(added),
+    }
 }

@@ -61,7 +61,7 @@ fn nothing_is_gained_on_closed_graphs(rt: HostRuntime) {
         let none = passed(&rt, rt.alloc(), NAND.as_bytes(), workers, false);
         assert_eq!(rt; none, Some((report(0, 0), 1, 0)));
         let again = passed(&rt, rt.alloc(), NAND.as_bytes(), workers, true);
-        assert_eq!(rt; again, Some((report(1, 0), 1, 1)));
+        assert_eq!(rt; again, Some((report(0, 0), 1, 0)));
         let observed = passed(&rt, rt.alloc(), OBSERVED.as_bytes(), workers, false);
         assert_eq!(rt; observed, Some((report(0, 0), 3, 0)));
     }
