@@ -22,6 +22,10 @@ pub hands_ok : {T E : Type 0} (r : Result T E) (P Q : Type 0) → (P → Q) → 
 hands_ok (Ok v) P Q g h = g h
 hands_ok (Err e) P Q g h = tt
 
-pub hands_ok_three : {T E : Type 0} (r : Result T E) (P Q R S : Type 0) → (P → Q → R → S) → OnOk r P → OnOk r Q → OnOk r R → OnOk r S
-hands_ok_three (Ok v) P Q R S g h i j = g h i j
-hands_ok_three (Err e) P Q R S g h i j = tt
+pub hands_two : {T E : Type 0} (r : Result T E) (P Q R : Type 0) → (P → Q → R) → OnOk r P → OnOk r Q → OnOk r R
+hands_two (Ok v) P Q R g h i = g h i
+hands_two (Err e) P Q R g h i = tt
+
+pub hands_four : {T E : Type 0} (r : Result T E) (P Q R S V : Type 0) → (P → Q → R → S → V) → OnOk r P → OnOk r Q → OnOk r R → OnOk r S → OnOk r V
+hands_four (Ok v) P Q R S V g h i j k = g h i j k
+hands_four (Err e) P Q R S V g h i j k = tt

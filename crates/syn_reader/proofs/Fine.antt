@@ -4,10 +4,9 @@ use Rattle.std.specs.Option.{option_or}
 use Rattle.std.proofs.lemmas.Bool.{both_ways, cond-true, cond-false, and_parts, and_from, or_cases, not-false}
 use Rattle.syn_netlist.specs.Words.{has_word}
 use Rattle.syn_reader.specs.Faults.{Fault, DefinedTwice}
-use Rattle.syn_reader.specs.Statements.{Statement, is_row, is_names}
+use Rattle.syn_reader.specs.Statements.{Statement, is_row, is_names, rows_below}
 use Rattle.syn_reader.specs.Shapes.{last_word, all_but_last, is_row_of, is_output, is_input_part, output_word, initial_values}
 use Rattle.syn_reader.specs.LineFaults.{checks, first_found, first_fault_of_lines, after_end, unknown_keyword, second_model, no_name, extra_word, stray_row, table_above, first_row, is_misshaped, is_stray, row_shape, mixed_rows, latch_shape, latch_type, latch_init, defined_twice}
-use Rattle.syn_reader.specs.Reading.{rows_below}
 use Rattle.syn_reader.specs.Computed.{row_part, row_parts, is_on, init_of}
 use Rattle.syn_netlist.proofs.Sets.{same_word, word_same}
 

@@ -9,11 +9,9 @@ use Rattle.syn_reader.specs.declared.Kind.TheVariants as kinds
 use Rattle.syn_reader.specs.Faults.{Fault, AfterEnd, UnknownKeyword, SecondModel, StrayRow, RowShape, MixedRows, LatchShape, LatchType, LatchInit, DefinedTwice}
 use Rattle.syn_reader.specs.Statements.{Statement, is_row, is_end}
 use Rattle.syn_reader.specs.Shapes.{last_word, all_but_last, is_row_of, output_word}
-use Rattle.syn_reader.specs.Definitions.{Definition, definitions, names_defined, first_forbidden, forbids, reads}
+use Rattle.syn_reader.specs.Definitions.{Definition, definitions, names_defined, first_forbidden, forbids}
 use Rattle.syn_reader.specs.LineFaults.{Check, checks, first_found, first_fault_of_lines, table_above, first_row, is_stray, is_misshaped, has_bad_type, has_bad_init}
 use Rattle.syn_reader.specs.Heard.{statement, Begins, word_count}
-use Rattle.syn_reader.specs.Computed.{netlist_of}
-use Rattle.syn_netlist.specs.Lists.{Netlist}
 use Rattle.syn_reader.proofs.Fine.{output_of_row}
 use Rattle.syn_reader.specs.Marking.{by_kind, forbidden_by, also, first_twice}
 use Rattle.syn_reader.specs.Keywords.{fault_where, latch_fault, line_fault}
@@ -139,7 +137,7 @@ abbrev pub above_rows : List Statement → List Statement → List Statement
 above_rows above [] = above
 above_rows above (s ∷ ss) = if is_row s.kind then above_rows (s ∷ above) ss else above
 
--- The list of checks finds on rows what the reader of one model finds.
+-- The list of checks finds on rows what these find.
 abbrev pub SameOnRows : List Check → Type 0
 SameOnRows list = (above : List Statement) (s : Statement) → is_row s.kind ≡ true → first_found list above s ≡ first_found checks above s
 
@@ -167,11 +165,7 @@ rows_law_by list same names on above (s ∷ ss) t e r =
         row None z = ih k (shaped n on s z)
         row (Some f) z = refl
 
-pub rows_law : (names : List (List ℕ)) (on : Option Bool) (above ss : List Statement) → table_above above ≡ Some names → list_any (λ t. is_end t.kind) above ≡ false → RowsAbove on above
-    → first_fault_of_lines checks above ss ≡ option_or (rows_fault (length (all_but_last names)) on ss) (first_fault_of_lines checks (above_rows above ss) (below_rows ss))
-rows_law = rows_law_by checks (λ above s k. refl)
-
--- Rows neither define nor read, and end nothing.
+-- Rows define nothing, and end nothing.
 pub rows_end : (above ss : List Statement) → list_any (λ t. is_end t.kind) (above_rows above ss) ≡ list_any (λ t. is_end t.kind) above
 rows_end above [] = refl
 rows_end above (s ∷ ss) = go (is_row s.kind) refl (rows_end (s ∷ above) ss)
@@ -197,26 +191,6 @@ rows_nil above (s ∷ ss) h = go (is_row s.kind) (rows_nil (s ∷ above) ss refl
     go : (b : Bool) → is_nil (above_rows (s ∷ above) ss) ≡ false → is_nil (if b then above_rows (s ∷ above) ss else above) ≡ false
     go false ih = h
     go true ih = ih
-
-pub rows_reads : (ss : List Statement) → flat_map reads ss ≡ flat_map reads (below_rows ss)
-rows_reads [] = refl
-rows_reads (s ∷ ss) = go (is_row s.kind) refl (rows_reads ss)
-  where
-    go : (b : Bool) → is_row s.kind ≡ b → flat_map reads ss ≡ flat_map reads (below_rows ss) → flat_map reads (s ∷ ss) ≡ flat_map reads (if b then below_rows ss else s ∷ ss)
-    go false k ih = refl
-    go true k ih = ap (λ j. flat_map reads (statement s.line j s.words ∷ ss)) (row_kind s.kind k) ∙ ih
-
-same_option : (o : Option Netlist) → option_and_then (λ n. Some n) o ≡ o
-same_option None = refl
-same_option (Some n) = refl
-
-pub rows_netlist : (ss : List Statement) → netlist_of ss ≡ netlist_of (below_rows ss)
-rows_netlist [] = refl
-rows_netlist (s ∷ ss) = go (is_row s.kind) refl (rows_netlist ss)
-  where
-    go : (b : Bool) → is_row s.kind ≡ b → netlist_of ss ≡ netlist_of (below_rows ss) → netlist_of (s ∷ ss) ≡ netlist_of (if b then below_rows ss else s ∷ ss)
-    go false k ih = refl
-    go true k ih = ap (λ j. netlist_of (statement s.line j s.words ∷ ss)) (row_kind s.kind k) ∙ (same_option (netlist_of ss) ∙ ih)
 
 pub rows_gone : (ss : List Statement) → Begins kinds.Row (below_rows ss) → ⊥
 rows_gone [] b = b

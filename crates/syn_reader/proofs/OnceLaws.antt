@@ -1,28 +1,30 @@
--- Without a second definition the sources and the outputs of tables are distinct.
+-- Without a second definition no name is defined twice by what statements say.
 use Rattle.std.proofs.Common.{◌≡◌, ◌+◌, ℕ, ◌||◌, not, Bool, true, false, if◌then◌else◌, List, [], ◌∷◌, ◌++◌, map, flat_map, bytes_eq, refl, sym, ap, ap₂, ◌∙◌, subst, inl, inr, ◌⊎◌, Option, Some, None}
 use Rattle.std.proofs.lemmas.Bool.{both_ways, false_from_ne_true, and_from, and_parts, or_left, or_right, or_cases, not-true}
 use Rattle.syn_netlist.specs.Words.{has_word, distinct, without}
-use Rattle.syn_netlist.specs.Lists.{Netlist, output_of, latch_output}
+use Rattle.syn_netlist.specs.Lists.{Latch, Table, output_of, latch_output}
+use Rattle.syn_netlist.specs.Order.{DefinedOnce}
 use Rattle.syn_netlist.proofs.Sets.{has_word-append, same_word, word_same}
+use Rattle.syn_models.specs.Models as models
+use Rattle.syn_models.specs.Models.{Model, alone, clocks_in, inputs_in, latches_in, tables_in}
 use Rattle.syn_reader.specs.declared.Kind.{Kind}
 use Rattle.syn_reader.specs.declared.Kind.TheVariants as kinds
-use Rattle.syn_reader.specs.Statements.{Statement}
-use Rattle.syn_reader.specs.Shapes.{last_word, type_and_control}
+use Rattle.syn_reader.specs.Statements.{Statement, rows_below}
+use Rattle.syn_reader.specs.Shapes.{IsLatch}
 use Rattle.syn_reader.specs.Definitions.{Definition, definitions, names_defined, forbids, may_share, first_forbidden}
 use Rattle.syn_reader.specs.LineFaults.{checks, first_fault_of_lines}
-use Rattle.syn_reader.specs.Reading.{Adds, Spell, rows_below, no_netlist}
 use Rattle.syn_reader.specs.Marking.{by_kind, forbidden_by}
-use Rattle.syn_reader.specs.Gathers.{IsOnce}
-use Rattle.syn_reader.proofs.Words.{last_snoc}
+use Rattle.syn_reader.specs.Saying.{Say, Says}
 use Rattle.syn_reader.proofs.Fine.{parts_of}
+use Rattle.syn_reader.proofs.TableLines.{defines_last}
 
--- The definitions of names that a netlist has by this kind.
-abbrev pub of_kind : Kind → Netlist → List (List ℕ)
-of_kind kinds.Inputs n = n.frame.inputs
-of_kind kinds.Clock n = n.frame.clocks
-of_kind kinds.Latch n = map latch_output n.frame.latches
-of_kind kinds.Names n = map output_of n.tables
-of_kind kind n = []
+-- The names that what is said defines by this kind.
+abbrev of_kind : Kind → List models.Statement → List (List ℕ)
+of_kind kinds.Inputs said = flat_map (λ s. inputs_in s.kind) said
+of_kind kinds.Clock said = flat_map (λ s. clocks_in s.kind) said
+of_kind kinds.Latch said = map latch_output (flat_map (λ s. latches_in s.kind) said)
+of_kind kinds.Names said = map output_of (flat_map (λ s. tables_in s.kind) said)
+of_kind kind said = []
 
 abbrev same_kind : Kind → Kind → Bool
 same_kind kinds.Inputs kinds.Inputs = true
@@ -35,57 +37,48 @@ same_kind one other = false
 abbrev put : Kind → Kind → List (List ℕ) → List (List ℕ)
 put by kind words = if same_kind by kind then names_defined by words else []
 
-latch_defines : (words : List (List ℕ)) (n : Netlist) (rows : List (List (List ℕ))) (m : Netlist) → Adds kinds.Latch words rows n m → map latch_output m.frame.latches ≡ names_defined kinds.Latch words ++ map latch_output n.frame.latches
-latch_defines words n rows m a = ap (λ (x : Netlist). map latch_output x.frame.latches) a.2 ∙ ap (λ ws. ws ++ map latch_output n.frame.latches) (sym (spelled a.1.spelled))
-  where
-    spelled : ((words ≡ (a.0.feed ∷ a.0.output ∷ type_and_control a.0.kind) ++ ((a.0.init + 48) ∷ []) ∷ []) ⊎ ((words ≡ a.0.feed ∷ a.0.output ∷ type_and_control a.0.kind) × (a.0.init ≡ 3))) → names_defined kinds.Latch words ≡ a.0.output ∷ []
-    spelled (inl e) = ap (names_defined kinds.Latch) e
-    spelled (inr e) = ap (names_defined kinds.Latch) e.0
-
-table_defines : (words : List (List ℕ)) (n : Netlist) (rows : List (List (List ℕ))) (m : Netlist) → Adds kinds.Names words rows n m → map output_of m.tables ≡ names_defined kinds.Names words ++ map output_of n.tables
-table_defines [] n rows m a = absurd (no_words a.0.inputs a.0.output a.1.names)
-  where
-    no_words : (xs : List (List ℕ)) (x : List ℕ) → ◌≡◌ {A = List (List ℕ)} [] (xs ++ x ∷ []) → ⊥
-    no_words [] x z = cc
-    no_words (y ∷ ys) x z = cc
-table_defines (w ∷ ws) n rows m a = ap (λ (x : Netlist). map output_of x.tables) a.2 ∙ ap (λ (v : List ℕ). v ∷ map output_of n.tables) (sym (ap last_word a.1.names ∙ last_snoc a.0.inputs a.0.output))
+pub latch_defines : (words : List (List ℕ)) (latch : Latch) → IsLatch words latch → names_defined kinds.Latch words ≡ latch.output ∷ []
+latch_defines words latch is = elim is.spelled [
+  | inl e ↦ ap (names_defined kinds.Latch) e
+  | inr e ↦ ap (names_defined kinds.Latch) e.0
+]
 
 -- Each statement puts its definitions in front of those of its kind.
-puts : (by kind : Kind) (words : List (List ℕ)) (rows : List (List (List ℕ))) (n m : Netlist) → Adds by words rows n m → of_kind kind m ≡ put by kind words ++ of_kind kind n
-puts kinds.Row kind words rows n m a = ap (of_kind kind) a
-puts kinds.Unknown kind words rows n m a = absurd a
-puts kinds.Outputs kinds.Inputs words rows n m a = ap (of_kind kinds.Inputs) a
-puts kinds.Outputs kinds.Clock words rows n m a = ap (of_kind kinds.Clock) a
-puts kinds.Outputs kinds.Latch words rows n m a = ap (of_kind kinds.Latch) a
-puts kinds.Outputs kinds.Names words rows n m a = ap (of_kind kinds.Names) a
-puts kinds.Outputs kind words rows n m a = refl
-puts kinds.Model kinds.Inputs words rows n m a = ap (of_kind kinds.Inputs) a.2
-puts kinds.Model kinds.Clock words rows n m a = ap (of_kind kinds.Clock) a.2
-puts kinds.Model kinds.Latch words rows n m a = ap (of_kind kinds.Latch) a.2
-puts kinds.Model kinds.Names words rows n m a = ap (of_kind kinds.Names) a.2
-puts kinds.Model kind words rows n m a = refl
-puts kinds.Subckt kind words rows n m a = ap (of_kind kind) a
-puts kinds.End kind words rows n m a = ap (of_kind kind) a
-puts kinds.Inputs kinds.Inputs words rows n m a = ap (of_kind kinds.Inputs) a
-puts kinds.Inputs kinds.Clock words rows n m a = ap (of_kind kinds.Clock) a
-puts kinds.Inputs kinds.Latch words rows n m a = ap (of_kind kinds.Latch) a
-puts kinds.Inputs kinds.Names words rows n m a = ap (of_kind kinds.Names) a
-puts kinds.Inputs kind words rows n m a = refl
-puts kinds.Clock kinds.Inputs words rows n m a = ap (of_kind kinds.Inputs) a
-puts kinds.Clock kinds.Clock words rows n m a = ap (of_kind kinds.Clock) a
-puts kinds.Clock kinds.Latch words rows n m a = ap (of_kind kinds.Latch) a
-puts kinds.Clock kinds.Names words rows n m a = ap (of_kind kinds.Names) a
-puts kinds.Clock kind words rows n m a = refl
-puts kinds.Latch kinds.Inputs words rows n m a = ap (of_kind kinds.Inputs) a.2
-puts kinds.Latch kinds.Clock words rows n m a = ap (of_kind kinds.Clock) a.2
-puts kinds.Latch kinds.Latch words rows n m a = latch_defines words n rows m a
-puts kinds.Latch kinds.Names words rows n m a = ap (of_kind kinds.Names) a.2
-puts kinds.Latch kind words rows n m a = refl
-puts kinds.Names kinds.Inputs words rows n m a = ap (of_kind kinds.Inputs) a.2
-puts kinds.Names kinds.Clock words rows n m a = ap (of_kind kinds.Clock) a.2
-puts kinds.Names kinds.Latch words rows n m a = ap (of_kind kinds.Latch) a.2
-puts kinds.Names kinds.Names words rows n m a = table_defines words n rows m a
-puts kinds.Names kind words rows n m a = refl
+puts : (line : ℕ) (by kind : Kind) (words : List (List ℕ)) (rows : List (List (List ℕ))) (rest said : List models.Statement) → Says line by words rows rest said → of_kind kind said ≡ put by kind words ++ of_kind kind rest
+puts line kinds.Row kind words rows rest said a = ap (of_kind kind) a
+puts line kinds.Unknown kind words rows rest said a = absurd a
+puts line kinds.Model kind words rows rest said a = ap (of_kind kind) a
+puts line kinds.End kind words rows rest said a = ap (of_kind kind) a
+puts line kinds.Outputs kinds.Inputs words rows rest said a = ap (of_kind kinds.Inputs) a
+puts line kinds.Outputs kinds.Clock words rows rest said a = ap (of_kind kinds.Clock) a
+puts line kinds.Outputs kinds.Latch words rows rest said a = ap (of_kind kinds.Latch) a
+puts line kinds.Outputs kinds.Names words rows rest said a = ap (of_kind kinds.Names) a
+puts line kinds.Outputs kind words rows rest said a = refl
+puts line kinds.Subckt kinds.Inputs words rows rest said a = ap (of_kind kinds.Inputs) a.2
+puts line kinds.Subckt kinds.Clock words rows rest said a = ap (of_kind kinds.Clock) a.2
+puts line kinds.Subckt kinds.Latch words rows rest said a = ap (of_kind kinds.Latch) a.2
+puts line kinds.Subckt kinds.Names words rows rest said a = ap (of_kind kinds.Names) a.2
+puts line kinds.Subckt kind words rows rest said a = refl
+puts line kinds.Inputs kinds.Inputs words rows rest said a = ap (of_kind kinds.Inputs) a
+puts line kinds.Inputs kinds.Clock words rows rest said a = ap (of_kind kinds.Clock) a
+puts line kinds.Inputs kinds.Latch words rows rest said a = ap (of_kind kinds.Latch) a
+puts line kinds.Inputs kinds.Names words rows rest said a = ap (of_kind kinds.Names) a
+puts line kinds.Inputs kind words rows rest said a = refl
+puts line kinds.Clock kinds.Inputs words rows rest said a = ap (of_kind kinds.Inputs) a
+puts line kinds.Clock kinds.Clock words rows rest said a = ap (of_kind kinds.Clock) a
+puts line kinds.Clock kinds.Latch words rows rest said a = ap (of_kind kinds.Latch) a
+puts line kinds.Clock kinds.Names words rows rest said a = ap (of_kind kinds.Names) a
+puts line kinds.Clock kind words rows rest said a = refl
+puts line kinds.Latch kinds.Inputs words rows rest said a = ap (of_kind kinds.Inputs) a.2
+puts line kinds.Latch kinds.Clock words rows rest said a = ap (of_kind kinds.Clock) a.2
+puts line kinds.Latch kinds.Latch words rows rest said a = ap (of_kind kinds.Latch) a.2 ∙ ap (λ ws. ws ++ of_kind kinds.Latch rest) (sym (latch_defines words a.0 a.1))
+puts line kinds.Latch kinds.Names words rows rest said a = ap (of_kind kinds.Names) a.2
+puts line kinds.Latch kind words rows rest said a = refl
+puts line kinds.Names kinds.Inputs words rows rest said a = ap (of_kind kinds.Inputs) a.2
+puts line kinds.Names kinds.Clock words rows rest said a = ap (of_kind kinds.Clock) a.2
+puts line kinds.Names kinds.Latch words rows rest said a = ap (of_kind kinds.Latch) a.2
+puts line kinds.Names kinds.Names words rows rest said a = ap (of_kind kinds.Names) a.2 ∙ ap (λ ws. ws ++ of_kind kinds.Names rest) (sym (ap (names_defined kinds.Names) a.1.names ∙ defines_last a.0.inputs a.0.output))
+puts line kinds.Names kind words rows rest said a = refl
 
 -- definitions that none before forbids
 apart_above : (before : List Definition) (by : Kind) (ws : List (List ℕ)) (w : List ℕ) → first_forbidden before (map (by_kind by) ws) ≡ None → has_word ws w ≡ true → forbidden_by before by w ≡ false
@@ -134,10 +127,10 @@ put_kind kinds.Names kinds.Names words w h = (refl, h)
 put_kind by kind words w h = absurd (both_ways false refl h)
 
 -- a forbidden name isn't defined below
-later : (kind : Kind) (w : List ℕ) (above ss : List Statement) (n : Netlist) → forbidden_by (flat_map definitions above) kind w ≡ true → first_fault_of_lines checks above ss ≡ None → Spell ss n → has_word (of_kind kind n) w ≡ false
+later : (kind : Kind) (w : List ℕ) (above ss : List Statement) (n : List models.Statement) → forbidden_by (flat_map definitions above) kind w ≡ true → first_fault_of_lines checks above ss ≡ None → Say ss n → has_word (of_kind kind n) w ≡ false
 later kind w above [] n h e p = ap (λ m. has_word (of_kind kind m) w) p ∙ none kind
   where
-    none : (k : Kind) → has_word (of_kind k no_netlist) w ≡ false
+    none : (k : Kind) → has_word (of_kind k []) w ≡ false
     none kinds.Inputs = refl
     none kinds.Clock = refl
     none kinds.Latch = refl
@@ -146,7 +139,7 @@ later kind w above [] n h e p = ap (λ m. has_word (of_kind kind m) w) p ∙ non
 later kind w above (s ∷ ss) n h e p =
     let here = parts_of above s ss e in
     let below = later kind w (s ∷ above) ss p.0 (forbidden_right (definitions s) (flat_map definitions above) kind w h) here.1 p.1 in
-    false_from_ne_true (has_word (of_kind kind n) w) (λ z. elim (or_cases (has_word (put s.kind kind s.words) w) (has_word (of_kind kind p.0) w) (sym (has_word-append (put s.kind kind s.words) (of_kind kind p.0) w) ∙ (ap (λ l. has_word l w) (sym (puts s.kind kind s.words (rows_below ss) p.0 n p.2)) ∙ z))) [
+    false_from_ne_true (has_word (of_kind kind n) w) (λ z. elim (or_cases (has_word (put s.kind kind s.words) w) (has_word (of_kind kind p.0) w) (sym (has_word-append (put s.kind kind s.words) (of_kind kind p.0) w) ∙ (ap (λ l. has_word l w) (sym (puts s.line s.kind kind s.words (rows_below ss) p.0 n p.2)) ∙ z))) [
       | inl q ↦
           let k = put_kind s.kind kind s.words w q in
           both_ways (forbidden_by (flat_map definitions above) kind w) (subst (λ j. forbidden_by (flat_map definitions above) j w ≡ false) k.0 (apart_above (flat_map definitions above) s.kind (names_defined s.kind s.words) w here.0.once k.1)) h
@@ -154,11 +147,11 @@ later kind w above (s ∷ ss) n h e p =
     ])
 
 -- definitions of two kinds that may not share a name
-apart_kinds : (one other : Kind) (above ss : List Statement) (n : Netlist) → may_share one other ≡ false → may_share other one ≡ false → same_kind one other ≡ false → same_kind other one ≡ false → first_fault_of_lines checks above ss ≡ None → Spell ss n
+apart_kinds : (one other : Kind) (above ss : List Statement) (n : List models.Statement) → may_share one other ≡ false → may_share other one ≡ false → same_kind one other ≡ false → same_kind other one ≡ false → first_fault_of_lines checks above ss ≡ None → Say ss n
     → (w : List ℕ) → has_word (of_kind one n) w ≡ true → has_word (of_kind other n) w ≡ true → ⊥
 apart_kinds one other above [] n s t d d' e p w h k = nothing one (sym (ap (λ m. has_word (of_kind one m) w) p) ∙ h)
   where
-    nothing : (j : Kind) → has_word (of_kind j no_netlist) w ≡ true → ⊥
+    nothing : (j : Kind) → has_word (of_kind j []) w ≡ true → ⊥
     nothing kinds.Inputs z = both_ways false refl z
     nothing kinds.Clock z = both_ways false refl z
     nothing kinds.Latch z = both_ways false refl z
@@ -178,7 +171,7 @@ apart_kinds one other above (s ∷ ss) n sh t d d' e p w h k =
     ]
   where
     split : (kind : Kind) → has_word (of_kind kind n) w ≡ true → (has_word (put s.kind kind s.words) w ≡ true) ⊎ (has_word (of_kind kind p.0) w ≡ true)
-    split kind z = or_cases (has_word (put s.kind kind s.words) w) (has_word (of_kind kind p.0) w) (sym (has_word-append (put s.kind kind s.words) (of_kind kind p.0) w) ∙ (ap (λ l. has_word l w) (sym (puts s.kind kind s.words (rows_below ss) p.0 n p.2)) ∙ z))
+    split kind z = or_cases (has_word (put s.kind kind s.words) w) (has_word (of_kind kind p.0) w) (sym (has_word-append (put s.kind kind s.words) (of_kind kind p.0) w) ∙ (ap (λ l. has_word l w) (sym (puts s.line s.kind kind s.words (rows_below ss) p.0 n p.2)) ∙ z))
 
     both_kinds : (by : Kind) → has_word (put by one s.words) w ≡ true → has_word (put by other s.words) w ≡ true → ⊥
     both_kinds by a b =
@@ -209,10 +202,10 @@ put_distinct before kinds.Latch kinds.Latch words e s = apart_words before kinds
 put_distinct before kinds.Names kinds.Names words e s = apart_words before kinds.Names (names_defined kinds.Names words) refl e
 put_distinct before by kind words e s = refl
 
-once_kind : (kind : Kind) (above ss : List Statement) (n : Netlist) → may_share kind kind ≡ false → first_fault_of_lines checks above ss ≡ None → Spell ss n → distinct (of_kind kind n) ≡ true
+once_kind : (kind : Kind) (above ss : List Statement) (n : List models.Statement) → may_share kind kind ≡ false → first_fault_of_lines checks above ss ≡ None → Say ss n → distinct (of_kind kind n) ≡ true
 once_kind kind above [] n s e p = ap (λ m. distinct (of_kind kind m)) p ∙ none kind
   where
-    none : (k : Kind) → distinct (of_kind k no_netlist) ≡ true
+    none : (k : Kind) → distinct (of_kind k []) ≡ true
     none kinds.Inputs = refl
     none kinds.Clock = refl
     none kinds.Latch = refl
@@ -220,7 +213,7 @@ once_kind kind above [] n s e p = ap (λ m. distinct (of_kind kind m)) p ∙ non
     none k = refl
 once_kind kind above (s ∷ ss) n sh e p =
     let here = parts_of above s ss e in
-    ap distinct (puts s.kind kind s.words (rows_below ss) p.0 n p.2)
+    ap distinct (puts s.line s.kind kind s.words (rows_below ss) p.0 n p.2)
     ∙ distinct_append (put s.kind kind s.words) (of_kind kind p.0) (put_distinct (flat_map definitions above) s.kind kind s.words here.0.once sh) (once_kind kind (s ∷ above) ss p.0 sh here.1 p.1)
     (λ w a b.
     let q = put_kind s.kind kind s.words w a in
@@ -259,33 +252,34 @@ without_distinct xs (y ∷ ys) d = go (has_word xs y) (without_distinct xs ys p.
     go true z = z
     go false z = and_from (not (has_word (without xs ys) y)) (distinct (without xs ys)) (ap not (false_from_ne_true (has_word (without xs ys) y) (λ k. both_ways (has_word ys y) (not-true (has_word ys y) p.0) (without_has xs ys y k)))) z
 
-pub once_law : (ss : List Statement) (n : Netlist) → first_fault_of_lines checks [] ss ≡ None → Spell ss n → IsOnce n
-once_law ss n e p =
+pub once_law : (ss : List Statement) (m : Model) → first_fault_of_lines checks [] ss ≡ None → Say ss m.statements → DefinedOnce (alone m)
+once_law ss m e p =
+    let n : List models.Statement = m.statements in
     let inputs = once_kind kinds.Inputs [] ss n refl e p in
     let clocks = once_kind kinds.Clock [] ss n refl e p in
     let latches = once_kind kinds.Latch [] ss n refl e p in
     let tables = once_kind kinds.Names [] ss n refl e p in
-    let i = n.frame.inputs in
-    let c = without n.frame.inputs n.frame.clocks in
-    let l = map latch_output n.frame.latches in
-    let t = map output_of n.tables in
+    let i = of_kind kinds.Inputs n in
+    let k = of_kind kinds.Clock n in
+    let c = without i k in
+    let l = of_kind kinds.Latch n in
+    let t = of_kind kinds.Names n in
     let il = apart_kinds kinds.Inputs kinds.Latch [] ss n refl refl refl refl e p in
     let cl = apart_kinds kinds.Clock kinds.Latch [] ss n refl refl refl refl e p in
     let it = apart_kinds kinds.Inputs kinds.Names [] ss n refl refl refl refl e p in
     let ct = apart_kinds kinds.Clock kinds.Names [] ss n refl refl refl refl e p in
     let lt = apart_kinds kinds.Latch kinds.Names [] ss n refl refl refl refl e p in
-    let cls : distinct (c ++ l) ≡ true = distinct_append c l (without_distinct i n.frame.clocks clocks) latches (λ w a b. cl w (without_has i n.frame.clocks w a) b) in
+    let cls : distinct (c ++ l) ≡ true = distinct_append c l (without_distinct i k clocks) latches (λ w a b. cl w (without_has i k w a) b) in
     let srcs : distinct (i ++ (c ++ l)) ≡ true = distinct_append i (c ++ l) inputs cls (λ w a b. elim (or_cases (has_word c w) (has_word l w) (sym (has_word-append c l w) ∙ b)) [
-      | inl q ↦ without_apart i n.frame.clocks w a q
+      | inl q ↦ without_apart i k w a q
       | inr q ↦ il w a q
     ]) in
     record {
-      clocks_once = clocks;
-      sources_once = srcs;
-      tables_once = distinct_append (i ++ (c ++ l)) t srcs tables (λ w a b. elim (or_cases (has_word i w) (has_word (c ++ l) w) (sym (has_word-append i (c ++ l) w) ∙ a)) [
+      clocks = clocks;
+      all = distinct_append (i ++ (c ++ l)) t srcs tables (λ w a b. elim (or_cases (has_word i w) (has_word (c ++ l) w) (sym (has_word-append i (c ++ l) w) ∙ a)) [
         | inl q ↦ it w q b
         | inr q ↦ elim (or_cases (has_word c w) (has_word l w) (sym (has_word-append c l w) ∙ q)) [
-          | inl r ↦ ct w (without_has i n.frame.clocks w r) b
+          | inl r ↦ ct w (without_has i k w r) b
           | inr r ↦ lt w r b
         ]
       ]);

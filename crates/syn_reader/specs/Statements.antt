@@ -11,7 +11,7 @@ pub record Statement : Type 0 where
   pub kind : Kind
   pub words : List (List ℕ)
 
--- The keywords of a file of one model.
+-- The keywords.
 abbrev pub keywords : List (List ℕ × Kind)
 keywords =
     (codes ".model", kinds.Model)
@@ -20,13 +20,9 @@ keywords =
     ∷ (codes ".clock", kinds.Clock)
     ∷ (codes ".names", kinds.Names)
     ∷ (codes ".latch", kinds.Latch)
+    ∷ (codes ".subckt", kinds.Subckt)
     ∷ (codes ".end", kinds.End)
     ∷ []
-
--- The keywords, with `.subckt` where a file may have subcircuits.
-abbrev pub keywords_with : Bool → List (List ℕ × Kind)
-keywords_with false = keywords
-keywords_with true = (codes ".subckt", kinds.Subckt) ∷ keywords
 
 -- The kind of a keyword: unknown where it isn't one of these.
 abbrev pub kind_in : List (List ℕ × Kind) → List ℕ → Kind
@@ -38,19 +34,12 @@ begins_with_dot [] = false
 begins_with_dot (b ∷ bs) = b == 46
 
 -- A first word that begins with a dot is a keyword, one of these or unknown; any other line is a row.
-abbrev pub statement_by : List (List ℕ × Kind) → ℕ → List (List ℕ) → Statement
-statement_by table line [] = record { line = line; kind = kinds.Row; words = [] }
-statement_by table line (word ∷ words) =
-    if begins_with_dot word
-    then record { line = line; kind = kind_in table word; words = words }
-    else record { line = line; kind = kinds.Row; words = word ∷ words }
-
-abbrev pub line_by : List (List ℕ × Kind) → LogicalLine → Statement
-line_by table line = statement_by table line.number (map text_of line.words)
-
--- The same in a file of one model.
 abbrev pub statement_at : ℕ → List (List ℕ) → Statement
-statement_at line words = statement_by keywords line words
+statement_at line [] = record { line = line; kind = kinds.Row; words = [] }
+statement_at line (word ∷ words) =
+    if begins_with_dot word
+    then record { line = line; kind = kind_in keywords word; words = words }
+    else record { line = line; kind = kinds.Row; words = word ∷ words }
 
 abbrev pub statement_of : LogicalLine → Statement
 statement_of line = statement_at line.number (map text_of line.words)
@@ -58,10 +47,6 @@ statement_of line = statement_at line.number (map text_of line.words)
 -- The statements of a text: its logical lines, in order.
 abbrev pub statements : List ℕ → List Statement
 statements bytes = map statement_of (logical_lines bytes)
-
--- Those of a text that may have subcircuits.
-abbrev pub model_statements : List ℕ → List Statement
-model_statements bytes = map (line_by (keywords_with true)) (logical_lines bytes)
 
 -- Tests on the kind of a statement.
 abbrev pub is_row : Kind → Bool
@@ -104,3 +89,8 @@ is_end kind = false
 abbrev pub begins_model : List Statement → Bool
 begins_model [] = false
 begins_model (s ∷ ss) = is_model s.kind
+
+-- The rows right below a statement, up to the next keyword.
+abbrev pub rows_below : List Statement → List (List (List ℕ))
+rows_below [] = []
+rows_below (s ∷ ss) = if is_row s.kind then s.words ∷ rows_below ss else []

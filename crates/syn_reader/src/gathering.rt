@@ -1,123 +1,86 @@
-//! What the statements of a text spell.
+//! What the statements of a model spell.
 
-ghost use Rattle.std.specs.Prelude.{◌≡◌, ◌+◌, ◌^◌, ◌<◌, ◌≤◌, ℕ, List, [], ◌∷◌, ◌++◌, flat_map, codes, length, map, false, true, IfErr, IfOk, IfSome, OnOk, Some, None};
+ghost use Rattle.std.specs.Prelude.{◌≡◌, ◌+◌, ◌*◌, ◌^◌, ◌<◌, ◌≤◌, ◌==◌, ℕ, suc, Bool, List, [], ◌∷◌, ◌++◌, if◌then◌else◌, length, map, false, true, IfErr, IfNone, IfOk, IfSome, OnOk, Some, None, option_map};
+ghost use Rattle.std.specs.List.{list_all};
 ghost use Rattle.syn_lex.specs.Words.{text_of};
-ghost use Rattle.syn_netlist.specs.Numbers.{all_below, words_at};
-ghost use Rattle.syn_netlist.specs.Words.{is_word};
-ghost use Rattle.syn_reader.specs.Marking.{Same};
-ghost use Rattle.syn_netlist.specs.Views.{netlist_in};
-ghost use Rattle.syn_reader.specs.Causes.{fault_in};
-ghost use Rattle.syn_reader.specs.Definitions.{reads};
-ghost use Rattle.syn_reader.specs.Gathers.{above_in, forbids_in, Gathers, HasGathered, IsOnce, IsSound, named, nothing, whole};
-ghost use Rattle.syn_reader.specs.Heard.{all_words, statement, word_count};
-ghost use Rattle.syn_reader.specs.Keywords.{line_fault};
-ghost use Rattle.syn_reader.specs.LineFaults.{checks, first_fault_of_lines, first_found};
+ghost use Rattle.syn_models.specs.Called.{actuals_below};
+ghost use Rattle.syn_models.specs.FlatFaults.{first_again};
+ghost use Rattle.syn_models.specs.Kept.{bind_in};
+ghost use Rattle.syn_models.specs.Models as models;
 ghost use Rattle.syn_netlist.specs.Kept.{polarity_fits, rows_fit};
-ghost use Rattle.syn_netlist.specs.Marks.{read_numbers};
-ghost use Rattle.syn_reader.specs.Faults.{AfterEnd};
-ghost use Rattle.syn_reader.specs.Parts.{statement_in};
-ghost use Rattle.syn_reader.specs.Reading.{rows_below, Spell};
-ghost use Rattle.syn_reader.specs.Rows.{below_rows, IsTableFault, rows_fault};
+ghost use Rattle.syn_netlist.specs.Numbers.{Grows, with_word};
+ghost use Rattle.syn_netlist.specs.Words.{has_word};
+ghost use Rattle.syn_reader.specs.Causes.{fault_in};
+ghost use Rattle.syn_reader.specs.Faults.{AfterEnd, PortTwice};
+ghost use Rattle.syn_reader.specs.Heard.{all_words};
+ghost use Rattle.syn_reader.specs.Keywords.{line_fault};
+ghost use Rattle.syn_reader.specs.Marking.{Same, with_words};
+ghost use Rattle.syn_reader.specs.Rows.{IsTableFault, below_rows, rows_fault};
 ghost use Rattle.syn_reader.specs.Shapes.{all_but_last};
-ghost use Rattle.syn_reader.specs.Statements.{Statement};
+ghost use Rattle.syn_reader.specs.Binds.{are_bind_words, bind_in_line, formal_in_line, actual_in_line};
+ghost use Rattle.syn_reader.specs.Gathers.{Gathers, IsSound, IsSubcktFault, forbids_in, row_total};
+ghost use Rattle.syn_reader.specs.Subcircuits.{bound_twice, subcircuit_of};
+ghost use Rattle.syn_reader.specs.LineFaults.{first_fault_of_lines};
+ghost use Rattle.syn_reader.specs.Parts.{statement_in};
+ghost use Rattle.syn_reader.specs.Statements as lines;
+ghost use Rattle.syn_reader.specs.Statements.{rows_below};
+ghost use Rattle.syn_reader.specs.ModelFaults.{model_checks};
+ghost use Rattle.syn_reader.specs.Owned.{HasGathered, HasRoom, behind, own};
 
 use crate::latch_lines::read_latch;
 use crate::rows::{Rows, read_rows};
 use crate::signals::{Signals, TableLine, copy_word};
 use crate::statements::{Parts, Statements};
+use crate::subcircuits::{BindLine, read_subckt};
 use crate::{Kind, ReadFault};
 use std::alloc::{AllocError, Global};
 use syn_lex::LineWords;
-use syn_netlist::{Frame, Items, Latch, Netlist, Table, Word};
+use syn_models::{Bind, Statement, StatementKind, Subcircuit};
+use syn_netlist::{Items, Names, Table};
 
-/// What the statements of a text spell.
-#[derive(Drop)]
-pub struct Gathered {
-    /// The netlist.
-    pub netlist: Netlist,
-    /// The numbers of the names that are read, in the order of their places, by line and word.
-    pub reads: Items<u32>,
-}
-
-// What the statements above spell: the model's name where it is given, and lists by numbers of names.
+/// What the statements above spell: names with their marks, statements by numbers of names, and how many words their lines have.
 #[derive(Drop)]
 pub struct Gathering {
     pub signals: Signals,
-    pub model: Option<Word>,
-    pub inputs: Vec<u32>,
-    pub clocks: Vec<u32>,
-    pub outputs: Vec<u32>,
-    pub latches: Vec<Latch>,
-    pub tables: Vec<Table>,
-    pub reads: Vec<u32>,
+    pub statements: Vec<Statement>,
+    pub words: u64,
+}
+
+// How many words so many rows have: of a table without inputs one each, else two.
+fn words_of_rows(inputs: usize, rows: usize) -> u64
+    requires { rows < 2 ^ 63 }
+    ensures { result ≡ (if inputs == 0 then rows else (rows + rows)) }
+{
+    let rows = rows as u64;
+    if inputs == 0 { rows } else { rows + rows }
 }
 
 impl Gathering {
-    // Nothing but the model's name, where it is given.
-    fn new(alloc: Global, model: Option<Word>) -> Gathering
-        requires { IfSome model (λ name. is_word name ≡ true) }
+    /// Nothing, but lines of so many words.
+    pub fn new(alloc: Global, words: u64) -> Gathering
         ensures names { result.signals.names ≡ [] }
-        ensures above { above_in result ≡ nothing model }
+        ensures said { result.statements.items ≡ [] }
+        ensures words { result.words ≡ words }
         ensures sound { IsSound result }
         ensures free { Same (λ kind word. false) (forbids_in result) }
     {
         Gathering {
             signals: Signals::new(alloc),
-            model,
-            inputs: Vec::new(alloc),
-            clocks: Vec::new(alloc),
-            outputs: Vec::new(alloc),
-            latches: Vec::new(alloc),
-            tables: Vec::new(alloc),
-            reads: Vec::new(alloc),
+            statements: Vec::new(alloc),
+            words,
         }
     }
 
-    // The model's name, where the first statement gives it.
-    fn begin(alloc: Global, statements: &mut Statements<'_>) -> Result<Gathering, ReadFault>
-        ensures gathered { IfOk result (λ g. HasGathered statements.old statements.new g) }
-        ensures sound { IfOk result (λ g. IsSound g) }
-        ensures fault { IfErr result (λ e. IfSome (fault_in e) (λ f. first_fault_of_lines checks [] statements.old ≡ Some f)) }
+    // Puts one more statement, on a line of so many words.
+    fn say(&mut self, line: u32, kind: StatementKind, words: u64) -> Result<(), AllocError>
+        requires { self.old.words + words < 2 ^ 64 }
+        ensures statements { OnOk result (self.new.statements.items ≡ self.old.statements.items ++ (record { line = line; kind = kind }) ∷ []) }
+        ensures signals { OnOk result (self.new.signals ≡ self.old.signals) }
+        ensures words { OnOk result (self.new.words ≡ self.old.words + words) }
     {
-        let Some(parts) = statements.take(Kind::Model) else {
-            return Ok(Gathering::new(alloc, None));
-        };
-        let model = read_model(alloc, parts.line, parts.words)?;
-        Ok(Gathering::new(alloc, Some(model)))
-    }
-
-    // The netlist of what was gathered.
-    fn finish(self, alloc: Global) -> Result<Gathered, AllocError>
-        requires sound { IsSound self }
-        requires once { IsOnce (whole (above_in self)) }
-        ensures netlist { IfOk result (λ g. netlist_in g.netlist ≡ whole (above_in self)) }
-        ensures reads { IfOk result (λ g. g.reads ≡ self.reads.items) }
-        ensures names { IfOk result (λ g. g.netlist.frame.names ≡ self.signals.names) }
-    {
-        let Gathering {
-            signals,
-            model,
-            inputs,
-            clocks,
-            outputs,
-            latches,
-            tables,
-            reads,
-        } = self;
-        let Signals { names, marks: _ } = signals;
-        let frame = Frame {
-            names,
-            model: name_or_top(alloc, model)?,
-            inputs: Items::of(inputs),
-            clocks: Items::of(clocks),
-            outputs: Items::of(outputs),
-            latches: Items::of(latches),
-        };
-        let tables = Items::of(tables);
-        Ok(Gathered {
-            netlist: Netlist { frame, tables },
-            reads: Items::of(reads),
-        })
+        self.words += words;
+        self.statements.push(Statement { line, kind })?;
+        Ok(())
     }
 
     // The inputs of a line.
@@ -129,13 +92,16 @@ impl Gathering {
     ) -> Result<(), ReadFault>
         requires sound { IsSound self.old }
         requires few { length self.old.signals.names + length words < 2 ^ 32 }
+        requires room { self.old.words < 2 ^ 63 }
         requires words { all_words words ≡ true }
         ensures gathers { OnOk result ((rows : List (List (List ℕ))) → Gathers Kind.Inputs line (map text_of words.entry) rows self.old self.new) }
+        ensures faultless { OnOk result (line_fault (forbids_in self.old) Kind.Inputs line (map text_of words.entry) ≡ None) }
         ensures sound { OnOk result (IsSound self.new) }
         ensures fault { IfErr result (λ e. IfSome (fault_in e) (λ f. line_fault (forbids_in self.old) Kind.Inputs line (map text_of words.entry) ≡ Some f)) }
     {
         let numbers = self.signals.define_all(alloc, line, Kind::Inputs, words)?;
-        self.inputs.extend_from_slice(&numbers)?;
+        let words = 1 + numbers.len() as u64;
+        self.say(line, StatementKind::Inputs(Items::of(numbers)), words)?;
         Ok(())
     }
 
@@ -148,28 +114,37 @@ impl Gathering {
     ) -> Result<(), ReadFault>
         requires sound { IsSound self.old }
         requires few { length self.old.signals.names + length words < 2 ^ 32 }
+        requires room { self.old.words < 2 ^ 63 }
         requires words { all_words words ≡ true }
         ensures gathers { OnOk result ((rows : List (List (List ℕ))) → Gathers Kind.Clock line (map text_of words.entry) rows self.old self.new) }
+        ensures faultless { OnOk result (line_fault (forbids_in self.old) Kind.Clock line (map text_of words.entry) ≡ None) }
         ensures sound { OnOk result (IsSound self.new) }
         ensures fault { IfErr result (λ e. IfSome (fault_in e) (λ f. line_fault (forbids_in self.old) Kind.Clock line (map text_of words.entry) ≡ Some f)) }
     {
         let numbers = self.signals.define_all(alloc, line, Kind::Clock, words)?;
-        self.clocks.extend_from_slice(&numbers)?;
+        let words = 1 + numbers.len() as u64;
+        self.say(line, StatementKind::Clock(Items::of(numbers)), words)?;
         Ok(())
     }
 
     // The outputs of a line.
-    fn add_outputs(&mut self, alloc: Global, words: LineWords<'_>) -> Result<(), ReadFault>
+    fn add_outputs(
+        &mut self,
+        alloc: Global,
+        line: u32,
+        words: LineWords<'_>,
+    ) -> Result<(), ReadFault>
         requires sound { IsSound self.old }
         requires few { length self.old.signals.names + length words < 2 ^ 32 }
+        requires room { self.old.words < 2 ^ 63 }
         requires words { all_words words ≡ true }
-        ensures gathers { OnOk result ((line : ℕ) (rows : List (List (List ℕ))) → Gathers Kind.Outputs line (map text_of words.entry) rows self.old self.new) }
+        ensures gathers { OnOk result ((rows : List (List (List ℕ))) → Gathers Kind.Outputs line (map text_of words.entry) rows self.old self.new) }
         ensures sound { OnOk result (IsSound self.new) }
         ensures fault { IfErr result (λ e. fault_in e ≡ None) }
     {
         let numbers = self.signals.add_all(alloc, words)?;
-        self.outputs.extend_from_slice(&numbers)?;
-        self.reads.extend_from_slice(&numbers)?;
+        let words = 1 + numbers.len() as u64;
+        self.say(line, StatementKind::Outputs(Items::of(numbers)), words)?;
         Ok(())
     }
 
@@ -177,15 +152,16 @@ impl Gathering {
     fn add_latch(&mut self, alloc: Global, line: u32, words: LineWords<'_>) -> Result<(), ReadFault>
         requires sound { IsSound self.old }
         requires few { length self.old.signals.names + length words < 2 ^ 32 }
+        requires room { self.old.words < 2 ^ 63 }
         requires words { all_words words ≡ true }
         ensures gathers { OnOk result ((rows : List (List (List ℕ))) → Gathers Kind.Latch line (map text_of words.entry) rows self.old self.new) }
+        ensures faultless { OnOk result (line_fault (forbids_in self.old) Kind.Latch line (map text_of words.entry) ≡ None) }
         ensures sound { OnOk result (IsSound self.new) }
         ensures fault { IfErr result (λ e. IfSome (fault_in e) (λ f. line_fault (forbids_in self.old) Kind.Latch line (map text_of words.entry) ≡ Some f)) }
     {
         let words = read_latch(line, words)?;
         let latch = self.signals.define_latch(alloc, line, words)?;
-        self.latches.push(latch)?;
-        push_reads(&mut self.reads, latch)?;
+        self.say(line, StatementKind::Latch(latch), 1 + words.count as u64)?;
         Ok(())
     }
 
@@ -199,17 +175,114 @@ impl Gathering {
     ) -> Result<(), ReadFault>
         requires sound { IsSound self.old }
         requires few { length self.old.signals.names + length words < 2 ^ 32 }
+        requires room { self.old.words < 2 ^ 63 }
+        requires rows { row_total (rows_below statements.old) < 2 ^ 62 }
         requires words { all_words words ≡ true }
         ensures gathers { OnOk result (Gathers Kind.Names line (map text_of words.entry) (rows_below statements.old) self.old self.new) }
+        ensures faultless { OnOk result (line_fault (forbids_in self.old) Kind.Names line (map text_of words.entry) ≡ None) }
         ensures rows { OnOk result (rows_fault (length (all_but_last (map text_of words.entry))) None statements.old ≡ None) }
         ensures below { OnOk result (statements.new ≡ below_rows statements.old) }
         ensures sound { OnOk result (IsSound self.new) }
         ensures fault { IfErr result (λ e. IfSome (fault_in e) (IsTableFault (forbids_in self.old) line (map text_of words.entry) statements.old)) }
     {
         let names = self.signals.define_table(alloc, line, words)?;
-        self.reads.extend_from_slice(&names.inputs)?;
-        let rows = read_rows(alloc, statements, names.inputs.len())?;
-        self.tables.push(table_of(names, rows))?;
+        let inputs = names.inputs.len();
+        let rows = read_rows(alloc, statements, inputs)?;
+        let words = 2 + inputs as u64 + words_of_rows(inputs, rows.parts.len());
+        self.say(line, StatementKind::Table(table_of(names, rows)), words)?;
+        Ok(())
+    }
+
+    // A bind of a line, with the number of its actual, where its formal is none of those above, which it joins.
+    fn add_bind(
+        &mut self,
+        alloc: Global,
+        line: u32,
+        formals: &mut Names,
+        bind: &BindLine<'_>,
+    ) -> Result<Bind, ReadFault>
+        requires marked { length self.old.signals.marks.items ≡ length self.old.signals.names }
+        requires few { length self.old.signals.names + 1 < 2 ^ 32 }
+        requires few_formals { length formals.old + 1 < 2 ^ 32 }
+        requires words { are_bind_words bind.now ≡ true }
+        ensures bind { IfOk result (λ b. bind_in self.new.signals.names b ≡ bind_in_line bind.now) }
+        ensures below { IfOk result (λ b. b.actual < length self.new.signals.names) }
+        ensures marked { OnOk result (length self.new.signals.marks.items ≡ length self.new.signals.names) }
+        ensures grows { OnOk result (Grows self.old.signals.names self.new.signals.names) }
+        ensures names { OnOk result (self.new.signals.names ≡ with_word self.old.signals.names (actual_in_line bind.now)) }
+        ensures count { OnOk result (length self.new.signals.names ≤ length self.old.signals.names + 1) }
+        ensures same { OnOk result (Same (forbids_in self.old) (forbids_in self.new)) }
+        ensures kept { OnOk result ((self.new.statements ≡ self.old.statements) × (self.new.words ≡ self.old.words)) }
+        ensures absent { OnOk result (has_word formals.old (formal_in_line bind.now) ≡ false) }
+        ensures formals { OnOk result (formals.new ≡ with_word formals.old (formal_in_line bind.now)) }
+        ensures fault { IfErr result (λ e. IfSome (fault_in e) (λ f. (f ≡ PortTwice line (formal_in_line bind.now)) × (has_word formals.old (formal_in_line bind.now) ≡ true))) }
+    {
+        let formal = copy_word(alloc, bind.formal)?;
+        match formals.find(bind.formal) {
+            Some(_) => return Err(ReadFault::PortTwice(line, formal)),
+            None => {}
+        }
+        formals.add(alloc, bind.formal)?;
+        let actual = self.signals.add(alloc, bind.actual)?;
+        Ok(Bind { formal, actual })
+    }
+
+    // The binds of a line, with the numbers of their actuals; or else the first formal that is bound twice.
+    fn add_binds(
+        &mut self,
+        alloc: Global,
+        line: u32,
+        binds: &[BindLine<'_>],
+    ) -> Result<Vec<Bind>, ReadFault>
+        requires marked { length self.old.signals.marks.items ≡ length self.old.signals.names }
+        requires few { length self.old.signals.names + length binds.now < 2 ^ 32 }
+        requires words { list_all are_bind_words binds.now ≡ true }
+        ensures binds { IfOk result (λ v. map (bind_in self.new.signals.names) v.items ≡ map bind_in_line binds.now) }
+        ensures below { IfOk result (λ v. actuals_below (length self.new.signals.names) v.items ≡ true) }
+        ensures marked { OnOk result (length self.new.signals.marks.items ≡ length self.new.signals.names) }
+        ensures grows { OnOk result (Grows self.old.signals.names self.new.signals.names) }
+        ensures names { OnOk result (self.new.signals.names ≡ with_words self.old.signals.names (map actual_in_line binds.now)) }
+        ensures count { OnOk result (length self.new.signals.names ≤ length self.old.signals.names + length binds.now) }
+        ensures same { OnOk result (Same (forbids_in self.old) (forbids_in self.new)) }
+        ensures kept { OnOk result ((self.new.statements ≡ self.old.statements) × (self.new.words ≡ self.old.words)) }
+        ensures once { OnOk result (first_again [] (map formal_in_line binds.now) ≡ None) }
+        ensures fault { IfErr result (λ e. IfSome (fault_in e) (λ f. option_map (PortTwice line) (first_again [] (map formal_in_line binds.now)) ≡ Some f)) }
+    {
+        let mut formals = Names::new(alloc);
+        let mut made = Vec::new(alloc);
+        for bind in binds {
+            let bind = self.add_bind(alloc, line, &mut formals, bind)?;
+            made.push(bind)?;
+        }
+        Ok(made)
+    }
+
+    // The subcircuit of a line.
+    fn add_subckt(
+        &mut self,
+        alloc: Global,
+        line: u32,
+        words: LineWords<'_>,
+    ) -> Result<(), ReadFault>
+        requires sound { IsSound self.old }
+        requires few { length self.old.signals.names + length words < 2 ^ 32 }
+        requires room { self.old.words < 2 ^ 63 }
+        requires words { all_words words ≡ true }
+        ensures gathers { OnOk result ((rows : List (List (List ℕ))) → Gathers Kind.Subckt line (map text_of words.entry) rows self.old self.new) }
+        ensures fine { OnOk result ((c : models.Subcircuit) × (subcircuit_of (map text_of words.entry) ≡ Some c) × (bound_twice (Some c) ≡ None)) }
+        ensures sound { OnOk result (IsSound self.new) }
+        ensures fault { IfErr result (λ e. IfSome (fault_in e) (IsSubcktFault line (map text_of words.entry))) }
+    {
+        let subckt = read_subckt(alloc, line, words)?;
+        let binds = self.add_binds(alloc, line, &subckt.binds)?;
+        let model = copy_word(alloc, subckt.model)?;
+        let words = 2 + binds.len() as u64;
+        let binds = Items::of(binds);
+        self.say(
+            line,
+            StatementKind::Subckt(Subcircuit { model, binds }),
+            words,
+        )?;
         Ok(())
     }
 
@@ -219,76 +292,36 @@ impl Gathering {
         alloc: Global,
         parts: Parts<'_>,
         statements: &mut Statements<'_>,
+        many: bool,
     ) -> Result<(), ReadFault>
         requires sound { IsSound self.old }
         requires few { length self.old.signals.names + length parts.words < 2 ^ 32 }
+        requires room { self.old.words < 2 ^ 63 }
+        requires rows { row_total (rows_below statements.old) < 2 ^ 62 }
         requires words { all_words parts.words ≡ true }
-        ensures gathered { OnOk result ((all : List Statement) → HasGathered all (statement_in parts.entry ∷ statements.old) self.old → HasGathered all statements.new self.new) }
+        ensures gathered { OnOk result ((models : List (List ℕ)) (all : List lines.Statement) → HasGathered models all (statement_in parts.entry ∷ own many statements.old) self.old → HasGathered models all (own many statements.new) self.new) }
+        ensures left { OnOk result (behind many statements.new ≡ behind many statements.old) }
         ensures sound { OnOk result (IsSound self.new) }
         ensures less { OnOk result (length statements.new ≤ length statements.old) }
-        ensures fault { IfErr result (λ e. IfSome (fault_in e) (λ f. (all : List Statement) → HasGathered all (statement_in parts.entry ∷ statements.old) self.old → first_fault_of_lines checks [] all ≡ Some f)) }
+        ensures fault { IfErr result (λ e. IfSome (fault_in e) (λ f. (models : List (List ℕ)) (all : List lines.Statement) → HasGathered models all (statement_in parts.entry ∷ own many statements.old) self.old → first_fault_of_lines (model_checks models) [] all ≡ Some f)) }
     {
         match parts.kind {
             Kind::Row => Err(ReadFault::StrayRow(parts.line)),
             Kind::Unknown => Err(ReadFault::UnknownKeyword(parts.line)),
-            Kind::Subckt => Ok(()),
             Kind::Model => Err(ReadFault::SecondModel(parts.line)),
             Kind::Inputs => self.add_inputs(alloc, parts.line, parts.words),
-            Kind::Outputs => self.add_outputs(alloc, parts.words),
+            Kind::Outputs => self.add_outputs(alloc, parts.line, parts.words),
             Kind::Clock => self.add_clocks(alloc, parts.line, parts.words),
             Kind::Names => self.add_table(alloc, parts.line, parts.words, statements),
             Kind::Latch => self.add_latch(alloc, parts.line, parts.words),
-            Kind::End => read_end(statements),
+            Kind::Subckt => self.add_subckt(alloc, parts.line, parts.words),
+            Kind::End => read_end(statements, many),
         }
     }
 }
 
-/// The name of a `.model` line; or else the fault of its words.
-pub fn read_model(alloc: Global, line: u32, words: LineWords<'_>) -> Result<Word, ReadFault>
-    requires { all_words words ≡ true }
-    ensures name { IfOk result (λ name. map text_of words.entry ≡ name ∷ []) }
-    ensures word { IfOk result (λ name. is_word name ≡ true) }
-    ensures fault { IfErr result (λ e. IfSome (fault_in e) (λ f. first_found checks [] (statement line Kind.Model (map text_of words.entry)) ≡ Some f)) }
-{
-    let mut words = words;
-    let Some((_, name)) = words.next() else {
-        return Err(ReadFault::NoName(line));
-    };
-    if words.next().is_some() {
-        return Err(ReadFault::ExtraWord(line));
-    }
-    Ok(copy_word(alloc, name)?)
-}
-
-// The model's name, `top` where it isn't given.
-fn name_or_top(alloc: Global, model: Option<Word>) -> Result<Word, AllocError>
-    requires { IfSome model (λ name. is_word name ≡ true) }
-    ensures name { IfOk result (λ name. name ≡ named model (codes "top")) }
-    ensures word { IfOk result (λ name. is_word name ≡ true) }
-{
-    match model {
-        Some(name) => Ok(name),
-        None => copy_word(alloc, b"top"),
-    }
-}
-
-// Appends what a latch reads.
-fn push_reads(reads: &mut Vec<u32>, latch: Latch) -> Result<(), AllocError>
-    ensures { OnOk result (reads.new.items ≡ reads.old.items ++ read_numbers latch) }
-{
-    reads.push(latch.feed)?;
-    match latch.kind {
-        Some((_, Some(control))) => {
-            reads.push(control)?;
-            Ok(())
-        }
-        Some((_, None)) => Ok(()),
-        None => Ok(()),
-    }
-}
-
-/// The table of these names and rows.
-pub fn table_of(names: TableLine, rows: Rows) -> Table
+// The table of these names and rows.
+fn table_of(names: TableLine, rows: Rows) -> Table
     requires rows { rows_fit (length names.inputs.items) rows.parts.items ≡ true }
     requires polarity { polarity_fits rows.parts.items rows.on ≡ true }
     ensures inputs { result.inputs ≡ names.inputs.items }
@@ -304,33 +337,48 @@ pub fn table_of(names: TableLine, rows: Rows) -> Table
     }
 }
 
-// No statement may stand below `.end`.
-fn read_end(statements: &mut Statements<'_>) -> Result<(), ReadFault>
-    ensures ok { OnOk result ((statements.old ≡ []) × (statements.new ≡ [])) }
-    ensures fault { IfErr result (λ e. (s : Statement) × (ss : List Statement) × (statements.old ≡ s ∷ ss) × (fault_in e ≡ Some (AfterEnd s.line))) }
+// The next statement of the model. In a file of models the next `.model` begins another one.
+fn next_of_model<'a>(statements: &mut Statements<'a>, many: bool) -> Option<Parts<'a>>
+    ensures none { IfNone result ((statements.new ≡ statements.old) × (own many statements.old ≡ []) × (behind many statements.old ≡ statements.old)) }
+    ensures some { IfSome result (λ parts. own many statements.old ≡ statement_in parts ∷ own many statements.new) }
+    ensures left { IfSome result (λ parts. behind many statements.old ≡ behind many statements.new) }
+    ensures words { IfSome result (λ parts. all_words parts.words ≡ true) }
+    ensures less { IfSome result (λ parts. length statements.new < length statements.old) }
 {
-    match statements.next() {
+    if many && statements.begins_model() {
+        return None;
+    }
+    statements.next()
+}
+
+// No statement of the model may stand below `.end`.
+fn read_end(statements: &mut Statements<'_>, many: bool) -> Result<(), ReadFault>
+    ensures ok { OnOk result ((own many statements.old ≡ []) × (statements.new ≡ statements.old)) }
+    ensures fault { IfErr result (λ e. (s : lines.Statement) × (ss : List lines.Statement) × (own many statements.old ≡ s ∷ ss) × (fault_in e ≡ Some (AfterEnd s.line))) }
+{
+    match next_of_model(statements, many) {
         Some(parts) => Err(ReadFault::AfterEnd(parts.line)),
         None => Ok(()),
     }
 }
 
-/// Gathers what statements spell; or else answers the first fault of a line.
-///
-/// Each word is looked up once; nothing is allocated for a word but for a new name.
-pub fn gather(alloc: Global, statements: Statements<'_>) -> Result<Gathered, ReadFault>
-    requires few { word_count statements < 2 ^ 32 }
-    ensures spelled { IfOk result (λ g. Spell statements.entry (netlist_in g.netlist)) }
-    ensures faultless { OnOk result (first_fault_of_lines checks [] statements.entry ≡ None) }
-    ensures reads { IfOk result (λ g. words_at g.netlist.frame.names g.reads ≡ flat_map reads statements.entry) }
-    ensures below { IfOk result (λ g. all_below (length g.netlist.frame.names) g.reads ≡ true) }
-    ensures names { IfOk result (λ g. length g.netlist.frame.names ≤ word_count statements.entry) }
-    ensures fault { IfErr result (λ e. IfSome (fault_in e) (λ f. first_fault_of_lines checks [] statements.entry ≡ Some f)) }
+/// Gathers the statements of a model that are left; or else answers the first fault of a line.
+pub fn gather_rest(
+    alloc: Global,
+    gathering: Gathering,
+    statements: &mut Statements<'_>,
+    many: bool,
+) -> Result<Gathering, ReadFault>
+    requires sound { IsSound gathering }
+    requires begun { HasRoom (own many statements.old) gathering }
+    ensures gathered { IfOk result (λ g. (models : List (List ℕ)) (all : List lines.Statement) → HasGathered models all (own many statements.old) gathering → HasGathered models all [] g) }
+    ensures sound { IfOk result IsSound }
+    ensures left { OnOk result (statements.new ≡ behind many statements.old) }
+    ensures fault { IfErr result (λ e. IfSome (fault_in e) (λ f. (models : List (List ℕ)) (all : List lines.Statement) → HasGathered models all (own many statements.old) gathering → first_fault_of_lines (model_checks models) [] all ≡ Some f)) }
 {
-    let mut statements = statements;
-    let mut gathering = Gathering::begin(alloc, &mut statements)?;
-    while let Some(parts) = statements.next() {
-        gathering.add(alloc, parts, &mut statements)?;
+    let mut gathering = gathering;
+    while let Some(parts) = next_of_model(statements, many) {
+        gathering.add(alloc, parts, statements, many)?;
     }
-    Ok(gathering.finish(alloc)?)
+    Ok(gathering)
 }

@@ -1,10 +1,10 @@
-//! Laws of reading, and worked texts.
+//! Laws of reading, and worked texts: each function has an empty body, and its clause is the law.
 
-ghost use Rattle.syn_reader.specs.Laws.{CircleOrNone, EitherOr, FaultlessSpell, NotBoth, OneFault, OneNetlist, SpellComputed};
+ghost use Rattle.syn_reader.specs.Laws.{EitherOr, FaultlessSay, FewOutputs, NotBoth, OneFault, OneNetlist, SayComputed};
 ghost use Rattle.syn_reader.specs.Worked.{Worked, WorkedPrefixes};
-ghost use Rattle.syn_reader.specs.WorkedNetlists.{WorkedNetlists};
+ghost use Rattle.syn_reader.specs.WorkedModels.{WorkedModels, WorkedParts, WorkedSubcircuits};
 
-/// The definitions of faults give the wanted answers on worked texts.
+/// The definitions of faults of lines give the wanted answers on worked texts.
 pub fn worked_texts()
     ensures { Worked }
 {}
@@ -14,42 +14,52 @@ pub fn worked_prefixes()
     ensures { WorkedPrefixes }
 {}
 
-/// The statements of worked texts spell the wanted netlists.
-pub fn worked_netlists()
-    ensures { WorkedNetlists }
+/// The definitions say where `.model` and `.end` may stand, as worked texts want it.
+pub fn worked_parts()
+    ensures { WorkedParts }
 {}
 
-/// Statements spell the computed netlist, and no other.
-pub fn spell_computed()
-    ensures { SpellComputed }
+/// The definitions give the wanted faults on worked lines of subcircuits.
+pub fn worked_subcircuits()
+    ensures { WorkedSubcircuits }
 {}
 
-/// A text reads as at most one netlist.
+/// The statements of a worked text say the wanted models.
+pub fn worked_models()
+    ensures { WorkedModels }
+{}
+
+/// Statements say what is computed from them, and nothing else.
+pub fn say_computed()
+    ensures { SayComputed }
+{}
+
+/// Statements of a model in which no fault of a line stands say something.
+pub fn faultless_say()
+    ensures { FaultlessSay }
+{}
+
+/// A file reads as at most one netlist.
 pub fn one_netlist()
     ensures { OneNetlist }
 {}
 
-/// Statements without a fault of a line spell a netlist.
-pub fn faultless_spell()
-    ensures { FaultlessSpell }
-{}
-
-/// A text that reads as a netlist within the limits has no first fault.
-pub fn not_both()
-    ensures { NotBoth }
-{}
-
-/// Tables whose outputs are distinct are in no circle, or the answered circle is there.
-pub fn circle_or_none()
-    ensures { CircleOrNone }
-{}
-
-/// A text reads as a netlist within the limits, or has a first fault.
+/// A file reads as a netlist within the limits, or has a first fault.
 pub fn either_or()
     ensures { EitherOr }
 {}
 
-/// A text has at most one first fault.
+/// A file that reads as a netlist within the limits has no first fault.
+pub fn not_both()
+    ensures { NotBoth }
+{}
+
+/// A file has at most one first fault.
 pub fn one_fault()
     ensures { OneFault }
+{}
+
+/// A netlist that is read within the limits has at most 16,777,216 outputs: each is a word of a line.
+pub fn few_outputs()
+    ensures { FewOutputs }
 {}

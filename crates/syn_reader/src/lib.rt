@@ -1,26 +1,28 @@
-//! Reading a netlist from its text.
+//! Reading a file of one or more models to one checked netlist.
 //!
-//! `specs/` says what the lines of a text are as statements, which faults can stand in it, and
-//! which netlist it spells. `read` reads the netlist, or names the text's first fault. The laws
-//! hold of the definitions alone: a text spells at most one netlist, and either it spells one
-//! within the limits, or it has one first fault.
+//! The lines of a file are told apart by model, and each line is read by its keyword. The models that they spell are
+//! flattened to a netlist. `specs/` says what the lines are as statements, which models and which netlist a file spells,
+//! which faults can stand in it, and which of them is its first. `read` reads the netlist, or names the first fault. The
+//! laws hold of the definitions alone.
 #![tactic(auto)]
 
+mod alone;
+mod checking;
 mod gathering;
-pub mod latch_lines;
+mod latch_lines;
 mod laws;
-mod limits;
+mod models;
 mod reading;
-pub mod rows;
-pub mod signals;
-pub mod statements;
+mod rows;
+mod signals;
+mod statements;
+mod subcircuits;
 
-pub use gathering::{read_model, table_of};
+pub use checking::{MOST_COST, MOST_SOURCES};
 pub use laws::{
-    circle_or_none, either_or, faultless_spell, not_both, one_fault, one_netlist, spell_computed,
-    worked_netlists, worked_prefixes, worked_texts,
+    either_or, faultless_say, few_outputs, not_both, one_fault, one_netlist, say_computed,
+    worked_models, worked_parts, worked_prefixes, worked_subcircuits, worked_texts,
 };
-pub use limits::{MOST_COST, MOST_SOURCES};
 pub use reading::{read, read_checked};
 use std::alloc::{AllocError, AllocFailed};
 use syn_netlist::{Items, Word};
@@ -50,18 +52,19 @@ pub enum Kind {
     End,
 }
 
-/// Why a text was not read: its first fault, or want of memory.
+/// Why a file was not read: its first fault, or want of memory.
 ///
-/// An offset counts bytes from 0, a line from 1: of a logical line it is the first physical one.
+/// An offset counts bytes from 0, a line from 1: of a logical line it is the first physical one. The faults of lines come in
+/// the order here on one line, and so do those of a subcircuit.
 #[derive(Debug, Drop)]
 pub enum ReadFault {
     /// The byte at this offset is none of the format's.
     BadByte(u32),
-    /// This line stands below the `.end` line.
+    /// This line stands below the `.end` line of its model.
     AfterEnd(u32),
     /// The keyword of this line isn't known.
     UnknownKeyword(u32),
-    /// `.model` on this line isn't the first statement.
+    /// `.model` on this line isn't the first statement of a file that doesn't begin with one.
     SecondModel(u32),
     /// `.model` or `.names` on this line has no further word.
     NoName(u32),
@@ -79,10 +82,26 @@ pub enum ReadFault {
     LatchType(u32),
     /// The initial value of the latch on this line is none.
     LatchInit(u32),
-    /// This line defines a name that a definition before it forbids.
+    /// This line defines a name that a definition before it forbids; or its subcircuit does, and then another one anywhere in its model may forbid it.
     DefinedTwice(u32, Word),
-    /// This name is read and never defined; its reading place is the first such one.
+    /// `.model` on this line has the name of a model above.
+    ModelTwice(u32),
+    /// The words behind `.subckt` on this line are no model with binds: there is none, or a word without `=`, with an empty side or with the actual `NIL`.
+    SubcktShape(u32),
+    /// This line binds this formal for a second time.
+    PortTwice(u32, Word),
+    /// The model of the subcircuit on this line isn't there.
+    UnknownModel(u32),
+    /// The subcircuit on this line binds this formal, which is no input, clock or output of its model.
+    UnknownPort(u32, Word),
+    /// The subcircuit on this line doesn't bind this input or clock of its model.
+    PortMissing(u32, Word),
+    /// This name is read and never defined in its model; its reading place is the first such one.
     Undriven(Word),
+    /// The models of these names contain each other in a circle: each contains the next, the last contains the first.
+    Recursion(Items<Word>),
+    /// So many words of the main model and the models of all instances are too many; the greatest number stands for all that are greater.
+    TooManyWords(u64),
     /// The tables that define these names read each other in a circle: each reads the next, the last the first.
     Cycle(Items<Word>),
     /// So many sources are too many.

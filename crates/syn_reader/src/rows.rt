@@ -3,7 +3,7 @@
 ghost use Rattle.std.specs.Prelude.{◌≡◌, ℕ, ◌++◌, List, [], ◌∷◌, map, false, true, IfErr, IfNone, IfOk, IfSome, OnOk, Some, None};
 ghost use Rattle.syn_lex.specs.Words.{text_of};
 ghost use Rattle.syn_reader.specs.Computed.{is_on, row_part, row_parts};
-ghost use Rattle.syn_reader.specs.Reading.{rows_below};
+ghost use Rattle.syn_reader.specs.Statements.{rows_below};
 ghost use Rattle.syn_reader.specs.Causes.{fault_in};
 ghost use Rattle.syn_reader.specs.Parts.{statement_in};
 ghost use Rattle.syn_reader.specs.Rows.{below_rows, output_in, row_fault, row_in, rows_fault};

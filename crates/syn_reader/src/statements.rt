@@ -4,7 +4,7 @@ ghost use Rattle.std.specs.Prelude.{◌≡◌, ℕ, ◌↔◌, List, [], ◌∷�
 ghost use Rattle.syn_lex.specs.Lines.{LogicalLine};
 ghost use Rattle.syn_lex.specs.Words.{text_of};
 ghost use Rattle.syn_reader.specs.Heard.{all_words, Begins, line_words, lines_words, statement};
-ghost use Rattle.syn_reader.specs.Statements.{begins_model, begins_with_dot, keywords, keywords_with, kind_in, line_by, statement_of};
+ghost use Rattle.syn_reader.specs.Statements.{begins_model, begins_with_dot, keywords, kind_in, statement_of};
 ghost use Rattle.syn_reader.specs.Parts.{ahead, ahead_words, is_settled, statement_in};
 
 use crate::Kind;
@@ -27,24 +27,12 @@ fn kind_of(word: &[u8]) -> Kind
         Kind::Names
     } else if b".latch".as_slice() == word {
         Kind::Latch
+    } else if b".subckt".as_slice() == word {
+        Kind::Subckt
     } else if b".end".as_slice() == word {
         Kind::End
     } else {
         Kind::Unknown
-    }
-}
-
-// The kind of a keyword, which `.subckt` is where there may be subcircuits.
-fn kind_with(word: &[u8], subcircuits: bool) -> Kind
-    ensures { result ≡ kind_in (keywords_with subcircuits) word.now }
-{
-    if !subcircuits {
-        return kind_of(word);
-    }
-    if b".subckt".as_slice() == word {
-        Kind::Subckt
-    } else {
-        kind_of(word)
     }
 }
 
@@ -62,15 +50,15 @@ pub struct Parts<'a> {
     pub words: LineWords<'a>,
 }
 
-fn parts_of<'a>(line: &Line<'a>, subcircuits: bool) -> Parts<'a>
-    ensures value { statement_in result ≡ line_by (keywords_with subcircuits) line.now }
+fn parts_of<'a>(line: &Line<'a>) -> Parts<'a>
+    ensures value { statement_in result ≡ statement_of line.now }
     ensures words { line_words line.now ≡ true → all_words result.words ≡ true }
 {
     let mut words = line.words();
     match words.next() {
         Some((_, first)) if begins_with_dot(first) => Parts {
             line: line.number(),
-            kind: kind_with(first, subcircuits),
+            kind: kind_of(first),
             words,
         },
         _ => Parts {
@@ -86,62 +74,41 @@ fn parts_of<'a>(line: &Line<'a>, subcircuits: bool) -> Parts<'a>
 pub struct Statements<'a> {
     next: Option<Parts<'a>>,
     lines: Logical<'a>,
-    subcircuits: bool,
 }
 
 impl<'a> Model for Statements<'a> {
     ghost use Rattle.std.specs.Prelude.{◌≡◌, ◌++◌, true, List, map};
     ghost use Rattle.syn_reader.specs.Heard.{lines_words};
-    ghost use Rattle.syn_reader.specs.Statements.{Statement, keywords_with, line_by};
+    ghost use Rattle.syn_reader.specs.Statements.{Statement, statement_of};
     ghost use Rattle.syn_reader.specs.Parts.{ahead, ahead_words, is_settled};
 
     ghost Value = { List Statement };
 
-    ghost view = { λ s. ahead s.next ++ map (line_by (keywords_with s.subcircuits)) s.lines };
+    ghost view = { λ s. ahead s.next ++ map statement_of s.lines };
 
     ghost invariant = { λ s. (ahead_words s.next ≡ true) × (lines_words s.lines ≡ true) × (is_settled s.next s.lines ≡ true) };
 }
 
-fn next_parts<'a>(lines: &mut Logical<'a>, subcircuits: bool) -> Option<Parts<'a>>
+fn next_parts<'a>(lines: &mut Logical<'a>) -> Option<Parts<'a>>
     requires { lines_words lines.old ≡ true }
-    ensures value { ahead result ++ map (line_by (keywords_with subcircuits)) lines.new ≡ map (line_by (keywords_with subcircuits)) lines.old }
+    ensures value { ahead result ++ map statement_of lines.new ≡ map statement_of lines.old }
     ensures settled { is_settled result lines.new ≡ true }
     ensures words { ahead_words result ≡ true }
     ensures left { lines_words lines.new ≡ true }
 {
     let line = lines.next()?;
-    Some(parts_of(&line, subcircuits))
+    Some(parts_of(&line))
 }
 
 impl<'a> Statements<'a> {
-    // The statements of the lines, with `.subckt` as a keyword where there may be subcircuits.
-    fn with(lines: Logical<'a>, subcircuits: bool) -> Statements<'a>
-        requires { lines_words lines ≡ true }
-        ensures { result ≡ map (line_by (keywords_with subcircuits)) lines.entry }
-    {
-        let mut lines = lines;
-        let next = next_parts(&mut lines, subcircuits);
-        Statements {
-            next,
-            lines,
-            subcircuits,
-        }
-    }
-
-    /// The statements of the lines of a file of one model.
+    /// The statements of the lines of a file.
     pub fn of(lines: Logical<'a>) -> Statements<'a>
         requires { lines_words lines ≡ true }
         ensures { result ≡ map statement_of lines.entry }
     {
-        Statements::with(lines, false)
-    }
-
-    /// The statements of the lines of a file that may have subcircuits.
-    pub fn of_models(lines: Logical<'a>) -> Statements<'a>
-        requires { lines_words lines ≡ true }
-        ensures { result ≡ map (line_by (keywords_with true)) lines.entry }
-    {
-        Statements::with(lines, true)
+        let mut lines = lines;
+        let next = next_parts(&mut lines);
+        Statements { next, lines }
     }
 
     /// Whether the next statement is `.model`.
@@ -161,7 +128,7 @@ impl<'a> Statements<'a> {
         ensures words { IfSome result (λ parts. all_words parts.words ≡ true) }
     {
         let parts = self.next.take()?;
-        self.next = next_parts(&mut self.lines, self.subcircuits);
+        self.next = next_parts(&mut self.lines);
         Some(parts)
     }
 
@@ -178,7 +145,7 @@ impl<'a> Statements<'a> {
             self.next = Some(parts);
             return None;
         }
-        self.next = next_parts(&mut self.lines, self.subcircuits);
+        self.next = next_parts(&mut self.lines);
         Some(parts)
     }
 }

@@ -3,11 +3,11 @@ use Rattle.std.proofs.Common.{◌≡◌, ◌⊎◌, ℕ, ◌+◌, ◌<◌, ◌�
 use Rattle.std.specs.Option.{IsSomeAnd}
 use Rattle.syn_io.specs.Outside.{Disk, Input, Screen, file_at, next_line}
 use Rattle.syn_netlist.specs.Lists.{Netlist}
-use Rattle.syn_hierarchy.specs.Causes.{fault_in}
-use Rattle.syn_hierarchy.specs.Faults.{Fault}
-use Rattle.syn_hierarchy.specs.Laws.{NotBoth}
-use Rattle.syn_hierarchy.specs.Limits.{IsFirstFault, Within}
-use Rattle.syn_hierarchy.specs.Reading.{Reads}
+use Rattle.syn_reader.specs.Causes.{fault_in}
+use Rattle.syn_reader.specs.Faults.{Fault}
+use Rattle.syn_reader.specs.Laws.{NotBoth}
+use Rattle.syn_reader.specs.Limits.{IsFirstFault, Within}
+use Rattle.syn_reader.specs.Reading.{Reads}
 use Rattle.syn_aiger_files.specs.declared.files.Aig.{Aig}
 use Rattle.syn_aiger.specs.Faults.{Spells}
 use Rattle.syn_aiger.specs.Faults as aiger

@@ -2,16 +2,14 @@
 use Rattle.std.proofs.Common.{◌≡◌, ℕ, ◌+◌, ◌-◌, ◌^◌, ◌<◌, ◌≤◌, nat_eq, nat_lt, List, [], ◌∷◌, length, sym, ap, ◌∙◌, arith, inl, inr}
 use Rattle.std.proofs.lemmas.Bool.{both_ways, cases_Bool, eq-eqb, ltb-true, ltb-false}
 use Rattle.syn_io.specs.Outside.{Rose, Disk, Screen, Input}
-use Rattle.syn_models.specs.declared.flat_fault.FlatFault.{FlatFault}
-use Rattle.syn_models.specs.declared.flat_fault.FlatFault.TheVariants as models
-use Rattle.syn_hierarchy.specs.declared.file_fault.FileFault.{FileFault}
-use Rattle.syn_hierarchy.specs.declared.file_fault.FileFault.TheVariants as file
+use Rattle.syn_reader.specs.declared.ReadFault.{ReadFault}
+use Rattle.syn_reader.specs.declared.ReadFault.TheVariants as file
 use Rattle.syn_aiger_files.specs.declared.fault.AigFault.{AigFault}
 use Rattle.syn_aiger_files.specs.declared.fault.AigFault.TheVariants as aiger
 use Rattle.syn_shell.specs.declared.refusal.Refusal.{Refusal}
 use Rattle.syn_shell.specs.declared.refusal.Refusal.TheVariants.{Read, ReadAiger, GetFailed, PutFailed, LineFailed, SinkFailed}
 use Rattle.syn_shell.specs.Outside.{State}
-use Rattle.syn_shell.specs.Lines.{aiger_status, file_status, models_status, refusal_status}
+use Rattle.syn_shell.specs.Lines.{aiger_status, read_status, refusal_status}
 use Rattle.syn_shell.specs.Scripts.{Refused}
 use Rattle.syn_shell.specs.LineMode.{RunsLines, most_lines}
 use Rattle.syn_shell.specs.Usage.{usage_of}
@@ -29,14 +27,12 @@ rose_by a b n h = elim (cases_Bool (nat_lt b (2 ^ 64 - 1))) [
       omega arith
 ]
 
-models_not_seven : (fault : FlatFault) → models_status fault ≡ 7 → ⊥
-models_not_seven (models.TooManyWords count) e = absurd (omega (arith, e))
-models_not_seven models.NoMemory e = absurd (omega (arith, e))
-models_not_seven other e = absurd (omega (arith, e))
-
-file_not_seven : (fault : FileFault) → file_status fault ≡ 7 → ⊥
-file_not_seven (file.Models fault) e = models_not_seven fault e
-file_not_seven other e = absurd (omega (arith, e))
+read_not_seven : (fault : ReadFault) → read_status fault ≡ 7 → ⊥
+read_not_seven (file.TooManyWords count) e = absurd (omega (arith, e))
+read_not_seven (file.TooManySources count) e = absurd (omega (arith, e))
+read_not_seven (file.TooLarge cost) e = absurd (omega (arith, e))
+read_not_seven file.NoMemory e = absurd (omega (arith, e))
+read_not_seven other e = absurd (omega (arith, e))
 
 aiger_not_seven : (fault : AigFault) → aiger_status fault ≡ 7 → ⊥
 aiger_not_seven (aiger.TooManySources count) e = absurd (omega (arith, e))
@@ -49,7 +45,7 @@ seven_by GetFailed name more d d' s s' i i' e f = inl (rose_by d.faults d'.fault
 seven_by PutFailed name more d d' s s' i i' e f = inl (rose_by d.faults d'.faults _ f.files)
 seven_by SinkFailed name more d d' s s' i i' e f = inr (inl (rose_by s.faults s'.faults _ f.sink))
 seven_by LineFailed name more d d' s s' i i' e f = inr (inr (rose_by i.faults i'.faults _ f.lines))
-seven_by (Read fault) name more d d' s s' i i' e f = absurd (file_not_seven fault e)
+seven_by (Read fault) name more d d' s s' i i' e f = absurd (read_not_seven fault e)
 seven_by (ReadAiger fault) name more d d' s s' i i' e f = absurd (aiger_not_seven fault e)
 seven_by other name more d d' s s' i i' e f = absurd (omega (arith, e))
 

@@ -1,10 +1,8 @@
 -- Lines one after the other, and the status that is kept.
 use Rattle.std.proofs.Common.{◌≡◌, ℕ, ◌+◌, ◌<◌, nat_eq, false, List, [], ◌∷◌, ◌++◌, refl, sym, ap, ◌∙◌, subst, inl, inr, Option, None, Some}
 use Rattle.std.proofs.lemmas.Bool.{cases_Bool, cond-true, cond-false}
-use Rattle.syn_models.specs.declared.flat_fault.FlatFault.{FlatFault}
-use Rattle.syn_models.specs.declared.flat_fault.FlatFault.TheVariants as models
-use Rattle.syn_hierarchy.specs.declared.file_fault.FileFault.{FileFault}
-use Rattle.syn_hierarchy.specs.declared.file_fault.FileFault.TheVariants as file
+use Rattle.syn_reader.specs.declared.ReadFault.{ReadFault}
+use Rattle.syn_reader.specs.declared.ReadFault.TheVariants as file
 use Rattle.syn_aiger_files.specs.declared.fault.AigFault.{AigFault}
 use Rattle.syn_aiger_files.specs.declared.fault.AigFault.TheVariants as aiger
 use Rattle.syn_shell.specs.declared.refusal.Refusal.{Refusal}
@@ -16,7 +14,7 @@ use Rattle.syn_shell.specs.declared.line_mode.Turn.{Turn}
 use Rattle.syn_shell.specs.declared.line_mode.Turn.TheVariants as turn
 use Rattle.syn_io.specs.Outside.{Disk, Screen, Input}
 use Rattle.syn_shell.specs.Outside.{State, state, GaveLine, GaveNone}
-use Rattle.syn_shell.specs.Lines.{aiger_status, file_status, models_status, refusal_status}
+use Rattle.syn_shell.specs.Lines.{aiger_status, read_status, refusal_status}
 use Rattle.syn_shell.specs.Scripts.{Refused, nameless, RunsScript}
 use Rattle.syn_shell.specs.LineMode.{GoesOn, LineRefused, NoFurther, RunsLines, listed, most_lines}
 use Rattle.syn_shell.specs.Runs.{status_of}
@@ -25,18 +23,12 @@ use Rattle.syn_shell.proofs.Hearing.{nothing_run, nothing_status}
 
 -- no refusal has the status of an accepted run
 
-models_refused : (fault : FlatFault) → nat_eq (models_status fault) 0 ≡ false
-models_refused (models.TooManyWords count) = refl
-models_refused models.NoMemory = refl
-models_refused fault = refl
-
-file_refused : (fault : FileFault) → nat_eq (file_status fault) 0 ≡ false
-file_refused (file.Lines fault) = refl
-file_refused (file.Models fault) = models_refused fault
-file_refused (file.Cycle names) = refl
-file_refused (file.TooManySources count) = refl
-file_refused (file.TooLarge cost) = refl
-file_refused file.NoMemory = refl
+read_refused : (fault : ReadFault) → nat_eq (read_status fault) 0 ≡ false
+read_refused (file.TooManyWords count) = refl
+read_refused (file.TooManySources count) = refl
+read_refused (file.TooLarge cost) = refl
+read_refused file.NoMemory = refl
+read_refused other = refl
 
 aiger_refused : (fault : AigFault) → nat_eq (aiger_status fault) 0 ≡ false
 aiger_refused (aiger.TooManySources count) = refl
@@ -47,7 +39,7 @@ aiger_refused other = refl
 pub is_refused : (cause : Refusal) → nat_eq (refusal_status cause) 0 ≡ false
 is_refused Words = refl
 is_refused (Script fault) = refl
-is_refused (Read fault) = file_refused fault
+is_refused (Read fault) = read_refused fault
 is_refused (ReadAiger fault) = aiger_refused fault
 is_refused FileTooLong = refl
 is_refused LineTooLong = refl

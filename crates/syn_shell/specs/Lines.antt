@@ -10,12 +10,6 @@ use Rattle.syn_words.specs.declared.ScriptFault.{ScriptFault}
 use Rattle.syn_words.specs.declared.ScriptFault.TheVariants as script
 use Rattle.syn_reader.specs.declared.ReadFault.{ReadFault}
 use Rattle.syn_reader.specs.declared.ReadFault.TheVariants as read
-use Rattle.syn_model_lines.specs.declared.lines_fault.LinesFault.{LinesFault}
-use Rattle.syn_model_lines.specs.declared.lines_fault.LinesFault.TheVariants as lines
-use Rattle.syn_models.specs.declared.flat_fault.FlatFault.{FlatFault}
-use Rattle.syn_models.specs.declared.flat_fault.FlatFault.TheVariants as models
-use Rattle.syn_hierarchy.specs.declared.file_fault.FileFault.{FileFault}
-use Rattle.syn_hierarchy.specs.declared.file_fault.FileFault.TheVariants as file
 use Rattle.syn_aiger_files.specs.declared.fault.AigFault.{AigFault}
 use Rattle.syn_aiger_files.specs.declared.fault.AigFault.TheVariants as aiger
 use Rattle.syn_shell.specs.Networks.{Network}
@@ -86,7 +80,7 @@ name_at_line line name what = joined (codes "line " ∷ decimal line ∷ codes "
 abbrev pub chain_text : List ℕ → List (List ℕ) → List ℕ
 chain_text called names = called ++ flat_map (λ name. codes " " ++ name) names
 
--- what a fault says that a file of one model may have
+-- what a fault of a file says
 abbrev pub read_text : ReadFault → List ℕ
 read_text (read.BadByte at) = joined (codes "byte " ∷ decimal at ∷ codes ": bad byte" ∷ [])
 read_text (read.AfterEnd line) = at_line line (codes "after end")
@@ -101,38 +95,19 @@ read_text (read.LatchShape line) = at_line line (codes "latch shape")
 read_text (read.LatchType line) = at_line line (codes "latch type")
 read_text (read.LatchInit line) = at_line line (codes "latch init")
 read_text (read.DefinedTwice line name) = name_at_line line name (codes " defined twice")
+read_text (read.ModelTwice line) = at_line line (codes "model defined twice")
+read_text (read.SubcktShape line) = at_line line (codes "subckt shape")
+read_text (read.PortTwice line formal) = name_at_line line formal (codes " bound twice")
+read_text (read.UnknownModel line) = at_line line (codes "unknown model")
+read_text (read.UnknownPort line formal) = name_at_line line formal (codes " unknown port")
+read_text (read.PortMissing line port) = name_at_line line port (codes " unbound")
 read_text (read.Undriven name) = joined (name ∷ codes " undriven" ∷ [])
+read_text (read.Recursion names) = chain_text (codes "recursion") names
+read_text (read.TooManyWords count) = joined (decimal count ∷ codes " words" ∷ [])
 read_text (read.Cycle names) = chain_text (codes "cycle") names
 read_text (read.TooManySources count) = joined (decimal count ∷ codes " sources" ∷ [])
 read_text (read.TooLarge cost) = joined (codes "cost " ∷ decimal cost ∷ [])
 read_text read.NoMemory = codes "out of memory"
-
--- what a fault of the lines of models says
-abbrev pub lines_text : LinesFault → List ℕ
-lines_text (lines.Read fault) = read_text fault
-lines_text (lines.ModelTwice line) = at_line line (codes "model defined twice")
-lines_text (lines.SubcktShape line) = at_line line (codes "subckt shape")
-lines_text (lines.PortTwice line formal) = name_at_line line formal (codes " bound twice")
-
--- what a fault of models as subcircuits of each other says
-abbrev pub models_text : FlatFault → List ℕ
-models_text (models.UnknownModel line) = at_line line (codes "unknown model")
-models_text (models.UnknownPort line formal) = name_at_line line formal (codes " unknown port")
-models_text (models.PortMissing line port) = name_at_line line port (codes " unbound")
-models_text (models.DefinedTwice line name) = name_at_line line name (codes " defined twice")
-models_text (models.Undriven name) = joined (name ∷ codes " undriven" ∷ [])
-models_text (models.Recursion names) = chain_text (codes "recursion") names
-models_text (models.TooManyWords count) = joined (decimal count ∷ codes " words" ∷ [])
-models_text models.NoMemory = codes "out of memory"
-
--- what a fault of a file says
-abbrev pub file_text : FileFault → List ℕ
-file_text (file.Lines fault) = lines_text fault
-file_text (file.Models fault) = models_text fault
-file_text (file.Cycle names) = chain_text (codes "cycle") names
-file_text (file.TooManySources count) = joined (decimal count ∷ codes " sources" ∷ [])
-file_text (file.TooLarge cost) = joined (codes "cost " ∷ decimal cost ∷ [])
-file_text file.NoMemory = codes "out of memory"
 
 -- what a fault of an AIGER file says; its places are offsets of bytes
 abbrev pub aiger_text : AigFault → List ℕ
@@ -150,7 +125,7 @@ aiger_text aiger.NoMemory = codes "out of memory"
 abbrev pub refusal_text : Refusal → List ℕ → List ℕ
 refusal_text Words name = codes "command line"
 refusal_text (Script fault) name = script_text fault
-refusal_text (Read fault) name = file_text fault
+refusal_text (Read fault) name = read_text fault
 refusal_text (ReadAiger fault) name = aiger_text fault
 refusal_text FileTooLong name = codes "file longer than 16777216 bytes"
 refusal_text LineTooLong name = codes "line longer than 65536 bytes"
@@ -168,20 +143,13 @@ refusal_text NoMemory name = codes "out of memory"
 abbrev pub refusal_line : Refusal → List ℕ → List ℕ
 refusal_line refusal name = codes "refused: " ++ (refusal_text refusal name ++ 10 ∷ [])
 
--- the status that a run ends with where a fault of models is refused first: their limit has one of its own
-abbrev pub models_status : FlatFault → ℕ
-models_status (models.TooManyWords count) = 5
-models_status models.NoMemory = 8
-models_status fault = 4
-
 -- the status that a run ends with where a file's fault is refused first: its three limits have one of their own
-abbrev pub file_status : FileFault → ℕ
-file_status (file.Lines fault) = 4
-file_status (file.Models fault) = models_status fault
-file_status (file.Cycle names) = 4
-file_status (file.TooManySources count) = 5
-file_status (file.TooLarge cost) = 5
-file_status file.NoMemory = 8
+abbrev pub read_status : ReadFault → ℕ
+read_status (read.TooManyWords count) = 5
+read_status (read.TooManySources count) = 5
+read_status (read.TooLarge cost) = 5
+read_status read.NoMemory = 8
+read_status fault = 4
 
 -- the same of a fault of an AIGER file: its two limits have one of their own
 abbrev pub aiger_status : AigFault → ℕ
@@ -194,7 +162,7 @@ aiger_status fault = 4
 abbrev pub refusal_status : Refusal → ℕ
 refusal_status Words = 2
 refusal_status (Script fault) = 3
-refusal_status (Read fault) = file_status fault
+refusal_status (Read fault) = read_status fault
 refusal_status (ReadAiger fault) = aiger_status fault
 refusal_status FileTooLong = 5
 refusal_status LineTooLong = 5

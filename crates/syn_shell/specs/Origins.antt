@@ -7,7 +7,7 @@ use Rattle.syn_netlist.specs.Meaning.{SameMeaning}
 use Rattle.syn_netlist.specs.Order.{Ordered}
 use Rattle.syn_shapes.specs.Printed.{printed}
 use Rattle.syn_gen.specs.Generated.{generated}
-use Rattle.syn_hierarchy.specs.Reading.{Reads}
+use Rattle.syn_reader.specs.Reading.{Reads}
 use Rattle.syn_seq.specs.Sequential.{SameSequentially}
 use Rattle.syn_aiger_files.specs.declared.files.Aig.{Aig}
 use Rattle.syn_aiger.specs.Faults.{Spells}

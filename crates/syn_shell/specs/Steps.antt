@@ -33,10 +33,10 @@ use Rattle.syn_aiger.specs.Networks.{IsGraphOfAig}
 use Rattle.syn_aiger.specs.Writing.{IsWrittenAs, aig_of, first_typed}
 use Rattle.syn_words.specs.declared.Command.{Command}
 use Rattle.syn_words.specs.declared.Command.TheVariants as commands
-use Rattle.syn_hierarchy.specs.declared.file_fault.FileFault.{FileFault}
-use Rattle.syn_hierarchy.specs.Causes.{fault_in}
-use Rattle.syn_hierarchy.specs.Limits.{Within, IsFirstFault}
-use Rattle.syn_hierarchy.specs.Reading.{Reads}
+use Rattle.syn_reader.specs.declared.ReadFault.{ReadFault}
+use Rattle.syn_reader.specs.Causes.{fault_in}
+use Rattle.syn_reader.specs.Limits.{Within, IsFirstFault}
+use Rattle.syn_reader.specs.Reading.{Reads}
 use Rattle.syn_build.specs.Building.{IsGraphOf}
 use Rattle.syn_shell.specs.declared.refusal.Refusal.{Refusal}
 use Rattle.syn_shell.specs.declared.refusal.Refusal.TheVariants.{Read, ReadAiger, FileTooLong, TooManyGates, LatchType, NoNetwork, GetFailed, PutFailed, SinkFailed, NoMemory}
@@ -69,7 +69,7 @@ pub record IsReadAsAiger (name : List ℕ) (files : Disk) (m : Netlist) : Type 0
   pub graph : IsGraphOfAig aig m
 
 -- The bytes of a file have this first fault, which is none of memory.
-pub record IsFaulty (name : List ℕ) (files : Disk) (fault : FileFault) : Type 0 where
+pub record IsFaulty (name : List ℕ) (files : Disk) (fault : ReadFault) : Type 0 where
   pub bytes : List ℕ
   pub file : FileIs name files bytes
   pub short : length bytes ≤ file_limit

@@ -1,7 +1,7 @@
 //! The lines of refusals, put in pieces that take no memory, and their statuses.
 
 ghost use Rattle.std.specs.Prelude.{◌≡◌, ◌++◌, ◌∷◌, [], codes, decimal, flat_map, map};
-ghost use Rattle.syn_shell.specs.Lines.{aiger_status, aiger_text, at_line, at_place, chain_text, file_status, file_text, joined, lines_text, models_status, models_text, name_at_line, read_text, refusal_line, refusal_status, refusal_text, script_text};
+ghost use Rattle.syn_shell.specs.Lines.{aiger_status, aiger_text, at_line, at_place, chain_text, joined, name_at_line, read_status, read_text, refusal_line, refusal_status, refusal_text, script_text};
 ghost use Rattle.syn_shell.specs.Outside.{Puts};
 ghost use Rattle.syn_shell.specs.Scripts.{Refused};
 ghost use Rattle.syn_shell.specs.Stopping.{status_in, AnnouncesAs};
@@ -9,10 +9,7 @@ ghost use Rattle.syn_shell.specs.Stopping.{status_in, AnnouncesAs};
 use crate::refusal::Refusal;
 use itoa::Buffer;
 use syn_aiger_files::AigFault;
-use syn_hierarchy::FileFault;
 use syn_io::{Sink, SinkFailed};
-use syn_model_lines::LinesFault;
-use syn_models::FlatFault;
 use syn_netlist::Word;
 use syn_reader::ReadFault;
 use syn_words::ScriptFault;
@@ -160,7 +157,7 @@ fn put_script_fault<O: Sink>(out: &mut O, fault: &ScriptFault) -> Result<(), Sin
     }
 }
 
-// Puts what a fault says that a file of one model may have.
+// Puts what a fault of a file says.
 fn put_read_fault<O: Sink>(out: &mut O, fault: &ReadFault) -> Result<(), SinkFailed>
     ensures { Puts result (read_text fault.now) (O.screen out.old) (O.screen out.new) }
 {
@@ -180,61 +177,25 @@ fn put_read_fault<O: Sink>(out: &mut O, fault: &ReadFault) -> Result<(), SinkFai
         ReadFault::DefinedTwice(line, name) => {
             put_name_at_line(out, *line, name.as_slice(), b" defined twice")
         }
+        ReadFault::ModelTwice(line) => put_at_line(out, *line, b"model defined twice"),
+        ReadFault::SubcktShape(line) => put_at_line(out, *line, b"subckt shape"),
+        ReadFault::PortTwice(line, formal) => {
+            put_name_at_line(out, *line, formal.as_slice(), b" bound twice")
+        }
+        ReadFault::UnknownModel(line) => put_at_line(out, *line, b"unknown model"),
+        ReadFault::UnknownPort(line, formal) => {
+            put_name_at_line(out, *line, formal.as_slice(), b" unknown port")
+        }
+        ReadFault::PortMissing(line, port) => {
+            put_name_at_line(out, *line, port.as_slice(), b" unbound")
+        }
         ReadFault::Undriven(name) => put_all(out, &[name.as_slice(), b" undriven"]),
+        ReadFault::Recursion(names) => put_chain(out, b"recursion", names.as_slice()),
+        ReadFault::TooManyWords(count) => put_number(out, b"", *count, b" words"),
         ReadFault::Cycle(names) => put_chain(out, b"cycle", names.as_slice()),
         ReadFault::TooManySources(count) => put_number(out, b"", *count as u64, b" sources"),
         ReadFault::TooLarge(cost) => put_number(out, b"cost ", *cost, b""),
         ReadFault::NoMemory => put(out, b"out of memory"),
-    }
-}
-
-// Puts what a fault of the lines of models says.
-fn put_lines_fault<O: Sink>(out: &mut O, fault: &LinesFault) -> Result<(), SinkFailed>
-    ensures { Puts result (lines_text fault.now) (O.screen out.old) (O.screen out.new) }
-{
-    match fault {
-        LinesFault::Read(fault) => put_read_fault(out, fault),
-        LinesFault::ModelTwice(line) => put_at_line(out, *line, b"model defined twice"),
-        LinesFault::SubcktShape(line) => put_at_line(out, *line, b"subckt shape"),
-        LinesFault::PortTwice(line, formal) => {
-            put_name_at_line(out, *line, formal.as_slice(), b" bound twice")
-        }
-    }
-}
-
-// Puts what a fault of models as subcircuits of each other says.
-fn put_models_fault<O: Sink>(out: &mut O, fault: &FlatFault) -> Result<(), SinkFailed>
-    ensures { Puts result (models_text fault.now) (O.screen out.old) (O.screen out.new) }
-{
-    match fault {
-        FlatFault::UnknownModel(line) => put_at_line(out, *line, b"unknown model"),
-        FlatFault::UnknownPort(line, formal) => {
-            put_name_at_line(out, *line, formal.as_slice(), b" unknown port")
-        }
-        FlatFault::PortMissing(line, port) => {
-            put_name_at_line(out, *line, port.as_slice(), b" unbound")
-        }
-        FlatFault::DefinedTwice(line, name) => {
-            put_name_at_line(out, *line, name.as_slice(), b" defined twice")
-        }
-        FlatFault::Undriven(name) => put_all(out, &[name.as_slice(), b" undriven"]),
-        FlatFault::Recursion(names) => put_chain(out, b"recursion", names.as_slice()),
-        FlatFault::TooManyWords(count) => put_number(out, b"", *count, b" words"),
-        FlatFault::NoMemory => put(out, b"out of memory"),
-    }
-}
-
-// Puts what a fault of a file says.
-fn put_file_fault<O: Sink>(out: &mut O, fault: &FileFault) -> Result<(), SinkFailed>
-    ensures { Puts result (file_text fault.now) (O.screen out.old) (O.screen out.new) }
-{
-    match fault {
-        FileFault::Lines(fault) => put_lines_fault(out, fault),
-        FileFault::Models(fault) => put_models_fault(out, fault),
-        FileFault::Cycle(names) => put_chain(out, b"cycle", names.as_slice()),
-        FileFault::TooManySources(count) => put_number(out, b"", *count as u64, b" sources"),
-        FileFault::TooLarge(cost) => put_number(out, b"cost ", *cost, b""),
-        FileFault::NoMemory => put(out, b"out of memory"),
     }
 }
 
@@ -264,7 +225,7 @@ fn put_text<O: Sink>(out: &mut O, refusal: &Refusal, name: &[u8]) -> Result<(), 
     match refusal {
         Refusal::Words => put(out, b"command line"),
         Refusal::Script(fault) => put_script_fault(out, fault),
-        Refusal::Read(fault) => put_file_fault(out, fault),
+        Refusal::Read(fault) => put_read_fault(out, fault),
         Refusal::ReadAiger(fault) => put_aiger_fault(out, fault),
         Refusal::FileTooLong => put(out, b"file longer than 16777216 bytes"),
         Refusal::LineTooLong => put(out, b"line longer than 65536 bytes"),
@@ -289,26 +250,14 @@ fn put_refusal<O: Sink>(out: &mut O, refusal: &Refusal, name: &[u8]) -> Result<(
     put(out, b"\n")
 }
 
-// The status of a run where a fault of models is refused first: their limit has one of its own.
-fn models_status(fault: &FlatFault) -> u8
-    ensures { result ≡ models_status fault.now }
-{
-    match fault {
-        FlatFault::TooManyWords(_) => 5,
-        FlatFault::NoMemory => 8,
-        _ => 4,
-    }
-}
-
 // The status of a run where a file's fault is refused first: its three limits have one of their own.
-fn file_status(fault: &FileFault) -> u8
-    ensures { result ≡ file_status fault.now }
+fn read_status(fault: &ReadFault) -> u8
+    ensures { result ≡ read_status fault.now }
 {
     match fault {
-        FileFault::Lines(_) | FileFault::Cycle(_) => 4,
-        FileFault::Models(fault) => models_status(fault),
-        FileFault::TooManySources(_) | FileFault::TooLarge(_) => 5,
-        FileFault::NoMemory => 8,
+        ReadFault::TooManyWords(_) | ReadFault::TooManySources(_) | ReadFault::TooLarge(_) => 5,
+        ReadFault::NoMemory => 8,
+        _ => 4,
     }
 }
 
@@ -330,7 +279,7 @@ fn status_of(refusal: &Refusal) -> u8
     match refusal {
         Refusal::Words => 2,
         Refusal::Script(_) => 3,
-        Refusal::Read(fault) => file_status(fault),
+        Refusal::Read(fault) => read_status(fault),
         Refusal::ReadAiger(fault) => aiger_status(fault),
         Refusal::FileTooLong
         | Refusal::LineTooLong

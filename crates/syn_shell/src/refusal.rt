@@ -4,8 +4,8 @@ ghost use Rattle.std.specs.Prelude.{◌≡◌};
 
 use std::alloc::AllocError;
 use syn_aiger_files::AigFault;
-use syn_hierarchy::FileFault;
 use syn_netlist::Word;
+use syn_reader::ReadFault;
 use syn_words::ScriptFault;
 
 /// Why a run or a command is refused. Each but `SinkFailed` has a line that says so.
@@ -18,7 +18,7 @@ pub enum Refusal {
     /// The first fault of a script.
     Script(ScriptFault),
     /// The first fault of the file that the command names.
-    Read(FileFault),
+    Read(ReadFault),
     /// The first fault of the AIGER file that the command names.
     ReadAiger(AigFault),
     /// The file that the command names has more than 16,777,216 bytes.

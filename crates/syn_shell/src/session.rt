@@ -3,8 +3,8 @@
 ghost use Rattle.std.specs.Prelude.{◌≡◌, ◌⊎◌, ◌≤◌, ◌<◌, ◌^◌, length, IfOk, IfErr, OnOk, Some, None};
 ghost use Rattle.syn_io.specs.Outside.{Rose};
 ghost use Rattle.syn_netlist.specs.Views.{netlist_in};
-ghost use Rattle.syn_hierarchy.specs.Reading.{Reads};
-ghost use Rattle.syn_hierarchy.specs.Limits.{Within};
+ghost use Rattle.syn_reader.specs.Reading.{Reads};
+ghost use Rattle.syn_reader.specs.Limits.{Within};
 ghost use Rattle.syn_shapes.specs.Printed.{printed};
 ghost use Rattle.syn_graph.specs.Graphs as graphs;
 ghost use Rattle.syn_build.specs.Building.{IsGraphOf};
@@ -25,9 +25,9 @@ use std::thread::Threads;
 use syn_build::{build, build_checked};
 use syn_commit::Gate;
 use syn_graph::Graph;
-use syn_hierarchy::FileFault;
 use syn_io::{Files, Sink};
 use syn_netlist::CheckedNetlist;
+use syn_reader::ReadFault;
 use syn_words::Command;
 
 /// What is kept from command to command: the network, a graph or a net of LUTs. Contracts see the netlist that it is
@@ -57,9 +57,9 @@ fn parse(alloc: Global, bytes: &[u8]) -> Result<CheckedNetlist, Refusal>
     ensures names { IfOk result (λ checked. length checked.netlist.frame.names < 2 ^ 31) }
     ensures refused { IfErr result (ParseRefused bytes.now) }
 {
-    match syn_hierarchy::read_checked(alloc, bytes) {
+    match syn_reader::read_checked(alloc, bytes) {
         Ok(checked) => Ok(checked),
-        Err(FileFault::NoMemory) => Err(Refusal::NoMemory),
+        Err(ReadFault::NoMemory) => Err(Refusal::NoMemory),
         Err(fault) => Err(Refusal::Read(fault)),
     }
 }
@@ -71,7 +71,7 @@ fn read<F: Files>(alloc: Global, name: &str, files: &mut F) -> Result<Graph, Ref
     ensures refused { IfErr result (ReadRefused name.now (F.disk files.old) (F.disk files.new)) }
     ensures stand { FilesStand (F.disk files.old) (F.disk files.new) }
 {
-    syn_hierarchy::few_outputs();
+    syn_reader::few_outputs();
     let bytes = get(alloc, name, files)?;
     let checked = parse(alloc, bytes.as_slice())?;
     let graph = build_checked(alloc, checked)?;
@@ -97,7 +97,6 @@ fn printed(alloc: Global, network: &Kept) -> Result<Vec<u8>, AllocError>
     ensures printed { IfOk result (λ bytes. bytes.items ≡ printed (network_of network.now).netlist) }
     ensures reads { IfOk result (λ bytes. Reads bytes.items (network_of network.now).netlist) }
 {
-    syn_hierarchy::one_model_reads();
     let netlist = network.netlist(alloc)?;
     let bytes = syn_text::print(alloc, &netlist)?;
     Ok(bytes)

@@ -92,7 +92,7 @@ pub fn run<R: Threads + Sync, F: Files, L: Lines, O: Sink, G: Gate>(
         (F.disk files.new) (O.screen out.new) (L.input lines.new) }
     ensures complete { IsComplete (map string_bytes words.now) (F.disk files.old) (O.screen out.old) (L.input lines.old) (F.disk files.new) (O.screen out.new) (L.input lines.new) result }
 {
-    syn_hierarchy::not_both();
+    syn_reader::not_both();
     syn_aiger::not_both();
     run_words(rt, alloc, words, files, lines, out, gate)
 }

@@ -13,7 +13,7 @@ use Rattle.syn_shapes.specs.GraphShape.{and_tables, end_tables}
 use Rattle.syn_lutshapes.specs.LutShape.{lut_tables}
 use Rattle.syn_lutshapes.specs.LutShape as luts
 use Rattle.syn_models.proofs.Driven.{find_none}
-use Rattle.syn_reader.proofs.Defining.{has_word-without}
+use Rattle.syn_shapes.proofs.Spelled.{has_without}
 use Rattle.syn_text.specs.WellFormed.{ShapedIsChecked, LutsAreChecked}
 
 -- each word of a list is among its first ones
@@ -22,10 +22,9 @@ among_firsts [] w h = h
 among_firsts (x ∷ xs) w h = elim (cases_Bool (bytes_eq x w)) [
   | inl e ↦ or_left (bytes_eq x w) (has_word (without (x ∷ []) (firsts xs)) w) e
   | inr f ↦ or_right (bytes_eq x w) (has_word (without (x ∷ []) (firsts xs)) w)
-      (has_word-without (x ∷ []) (firsts xs) w
-      ∙ and_from (has_word (firsts xs) w) (not (has_word (x ∷ []) w))
+      (has_without (x ∷ []) (firsts xs) w
       (among_firsts xs w (elim (or_cases (bytes_eq x w) (has_word xs w) h) [ inl e ↦ absurd (both_ways (bytes_eq x w) f e) | inr t ↦ t ]))
-      (not_from_false (has_word (x ∷ []) w) (or_from (bytes_eq x w) false f refl)))
+      (or_from (bytes_eq x w) false f refl))
 ]
 
 -- tables of which the last are those of the observed signals
@@ -40,8 +39,7 @@ observed_defined n ts ends shape w h = elim (cases_Bool (has_word (sources n.fra
   | inr f ↦ has_right (sources n.frame) (map output_of n.tables) w
       (ap (λ (ws : List (List ℕ)). has_word ws w) (ap (map output_of) shape.split ∙ map-append output_of ts ends)
       ∙ has_right (map output_of ts) (map output_of ends) w
-      (ap (λ (ws : List (List ℕ)). has_word ws w) shape.each ∙ has_word-without (sources n.frame) (observed n.frame) w
-      ∙ and_from (has_word (observed n.frame) w) (not (has_word (sources n.frame) w)) h (not_from_false (has_word (sources n.frame) w) f)))
+      (ap (λ (ws : List (List ℕ)). has_word ws w) shape.each ∙ has_without (sources n.frame) (observed n.frame) w h f))
 ]
 
 -- what ordered tables read is known, or the output of one of them

@@ -1,5 +1,5 @@
--- The statements of a written netlist spell it.
-use Rattle.std.proofs.Common.{◌≡◌, ◌≢◌, ℕ, zero, suc, ◌+◌, ◌<◌, ◌≤◌, not, Bool, true, List, [], ◌∷◌, ◌++◌, map, codes, bytes_eq, refl, sym, ap, ap₂, subst, Option, Some, None, inl, arith, append-nil}
+-- The statements of a written netlist say its lists.
+use Rattle.std.proofs.Common.{◌≡◌, ◌≢◌, ℕ, zero, suc, ◌+◌, ◌<◌, ◌≤◌, not, Bool, true, List, [], ◌∷◌, ◌++◌, map, flat_map, bytes_eq, refl, sym, ap, ap₂, ◌∙◌, subst, Option, Some, None, inl, arith, append-nil}
 use Rattle.std.specs.List.{list_all}
 use Rattle.std.proofs.lemmas.Bool.{both_ways, and_parts, not-true}
 use Rattle.syn_netlist.specs.Lists.{Latch, Table, Netlist, control_of}
@@ -8,7 +8,12 @@ use Rattle.syn_netlist.specs.declared.LatchKind.TheVariants as types
 use Rattle.syn_netlist.specs.Kept.{nil_word, polarity_fits}
 use Rattle.syn_shapes.specs.Printed.{kind_words, digit}
 use Rattle.syn_reader.specs.Shapes.{IsLatch, IsTable, type_and_control, control_name, nil_control, row_words}
-use Rattle.syn_reader.specs.Reading.{no_netlist, rows_below, Spell}
+use Rattle.syn_reader.specs.Parted.{name_in}
+use Rattle.syn_reader.specs.Saying.{Say, on_line}
+use Rattle.syn_reader.specs.Statements.{Statement, rows_below}
+use Rattle.syn_reader.proofs.Built.{model_of}
+use Rattle.syn_models.specs.Models as models
+use Rattle.syn_models.specs.Models.{Clock, Inputs, OneLatch, OneTable, Outputs, alone, clocks_in, inputs_in, latches_in, outputs_in, tables_in}
 use Rattle.syn_netlist.proofs.Sets.{word_same}
 use Rattle.syn_text.specs.WellFormed.{latch_fits, table_fits, IsWellFormed}
 use Rattle.syn_text.specs.Written.{latch_words, row_said, from_tables, from_latches, from_clocks, numbered, written}
@@ -69,50 +74,91 @@ spells_latch l f =
       signal = is_signal l.kind f.signal;
     }
 
--- from the tables on
-abbrev net : List ℕ → List (List ℕ) → List (List ℕ) → List (List ℕ) → List Latch → List Table → Netlist
-net model inputs clocks outputs latches tables = record { frame = record { model = model; inputs = inputs; clocks = clocks; outputs = outputs; latches = latches }; tables = tables }
+-- The statements say these lists.
+pub record SayLists (ss : List Statement) (is cs os : List (List ℕ)) (ls : List Latch) (ts : List Table) : Type 0 where
+  pub said : List models.Statement
+  pub say : Say ss said
+  pub inputs : flat_map (λ s. inputs_in s.kind) said ≡ is
+  pub clocks : flat_map (λ s. clocks_in s.kind) said ≡ cs
+  pub outputs : flat_map (λ s. outputs_in s.kind) said ≡ os
+  pub latches : flat_map (λ s. latches_in s.kind) said ≡ ls
+  pub tables : flat_map (λ s. tables_in s.kind) said ≡ ts
 
-abbrev top : List ℕ
-top = codes "top"
+say_rows : (inputs : List (List ℕ)) (on : Bool) (rows : List (List ℕ)) (ts : List Table) (k : ℕ) → ((j : ℕ) → SayLists (numbered j (from_tables ts)) [] [] [] [] ts) → SayLists (numbered k (map (row_said inputs on) rows ++ from_tables ts)) [] [] [] [] ts
+say_rows inputs on [] ts k h = h k
+say_rows inputs on (r ∷ rs) ts k h =
+    let s = say_rows inputs on rs ts (suc k) h in
+    record { said = s.said; say = (s.said, s.say, refl); inputs = s.inputs; clocks = s.clocks; outputs = s.outputs; latches = s.latches; tables = s.tables }
 
-spell_rows : (inputs : List (List ℕ)) (on : Bool) (rows : List (List ℕ)) (ts : List Table) (n : Netlist) (k : ℕ) → ((j : ℕ) → Spell (numbered j (from_tables ts)) n)
-    → Spell (numbered k (map (row_said inputs on) rows ++ from_tables ts)) n
-spell_rows inputs on [] ts n k h = h k
-spell_rows inputs on (r ∷ rs) ts n k h = (n, spell_rows inputs on rs ts n (suc k) h, refl)
+say_tables : (ts : List Table) (k : ℕ) → list_all table_fits ts ≡ true → SayLists (numbered k (from_tables ts)) [] [] [] [] ts
+say_tables [] k h = record { said = []; say = ([], refl, refl); inputs = refl; clocks = refl; outputs = refl; latches = refl; tables = refl }
+say_tables (t ∷ ts) k h =
+    let p = and_parts (table_fits t) (list_all table_fits ts) h in
+    let s = say_rows t.inputs t.on t.rows ts (suc k) (λ j. say_tables ts j p.1) in
+    record {
+      said = on_line k (OneTable t) s.said;
+      say = (s.said, s.say, (t, spells_table t ts (suc k) (table_parts t p.0), refl));
+      inputs = s.inputs;
+      clocks = s.clocks;
+      outputs = s.outputs;
+      latches = s.latches;
+      tables = ap (λ (l : List Table). t ∷ l) s.tables;
+    }
 
-spell_tables : (ts : List Table) (k : ℕ) → list_all table_fits ts ≡ true → Spell (numbered k (from_tables ts)) (net top [] [] [] [] ts)
-spell_tables [] k h = (no_netlist, refl, refl)
-spell_tables (t ∷ ts) k h =
-    let p = and_parts (table_fits t) (list_all table_fits ts) h in (
-      net top [] [] [] [] ts,
-      spell_rows t.inputs t.on t.rows ts (net top [] [] [] [] ts) (suc k) (λ j. spell_tables ts j p.1),
-      (t, spells_table t ts (suc k) (table_parts t p.0), refl),
-    )
-
-spell_latches : (ls : List Latch) (ts : List Table) (k : ℕ) → list_all latch_fits ls ≡ true → list_all table_fits ts ≡ true → Spell (numbered k (from_latches ls ts)) (net top [] [] [] ls ts)
-spell_latches [] ts k h f = spell_tables ts k f
-spell_latches (l ∷ ls) ts k h f =
+say_latches : (ls : List Latch) (ts : List Table) (k : ℕ) → list_all latch_fits ls ≡ true → list_all table_fits ts ≡ true → SayLists (numbered k (from_latches ls ts)) [] [] [] ls ts
+say_latches [] ts k h f = say_tables ts k f
+say_latches (l ∷ ls) ts k h f =
     let p = and_parts (latch_fits l) (list_all latch_fits ls) h in
-    (net top [] [] [] ls ts, spell_latches ls ts (suc k) p.1 f, (l, spells_latch l (latch_parts l p.0), refl))
+    let s = say_latches ls ts (suc k) p.1 f in
+    record {
+      said = on_line k (OneLatch l) s.said;
+      say = (s.said, s.say, (l, spells_latch l (latch_parts l p.0), refl));
+      inputs = s.inputs;
+      clocks = s.clocks;
+      outputs = s.outputs;
+      latches = ap (λ (x : List Latch). l ∷ x) s.latches;
+      tables = s.tables;
+    }
 
-spell_clocks : (cs : List (List ℕ)) (ls : List Latch) (ts : List Table) (k : ℕ) → list_all latch_fits ls ≡ true → list_all table_fits ts ≡ true → Spell (numbered k (from_clocks cs ls ts)) (net top [] cs [] ls ts)
-spell_clocks [] ls ts k h f = spell_latches ls ts k h f
-spell_clocks (c ∷ cs) ls ts k h f = (net top [] [] [] ls ts, spell_latches ls ts (suc k) h f, ap (λ (x : List (List ℕ)). net top [] x [] ls ts) (sym (append-nil (c ∷ cs))))
+say_clocks : (cs : List (List ℕ)) (ls : List Latch) (ts : List Table) (k : ℕ) → list_all latch_fits ls ≡ true → list_all table_fits ts ≡ true → SayLists (numbered k (from_clocks cs ls ts)) [] cs [] ls ts
+say_clocks [] ls ts k h f = say_latches ls ts k h f
+say_clocks (c ∷ cs) ls ts k h f =
+    let s = say_latches ls ts (suc k) h f in
+    record {
+      said = on_line k (Clock (c ∷ cs)) s.said;
+      say = (s.said, s.say, refl);
+      inputs = s.inputs;
+      clocks = ap (λ (l : List (List ℕ)). (c ∷ cs) ++ l) s.clocks ∙ append-nil (c ∷ cs);
+      outputs = s.outputs;
+      latches = s.latches;
+      tables = s.tables;
+    }
 
--- the statements of a netlist that can be written spell it
-pub spell_written : (n : Netlist) → IsWellFormed n → Spell (written n) n
-spell_written n w =
-    let f = n.frame in (
-      net top f.inputs f.clocks f.outputs f.latches n.tables,
-      (
-        net top [] f.clocks f.outputs f.latches n.tables,
-        (
-          net top [] f.clocks [] f.latches n.tables,
-          spell_clocks f.clocks f.latches n.tables 4 w.latches w.tables,
-          ap (λ (x : List (List ℕ)). net top [] f.clocks x f.latches n.tables) (sym (append-nil f.outputs)),
-        ),
-        ap (λ (x : List (List ℕ)). net top x f.clocks f.outputs f.latches n.tables) (sym (append-nil f.inputs)),
-      ),
-      (f.model, refl, refl),
-    )
+-- the statements of a netlist that can be written say its lists
+pub say_written : (n : Netlist) → IsWellFormed n → SayLists (written n) n.frame.inputs n.frame.clocks n.frame.outputs n.frame.latches n.tables
+say_written n w =
+    let f = n.frame in
+    let s = say_clocks f.clocks f.latches n.tables 4 w.latches w.tables in
+    let outputs : List models.Statement = on_line 3 (Outputs f.outputs) s.said in
+    let inputs : List models.Statement = on_line 2 (Inputs f.inputs) outputs in
+    record {
+      said = inputs;
+      say = (inputs, (outputs, (s.said, s.say, refl), refl), refl);
+      inputs = ap (λ (l : List (List ℕ)). f.inputs ++ l) s.inputs ∙ append-nil f.inputs;
+      clocks = s.clocks;
+      outputs = ap (λ (l : List (List ℕ)). f.outputs ++ l) s.outputs ∙ append-nil f.outputs;
+      latches = s.latches;
+      tables = s.tables;
+    }
+
+-- and so their model alone is the netlist
+pub is_written : (n : Netlist) (w : IsWellFormed n) → alone (model_of (written n) (say_written n w).said) ≡ n
+is_written n w =
+    let s = say_written n w in
+    let m = model_of (written n) s.said in
+    ap₂ (λ (i c : List (List ℕ)). build m.name i c (alone m).frame.outputs (alone m).frame.latches (alone m).tables) s.inputs s.clocks
+    ∙ ap₂ (λ (o : List (List ℕ)) (l : List Latch). build m.name n.frame.inputs n.frame.clocks o l (alone m).tables) s.outputs s.latches
+    ∙ ap (λ (t : List Table). build m.name n.frame.inputs n.frame.clocks n.frame.outputs n.frame.latches t) s.tables
+  where
+    build : List ℕ → List (List ℕ) → List (List ℕ) → List (List ℕ) → List Latch → List Table → Netlist
+    build w i c o l t = record { frame = record { model = w; inputs = i; clocks = c; outputs = o; latches = l }; tables = t }

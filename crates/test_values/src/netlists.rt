@@ -1,9 +1,8 @@
 //! Netlists of one model that are read, built, generated and printed.
 
-ghost use Rattle.std.specs.Prelude.{◌≤◌, length};
+ghost use Rattle.std.specs.Prelude.{◌<◌, ◌^◌, length};
 ghost use Rattle.syn_netlist.specs.Views.{netlist_in};
-ghost use Rattle.syn_reader.specs.Limits.{Within};
-ghost use Rattle.test_values.specs.declared.texts.TheConstants.{MOST_BYTES};
+ghost use Rattle.syn_reader.specs.Limits.{NetWithin};
 
 use crate::texts::{graph_of, read_text};
 use std::alloc::Global;
@@ -16,8 +15,8 @@ use syn_text::print;
 
 // Whether a graph of a borrowed netlist is this one.
 fn is_built(alloc: Global, checked: &CheckedNetlist, wanted: &Graph) -> bool
-    requires within { Within (netlist_in checked.now.netlist) }
-    requires names { length checked.now.netlist.frame.names ≤ MOST_BYTES }
+    requires within { NetWithin (netlist_in checked.now.netlist) }
+    requires names { length checked.now.netlist.frame.names < 2 ^ 31 }
 {
     checked.is_checked();
     match build(alloc, &checked.netlist) {

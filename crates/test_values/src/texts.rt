@@ -1,9 +1,8 @@
 //! Netlists and graphs of texts.
 
-ghost use Rattle.std.specs.Prelude.{◌≤◌, length, IfOk};
+ghost use Rattle.std.specs.Prelude.{◌<◌, ◌^◌, length, IfOk};
 ghost use Rattle.syn_netlist.specs.Views.{netlist_in};
-ghost use Rattle.syn_reader.specs.Limits.{Within};
-ghost use Rattle.test_values.specs.declared.texts.TheConstants.{MOST_BYTES};
+ghost use Rattle.syn_reader.specs.Limits.{NetWithin};
 
 use std::alloc::Global;
 use syn_build::build_checked;
@@ -16,14 +15,15 @@ const MOST_BYTES: usize = 1 << 24;
 
 /// The netlist of a text of at most so many bytes.
 pub fn read_text(alloc: Global, text: &str) -> Result<CheckedNetlist, ReadFault>
-    ensures within { IfOk result (λ checked. Within (netlist_in checked.netlist)) }
-    ensures names { IfOk result (λ checked. length checked.netlist.frame.names ≤ MOST_BYTES) }
+    ensures within { IfOk result (λ checked. NetWithin (netlist_in checked.netlist)) }
+    ensures names { IfOk result (λ checked. length checked.netlist.frame.names < 2 ^ 31) }
 {
     let bytes = text.as_bytes();
     if bytes.len() > MOST_BYTES {
         return Err(ReadFault::NoMemory);
     }
-    read_checked(alloc, bytes)
+    let checked = read_checked(alloc, bytes)?;
+    Ok(checked)
 }
 
 /// The graph of its netlist.

@@ -1,4 +1,4 @@
-use Rattle.syn_reader.proofs.OneFault.{one_fault as law}
+use Rattle.syn_reader.proofs.Faults.{one_fault as law}
 use Rattle.syn_reader.proofs.laws.one_fault.Goals as goal
 
 pub returns : goal.returns

@@ -1,4 +1,4 @@
-use Rattle.syn_reader.proofs.Spelled.{one_netlist as law}
+use Rattle.syn_reader.proofs.Faults.{one_netlist as law}
 use Rattle.syn_reader.proofs.laws.one_netlist.Goals as goal
 
 pub returns : goal.returns

@@ -1,51 +1,44 @@
-use Rattle.std.proofs.Common.{◌≡◌, ℕ, List, None, refl, sym, subst, arith, Result, Ok, Err, IfOk, IfSome}
-use Rattle.std.proofs.lemmas.Result.{IfErr-weaker}
-use Rattle.syn_netlist.specs.declared.checked_netlist.CheckedNetlist.{CheckedNetlist}
+use Rattle.std.proofs.Common.{arith, ◌≡◌, sym, subst, inl, inr, Some}
+use Rattle.std.proofs.lemmas.Result.{IfOk-weaker, err_from_is_err_and}
 use Rattle.syn_netlist.specs.declared.netlists.Netlist.{Netlist}
-use Rattle.syn_netlist.specs.Faults.{IsChecked, first_undefined}
-use Rattle.syn_netlist.specs.Numbers.{words_at}
 use Rattle.syn_netlist.specs.Views.{netlist_in}
-use Rattle.syn_netlist.proofs.Arranging.{puts_in_order, put_is_checked}
-use Rattle.syn_reader.specs.Causes.{NamesFirstFault, fault_in}
-use Rattle.syn_reader.specs.Checking.{IsGathered, IsGatheredFault}
-use Rattle.syn_reader.specs.Limits.{IsFirstFault}
+use Rattle.syn_models.specs.Answers.{models_in}
+use Rattle.syn_models.specs.FlatFaults.{Flattens}
+use Rattle.syn_reader.specs.Limits.{IsFirstFault, IsModelsFault, IsNetFault}
+use Rattle.syn_reader.specs.ModelFaults.{first_line_fault}
 use Rattle.syn_reader.specs.Reading.{Reads}
-use Rattle.syn_reader.specs.Statements.{statements}
-use Rattle.syn_reader.proofs.Answering.{gathered_first, gathered_read, gathered_reads, some_weaker}
-use Rattle.syn_reader.proofs.TextSizes.{cost_within}
+use Rattle.syn_reader.proofs.FaultLaws.{hands_fault, passes_fault}
+use Rattle.syn_reader.proofs.Flat.{driven_in, cost_in, checked_reads, spells_all}
 use Rattle.syn_reader.proofs.reading.read_checked.Goals as goal
 
-from_both : {T E : Type 0} (r : Result T E) (P Q R : T → Type 0) → ((x : T) → P x → Q x → R x) → IfOk r P → IfOk r Q → IfOk r R
-from_both (Ok x) P Q R f p q = f x p q
-from_both (Err e) P Q R f p q = tt
+pub check_flat-requires-clause-driven : goal.check_flat-requires-clause-driven
+check_flat-requires-clause-driven c = driven_in c.in_ok-models.models (netlist_in c.in_ok-netlist.netlist) c.in_ok-netlist.ensures.netlist
 
-checked_reads : (bytes : List ℕ) (n : Netlist) (read : List (List ℕ)) (checked : CheckedNetlist) → IsGathered bytes (netlist_in n) read → checked.netlist ≡ n → first_undefined (netlist_in n) read ≡ None → Reads bytes (netlist_in checked.netlist)
-checked_reads bytes n read checked g e d =
-    let fine : IsChecked (netlist_in checked.netlist) = put_is_checked (netlist_in checked.netlist) checked.order (puts_in_order checked.netlist checked.order checked.in_order) in
-    subst (λ (m : Netlist). Reads bytes (netlist_in m)) (sym e) (gathered_reads bytes (netlist_in n) read g d (subst (λ (m : Netlist). IsChecked (netlist_in m)) e fine))
-
-pub check_gathered-requires-clause-read : goal.check_gathered-requires-clause-read
-check_gathered-requires-clause-read c =
-    let n = c.in_ok-gathered.gathered.netlist in
-    gathered_read c.args.bytes.now (netlist_in n) (words_at n.frame.names c.in_ok-gathered.gathered.reads) c.in_ok-gathered.ensures.gathered
-
-pub check_gathered-requires-clause-cost : goal.check_gathered-requires-clause-cost
-check_gathered-requires-clause-cost c =
-    let bytes = c.args.bytes.now in
-    let low = cost_within bytes (statements bytes) (netlist_in c.in_ok-gathered.gathered.netlist) refl c.in_ok-gathered.ensures.gathered.spelled in
-    omega (arith, low, c.requires)
+pub check_flat-requires-clause-cost : goal.check_flat-requires-clause-cost
+check_flat-requires-clause-cost c = cost_in c.args.bytes.now c.in_ok-models.models (netlist_in c.in_ok-netlist.netlist) (omega arith) c.in_ok-models.ensures.spelled c.in_ok-netlist.ensures.netlist c.in_ok-netlist.ensures.within
 
 pub returns-clause-reads : goal.returns-clause-reads
 returns-clause-reads c =
-    let n = c.in_ok-gathered.gathered.netlist in
-    let read : List (List ℕ) = words_at n.frame.names c.in_ok-gathered.gathered.reads in
-    from_both c.check_gathered.result (λ checked. checked.netlist ≡ n) (λ checked. first_undefined (netlist_in n) read ≡ None) (λ checked. Reads c.args.bytes.now (netlist_in checked.netlist))
-    (λ checked e d. checked_reads c.args.bytes.now n read checked c.in_ok-gathered.ensures.gathered e d) c.check_gathered.ensures.netlist c.check_gathered.ensures.driven
+    let r = c.in_ok-models.models in
+    IfOk-weaker c.check_flat.result (λ checked. checked.netlist ≡ c.in_ok-netlist.netlist) (λ checked. Reads c.args.bytes.now (netlist_in checked.netlist))
+    (λ checked e. checked_reads c.args.bytes.now r checked c.in_ok-models.ensures.spelled (subst (λ (n : Netlist). Flattens (models_in r.models) (netlist_in n)) (sym e) c.in_ok-netlist.ensures.netlist))
+    c.check_flat.ensures.netlist
+
+pub returns-in_err-models-clause-fault : goal.returns-in_err-models-clause-fault
+returns-in_err-models-clause-fault c =
+    let p = err_from_is_err_and c.from_residual.result c.from_residual.ensures.1 in
+    passes_fault c.from_residual.result p.0 c.in_err-models.field-0.0 (λ f. first_line_fault c.args.bytes.now ≡ Some f) (IsFirstFault c.args.bytes.now) p.1 p.2 (λ f h. inl h) c.in_err-models.ensures.fault
+
+pub returns-in_err-netlist-clause-fault : goal.returns-in_err-netlist-clause-fault
+returns-in_err-netlist-clause-fault c =
+    let p = err_from_is_err_and c.from_residual-in_err-netlist.result c.from_residual-in_err-netlist.ensures.1 in
+    let r = c.in_ok-models.models in
+    let spelled = spells_all c.args.bytes.now r c.in_ok-models.ensures.spelled in
+    passes_fault c.from_residual-in_err-netlist.result p.0 c.in_err-netlist.field-0.0 (IsModelsFault (models_in r.models)) (IsFirstFault c.args.bytes.now) p.1 p.2 (λ f h. inr (inl (models_in r.models, spelled, h))) c.in_err-netlist.ensures.fault
 
 pub returns-clause-fault : goal.returns-clause-fault
 returns-clause-fault c =
-    let bytes = c.args.bytes.now in
-    let n = c.in_ok-gathered.gathered.netlist in
-    let read : List (List ℕ) = words_at n.frame.names c.in_ok-gathered.gathered.reads in
-    IfErr-weaker c.check_gathered.result (λ e. IfSome (fault_in e) (IsGatheredFault (netlist_in n) read)) (NamesFirstFault bytes)
-    (λ e h. some_weaker (fault_in e) (IsGatheredFault (netlist_in n) read) (IsFirstFault bytes) (λ f k. gathered_first bytes (netlist_in n) read f c.in_ok-gathered.ensures.gathered k) h) c.check_gathered.ensures.fault
+    let r = c.in_ok-models.models in
+    let n = netlist_in c.in_ok-netlist.netlist in
+    let spelled = spells_all c.args.bytes.now r c.in_ok-models.ensures.spelled in
+    hands_fault c.check_flat.result (IsNetFault n) (IsFirstFault c.args.bytes.now) (λ f h. inr (inr (models_in r.models, spelled, c.in_ok-netlist.ensures.within, (n, c.in_ok-netlist.ensures.netlist, h)))) c.check_flat.ensures.fault

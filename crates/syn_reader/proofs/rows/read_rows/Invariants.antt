@@ -1,6 +1,6 @@
 use Rattle.std.proofs.Common.{◌≡◌, ◌++◌, length, option_map, Some, None}
+use Rattle.syn_reader.specs.Statements.{rows_below}
 use Rattle.syn_reader.specs.Computed.{row_parts}
-use Rattle.syn_reader.specs.Reading.{rows_below}
 use Rattle.syn_reader.specs.Rows.{below_rows, rows_fault}
 use Rattle.syn_reader.proofs.rows.read_rows.Given as goal
 

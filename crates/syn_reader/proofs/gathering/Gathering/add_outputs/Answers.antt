@@ -1,29 +1,33 @@
-use Rattle.std.proofs.Common.{◌++◌, length, map, ap, ◌∙◌, arith}
+use Rattle.std.proofs.Common.{◌≡◌, length, map, refl, ap, ◌∙◌, rules, arith}
 use Rattle.std.proofs.lemmas.List.{length-map}
 use Rattle.syn_lex.specs.Words.{text_of}
-use Rattle.syn_reader.proofs.GatherLaws.{outputs_gathered, sound_grows, extended_below}
+use Rattle.syn_netlist.specs.Numbers.{all_below, word_at, words_at}
+use Rattle.syn_models.specs.declared.hierarchy.StatementKind.TheVariants as said
+use Rattle.syn_models.specs.Models as models
+use Rattle.syn_reader.specs.declared.Kind.TheVariants as kinds
+use Rattle.syn_reader.proofs.Gathered.{gathers, sound_after}
 use Rattle.syn_reader.proofs.gathering.Gathering.add_outputs.Goals as goal
 
 pub returns-clause-gathers : goal.returns-clause-gathers
-returns-clause-gathers c line rows =
+returns-clause-gathers c rows =
     let one = c.in_ok-numbers.ensures in
-    outputs_gathered c.args.self.now c.add_all.new.self c.extend_from_slice.new.self c.extend_from_slice-2.new.self line (map text_of c.args.words) c.in_ok-numbers.numbers.items rows c.requires.sound one.grows
-    one.same one.numbers (c.in_ok-extend_from_slice.ensures.items ∙ ap (λ l. c.args.self.now.outputs.items ++ l) c.deref.ensures.value)
-    (c.in_ok-extend_from_slice-2.ensures.items ∙ ap (λ l. c.args.self.now.reads.items ++ l) c.deref-2.ensures.value)
-    (let size = length-map c.args.words text_of in let count = one.count in omega (arith, size, count))
+    let say = c.in_ok-say.ensures in
+    let s = c.add_all.new.self in
+    let numbers = c.in_ok-numbers.numbers.items in
+    let words = map text_of c.args.words in
+    let spelled = ap (words_at s.names) c.of.ensures ∙ one.numbers in
+    let size = length-map c.args.words text_of in
+    let count = one.count in
+    let sized = ap length one.numbers in
+    let listed = length-map numbers (word_at s.names) in
+    let taken : c.len.result ≡ length numbers = search (rules, c.len.ensures) in
+    gathers c.args.self.now c.say.new.self s c.args.line kinds.Outputs words rows (said.Outputs c.of.result) (models.Outputs words) words _ c.requires.sound one.grows say.signals say.statements (ap models.Outputs spelled) (λ rest. refl)
+    one.same one.names (λ w. refl) (omega (arith, size, count)) say.words (omega (arith, sized, listed, taken))
 
 pub returns-clause-sound : goal.returns-clause-sound
 returns-clause-sound c =
     let one = c.in_ok-numbers.ensures in
-    let kept = sound_grows c.args.self.now c.add_all.new.self c.requires.sound one.grows one.marked in
-    record {
-      marked = kept.marked;
-      model = kept.model;
-      inputs = kept.inputs;
-      clocks = kept.clocks;
-      outputs = extended_below (length c.add_all.new.self.names) c.args.self.now.outputs.items c.in_ok-numbers.numbers.items c.extend_from_slice.new.self.items (c.in_ok-extend_from_slice.ensures.items ∙ ap (λ l. c.args.self.now.outputs.items ++ l) c.deref.ensures.value) kept.outputs one.below;
-      latches = kept.latches;
-      controls = kept.controls;
-      tables = kept.tables;
-      reads = extended_below (length c.add_all.new.self.names) c.args.self.now.reads.items c.in_ok-numbers.numbers.items c.extend_from_slice-2.new.self.items (c.in_ok-extend_from_slice-2.ensures.items ∙ ap (λ l. c.args.self.now.reads.items ++ l) c.deref-2.ensures.value) kept.reads one.below;
-    }
+    let say = c.in_ok-say.ensures in
+    let s = c.add_all.new.self in
+    sound_after c.args.self.now c.say.new.self s c.args.line (said.Outputs c.of.result) (models.Outputs (map text_of c.args.words)) c.requires.sound one.grows say.signals say.statements
+    (ap models.Outputs (ap (words_at s.names) c.of.ensures ∙ one.numbers)) one.marked (ap (all_below (length s.names)) c.of.ensures ∙ one.below) refl

@@ -1,5 +1,0 @@
-use Rattle.syn_hierarchy.proofs.Either.{either_or as law}
-use Rattle.syn_hierarchy.proofs.laws.either_or.Goals as goal
-
-pub returns : goal.returns
-returns c = law

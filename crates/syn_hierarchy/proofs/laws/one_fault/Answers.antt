@@ -1,5 +1,0 @@
-use Rattle.syn_hierarchy.proofs.Faults.{one_fault as law}
-use Rattle.syn_hierarchy.proofs.laws.one_fault.Goals as goal
-
-pub returns : goal.returns
-returns c = law

@@ -1,6 +1,0 @@
-pub mod Faults
-pub mod Reading
-pub mod Limits
-pub mod Causes
-pub mod Laws
-pub mod Steps
