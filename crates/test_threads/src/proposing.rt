@@ -58,7 +58,8 @@ fn is_proposed<R: Threads + Sync>(rt: &R, alloc: Global) -> Result<bool, AllocEr
     let proposals = proposer.propose(alloc, &graph, &lists, 6)?;
     let first = proposer.first_saving(alloc, &graph, &uses, &lists, 6)?;
     let saves = match first {
-        Some(first) => first.leaves.as_slice() == &[1, 2, 3] && first.plan.gates.len() == 2,
+        Some(first) => first.leaves.as_slice() == [1, 2, 3].as_slice()
+            && first.plan.gates.len() == 2,
         None => false,
     };
     Ok(saves && are_over(proposals.as_slice(), 6, &CUTS))
