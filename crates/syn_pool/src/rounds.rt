@@ -149,8 +149,8 @@ pub(crate) fn round_at<R: Threads + Sync, P: Proposer, G: Gate>(
 }
 
 /// A round on the ANDs of the graph with the workers of the pass, the last one first: where gains of 0 are let through, on those
-/// whose neighbourhoods weren't visited, the first one first. None comes where the graph has no room, or the proposer wouldn't
-/// take what they leave.
+/// whose neighbourhoods weren't visited, and the first one first where cuts of the table are looked at. None comes where the
+/// graph has no room, or the proposer wouldn't take what they leave.
 pub(crate) fn round<R: Threads + Sync, P: Proposer, G: Gate>(
     course: &Course<'_, R, P, G>,
     graph: &Graph,
@@ -162,11 +162,14 @@ pub(crate) fn round<R: Threads + Sync, P: Proposer, G: Gate>(
     ensures gain { IfOk result (λ made. IfSome made (λ m. IsGain (not course.now.zero_gain) m.report)) }
     ensures report { IfOk result (λ made. IfSome made (λ m. IsReport m.report)) }
 {
-    let nodes = if course.zero_gain {
+    let mut nodes = if course.zero_gain {
         visited.visit(course.alloc, graph)?
     } else {
         gates_of(course.alloc, graph)?
     };
+    if course.zero_gain && has_plans(course.proposer, lists) {
+        nodes.reverse();
+    }
     let tour = Tour {
         nodes: nodes.as_slice(),
         order: Order::Levels,

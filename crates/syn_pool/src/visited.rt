@@ -1,6 +1,6 @@
 //! Which neighbourhoods the rounds of a pass have visited. It tells which ANDs a round leaves out, and nothing rests on it.
 
-use crate::sweeping::is_gate;
+use crate::opening::gates_of;
 use std::alloc::{AllocError, Global};
 use syn_graph::Graph;
 use syn_rows::{Lit, Row};
@@ -113,13 +113,13 @@ impl Visited {
         }
     }
 
-    /// The ANDs of a graph whose neighbourhoods weren't visited, in order: they are so from now on. The only error is want of
-    /// memory.
+    /// The ANDs of a graph whose neighbourhoods weren't visited, the last one first: they are so from now on. The only error is
+    /// want of memory.
     pub(crate) fn visit(&mut self, alloc: Global, graph: &Graph) -> Result<Vec<u32>, AllocError> {
         let marks = marks_of(alloc, graph)?;
         let mut nodes = Vec::new(alloc);
-        for node in 0..graph.rows.as_slice().len() as u32 {
-            if is_gate(graph, node) && !self.has(word_at(marks.as_slice(), node)) {
+        for node in gates_of(alloc, graph)? {
+            if !self.has(word_at(marks.as_slice(), node)) {
                 nodes.push(node)?;
             }
         }
