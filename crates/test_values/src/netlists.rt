@@ -89,12 +89,12 @@ fn answers(alloc: Global, text: &str, wanted: &str) -> Result<bool, Fail> {
     }
 }
 
-// One model has no line of a subcircuit, and no second one behind it.
+// The model of a subcircuit has to be there, and the line of a model has no third word.
 #[test]
 fn refuses_lines_of_several_models(rt: HostRuntime) -> Result<(), Fail> {
     for (text, wanted) in [
-        (".model a\n.subckt b\n", "UnknownKeyword(2)"),
-        (".model a\n.model b c\n", "SecondModel(2)"),
+        (".model a\n.subckt b\n", "UnknownModel(2)"),
+        (".model a\n.model b c\n", "ExtraWord(2)"),
     ] {
         assert!(rt; answers(rt.alloc(), text, wanted)?, "{wanted}");
     }
