@@ -1,9 +1,9 @@
-//! What a replacement of one row frees and saves: the definition's program, and a count in the cone alone.
+//! What a replacement of one row frees and saves, counted in the cone that goes.
 #![tactic(auto)]
 
-ghost use Rattle.std.specs.Prelude.{◌≡◌, ◌+◌, ◌*◌, ◌<◌, ◌^◌, List, true, length, IfOk};
+ghost use Rattle.std.specs.Prelude.{◌≡◌, ◌+◌, ◌<◌, ◌^◌, List, length, IfOk};
 ghost use Rattle.syn_rows.specs.declared.Lit.{Lit};
-ghost use Rattle.syn_rows.specs.Rows.{InOrder, lits_within, refs_within};
+ghost use Rattle.syn_rows.specs.Rows.{InOrder};
 ghost use Rattle.syn_fanout_free.specs.Freeing.{AllReferred};
 ghost use Rattle.syn_fanout_free.specs.Laws.{AllAndsReached, CountsTell, FewerAreUnreached, FreedAreUnreached, SavedIsLocal, SavedTells, ValuesAreKept};
 ghost use Rattle.syn_fanout_free.specs.Bounding.{SavedIsBounded};
@@ -16,7 +16,7 @@ mod saving;
 mod waiting;
 
 use crate::extra::keep;
-use crate::saving::{difference, saved_of_kept};
+use crate::saving::saved_of_kept;
 pub use bounding::{lost_but, saves_near};
 pub use cone::and_count;
 pub use extra::KeptRows;
@@ -39,27 +39,6 @@ pub fn saved_numbers()
     ensures difference { SavedTells }
     ensures bounded { SavedIsBounded }
 {}
-
-/// What a change of rows saves, by the definition: the ANDs reached before less those reached afterwards.
-/// The only error is want of memory.
-pub fn saved_by_sweeps(
-    alloc: Global,
-    was: &[Row],
-    now: &[Row],
-    observed: &[Lit],
-) -> Result<i64, AllocError>
-    requires was_rows { refs_within was.now ≡ true }
-    requires was_observed { lits_within was.now observed.now ≡ true }
-    requires was_few { length was.now < 2 ^ 32 }
-    requires now_rows { refs_within now.now ≡ true }
-    requires now_observed { lits_within now.now observed.now ≡ true }
-    requires now_few { length now.now < 2 ^ 32 }
-    ensures { IfOk result (λ s. IsSaved was.now now.now observed.now s) }
-{
-    let before = syn_rows::ands(alloc, was, observed)?;
-    let after = syn_rows::ands(alloc, now, observed)?;
-    Ok(difference(before, after))
-}
 
 /// The number of ANDs that a change saves, found in the cone that goes, the new rows and what both refer to. `counts` are
 /// all references to each node, and the number holds for all observed literals that they count. The only error is want of

@@ -63,7 +63,7 @@ same_refers x y a b h = elim (or_cases (x.0 == a.0 && y.0 == b.0) (x.0 == b.0 &&
       (ap (λ (l : Lit). refers (And a b) (node_of l)) xb ∙ refers_second a b, ap (λ (l : Lit). refers (And a b) (node_of l)) ya ∙ refers_first a b)
 ]
 
-pair_refers : (x y : Lit) (row : Row) → is_and_of x y row ≡ true → (refers row (node_of x) ≡ true) × (refers row (node_of y) ≡ true)
+pub pair_refers : (x y : Lit) (row : Row) → is_and_of x y row ≡ true → (refers row (node_of x) ≡ true) × (refers row (node_of y) ≡ true)
 pair_refers x y Free h = absurd (cc)
 pair_refers x y Source h = absurd (cc)
 pair_refers x y (And a b) h = same_refers x y a b h

@@ -5,7 +5,7 @@ ghost use Rattle.syn_netlist.specs.Faults.{IsChecked, IsFault, IsTableOrder, Put
 ghost use Rattle.syn_netlist.specs.Views.{netlist_in};
 
 use crate::NetFault;
-use crate::checks::{order_driven, table_order};
+use crate::checks::order_driven;
 use crate::items::Items;
 use crate::netlists::Netlist;
 use std::alloc::Global;
@@ -23,18 +23,6 @@ pub struct CheckedNetlist {
 }
 
 impl CheckedNetlist {
-    /// The netlist, checked; or the first name that is read and never defined, or else the circle of its tables.
-    pub fn of(netlist: Netlist, alloc: Global) -> Result<CheckedNetlist, NetFault>
-        ensures netlist { IfOk result (λ checked. checked.netlist ≡ netlist) }
-        ensures fault { IfErr result (IsFault (netlist_in netlist)) }
-    {
-        let order = table_order(&netlist, alloc)?;
-        Ok(CheckedNetlist {
-            netlist,
-            order: Items::of(order),
-        })
-    }
-
     /// A netlist in which each name that is read is defined, checked; or the circle of its tables.
     pub fn of_driven(netlist: Netlist, alloc: Global) -> Result<CheckedNetlist, NetFault>
         requires driven { first_undriven (netlist_in netlist) ≡ None }

@@ -1,7 +1,7 @@
 //! Whether each name that is read is defined, and the tables can be put in order.
 
 ghost use Rattle.std.specs.Prelude.{◌≡◌, ◌<◌, ◌++◌, ◌∷◌, IfErr, IfOk, IfSome, OnOk, None, length, option_map, true, []};
-ghost use Rattle.syn_netlist.specs.Faults.{IsChecked, IsFault, IsTableOrder, PutsInOrder, first_undriven};
+ghost use Rattle.syn_netlist.specs.Faults.{IsFault, IsTableOrder, PutsInOrder, first_undriven};
 ghost use Rattle.syn_netlist.specs.Numbers.{all_below, word_at};
 ghost use Rattle.syn_netlist.specs.Tables.{tables_below};
 ghost use Rattle.syn_netlist.specs.Views.{netlist_in};
@@ -120,13 +120,4 @@ pub fn table_order(n: &Netlist, alloc: Global) -> Result<Vec<u32>, NetFault>
         }
         None => order_driven(alloc, n),
     }
-}
-
-/// Whether each name that is read is defined, and the tables don't read each other in a circle.
-pub fn check(n: &Netlist, alloc: Global) -> Result<(), NetFault>
-    ensures ok { OnOk result (IsChecked (netlist_in n.now)) }
-    ensures fault { IfErr result (IsFault (netlist_in n.now)) }
-{
-    let _order = table_order(n, alloc)?;
-    Ok(())
 }

@@ -1,6 +1,6 @@
 //! Images, their inverses, and the least image.
 
-ghost use Rattle.std.specs.Prelude.{◌≡◌, ℕ, ◌+◌, ◌*◌, ◌/◌, ◌%◌, ◌^◌, ◌<◌, ◌≤◌, List, true, slice_index, slice_index_or, ◌==◌};
+ghost use Rattle.std.specs.Prelude.{◌≡◌, ℕ, ◌+◌, ◌*◌, ◌/◌, ◌%◌, ◌^◌, ◌<◌};
 ghost use Rattle.syn_npn.specs.Images.{value_at};
 ghost use Rattle.syn_npn.specs.Keys.{canon_key};
 ghost use Rattle.syn_npn.specs.Transforms.{image_of, IsCanon};

@@ -3,13 +3,12 @@
 //! A function is a `u16`: bit m is its value at the minterm m, and bit i of a minterm is the value of variable i.
 #![tactic(auto)]
 
-ghost use Rattle.std.specs.Prelude.{◌≡◌, ℕ, ◌+◌, ◌*◌, ◌/◌, ◌%◌, ◌^◌, ◌<◌, ◌≤◌, List, true, slice_index, slice_index_or, ◌==◌};
+ghost use Rattle.std.specs.Prelude.{◌≡◌, ◌+◌, ◌*◌, ◌/◌, ◌%◌, ◌<◌, true, ◌==◌};
 ghost use Rattle.syn_npn.specs.Images.{inverse, is_permutation, moved, place_in, read_at, value_at};
 ghost use Rattle.syn_npn.specs.Permutations.{permutation_at};
 
 mod classes;
 mod laws;
-pub mod plain;
 mod table;
 mod walk;
 

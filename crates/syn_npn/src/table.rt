@@ -7,9 +7,11 @@ ghost use Rattle.syn_npn.specs.Transforms.{IsCanon};
 
 use crate::Transform;
 use crate::classes::{image, of_key, undo};
-use crate::plain::TRANSFORMS;
 use crate::walk::{KEY_STEP, flipped};
 use std::alloc::{AllocError, Global};
+
+/// The number of transforms.
+const TRANSFORMS: u16 = 768;
 
 /// The number of functions of four variables.
 const FUNCTIONS: u32 = 65536;

@@ -20,9 +20,10 @@ use Rattle.syn_gain.specs.Placing.{each_below, leaf_literals, literal_for}
 use Rattle.syn_gain.specs.Replacements.{Replacement}
 use Rattle.syn_gain.specs.Searching.{Searched, search_gate, state, with_pair}
 use Rattle.syn_gain.proofs.Bounds.{OfSome, below_each, joined_by}
+use Rattle.syn_gain.proofs.Fresh.{pair_refers}
 use Rattle.syn_rewrite.specs.Apart.{StandsApart, are_apart, is_in_use, joins, may_be_made, same_literal}
 use Rattle.syn_rewrite.specs.Weighing.{IsWeightOf, IsWeightUntil, and_then, weigh_gate, weigh_gates, weigh_until, where_needed}
-use Rattle.syn_rewrite.proofs.Told.{IsTold, begun_told, each_gate, each_long, for_node, for_pushed, is_there, node_at, pair_refers, some_is, step, then_some}
+use Rattle.syn_rewrite.proofs.Told.{IsTold, begun_told, each_gate, each_long, for_node, for_pushed, is_there, node_at, some_is, step, then_some}
 
 -- ---- rows of pairs
 

@@ -19,6 +19,7 @@ use Rattle.syn_gain.specs.Placing.{each_below, leaf_literals, literal_for}
 use Rattle.syn_gain.specs.Replacements.{Replacement}
 use Rattle.syn_gain.specs.Searching.{Searched, literal_new, search_gate, search_gates, searched, state, with_pair}
 use Rattle.syn_gain.proofs.Bounds.{OfSome, begun_in, below_each, each_push, joined_by}
+use Rattle.syn_gain.proofs.Fresh.{pair_refers}
 use Rattle.syn_rewrite.specs.Weighing.{IsWeightOf, and_then, weigh_gate, weigh_gates, where_needed}
 
 -- ---- literals and pairs
@@ -44,51 +45,8 @@ pub for_pushed : (literals : List Lit) (l : Lit) (p : PLit) → node_of (literal
 for_pushed literals l p some =
     ap (λ (t : Lit). if p.0 % 2 == 0 then t else complement t) (get_or_append_left literals (l ∷ []) constant (index_of p) (is_there literals (index_of p) (λ e. some (for_node literals p ∙ e))))
 
--- a row of a pair refers to both of its nodes
-same_refers : (x y a b : Lit) → same_pair x y a b ≡ true → (refers (And a b) (node_of x) ≡ true) × (refers (And a b) (node_of y) ≡ true)
-same_refers x y a b h = elim (or_cases (x.0 == a.0 && y.0 == b.0) (x.0 == b.0 && y.0 == a.0) h) [
-  | inl e ↦
-      let parts = and_parts (x.0 == a.0) (y.0 == b.0) e in
-      let xa : x ≡ a = same_lit x a (eqb-true x.0 a.0 parts.0) in
-      let yb : y ≡ b = same_lit y b (eqb-true y.0 b.0 parts.1) in
-      (ap (λ (l : Lit). refers (And a b) (node_of l)) xa ∙ refers_first a b, ap (λ (l : Lit). refers (And a b) (node_of l)) yb ∙ refers_second a b)
-  | inr e ↦
-      let parts = and_parts (x.0 == b.0) (y.0 == a.0) e in
-      let xb : x ≡ b = same_lit x b (eqb-true x.0 b.0 parts.0) in
-      let ya : y ≡ a = same_lit y a (eqb-true y.0 a.0 parts.1) in
-      (ap (λ (l : Lit). refers (And a b) (node_of l)) xb ∙ refers_second a b, ap (λ (l : Lit). refers (And a b) (node_of l)) ya ∙ refers_first a b)
-]
-
-pub pair_refers : (x y : Lit) (row : Row) → is_and_of x y row ≡ true → (refers row (node_of x) ≡ true) × (refers row (node_of y) ≡ true)
-pair_refers x y Free h = absurd (cc)
-pair_refers x y Source h = absurd (cc)
-pair_refers x y (And a b) h = same_refers x y a b h
-pair_refers x y (Alias a) h = absurd (cc)
-
 pair_itself : (x y : Lit) → is_and_of x y (ordered_and x y) ≡ true
 pair_itself x y = ordered_is x y x y ∙ or_left (x.0 == x.0 && y.0 == y.0) (x.0 == y.0 && y.0 == x.0) (and_from (x.0 == x.0) (y.0 == y.0) (eq-eqb x.0 x.0 refl) (eq-eqb y.0 y.0 refl))
-
--- no new row has a pair where none of the first ones has
-pub none_new : (first : ℕ) (extra : List Row) (k : ℕ) (x y : Lit) → ((i : ℕ) → i < k → is_and_of x y (row_at extra i) ≡ false) → literal_new first extra k x y ≡ None
-none_new first extra zero x y each = refl
-none_new first extra (suc k) x y each =
-    cond-false (is_and_of x y (row_at extra k)) (Some (lit_of (first + k))) (literal_new first extra k x y) (each k (omega arith)) ∙ none_new first extra k x y (λ i lt. each i (omega arith))
-
--- a new row refers to no node behind it
-pub not_behind : (root first : ℕ) (extra : List Row) (x y l : Lit) (i : ℕ) → root ≤ first → AllRefs (IsBefore root first (first + i)) (row_at extra i) → (l ≡ x) ⊎ (l ≡ y) → first + i ≤ node_of l → is_and_of x y (row_at extra i) ≡ false
-not_behind root first extra x y l i low before one far = elim (cases_Bool (is_and_of x y (row_at extra i))) [
-  | inr f ↦ f
-  | inl t ↦
-      let refs = pair_refers x y (row_at extra i) t in
-      let named : refers (row_at extra i) (node_of l) ≡ true = elim one [
-        | inl e ↦ ap (λ (z : Lit). refers (row_at extra i) (node_of z)) e ∙ refs.0
-        | inr e ↦ ap (λ (z : Lit). refers (row_at extra i) (node_of z)) e ∙ refs.1
-      ] in
-      absurd (elim (at_ref (IsBefore root first (first + i)) (row_at extra i) before (node_of l) named) [
-        | inl old ↦ omega (arith, old, low, far)
-        | inr new ↦ omega (arith, new.1, far)
-      ])
-]
 
 -- ---- what is told
 pub record IsTold (first base : ℕ) (done : List (PLit × PLit)) (s : Searched) : Type 0 where

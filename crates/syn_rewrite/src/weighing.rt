@@ -2,8 +2,7 @@
 
 ghost use Rattle.std.specs.Prelude.{◌≡◌, ℕ, ◌+◌, ◌-◌, ◌<◌, ◌≤◌, ◌^◌, [], ◌∷◌, None, Some, length, false, take, true, slice_index_or};
 ghost use Rattle.syn_rows.specs.declared.TheConstants.{NODE_LIMIT};
-ghost use Rattle.syn_rows.specs.Rows.{AllRefs, InOrder, node_of, row_at};
-ghost use Rattle.syn_rows.specs.Joining.{is_and_of};
+ghost use Rattle.syn_rows.specs.Rows.{AllRefs, InOrder, row_at};
 ghost use Rattle.syn_gain.specs.Laws.{IsBefore, IsPlacing};
 ghost use Rattle.syn_rows.specs.Joining as joining;
 ghost use Rattle.syn_hashed.specs.Indexed.{IsIndexOf};
@@ -15,7 +14,7 @@ ghost use Rattle.syn_gain.specs.Uses.{IsUsesOf};
 ghost use Rattle.syn_rewrite.specs.Weighing as spec;
 
 use arrayvec::ArrayVec;
-use syn_gain::{Candidate, Uses, literal_below, literal_for, node_at};
+use syn_gain::{Candidate, Uses, literal_for, literal_there, node_at};
 use syn_graph::Graph;
 use syn_hashed::PairIndex;
 use syn_plan::PLit;
@@ -49,55 +48,6 @@ impl Weighed {
     }
 }
 
-// Whether the literal is that of a new row.
-#[inline]
-fn is_new(rows: &[Row], x: Lit) -> bool
-    ensures { result ≡ true → length rows.now ≤ node_of x }
-{
-    x.node() as usize >= rows.len()
-}
-
-// The literal of the row below a node that is the AND of x and y. No old row refers to a new one, so that a pair with a new
-// row's literal isn't looked up.
-#[inline]
-fn old_literal_below(rows: &[Row], index: &PairIndex, node: u32, x: Lit, y: Lit) -> Option<Lit>
-    requires index { IsIndexOf rows.now index.now }
-    requires pairs { PairsOnce rows.now }
-    requires order { InOrder rows.now }
-    requires few { length rows.now < NODE_LIMIT }
-    ensures { result ≡ placing.literal_below rows.now node x y }
-{
-    if is_new(rows, x) || is_new(rows, y) {
-        return None;
-    }
-    literal_below(rows, index, node, x, y)
-}
-
-// The first place at which a new row may refer to a literal's node, where the first new row is node `first`.
-#[inline]
-fn place_behind(first: u32, l: Lit) -> usize
-    ensures { result ≡ node_of l + 1 - first }
-{
-    (l.node() as usize + 1).saturating_sub(first as usize)
-}
-
-// The literal of the last new row that is the AND of x and y, where none before this place is. The first one is node `first`.
-#[inline]
-fn literal_new(first: u32, extra: &[Row], from: usize, x: Lit, y: Lit) -> Option<Lit>
-    requires few { first + length extra.now < 2 ^ 30 }
-    requires none { (i : ℕ) → i < from → is_and_of x y (row_at extra.now i) ≡ false }
-    ensures { result ≡ search.literal_new first extra.now (length extra.now) x y }
-{
-    let mut i = extra.len();
-    while i > from {
-        i -= 1;
-        if is_and_of(x, y, extra[i]) {
-            return Some(Lit::of(first + i as u32, false));
-        }
-    }
-    None
-}
-
 // The literal of a pair that needs a row. Where none is there, it is that of a new row. New rows refer to those before them.
 fn join(
     rows: &[Row],
@@ -119,17 +69,12 @@ fn join(
     ensures rows { extra.new.items ≡ (search.placed_pair rows.now node extra.old.items x y).extra }
     ensures more { length extra.new.items ≤ length extra.old.items + 1 }
 {
-    if let Some(literal) = old_literal_below(rows, index, node, x, y) {
+    if let Some(literal) = literal_there(rows, index, node, extra.as_slice(), x, y) {
         return literal;
     }
-    let first = rows.len() as u32;
-    let from = place_behind(first, x).max(place_behind(first, y));
-    if let Some(literal) = literal_new(first, extra.as_slice(), from, x, y) {
-        return literal;
-    }
-    let count = extra.len() as u32;
+    let new = (rows.len() + extra.len()) as u32;
     extra.push(ordered_and(x, y));
-    Lit::of(first + count, false)
+    Lit::of(new, false)
 }
 
 // Whether the AND of two literals needs no row: they are of one node, or one is the constant's.

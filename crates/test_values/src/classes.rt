@@ -5,7 +5,7 @@ ghost use Rattle.syn_npn.specs.Images.{is_permutation};
 
 use std::collections::BTreeSet;
 use std::test::Fail;
-use syn_npn::{Classes, Transform, canon, image, plain, undo};
+use syn_npn::{Classes, Transform, canon, image, undo};
 
 fn by(perm: [u8; 4], flips: u8, neg: bool) -> Transform
     requires permutes { is_permutation perm ≡ true }
@@ -50,7 +50,6 @@ fn least_images(rt: HostRuntime) -> Result<(), Fail> {
         assert_eq!(rt; least, class);
         assert_eq!(rt; transform.perm, perm);
         assert_eq!(rt; (transform.flips, transform.neg), (flips, neg));
-        assert_eq!(rt; plain::canon(function), (least, transform));
         assert_eq!(rt; classes.canon(function), (least, transform));
     }
     Ok(())

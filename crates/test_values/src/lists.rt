@@ -3,10 +3,7 @@
 use crate::texts::read_text;
 use std::alloc::{AllocError, Global};
 use std::test::Fail;
-use syn_netlist::{
-    CheckedNetlist, Frame, Latch, LatchKind, Names, Netlist, Word, check, cost, cover_value,
-    marks_of, table_order,
-};
+use syn_netlist::{Frame, Latch, LatchKind, Names, Netlist, cost, marks_of, table_order};
 use syn_reader::read;
 
 #[test]
@@ -19,25 +16,6 @@ fn numbers_names(rt: HostRuntime) -> Result<(), AllocError> {
     assert_eq!(rt; names.len(), 2);
     assert_eq!(rt; names.find(b"bc"), Some(1));
     assert_eq!(rt; names.find(b"b"), None);
-    Ok(())
-}
-
-#[test]
-fn gives_covers_their_values(rt: HostRuntime) -> Result<(), AllocError> {
-    let alloc = rt.alloc();
-    let rows = [
-        Word::of(b"1-".to_vec(alloc)?),
-        Word::of(b"01".to_vec(alloc)?),
-    ];
-    for (a, b, wanted) in [
-        (false, false, false),
-        (false, true, true),
-        (true, false, true),
-        (true, true, true),
-    ] {
-        assert_eq!(rt; cover_value(rows.as_slice(), true, &[a, b]), wanted);
-        assert_eq!(rt; cover_value(rows.as_slice(), false, &[a, b]), !wanted);
-    }
     Ok(())
 }
 
@@ -59,7 +37,7 @@ fn are(found: Result<Vec<u32>, AllocError>, wanted: &[u32]) -> bool {
 // Whether the order of the tables is this.
 fn is_ordered(alloc: Global, netlist: &Netlist, wanted: &[u32]) -> bool {
     match table_order(netlist, alloc) {
-        Ok(order) => order.as_slice() == wanted && check(netlist, alloc).is_ok(),
+        Ok(order) => order.as_slice() == wanted,
         Err(_) => false,
     }
 }
@@ -112,20 +90,12 @@ fn has_worked_latch(latches: &[Latch]) -> bool {
     latches.len() == 1 && latches[0].kind == Some((LatchKind::Re, Some(3))) && latches[0].init == 2
 }
 
-// Whether a netlist is checked, and its tables are then in this order.
-fn is_checked(alloc: Global, netlist: Netlist, order: &[u32]) -> bool {
-    match CheckedNetlist::of(netlist, alloc) {
-        Ok(checked) => checked.order.as_slice() == order,
-        Err(_) => false,
-    }
-}
-
 #[test]
 fn reads_lists_and_a_latch(rt: HostRuntime) -> Result<(), Fail> {
     let text =
         ".outputs y y\n.names b y\n1 0\n.inputs a \\\nb\n.clock c a\n.latch a q re c 2\n.end x\n";
     let netlist = read(rt.alloc(), text.as_bytes())?;
     assert!(rt; is_worked(&netlist.frame) && has_worked_latch(netlist.frame.latches.as_slice()));
-    assert!(rt; is_checked(rt.alloc(), netlist, &[0]));
+    assert!(rt; is_ordered(rt.alloc(), &netlist, &[0]));
     Ok(())
 }

@@ -16,7 +16,7 @@ use std::test::Fail;
 use std::thread::Threads;
 use syn_apply::apply;
 use syn_cuts::{Cut, CutLists, function, listed};
-use syn_gain::{Candidate, Proposal, Room, Uses, lost_but, saved, saved_by_sweeps};
+use syn_gain::{Candidate, Proposal, Room, Uses, lost_but, saved};
 use syn_graph::Graph;
 use syn_plan::{PLit, Plan, factor};
 use syn_rows::{NODE_LIMIT, Row};
@@ -128,19 +128,18 @@ pub fn is_and(graph: &Graph, node: u32) -> bool
     }
 }
 
-// What the proposal saves, counted nearby and by two sweeps; none where its root is no AND.
-fn both_counts(
+// What the proposal saves; none where its root is no AND.
+fn count_saved(
     alloc: Global,
     graph: &Graph,
     candidate: Candidate,
-) -> Result<Option<(i64, i64)>, AllocError> {
+) -> Result<Option<i64>, AllocError> {
     if !is_and(graph, candidate.root) {
         return Ok(None);
     }
     let uses = Uses::new(alloc, graph)?;
-    let near = saved(alloc, graph, &uses, candidate)?;
-    let swept = saved_by_sweeps(alloc, graph, &uses, candidate)?;
-    Ok(Some((near, swept)))
+    let count = saved(alloc, graph, &uses, candidate)?;
+    Ok(Some(count))
 }
 
 // The complement of the AND of the first leaf with "the second or the third".
@@ -154,11 +153,11 @@ fn shared_gate() -> Plan
     plan
 }
 
-// Whether both counts say that it saves so much in place of node 6 of a graph.
+// Whether it saves so much in place of node 6 of a graph.
 fn saves(alloc: Global, graph: &Graph, wanted: i64) -> bool {
     let plan = shared_gate();
-    match both_counts(alloc, graph, Candidate::over(6, &[1, 2, 3], &plan)) {
-        Ok(counts) => counts == Some((wanted, wanted)),
+    match count_saved(alloc, graph, Candidate::over(6, &[1, 2, 3], &plan)) {
+        Ok(count) => count == Some(wanted),
         Err(_) => false,
     }
 }

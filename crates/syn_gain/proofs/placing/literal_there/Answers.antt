@@ -5,17 +5,16 @@ use Rattle.syn_rows.specs.declared.Row.{Row}
 use Rattle.syn_rows.specs.Rows.{AllRefs, row_at}
 use Rattle.syn_gain.specs.Laws.{IsBefore}
 use Rattle.syn_gain.proofs.Fresh.{not_behind}
-use Rattle.syn_gain.proofs.placing.join.Goals as goal
+use Rattle.syn_gain.proofs.placing.literal_there.Goals as goal
 
 pub literal_new-requires-clause-none : goal.literal_new-requires-clause-none
 literal_new-requires-clause-none c = λ i lt.
     let first = length c.args.rows.now in
-    let extra = c.as_slice-2.result.now in
+    let extra = c.args.extra.now in
     let a = c.place_behind.result in
     let b = c.place_behind-2.result in
     let from : c.max-from.result ≡ a - b + b = c.max-from.ensures ∙ sym (sub-add-eq-max a b) in
-    let before : AllRefs (IsBefore c.args.root first (first + i)) (row_at extra i) =
-    subst (λ (rows : List Row). AllRefs (IsBefore c.args.root first (first + i)) (row_at rows i)) (sym c.as_slice-2.ensures) (c.requires.before i) in
+    let before = c.requires.before i in
     elim (cases_lt i a) [
       | inl less ↦ not_behind c.args.root first extra c.args.x c.args.y c.args.x i c.requires.low before (inl refl) (omega (arith, less, c.place_behind.ensures))
       | inr ge ↦ not_behind c.args.root first extra c.args.x c.args.y c.args.y i c.requires.low before (inr refl) (omega (arith, ge, lt, from, c.place_behind-2.ensures))
