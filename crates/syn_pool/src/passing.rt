@@ -12,7 +12,7 @@ ghost use Rattle.syn_pool.specs.Steps.{IsStepOf};
 use crate::reports::{NOTHING, both};
 use crate::scene::Course;
 use crate::steps::{Step, one_step};
-use crate::visited::Visited;
+use crate::visited::Seen;
 use std::alloc::{AllocError, Global};
 use std::thread::Threads;
 use syn_commit::Gate;
@@ -28,7 +28,7 @@ fn close<R: Threads + Sync, P: Proposer, G: Gate>(
     report: Report,
     lists: P::Lists,
     commits: bool,
-    visited: &mut Visited,
+    seen: &mut Seen,
 ) -> Result<(Graph, Report), AllocError>
     requires follows { Follows start.now report.gained graph }
     requires gain { IsGain (not course.now.zero_gain) report }
@@ -44,7 +44,7 @@ fn close<R: Threads + Sync, P: Proposer, G: Gate>(
     let mut commits = commits;
     loop {
         let before = Some(lists);
-        match one_step(course, &graph, before, commits, visited)? {
+        match one_step(course, &graph, before, commits, seen)? {
             Step::Stays => return Ok((graph, report)),
             Step::Ends(next, more) => return Ok((next, both(report, more))),
             Step::GoesOn(next, more, used, again) => {
@@ -65,12 +65,12 @@ pub(crate) fn closed<R: Threads + Sync, P: Proposer, G: Gate>(
     ensures some { IfOk result (λ made. IfSome made (λ r. Follows graph.now r.1.gained r.0 × Closed r.0.rows r.0.observed (P.proposals course.now.proposer.now r.0.rows) × IsGain (not course.now.zero_gain) r.1 × IsReport r.1)) }
     ensures none { IfOk result (λ made. IfNone made (Closed graph.now.rows graph.now.observed (P.proposals course.now.proposer.now graph.now.rows))) }
 {
-    let mut visited = Visited::new(course.alloc, graph)?;
-    match one_step(course, graph, None, true, &mut visited)? {
+    let mut seen = Seen::new(course.alloc, graph)?;
+    match one_step(course, graph, None, true, &mut seen)? {
         Step::Stays => Ok(None),
         Step::Ends(next, report) => Ok(Some((next, report))),
         Step::GoesOn(next, report, lists, again) => {
-            Ok(Some(close(course, graph, next, report, lists, again, &mut visited)?))
+            Ok(Some(close(course, graph, next, report, lists, again, &mut seen)?))
         }
     }
 }

@@ -11,12 +11,11 @@ ghost use Rattle.syn_pool.specs.Working.{HasSwept};
 
 use crate::closing::close;
 use crate::fan_outs::FanOuts;
-use crate::following::has_plans;
 use crate::opening::{Order, SPARE, gates_of, noted, opened};
 use crate::queues::{queues_of, thieves_of};
 use crate::scene::{Board, Course, Crew, Tour};
 use crate::sharing::{Swept, swept_by_all};
-use crate::visited::Visited;
+use crate::visited::Neighbourhoods;
 use std::alloc::{AllocError, Global};
 use std::thread::Threads;
 use syn_commit::Gate;
@@ -57,7 +56,7 @@ fn swept<R: Threads + Sync, P: Proposer, G: Gate>(
     shared: Shared,
     seat: Seat,
 ) -> Result<(Shared, Swept), AllocError>
-    requires lists { P.is_lists_of course.now.proposer.now lists.now graph.now.rows }
+    requires lists { (tour.zero_gain ≡ false) ⊎ (tour.looks ≡ false) → P.is_lists_of course.now.proposer.now lists.now graph.now.rows }
     requires workers { (1 ≤ tour.workers) × (tour.workers ≤ 16) }
     requires nodes { length graph.now.rows + 512 * tour.workers ≤ nodes_of shared }
     requires table { IsOf seat shared }
@@ -76,7 +75,7 @@ fn swept<R: Threads + Sync, P: Proposer, G: Gate>(
         fan_outs: fan_outs_of(alloc, graph, tour.order)?,
         thieves: thieves_of(alloc, queues.as_slice())?,
         zero_gain: tour.zero_gain,
-        looks: has_plans(course.proposer, lists),
+        looks: tour.looks,
     };
     let crew = Crew { seat, queues };
     let swept = swept_by_all(
@@ -98,7 +97,7 @@ fn improved<R: Threads + Sync, P: Proposer, G: Gate>(
     lists: &P::Lists,
     tour: Tour<'_>,
 ) -> Result<Improved, AllocError>
-    requires lists { P.is_lists_of course.now.proposer.now lists.now graph.now.rows }
+    requires lists { (tour.zero_gain ≡ false) ⊎ (tour.looks ≡ false) → P.is_lists_of course.now.proposer.now lists.now graph.now.rows }
     requires workers { (1 ≤ tour.workers) × (tour.workers ≤ 16) }
     requires nodes { length graph.now.rows + 512 * tour.workers < NODE_LIMIT }
     requires literals { length graph.now.observed < 2 ^ 30 }
@@ -128,7 +127,7 @@ pub(crate) fn round_at<R: Threads + Sync, P: Proposer, G: Gate>(
     lists: &P::Lists,
     tour: Tour<'_>,
 ) -> Result<Option<Improved>, AllocError>
-    requires lists { P.is_lists_of course.now.proposer.now lists.now graph.now.rows }
+    requires lists { (tour.zero_gain ≡ false) ⊎ (tour.looks ≡ false) → P.is_lists_of course.now.proposer.now lists.now graph.now.rows }
     ensures follows { IfOk result (λ made. IfSome made (λ m. Follows graph.now m.report.gained m.graph)) }
     ensures gain { IfOk result (λ made. IfSome made (λ m. IsGain (not tour.entry.zero_gain) m.report)) }
     ensures report { IfOk result (λ made. IfSome made (λ m. IsReport m.report)) }
@@ -143,21 +142,23 @@ pub(crate) fn round_at<R: Threads + Sync, P: Proposer, G: Gate>(
         order: tour.order,
         workers,
         zero_gain: tour.zero_gain,
+        looks: tour.looks,
     };
     let made = improved(course, graph, lists, tour)?;
     Ok(Some(made))
 }
 
 /// A round on the ANDs of the graph with the workers of the pass, the last one first: where gains of 0 are let through, on those
-/// whose neighbourhoods weren't visited, and the first one first where cuts of the table are looked at. None comes where the
-/// graph has no room, or the proposer wouldn't take what they leave.
+/// whose neighbourhoods weren't visited, and the first one first where cuts of the table are looked at, for which the lists may be
+/// those of another graph. None comes where the graph has no room, or the proposer wouldn't take what they leave.
 pub(crate) fn round<R: Threads + Sync, P: Proposer, G: Gate>(
     course: &Course<'_, R, P, G>,
     graph: &Graph,
     lists: &P::Lists,
-    visited: &mut Visited,
+    looks: bool,
+    visited: &mut Neighbourhoods,
 ) -> Result<Option<Improved>, AllocError>
-    requires lists { P.is_lists_of course.now.proposer.now lists.now graph.now.rows }
+    requires lists { (course.now.zero_gain ≡ false) ⊎ (looks ≡ false) → P.is_lists_of course.now.proposer.now lists.now graph.now.rows }
     ensures follows { IfOk result (λ made. IfSome made (λ m. Follows graph.now m.report.gained m.graph)) }
     ensures gain { IfOk result (λ made. IfSome made (λ m. IsGain (not course.now.zero_gain) m.report)) }
     ensures report { IfOk result (λ made. IfSome made (λ m. IsReport m.report)) }
@@ -167,7 +168,7 @@ pub(crate) fn round<R: Threads + Sync, P: Proposer, G: Gate>(
     } else {
         gates_of(course.alloc, graph)?
     };
-    if course.zero_gain && has_plans(course.proposer, lists) {
+    if looks {
         nodes.reverse();
     }
     let tour = Tour {
@@ -175,6 +176,7 @@ pub(crate) fn round<R: Threads + Sync, P: Proposer, G: Gate>(
         order: Order::Levels,
         workers: course.workers,
         zero_gain: course.zero_gain,
+        looks,
     };
     let Some(improved) = round_at(course, graph, lists, tour)? else {
         return Ok(None);

@@ -37,6 +37,8 @@ pub(crate) struct Tour<'a> {
     pub workers: u8,
     /// Whether commits of gain 0 are let through.
     pub zero_gain: bool,
+    /// Whether these are looked for among the cuts of the table as it stands, for which the lists needn't be the graph's.
+    pub looks: bool,
 }
 
 /// What all workers of a round use beside the graph and the proposer. It owns all that it has: of a value whose type names a

@@ -1,6 +1,6 @@
 //! One step of a pass: a round of workers, then the check, and what it finds is committed or applied.
 
-ghost use Rattle.std.specs.Prelude.{◌≡◌, ◌<◌, ℕ, Bool, not, true, List, All, IfNone, IfOk, IfSome, length};
+ghost use Rattle.std.specs.Prelude.{◌≡◌, ◌⊎◌, ◌<◌, ℕ, Bool, not, false, true, List, All, IfNone, IfOk, IfSome, length};
 ghost use Rattle.syn_rows.specs.declared.Row.{Row};
 ghost use Rattle.syn_rows.specs.Reach.{is_and};
 ghost use Rattle.syn_rows.specs.Rows.{row_at};
@@ -10,21 +10,22 @@ ghost use Rattle.syn_gain.specs.Uses.{IsUsesOf};
 ghost use Rattle.syn_proposals.specs.Closing.{Closed, SavesSome};
 ghost use Rattle.syn_proposals.specs.Following.{Follows};
 ghost use Rattle.syn_proposals.specs.Gains.{IsGain};
-ghost use Rattle.syn_proposals.specs.Sound.{IsSound};
+ghost use Rattle.syn_proposals.specs.Sound.{IsLeftover, IsSound};
 ghost use Rattle.syn_pool.specs.Reports.{IsReport};
 ghost use Rattle.syn_pool.specs.Steps.{IsFewer, IsStepOf};
 
+use crate::following::has_plans;
 use crate::opening::Order;
 use crate::reports::{NOTHING, both};
 use crate::rounds::{round, round_at};
 use crate::scene::{Course, Tour};
-use crate::visited::Visited;
+use crate::visited::{Marked, Neighbourhoods, Seen};
 use std::alloc::{AllocError, Global};
 use std::thread::Threads;
 use syn_commit::Gate;
 use syn_gain::{Proposal, Uses};
 use syn_graph::Graph;
-use syn_proposals::{Improved, Proposer, Report, is_better, leftovers, smaller};
+use syn_proposals::{Improved, Proposer, Report, is_better, leftovers, leftovers_among, smaller};
 
 /// What a step makes of a graph.
 #[derive(Drop)]
@@ -56,6 +57,9 @@ const MOST_ALONE: usize = 256;
 // Gains of 0 are worth another round where the last one took away one in so many of the ANDs.
 const LEAST_SHARE: usize = 1024;
 
+// One in so many of the nodes are few: what is among these is looked for first.
+const FEW: usize = 4;
+
 // How many workers commit for so many leftovers.
 fn workers_for(leftovers: usize, workers: u8) -> u8 {
     if leftovers <= MOST_ALONE { 1 } else { workers }
@@ -86,6 +90,7 @@ fn mended<R: Threads + Sync, P: Proposer, G: Gate>(
             order: Order::Numbers,
             workers: workers_for(found.len(), course.workers),
             zero_gain: false,
+            looks: false,
         };
         if let Some(improved) = round_at(course, graph, lists, tour)? {
             if is_better(course.alloc, course.proposer, graph, &improved.graph)? {
@@ -100,29 +105,57 @@ fn mended<R: Threads + Sync, P: Proposer, G: Gate>(
     })
 }
 
+// The leftovers of a graph with its lists: where few of its neighbourhoods aren't known to be clean, those of these, if there are
+// any, and else all.
+fn left<R: Threads + Sync, P: Proposer, G: Gate>(
+    course: &Course<'_, R, P, G>,
+    graph: &Graph,
+    uses: &Uses,
+    lists: &P::Lists,
+    others: &Marked,
+) -> Result<Vec<Proposal>, AllocError>
+    requires uses { IsUsesOf uses.now graph.now }
+    requires lists { P.is_lists_of course.now.proposer.now lists.now graph.now.rows }
+    ensures each { IfOk result (λ found. All (IsLeftover graph.now.rows graph.now.observed (P.proposals course.now.proposer.now graph.now.rows)) found.items) }
+    ensures none { IfOk result (λ found. length found.items ≡ 0 → Closed graph.now.rows graph.now.observed (P.proposals course.now.proposer.now graph.now.rows)) }
+{
+    let (alloc, proposer) = (course.alloc, course.proposer);
+    let others = others.nodes.as_slice();
+    if others.len() < graph.rows.as_slice().len() / FEW {
+        let found = leftovers_among(alloc, graph, uses, proposer, lists, others)?;
+        if found.len() > 0 {
+            return Ok(found);
+        }
+    }
+    leftovers(
+        course.rt,
+        alloc,
+        graph,
+        uses,
+        proposer,
+        lists,
+        course.workers,
+    )
+}
+
 // The check of a graph with its lists: one with fewer ANDs in place of it, and none where it is closed.
 fn check<R: Threads + Sync, P: Proposer, G: Gate>(
     course: &Course<'_, R, P, G>,
     graph: &Graph,
     lists: &P::Lists,
+    clean: &mut Neighbourhoods,
 ) -> Result<Option<Improved>, AllocError>
     requires lists { P.is_lists_of course.now.proposer.now lists.now graph.now.rows }
     ensures some { IfOk result (λ made. IfSome made (λ m. IsFewer graph.now m.report m.graph)) }
     ensures none { IfOk result (λ made. IfNone made (Closed graph.now.rows graph.now.observed (P.proposals course.now.proposer.now graph.now.rows))) }
 {
     let uses = Uses::new(course.alloc, graph)?;
-    let found = leftovers(
-        course.rt,
-        course.alloc,
-        graph,
-        &uses,
-        course.proposer,
-        lists,
-        course.workers,
-    )?;
+    let others = clean.others(course.alloc, graph)?;
+    let found = left(course, graph, &uses, lists, &others)?;
     if found.len() == 0 {
         return Ok(None);
     }
+    clean.add_but(&others, found.as_slice());
     let made = mended(course, graph, &uses, lists, found.as_slice())?;
     Ok(Some(made))
 }
@@ -132,11 +165,12 @@ fn check_given<R: Threads + Sync, P: Proposer, G: Gate>(
     course: &Course<'_, R, P, G>,
     graph: &Graph,
     lists: P::Lists,
+    clean: &mut Neighbourhoods,
 ) -> Result<Step<P::Lists>, AllocError>
     requires lists { P.is_lists_of course.now.proposer.now lists graph.now.rows }
     ensures { (strict : Bool) → IfOk result (IsStepOf graph.now (P.proposals course.now.proposer.now) strict) }
 {
-    match check(course, graph, &lists)? {
+    match check(course, graph, &lists, clean)? {
         Some(next) => Ok(Step::GoesOn(next.graph, next.report, lists, false)),
         None => Ok(Step::Stays),
     }
@@ -148,6 +182,7 @@ fn check_improved<R: Threads + Sync, P: Proposer, G: Gate>(
     graph: &Graph,
     improved: Improved,
     lists: P::Lists,
+    clean: &mut Neighbourhoods,
 ) -> Result<Step<P::Lists>, AllocError>
     requires follows { Follows graph.now improved.report.gained improved.graph }
     requires report { IsReport improved.report }
@@ -155,7 +190,7 @@ fn check_improved<R: Threads + Sync, P: Proposer, G: Gate>(
 {
     let report = improved.report;
     let lists = listed(course, &improved.graph, Some(lists))?;
-    match check(course, &improved.graph, &lists)? {
+    match check(course, &improved.graph, &lists, clean)? {
         Some(next) => Ok(Step::GoesOn(next.graph, both(report, next.report), lists, false)),
         None => Ok(Step::Ends(improved.graph, report)),
     }
@@ -175,6 +210,7 @@ fn goes_on<R: Threads + Sync, P: Proposer, G: Gate>(
     graph: &Graph,
     improved: Improved,
     lists: P::Lists,
+    clean: &mut Neighbourhoods,
 ) -> Result<Step<P::Lists>, AllocError>
     requires follows { Follows graph.now improved.report.gained improved.graph }
     requires report { IsReport improved.report }
@@ -183,7 +219,7 @@ fn goes_on<R: Threads + Sync, P: Proposer, G: Gate>(
     if course.zero_gain && is_worth_another(graph, &improved.graph) {
         return Ok(Step::GoesOn(improved.graph, improved.report, lists, true));
     }
-    check_improved(course, graph, improved, lists)
+    check_improved(course, graph, improved, lists, clean)
 }
 
 // The lists of a graph, where these are those of one before it, if there was one.
@@ -203,24 +239,54 @@ fn listed<R: Threads + Sync, P: Proposer, G: Gate>(
     }
 }
 
+// A step on a graph in which workers commit, with these lists, of the graph or, where workers look at the table's cuts alone, of
+// another.
+fn committed<R: Threads + Sync, P: Proposer, G: Gate>(
+    course: &Course<'_, R, P, G>,
+    graph: &Graph,
+    lists: P::Lists,
+    looks: bool,
+    seen: &mut Seen,
+) -> Result<Step<P::Lists>, AllocError>
+    requires lists { (course.now.zero_gain ≡ false) ⊎ (looks ≡ false) → P.is_lists_of course.now.proposer.now lists graph.now.rows }
+    ensures { IfOk result (IsStepOf graph.now (P.proposals course.now.proposer.now) (not course.now.zero_gain)) }
+{
+    match round(course, graph, &lists, looks, &mut seen.visited)? {
+        Some(improved) if improved.report.done > 0 => {
+            goes_on(course, graph, improved, lists, &mut seen.clean)
+        }
+        _ => {
+            let lists = listed(course, graph, Some(lists))?;
+            check_given(course, graph, lists, &mut seen.clean)
+        }
+    }
+}
+
 /// One step on a graph: workers commit, if they are to, and the graph that they leave is checked, unless they are to commit again
 /// first. Where they are not to, the graph has no room for them, nothing was done, or the proposer wouldn't take what they
-/// leave, the given graph is checked. The lists are those of a graph before it, if there was one.
+/// leave, the given graph is checked. The lists are those of a graph before it, if there was one: they serve where workers look
+/// at the table's cuts alone.
 pub(crate) fn one_step<R: Threads + Sync, P: Proposer, G: Gate>(
     course: &Course<'_, R, P, G>,
     graph: &Graph,
     before: Option<P::Lists>,
     commits: bool,
-    visited: &mut Visited,
+    seen: &mut Seen,
 ) -> Result<Step<P::Lists>, AllocError>
     ensures { IfOk result (IsStepOf graph.now (P.proposals course.now.proposer.now) (not course.now.zero_gain)) }
 {
-    let lists = listed(course, graph, before)?;
-    if !commits {
-        return check_given(course, graph, lists);
-    }
-    match round(course, graph, &lists, visited)? {
-        Some(improved) if improved.report.done > 0 => { goes_on(course, graph, improved, lists) }
-        _ => check_given(course, graph, lists),
+    match before {
+        Some(lists) if commits && course.zero_gain && has_plans(course.proposer, &lists) => {
+            committed(course, graph, lists, true, seen)
+        }
+        before => {
+            let lists = listed(course, graph, before)?;
+            if commits {
+                let looks = course.zero_gain && has_plans(course.proposer, &lists);
+                committed(course, graph, lists, looks, seen)
+            } else {
+                check_given(course, graph, lists, &mut seen.clean)
+            }
+        }
     }
 }

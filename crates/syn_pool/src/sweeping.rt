@@ -48,6 +48,7 @@ fn visit_for_gain<P: Proposer, G: Gate>(
     node: u32,
 ) -> Result<bool, AllocError>
     requires ready { IsReady P.is_lists_of scene.now }
+    requires lists { P.is_lists_of scene.now.proposer.now scene.now.lists.now scene.now.graph.now.rows }
     requires gate { is_and (row_at scene.now.graph.now.rows node) ≡ true }
     requires at_work { IsAtWork scene.now.tools.shared.now worker.old }
     ensures at_work { IsAtWork scene.now.tools.shared.now worker.new }

@@ -1,7 +1,9 @@
-//! Which neighbourhoods the rounds of a pass have visited. It tells which ANDs a round leaves out, and nothing rests on it.
+//! Which neighbourhoods the rounds of a pass have visited, and which ones its checks found to save nothing. It tells which ANDs
+//! a round leaves out and which ones a check looks at first, and nothing rests on it.
 
 use crate::opening::gates_of;
 use std::alloc::{AllocError, Global};
+use syn_gain::Proposal;
 use syn_graph::Graph;
 use syn_rows::{Lit, Row};
 
@@ -11,10 +13,26 @@ const DEPTH: u32 = 5;
 // How many places there are for each node of the first graph.
 const PLACES: usize = 8;
 
-/// The neighbourhoods that were visited, each by its mark, at a place that the mark tells: a later one takes the place of an
-/// earlier one.
+/// Neighbourhoods, each by its mark, at a place that the mark tells: a later one takes the place of an earlier one.
 #[derive(Drop)]
-pub(crate) struct Visited {
+pub(crate) struct Neighbourhoods {
+    marks: Vec<u64>,
+}
+
+/// What a pass remembers of the graphs that it had.
+#[derive(Drop)]
+pub(crate) struct Seen {
+    /// The neighbourhoods that rounds visited.
+    pub visited: Neighbourhoods,
+    /// The neighbourhoods in which a check found nothing to save.
+    pub clean: Neighbourhoods,
+}
+
+/// ANDs of a graph in order, with the marks of their neighbourhoods.
+#[derive(Drop)]
+pub(crate) struct Marked {
+    /// The ANDs.
+    pub nodes: Vec<u32>,
     marks: Vec<u64>,
 }
 
@@ -81,13 +99,29 @@ fn marks_of(alloc: Global, graph: &Graph) -> Result<Vec<u64>, AllocError> {
     Ok(marks)
 }
 
-impl Visited {
-    /// None, with room for those of this graph and of graphs made of it. The only error is want of memory.
-    pub(crate) fn new(alloc: Global, graph: &Graph) -> Result<Visited, AllocError> {
+// The root of a proposal, none past the last one.
+fn root_at(proposals: &[Proposal], place: usize) -> Option<u32> {
+    let proposal = proposals.get(place)?;
+    Some(proposal.root)
+}
+
+impl Seen {
+    /// Nothing, with room for what passes over this graph and graphs made of it meet. The only error is want of memory.
+    pub(crate) fn new(alloc: Global, graph: &Graph) -> Result<Seen, AllocError> {
+        Ok(Seen {
+            visited: Neighbourhoods::new(alloc, graph)?,
+            clean: Neighbourhoods::new(alloc, graph)?,
+        })
+    }
+}
+
+impl Neighbourhoods {
+    // None, with room for those of this graph and of graphs made of it.
+    fn new(alloc: Global, graph: &Graph) -> Result<Neighbourhoods, AllocError> {
         let _count = graph.count();
         let count = PLACES * graph.rows.as_slice().len();
         let marks = vec![in alloc; 0; count]?;
-        Ok(Visited { marks })
+        Ok(Neighbourhoods { marks })
     }
 
     // The place of a mark.
@@ -113,19 +147,42 @@ impl Visited {
         }
     }
 
-    /// The ANDs of a graph whose neighbourhoods weren't visited, the last one first: they are so from now on. The only error is
-    /// want of memory.
-    pub(crate) fn visit(&mut self, alloc: Global, graph: &Graph) -> Result<Vec<u32>, AllocError> {
-        let marks = marks_of(alloc, graph)?;
-        let mut nodes = Vec::new(alloc);
-        for node in gates_of(alloc, graph)? {
-            if !self.has(word_at(marks.as_slice(), node)) {
-                nodes.push(node)?;
+    /// The ANDs of a graph whose neighbourhoods aren't there. The only error is want of memory.
+    pub(crate) fn others(&self, alloc: Global, graph: &Graph) -> Result<Marked, AllocError> {
+        let all = marks_of(alloc, graph)?;
+        let mut others = Marked {
+            nodes: Vec::new(alloc),
+            marks: Vec::new(alloc),
+        };
+        for node in gates_of(alloc, graph)?.iter().rev() {
+            let mark = word_at(all.as_slice(), *node);
+            if !self.has(mark) {
+                others.nodes.push(*node)?;
+                others.marks.push(mark)?;
             }
         }
-        for node in nodes.as_slice() {
-            self.add(word_at(marks.as_slice(), *node));
+        Ok(others)
+    }
+
+    /// Adds the neighbourhoods of ANDs, but of the roots of these proposals, which are in order too.
+    pub(crate) fn add_but(&mut self, marked: &Marked, found: &[Proposal]) {
+        let mut next = 0;
+        for (node, mark) in marked.nodes.iter().zip(marked.marks.iter()) {
+            while next < found.len() && found[next].root < *node {
+                next += 1;
+            }
+            if root_at(found, next) != Some(*node) {
+                self.add(*mark);
+            }
         }
-        Ok(nodes)
+    }
+
+    /// The ANDs of a graph whose neighbourhoods weren't there, the last one first: they are from now on. The only error is want
+    /// of memory.
+    pub(crate) fn visit(&mut self, alloc: Global, graph: &Graph) -> Result<Vec<u32>, AllocError> {
+        let mut others = self.others(alloc, graph)?;
+        self.add_but(&others, &[]);
+        others.nodes.reverse();
+        Ok(others.nodes)
     }
 }

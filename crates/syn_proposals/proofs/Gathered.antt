@@ -83,19 +83,26 @@ none_left rows observed proposals from (suc n) all empty (before, last, h, added
           (subst (IsAddedBy rows observed proposals (from + n)) both.1 added (subst (λ k. is_and (row_at rows k) ≡ true) e gate))
     ]
 
+-- what a node adds is the first of its root's
+of_node : (rows : List Row) (observed : List Lit) (proposals : ℕ → List Replacement) (node : ℕ) (o : Option Replacement) → IsAddedBy rows observed proposals node o → IfSome o (IsFirstOf rows observed proposals)
+of_node rows observed proposals node None h = tt
+of_node rows observed proposals node (Some r) (gate, root, first) = record {
+  gate = subst (λ k. is_and (row_at rows k) ≡ true) (sym root) gate;
+  first = subst (λ k. IsFirst rows observed (proposals k) r) (sym root) first;
+}
+
+-- and left over, where it is sound
+pub left_at : (rows : List Row) (observed : List Lit) (proposals : ℕ → List Replacement) (node : ℕ) (o : Option Proposal)
+    → IsAddedBy rows observed proposals node (option_map replacement o) → IfSome o (IsSound rows) → IfSome o (IsLeftover rows observed proposals)
+left_at rows observed proposals node None added sound = tt
+left_at rows observed proposals node (Some p) added sound = record { first = of_node rows observed proposals node (Some (replacement p)) added; sound = sound }
+
 -- each of them is the first of its root's
 firsts : (rows : List Row) (observed : List Lit) (proposals : ℕ → List Replacement) (from n : ℕ) (all : List Replacement)
     → AreLeftovers rows observed proposals from n all → All (IsFirstOf rows observed proposals) all
 firsts rows observed proposals from zero all is = subst (All (IsFirstOf rows observed proposals)) (sym is) (λ k d lt. absurd (omega arith))
 firsts rows observed proposals from (suc n) all (before, last, h, added, is) =
-    with_found (IsFirstOf rows observed proposals) before all last is (firsts rows observed proposals from n before h) (of_node last added)
-  where
-    of_node : (o : Option Replacement) → IsAddedBy rows observed proposals (from + n) o → IfSome o (IsFirstOf rows observed proposals)
-    of_node None h = tt
-    of_node (Some r) (gate, root, first) = record {
-      gate = subst (λ k. is_and (row_at rows k) ≡ true) (sym root) gate;
-      first = subst (λ k. IsFirst rows observed (proposals k) r) (sym root) first;
-    }
+    with_found (IsFirstOf rows observed proposals) before all last is (firsts rows observed proposals from n before h) (of_node rows observed proposals (from + n) last added)
 
 -- and so each is left over, where all are sound
 pub each_left : (rows : List Row) (observed : List Lit) (proposals : ℕ → List Replacement) (from n : ℕ) (ps : List Proposal)

@@ -258,3 +258,45 @@ pub fn leftovers<R: Threads + Sync, P: Proposer>(
     let parts = find_parts(rt, alloc, graph, uses, proposer, lists, workers)?;
     found_in_parts(alloc, graph, uses, proposer, lists, parts)
 }
+
+// The first proposal of a node that saves, if it is an AND of the graph and has one.
+fn leftover_at<P: Proposer>(
+    alloc: Global,
+    graph: &Graph,
+    uses: &Uses,
+    proposer: &P,
+    lists: &P::Lists,
+    node: u32,
+) -> Result<Option<Proposal>, AllocError>
+    requires uses { IsUsesOf uses.now graph.now }
+    requires lists { P.is_lists_of proposer.now lists.now graph.now.rows }
+    ensures { IfOk result (λ found. IfSome found (IsLeftover graph.now.rows graph.now.observed (P.proposals proposer.now graph.now.rows))) }
+{
+    if node as usize >= graph.rows.as_slice().len() {
+        return Ok(None);
+    }
+    let first = first_at(alloc, graph, uses, proposer, lists, node)?;
+    Ok(first)
+}
+
+/// The leftovers among some nodes: of each AND of these, in their order, the first proposal that saves, if one does. It takes less
+/// than `leftovers`, and tells nothing of other nodes. The only error is want of memory.
+pub fn leftovers_among<P: Proposer>(
+    alloc: Global,
+    graph: &Graph,
+    uses: &Uses,
+    proposer: &P,
+    lists: &P::Lists,
+    nodes: &[u32],
+) -> Result<Vec<Proposal>, AllocError>
+    requires uses { IsUsesOf uses.now graph.now }
+    requires lists { P.is_lists_of proposer.now lists.now graph.now.rows }
+    ensures { IfOk result (λ found. All (IsLeftover graph.now.rows graph.now.observed (P.proposals proposer.now graph.now.rows)) found.items) }
+{
+    let mut found = Vec::new(alloc);
+    for node in nodes {
+        let leftover = leftover_at(alloc, graph, uses, proposer, lists, *node)?;
+        add_found(&mut found, leftover)?;
+    }
+    Ok(found)
+}

@@ -11,7 +11,7 @@ mod proposing;
 mod turns;
 
 pub use applying::{first_applied, is_better, smaller};
-pub use checking::leftovers;
+pub use checking::{leftovers, leftovers_among};
 pub use gains::{Improved, Report};
 pub use keeping::{Keeping, Leveled};
 pub use laws::{closed_saves_nothing, first_of_parts};
