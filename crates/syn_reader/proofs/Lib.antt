@@ -36,3 +36,4 @@ pub mod Either
 pub mod OneLists
 pub mod OneModel
 pub mod Moving
+pub mod Driving

@@ -105,7 +105,7 @@ no_fault all home above line (OneLatch latch) n = refl
 no_fault all home above line (OneTable table) n = refl
 no_fault all home above line (OneSubcircuit c) n = absurd (both_ways true n refl)
 
-none_inside : (all : List Model) (said : List models.Statement) → Plain said → flat_map (λ s. defined_inside all s.kind) said ≡ []
+pub none_inside : (all : List Model) (said : List models.Statement) → Plain said → flat_map (λ s. defined_inside all s.kind) said ≡ []
 none_inside all [] p = refl
 none_inside all (s ∷ ss) p = ap₂ (λ (a b : List (List ℕ)). a ++ b) (no_inside all s.kind p.0) (none_inside all ss p.1)
 
@@ -113,7 +113,7 @@ no_subcircuits : (said : List models.Statement) → Plain said → flat_map (λ 
 no_subcircuits [] p = refl
 no_subcircuits (s ∷ ss) p = ap₂ (λ (a b : List Subcircuit). a ++ b) (no_subcircuit s.kind p.0) (no_subcircuits ss p.1)
 
-no_faults : (all : List Model) (home : Model) (above said : List models.Statement) → Plain said → first_of_statements flat.checks all home above said ≡ None
+pub no_faults : (all : List Model) (home : Model) (above said : List models.Statement) → Plain said → first_of_statements flat.checks all home above said ≡ None
 no_faults all home above [] p = refl
 no_faults all home above (s ∷ ss) p = ap₂ (λ (a b : Option FlatFault). option_or a b) (no_fault all home above s.line s.kind p.0) (no_faults all home (s ∷ above) ss p.1)
 
@@ -125,7 +125,7 @@ pub plain_opens : (all : List Model) (said : List models.Statement) → Plain sa
 plain_opens all [] p = tt
 plain_opens all (s ∷ ss) p = (refl, p.0, plain_opens all ss p.1)
 
-abbrev missing : List (List ℕ) → List (List ℕ) → Option (List ℕ)
+abbrev pub missing : List (List ℕ) → List (List ℕ) → Option (List ℕ)
 missing names read = find (λ name. not (has_word names name)) read
 
 -- a model alone, of plain statements in which all that is read is defined

@@ -119,11 +119,14 @@ pub fn read_rows(
     ensures fine { OnOk result (rows_fault inputs None statements.old ≡ None) }
     ensures fault { IfErr result (λ e. IfSome (fault_in e) (λ f. rows_fault inputs None statements.old ≡ Some f)) }
 {
-    let mut parts = Vec::new(alloc);
     let Some(row) = statements.take(Kind::Row) else {
-        return Ok(Rows { parts, on: true });
+        return Ok(Rows {
+            parts: Vec::new(alloc),
+            on: true,
+        });
     };
     let (part, on) = read_row(inputs, row.line, row.words)?;
+    let mut parts = Vec::with_capacity(alloc, 1)?;
     parts.push(Word::of(part.to_vec(alloc)?))?;
     while let Some(row) = statements.take(Kind::Row) {
         push_row(alloc, &mut parts, inputs, on, row)?;

@@ -3,6 +3,7 @@ use Rattle.std.specs.Vec.Iter.{into_iter_items}
 use Rattle.syn_models.specs.declared.hierarchy.Statement.{Statement}
 use Rattle.syn_models.specs.declared.ports.Role.TheVariants.{Clock, Input, Output}
 use Rattle.syn_models.specs.Listed.{listed_in}
+use Rattle.syn_models.specs.Reading.{read_in}
 use Rattle.syn_reader.specs.Alone.{latches_in, tables_in}
 use Rattle.syn_reader.proofs.Moving.{all_listed, no_more, one_listed}
 use Rattle.syn_reader.proofs.alone.lists_of.Goals as goal
@@ -24,6 +25,7 @@ loop-statement-preserved c =
       outputs = one_listed (listed_in Output) _ _ x _ rest _ next one.outputs was.outputs;
       latches = one_listed latches_in _ _ x _ rest _ next one.latches was.latches;
       tables = one_listed tables_in _ _ x _ rest _ next one.tables was.tables;
+      reads = one_listed (read_in []) _ _ x _ rest _ next one.reads was.reads;
       len = omega (arith, long, gone, short);
     }
 
@@ -38,4 +40,5 @@ returns c =
       outputs = all_listed (listed_in Output) _ _ _ none was.outputs;
       latches = all_listed latches_in _ _ _ none was.latches;
       tables = all_listed tables_in _ _ _ none was.tables;
+      reads = all_listed (read_in []) _ _ _ none was.reads;
     }

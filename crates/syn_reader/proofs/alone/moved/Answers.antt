@@ -34,8 +34,8 @@ invariant_of-frame c =
       sources_once = ap (λ (f : lists.Frame). distinct (lists.sources f)) (moved_frame m c.of.result c.of-2.result c.of-3.result c.of-4.result inputs clocks outputs latches) ∙ sources_once (alone (model_in m)) m.once;
     }
 
-pub invariant_of-result : goal.invariant_of-result
-invariant_of-result c =
+pub invariant_of-netlist : goal.invariant_of-netlist
+invariant_of-netlist c =
     let m = c.args.main in
     let names = m.names in
     let listed = c.in_ok-lists.ensures in
