@@ -1,12 +1,12 @@
 -- What a model without subcircuits reads and defines, by its statements and as a netlist.
-use Rattle.std.proofs.Common.{◌≡◌, ℕ, not, ◌&&◌, ◌||◌, Bool, true, false, List, [], ◌∷◌, ◌++◌, map, flat_map, find, bytes_eq, refl, sym, ap, ap₂, ◌∙◌, Option, Some, None, option_map, append-nil}
+use Rattle.std.proofs.Common.{◌≡◌, ℕ, not, ◌&&◌, ◌||◌, Bool, true, false, List, [], ◌∷◌, ◌++◌, map, flat_map, bytes_eq, refl, sym, ap, ap₂, ◌∙◌, Option, Some, None, option_map, append-nil}
 use Rattle.std.specs.List.{list_all}
 use Rattle.std.specs.Option.{option_or}
 use Rattle.std.proofs.lemmas.Bool.{and_parts, both_ways}
 use Rattle.std.proofs.lemmas.List.{map-append}
 use Rattle.std.proofs.lemmas.Map.Views.{any-filter_same}
 use Rattle.syn_netlist.specs.Faults.{first_undefined}
-use Rattle.syn_netlist.specs.Lists.{Latch, Netlist, Table, latch_output, output_of, sources}
+use Rattle.syn_netlist.specs.Lists.{Netlist, latch_output, output_of, sources}
 use Rattle.syn_netlist.specs.Numbers.{word_at, words_at}
 use Rattle.syn_netlist.specs.Order.{defined}
 use Rattle.syn_netlist.specs.Words.{has_word, without}

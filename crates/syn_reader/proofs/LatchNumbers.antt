@@ -1,5 +1,5 @@
 -- Latches by numbers, as names are added.
-use Rattle.std.proofs.Common.{◌≡◌, ℕ, ◌<◌, ◌&&◌, not, nat_lt, true, List, [], ◌∷◌, length, bytes_eq, refl, ap, ap₂, ◌∙◌, Option, Some, None, arith}
+use Rattle.std.proofs.Common.{◌≡◌, ℕ, ◌<◌, ◌&&◌, not, nat_lt, true, List, ◌∷◌, length, bytes_eq, refl, ap, ap₂, ◌∙◌, Option, Some, None, arith}
 use Rattle.std.specs.List.{list_all}
 use Rattle.std.proofs.lemmas.Bool.{and_parts, and_from, lt-ltb, ltb-true}
 use Rattle.syn_netlist.specs.declared.LatchKind.{LatchKind}

@@ -1,5 +1,5 @@
 -- What first faults are, by keyword and by rows.
-use Rattle.std.proofs.Common.{◌≡◌, ℕ, suc, nat_lt, ◌||◌, ◌&&◌, not, Bool, true, false, if◌then◌else◌, List, [], ◌∷◌, length, map, flat_map, bytes_eq, refl, sym, ap, ap₂, ◌∙◌, subst, Option, Some, None, option_map, option_and_then, ◌+◌, ◌≤◌, arith}
+use Rattle.std.proofs.Common.{◌≡◌, ℕ, suc, nat_lt, ◌||◌, ◌&&◌, not, Bool, true, false, if◌then◌else◌, List, [], ◌∷◌, length, map, flat_map, bytes_eq, refl, sym, ap, ap₂, ◌∙◌, subst, Option, Some, None, option_map, ◌+◌, ◌≤◌, arith}
 use Rattle.std.specs.Option.{option_or}
 use Rattle.std.specs.List.{list_any}
 use Rattle.std.proofs.lemmas.Bool.{both_ways, cond-true}

@@ -1,5 +1,5 @@
 -- A file's only model, without subcircuits, is its own flattening.
-use Rattle.std.proofs.Common.{arith, ◌≡◌, ◌<◌, ◌≤◌, ◌^◌, ℕ, ◌&&◌, not, nat_lt, Bool, true, false, List, [], ◌∷◌, ◌++◌, length, map, flat_map, slice_index_or, refl, sym, ap, ap₂, ◌∙◌, subst, inl, inr, None, append_assoc, append-nil}
+use Rattle.std.proofs.Common.{arith, ◌≡◌, ◌<◌, ◌≤◌, ◌^◌, ℕ, ◌&&◌, nat_lt, Bool, true, false, List, [], ◌∷◌, ◌++◌, length, map, flat_map, slice_index_or, refl, sym, ap, ap₂, ◌∙◌, subst, inl, inr, None, append_assoc, append-nil}
 use Rattle.std.specs.List.{list_all}
 use Rattle.std.proofs.lemmas.Bool.{and_from, and_parts, both_ways, cases_Bool, cond-false, ltb-true}
 use Rattle.std.proofs.lemmas.List.Folds.{list_all-append}
@@ -10,9 +10,7 @@ use Rattle.syn_netlist.specs.Kept.{frame_of, latch_in, latch_numbers, latches_be
 use Rattle.syn_netlist.specs.Lists as lists
 use Rattle.syn_netlist.specs.Lists.{Netlist, control_of, output_of, sources}
 use Rattle.syn_netlist.specs.Numbers.{all_below}
-use Rattle.syn_netlist.specs.Order.{DefinedOnce}
 use Rattle.syn_netlist.specs.Tables.{table_in, tables_below}
-use Rattle.syn_netlist.specs.Words.{distinct}
 use Rattle.syn_models.specs.declared.flat_fault.FlatFault.TheVariants.{TooManyWords}
 use Rattle.syn_models.specs.declared.hierarchy.Model.{Model}
 use Rattle.syn_models.specs.declared.hierarchy.Statement.{Statement}
@@ -26,7 +24,7 @@ use Rattle.syn_models.specs.Kept.{kind_has_no_nil, kind_in, not_nil, numbers_in,
 use Rattle.syn_models.specs.Listed.{listed_in}
 use Rattle.syn_models.specs.Models as models
 use Rattle.syn_models.specs.Models.{alone}
-use Rattle.syn_models.specs.Opening.{Opened, is_subcircuit, words_of}
+use Rattle.syn_models.specs.Opening.{is_subcircuit, words_of}
 use Rattle.syn_models.specs.Views.{model_in}
 use Rattle.syn_models.proofs.Assembling.{controls_clear, frame_is}
 use Rattle.syn_netlist.proofs.Growing.{Grows-same}

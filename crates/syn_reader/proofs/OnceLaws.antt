@@ -1,8 +1,8 @@
 -- Without a second definition no name is defined twice by what statements say.
-use Rattle.std.proofs.Common.{◌≡◌, ◌+◌, ℕ, ◌||◌, not, Bool, true, false, if◌then◌else◌, List, [], ◌∷◌, ◌++◌, map, flat_map, bytes_eq, refl, sym, ap, ap₂, ◌∙◌, subst, inl, inr, ◌⊎◌, Option, Some, None}
+use Rattle.std.proofs.Common.{◌≡◌, ℕ, ◌||◌, not, Bool, true, false, if◌then◌else◌, List, [], ◌∷◌, ◌++◌, map, flat_map, bytes_eq, refl, sym, ap, ap₂, ◌∙◌, subst, inl, inr, ◌⊎◌, Option, Some, None}
 use Rattle.std.proofs.lemmas.Bool.{both_ways, false_from_ne_true, and_from, and_parts, or_left, or_right, or_cases, not-true}
 use Rattle.syn_netlist.specs.Words.{has_word, distinct, without}
-use Rattle.syn_netlist.specs.Lists.{Latch, Table, output_of, latch_output}
+use Rattle.syn_netlist.specs.Lists.{Latch, output_of, latch_output}
 use Rattle.syn_netlist.specs.Order.{DefinedOnce}
 use Rattle.syn_netlist.proofs.Sets.{has_word-append, same_word, word_same}
 use Rattle.syn_models.specs.Models as models

@@ -1,5 +1,5 @@
 -- A file of one model without subcircuits reads as what the model is alone.
-use Rattle.std.proofs.Common.{arith, ◌≡◌, ◌≤◌, ℕ, not, ◌&&◌, Bool, true, false, if◌then◌else◌, List, [], ◌∷◌, ◌++◌, map, flat_map, find, refl, sym, ap, ap₂, ◌∙◌, subst, inl, inr, Option, Some, None, option_map, append-nil}
+use Rattle.std.proofs.Common.{◌≡◌, ℕ, not, ◌&&◌, Bool, true, false, if◌then◌else◌, List, [], ◌∷◌, ◌++◌, map, flat_map, find, refl, sym, ap, ap₂, ◌∙◌, subst, inl, inr, Option, Some, None, option_map, append-nil}
 use Rattle.std.specs.List.{list_any, onto_first}
 use Rattle.std.specs.Option.{option_or}
 use Rattle.std.proofs.lemmas.Bool.{both_ways, cond-false}

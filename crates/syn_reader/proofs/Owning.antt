@@ -4,7 +4,6 @@ use Rattle.std.specs.List.{onto_first}
 use Rattle.std.specs.Option.{option_or}
 use Rattle.std.proofs.lemmas.Bool.{cond-true, cond-false}
 use Rattle.syn_models.specs.Models as models
-use Rattle.syn_reader.specs.declared.Kind.TheVariants as kinds
 use Rattle.syn_reader.specs.Heard.{statement}
 use Rattle.syn_reader.specs.Rows.{below_rows, output_with, row_fault, rows_fault}
 use Rattle.syn_reader.specs.Statements.{Statement, is_model, is_row, rows_below}

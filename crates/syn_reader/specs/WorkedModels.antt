@@ -1,8 +1,7 @@
 -- Worked texts of models with their first faults of lines, and what they say.
-use Rattle.std.specs.Prelude.{ℕ, ◌≡◌, true, List, [], ◌∷◌, ◌++◌, map, codes, Option, Some, None}
+use Rattle.std.specs.Prelude.{ℕ, ◌≡◌, true, List, [], ◌∷◌, ◌++◌, map, codes, Some, None}
 use Rattle.syn_models.specs.Models.{Bind, Subcircuit, Inputs, Outputs, OneTable, OneSubcircuit}
-use Rattle.syn_models.specs.Models as models
-use Rattle.syn_reader.specs.Faults.{Fault, BadByte, AfterEnd, UnknownKeyword, SecondModel, NoName, ExtraWord, StrayRow, DefinedTwice, ModelTwice, SubcktShape, PortTwice}
+use Rattle.syn_reader.specs.Faults.{BadByte, AfterEnd, UnknownKeyword, SecondModel, NoName, ExtraWord, StrayRow, DefinedTwice, ModelTwice, SubcktShape, PortTwice}
 use Rattle.syn_reader.specs.Statements.{statements}
 use Rattle.syn_reader.specs.Worked.{Answers, text}
 use Rattle.syn_reader.specs.Computed.{said_of}

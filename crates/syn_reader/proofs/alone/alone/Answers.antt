@@ -1,4 +1,4 @@
-use Rattle.std.proofs.Common.{◌≡◌, [], ℕ, List, length, option_map, slice_index_or, ap, ap₂, ◌∙◌, inl, arith}
+use Rattle.std.proofs.Common.{[], ℕ, List, length, option_map, slice_index_or, ap, ap₂, ◌∙◌, inl, arith}
 use Rattle.syn_models.specs.declared.flat_fault.FlatFault.TheVariants.{Undriven}
 use Rattle.syn_models.specs.declared.hierarchy.Model.{Model}
 use Rattle.syn_models.proofs.Undefined.{reads_below}

@@ -1,6 +1,5 @@
-use Rattle.std.proofs.Common.{◌≡◌, ◌∷◌, [], List, length, sym, ap, ◌∙◌, arith}
+use Rattle.std.proofs.Common.{◌≡◌, ◌∷◌, [], length, sym, ap, ◌∙◌, arith}
 use Rattle.std.specs.Vec.Iter.{into_iter_items}
-use Rattle.syn_models.specs.declared.hierarchy.Statement.{Statement}
 use Rattle.syn_models.specs.declared.ports.Role.TheVariants.{Clock, Input, Output}
 use Rattle.syn_models.specs.Listed.{listed_in}
 use Rattle.syn_models.specs.Reading.{read_in}

@@ -1,5 +1,5 @@
 use Rattle.std.proofs.Common.{◌≡◌, ◌++◌, List, flat_map, length, map, ap, ap₂, ◌∙◌}
-use Rattle.syn_netlist.specs.Kept.{frame_of, latches_below, no_nil_control}
+use Rattle.syn_netlist.specs.Kept.{latches_below, no_nil_control}
 use Rattle.syn_netlist.specs.Lists as lists
 use Rattle.syn_netlist.specs.Lists.{output_of}
 use Rattle.syn_netlist.specs.Tables.{table_in, tables_below}

@@ -1,4 +1,4 @@
-use Rattle.std.proofs.Common.{◌≡◌, subst}
+use Rattle.std.proofs.Common.{subst}
 use Rattle.std.proofs.lemmas.Result.{err_from_is_err_and}
 use Rattle.syn_netlist.specs.declared.netlists.Netlist.{Netlist}
 use Rattle.syn_netlist.specs.Views.{netlist_in}

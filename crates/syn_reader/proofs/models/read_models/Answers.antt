@@ -1,4 +1,4 @@
-use Rattle.std.proofs.Common.{length, map, true, ap, ◌∙◌, arith}
+use Rattle.std.proofs.Common.{length, map, ap, ◌∙◌, arith}
 use Rattle.syn_reader.specs.Heard.{lines_words, word_count}
 use Rattle.syn_reader.specs.Statements.{statement_of, statements}
 use Rattle.syn_reader.proofs.LineWords.{logical_words}
