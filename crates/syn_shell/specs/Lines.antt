@@ -1,5 +1,5 @@
 -- The lines that are printed: a network's numbers, and refusals.
-use Rattle.std.specs.Prelude.{◌≡◌, ℕ, Bool, true, false, max, ◌++◌, List, [], ◌∷◌, length, map, flat_map, codes, decimal}
+use Rattle.std.specs.Prelude.{◌≡◌, ℕ, Bool, true, false, max, ◌++◌, List, [], ◌∷◌, length, map, flat_map, codes, decimal, Option, Some, None}
 use Rattle.syn_rows.specs.Rows.{node_of}
 use Rattle.syn_rows.specs.Reach.{Ands}
 use Rattle.syn_rows.specs.Levels.{level_in, levels_of}
@@ -58,10 +58,6 @@ joined pieces = flat_map (λ piece. piece) pieces
 abbrev pub at_place : ℕ → List ℕ → List ℕ
 at_place at what = joined (codes "script " ∷ decimal at ∷ codes ": " ∷ what ∷ [])
 
--- a line of a file and what is wrong there
-abbrev pub at_line : ℕ → List ℕ → List ℕ
-at_line line what = joined (codes "line " ∷ decimal line ∷ codes ": " ∷ what ∷ [])
-
 -- what a fault of a script says
 abbrev pub script_text : ScriptFault → List ℕ
 script_text (script.BadByte at) = at_place at (codes "bad byte")
@@ -80,34 +76,48 @@ name_at_line line name what = joined (codes "line " ∷ decimal line ∷ codes "
 abbrev pub chain_text : List ℕ → List (List ℕ) → List ℕ
 chain_text called names = called ++ flat_map (λ name. codes " " ++ name) names
 
+-- the line, the name in it, if any, and what is wrong there, where a fault of a file tells a line
+abbrev pub told_in_line : ReadFault → Option (ℕ × List ℕ × List ℕ)
+told_in_line (read.AfterEnd line) = Some (line, [], codes "after end")
+told_in_line (read.UnknownKeyword line) = Some (line, [], codes "unknown keyword")
+told_in_line (read.SecondModel line) = Some (line, [], codes "second model")
+told_in_line (read.NoName line) = Some (line, [], codes "no name")
+told_in_line (read.ExtraWord line) = Some (line, [], codes "extra word")
+told_in_line (read.StrayRow line) = Some (line, [], codes "stray row")
+told_in_line (read.RowShape line) = Some (line, [], codes "row shape")
+told_in_line (read.MixedRows line) = Some (line, [], codes "mixed rows")
+told_in_line (read.LatchShape line) = Some (line, [], codes "latch shape")
+told_in_line (read.LatchType line) = Some (line, [], codes "latch type")
+told_in_line (read.LatchInit line) = Some (line, [], codes "latch init")
+told_in_line (read.DefinedTwice line name) = Some (line, name, codes " defined twice")
+told_in_line (read.ModelTwice line) = Some (line, [], codes "model defined twice")
+told_in_line (read.SubcktShape line) = Some (line, [], codes "subckt shape")
+told_in_line (read.PortTwice line formal) = Some (line, formal, codes " bound twice")
+told_in_line (read.UnknownModel line) = Some (line, [], codes "unknown model")
+told_in_line (read.UnknownPort line formal) = Some (line, formal, codes " unknown port")
+told_in_line (read.PortMissing line port) = Some (line, port, codes " unbound")
+told_in_line fault = None
+
+-- what any other fault of a file says
+abbrev pub told_of_file : ReadFault → List ℕ
+told_of_file (read.BadByte at) = joined (codes "byte " ∷ decimal at ∷ codes ": bad byte" ∷ [])
+told_of_file (read.Undriven name) = joined (name ∷ codes " undriven" ∷ [])
+told_of_file (read.Recursion names) = chain_text (codes "recursion") names
+told_of_file (read.TooManyWords count) = joined (decimal count ∷ codes " words" ∷ [])
+told_of_file (read.Cycle names) = chain_text (codes "cycle") names
+told_of_file (read.TooManySources count) = joined (decimal count ∷ codes " sources" ∷ [])
+told_of_file (read.TooLarge cost) = joined (codes "cost " ∷ decimal cost ∷ [])
+told_of_file read.NoMemory = codes "out of memory"
+told_of_file fault = []
+
+-- a line of a file, the name in it, if any, and what is wrong there; or else what is told of the file
+abbrev pub in_line_or : Option (ℕ × List ℕ × List ℕ) → List ℕ → List ℕ
+in_line_or (Some (line, name, what)) text = name_at_line line name what
+in_line_or None text = text
+
 -- what a fault of a file says
 abbrev pub read_text : ReadFault → List ℕ
-read_text (read.BadByte at) = joined (codes "byte " ∷ decimal at ∷ codes ": bad byte" ∷ [])
-read_text (read.AfterEnd line) = at_line line (codes "after end")
-read_text (read.UnknownKeyword line) = at_line line (codes "unknown keyword")
-read_text (read.SecondModel line) = at_line line (codes "second model")
-read_text (read.NoName line) = at_line line (codes "no name")
-read_text (read.ExtraWord line) = at_line line (codes "extra word")
-read_text (read.StrayRow line) = at_line line (codes "stray row")
-read_text (read.RowShape line) = at_line line (codes "row shape")
-read_text (read.MixedRows line) = at_line line (codes "mixed rows")
-read_text (read.LatchShape line) = at_line line (codes "latch shape")
-read_text (read.LatchType line) = at_line line (codes "latch type")
-read_text (read.LatchInit line) = at_line line (codes "latch init")
-read_text (read.DefinedTwice line name) = name_at_line line name (codes " defined twice")
-read_text (read.ModelTwice line) = at_line line (codes "model defined twice")
-read_text (read.SubcktShape line) = at_line line (codes "subckt shape")
-read_text (read.PortTwice line formal) = name_at_line line formal (codes " bound twice")
-read_text (read.UnknownModel line) = at_line line (codes "unknown model")
-read_text (read.UnknownPort line formal) = name_at_line line formal (codes " unknown port")
-read_text (read.PortMissing line port) = name_at_line line port (codes " unbound")
-read_text (read.Undriven name) = joined (name ∷ codes " undriven" ∷ [])
-read_text (read.Recursion names) = chain_text (codes "recursion") names
-read_text (read.TooManyWords count) = joined (decimal count ∷ codes " words" ∷ [])
-read_text (read.Cycle names) = chain_text (codes "cycle") names
-read_text (read.TooManySources count) = joined (decimal count ∷ codes " sources" ∷ [])
-read_text (read.TooLarge cost) = joined (codes "cost " ∷ decimal cost ∷ [])
-read_text read.NoMemory = codes "out of memory"
+read_text fault = in_line_or (told_in_line fault) (told_of_file fault)
 
 -- what a fault of an AIGER file says; its places are offsets of bytes
 abbrev pub aiger_text : AigFault → List ℕ

@@ -1,7 +1,7 @@
 //! The lines of refusals, put in pieces that take no memory, and their statuses.
 
-ghost use Rattle.std.specs.Prelude.{◌≡◌, ◌++◌, ◌∷◌, [], codes, decimal, flat_map, map};
-ghost use Rattle.syn_shell.specs.Lines.{aiger_status, aiger_text, at_line, at_place, chain_text, joined, name_at_line, read_status, read_text, refusal_line, refusal_status, refusal_text, script_text};
+ghost use Rattle.std.specs.Prelude.{◌≡◌, ◌++◌, ◌∷◌, [], codes, decimal, flat_map, map, IfNone, IfSome, None, Some};
+ghost use Rattle.syn_shell.specs.Lines.{aiger_status, aiger_text, at_place, chain_text, joined, name_at_line, read_status, read_text, refusal_line, refusal_status, refusal_text, script_text, told_in_line, told_of_file};
 ghost use Rattle.syn_shell.specs.Outside.{Puts};
 ghost use Rattle.syn_shell.specs.Scripts.{Refused};
 ghost use Rattle.syn_shell.specs.Stopping.{status_in, AnnouncesAs};
@@ -109,17 +109,6 @@ fn put_at_place<O: Sink>(out: &mut O, at: u32, what: &[u8]) -> Result<(), SinkFa
     )
 }
 
-// Puts what is wrong in a line of a file.
-fn put_at_line<O: Sink>(out: &mut O, line: u32, what: &[u8]) -> Result<(), SinkFailed>
-    ensures { Puts result (at_line line what.now) (O.screen out.old) (O.screen out.new) }
-{
-    let mut buffer = Buffer::new();
-    put_all(
-        out,
-        &[b"line ", buffer.format(line as u64).as_bytes(), b": ", what],
-    )
-}
-
 // Puts a name in a line of a file and what is wrong with it there.
 fn put_name_at_line<O: Sink>(
     out: &mut O,
@@ -157,38 +146,40 @@ fn put_script_fault<O: Sink>(out: &mut O, fault: &ScriptFault) -> Result<(), Sin
     }
 }
 
-// Puts what a fault of a file says.
-fn put_read_fault<O: Sink>(out: &mut O, fault: &ReadFault) -> Result<(), SinkFailed>
-    ensures { Puts result (read_text fault.now) (O.screen out.old) (O.screen out.new) }
+// The line, the name in it, if any, and what is wrong there, where a fault of a file tells a line.
+fn told_in_line<'a>(fault: &'a ReadFault) -> Option<(u32, &'a [u8], &'static [u8])>
+    ensures none { IfNone result (told_in_line fault.now ≡ None) }
+    ensures some { IfSome result (λ r. told_in_line fault.now ≡ Some (r.0, r.1.now, r.2.now)) }
+{
+    match fault {
+        ReadFault::AfterEnd(line) => Some((*line, b"", b"after end")),
+        ReadFault::UnknownKeyword(line) => Some((*line, b"", b"unknown keyword")),
+        ReadFault::SecondModel(line) => Some((*line, b"", b"second model")),
+        ReadFault::NoName(line) => Some((*line, b"", b"no name")),
+        ReadFault::ExtraWord(line) => Some((*line, b"", b"extra word")),
+        ReadFault::StrayRow(line) => Some((*line, b"", b"stray row")),
+        ReadFault::RowShape(line) => Some((*line, b"", b"row shape")),
+        ReadFault::MixedRows(line) => Some((*line, b"", b"mixed rows")),
+        ReadFault::LatchShape(line) => Some((*line, b"", b"latch shape")),
+        ReadFault::LatchType(line) => Some((*line, b"", b"latch type")),
+        ReadFault::LatchInit(line) => Some((*line, b"", b"latch init")),
+        ReadFault::DefinedTwice(line, name) => Some((*line, name.as_slice(), b" defined twice")),
+        ReadFault::ModelTwice(line) => Some((*line, b"", b"model defined twice")),
+        ReadFault::SubcktShape(line) => Some((*line, b"", b"subckt shape")),
+        ReadFault::PortTwice(line, formal) => Some((*line, formal.as_slice(), b" bound twice")),
+        ReadFault::UnknownModel(line) => Some((*line, b"", b"unknown model")),
+        ReadFault::UnknownPort(line, formal) => Some((*line, formal.as_slice(), b" unknown port")),
+        ReadFault::PortMissing(line, port) => Some((*line, port.as_slice(), b" unbound")),
+        _ => None,
+    }
+}
+
+// Puts what a fault of a file says that tells no line.
+fn put_file_fault<O: Sink>(out: &mut O, fault: &ReadFault) -> Result<(), SinkFailed>
+    ensures { Puts result (told_of_file fault.now) (O.screen out.old) (O.screen out.new) }
 {
     match fault {
         ReadFault::BadByte(at) => put_number(out, b"byte ", *at as u64, b": bad byte"),
-        ReadFault::AfterEnd(line) => put_at_line(out, *line, b"after end"),
-        ReadFault::UnknownKeyword(line) => put_at_line(out, *line, b"unknown keyword"),
-        ReadFault::SecondModel(line) => put_at_line(out, *line, b"second model"),
-        ReadFault::NoName(line) => put_at_line(out, *line, b"no name"),
-        ReadFault::ExtraWord(line) => put_at_line(out, *line, b"extra word"),
-        ReadFault::StrayRow(line) => put_at_line(out, *line, b"stray row"),
-        ReadFault::RowShape(line) => put_at_line(out, *line, b"row shape"),
-        ReadFault::MixedRows(line) => put_at_line(out, *line, b"mixed rows"),
-        ReadFault::LatchShape(line) => put_at_line(out, *line, b"latch shape"),
-        ReadFault::LatchType(line) => put_at_line(out, *line, b"latch type"),
-        ReadFault::LatchInit(line) => put_at_line(out, *line, b"latch init"),
-        ReadFault::DefinedTwice(line, name) => {
-            put_name_at_line(out, *line, name.as_slice(), b" defined twice")
-        }
-        ReadFault::ModelTwice(line) => put_at_line(out, *line, b"model defined twice"),
-        ReadFault::SubcktShape(line) => put_at_line(out, *line, b"subckt shape"),
-        ReadFault::PortTwice(line, formal) => {
-            put_name_at_line(out, *line, formal.as_slice(), b" bound twice")
-        }
-        ReadFault::UnknownModel(line) => put_at_line(out, *line, b"unknown model"),
-        ReadFault::UnknownPort(line, formal) => {
-            put_name_at_line(out, *line, formal.as_slice(), b" unknown port")
-        }
-        ReadFault::PortMissing(line, port) => {
-            put_name_at_line(out, *line, port.as_slice(), b" unbound")
-        }
         ReadFault::Undriven(name) => put_all(out, &[name.as_slice(), b" undriven"]),
         ReadFault::Recursion(names) => put_chain(out, b"recursion", names.as_slice()),
         ReadFault::TooManyWords(count) => put_number(out, b"", *count, b" words"),
@@ -196,6 +187,17 @@ fn put_read_fault<O: Sink>(out: &mut O, fault: &ReadFault) -> Result<(), SinkFai
         ReadFault::TooManySources(count) => put_number(out, b"", *count as u64, b" sources"),
         ReadFault::TooLarge(cost) => put_number(out, b"cost ", *cost, b""),
         ReadFault::NoMemory => put(out, b"out of memory"),
+        _ => Ok(()),
+    }
+}
+
+// Puts what a fault of a file says.
+fn put_read_fault<O: Sink>(out: &mut O, fault: &ReadFault) -> Result<(), SinkFailed>
+    ensures { Puts result (read_text fault.now) (O.screen out.old) (O.screen out.new) }
+{
+    match told_in_line(fault) {
+        Some((line, name, what)) => put_name_at_line(out, line, name, what),
+        None => put_file_fault(out, fault),
     }
 }
 
