@@ -4,3 +4,4 @@ pub mod Scenes
 pub mod Working
 pub mod Closing
 pub mod Steps
+pub mod Improving

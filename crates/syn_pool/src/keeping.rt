@@ -1,8 +1,6 @@
 //! Passes that keep levels.
 
-ghost use Rattle.std.specs.Prelude.{◌≡◌, ◌<◌, ◌≤◌, All, Bool, List, IfErr, IfNone, IfOk, IfSome, length};
-ghost use Rattle.syn_rows.specs.Values.{rows_function};
-ghost use Rattle.syn_netlist.specs.Frames.{frame_in};
+ghost use Rattle.std.specs.Prelude.{◌<◌, All, IfNone, IfOk, IfSome, length};
 ghost use Rattle.syn_levels.specs.Levels.{AllKeep, IsNoDeeper};
 ghost use Rattle.syn_proposals.specs.Closing.{Closed};
 ghost use Rattle.syn_proposals.specs.Following.{Follows};
@@ -83,9 +81,9 @@ fn closed_by_checks<R: Threads + Sync, K: Proposer, G: Gate>(
     Ok(Some(graph))
 }
 
-// A closed graph in place of the given one, in which no observed signal is deeper: what a pass makes, and where a signal is deeper
-// in that, what checks alone make; none where the given one is closed.
-fn kept_closed<R: Threads + Sync, K: Proposer, G: Gate>(
+/// A closed graph in place of the given one, in which no observed signal is deeper, of a proposer whose proposals keep the level of
+/// their root: what a pass makes, and where a signal is deeper in that, what checks alone make; none where the given one is closed.
+pub(crate) fn kept_closed<R: Threads + Sync, K: Proposer, G: Gate>(
     course: &Course<'_, R, K, G>,
     graph: &Graph,
 ) -> Result<Option<Graph>, AllocError>
@@ -104,41 +102,5 @@ fn kept_closed<R: Threads + Sync, K: Proposer, G: Gate>(
             closed_by_checks(course, graph)
         }
         None => Ok(None),
-    }
-}
-
-/// What a pass leaves, as `improve`, of a proposer whose proposals keep the level of their root: the same frame, the same values
-/// of the observed signals, no more ANDs, no observed signal deeper, and closed. Where the pass makes a signal deeper, what it
-/// makes is dropped, and checks alone close the graph. Where memory is refused, the same graph comes back.
-pub fn improve_keeping_levels<R: Threads + Sync, K: Proposer, G: Gate>(
-    rt: &R,
-    alloc: Global,
-    graph: Graph,
-    proposer: &K,
-    workers: u8,
-    zero_gain: bool,
-    gate: &G,
-) -> Result<Graph, (Graph, AllocError)>
-    requires keep { AllKeep (K.proposals proposer.now) }
-    ensures frame { IfOk result (λ g. frame_in g.frame ≡ frame_in graph.frame) }
-    ensures names { IfOk result (λ g. g.frame.names ≡ graph.frame.names) }
-    ensures values { IfOk result (λ g. (bits : List Bool) → rows_function g.rows g.observed bits ≡ rows_function graph.rows graph.observed bits) }
-    ensures count { IfOk result (λ g. length g.rows ≤ length graph.rows) }
-    ensures levels { IfOk result (IsNoDeeper graph) }
-    ensures closed { IfOk result (λ g. Closed g.rows g.observed (K.proposals proposer.now g.rows)) }
-    ensures refused { IfErr result (λ e. e.0 ≡ graph) }
-{
-    let course = Course {
-        rt,
-        alloc,
-        proposer,
-        gate,
-        workers,
-        zero_gain,
-    };
-    match kept_closed(&course, &graph) {
-        Ok(Some(made)) => Ok(made),
-        Ok(None) => Ok(graph),
-        Err(error) => Err((graph, error)),
     }
 }

@@ -15,6 +15,7 @@ mod fan_outs;
 mod following;
 mod freed;
 mod functions;
+mod improving;
 mod keeping;
 mod looking;
 mod opening;
@@ -31,5 +32,5 @@ mod visited;
 mod weighing;
 mod working;
 
-pub use keeping::improve_keeping_levels;
-pub use passing::{improve, pass};
+pub use improving::{PassSettings, improve};
+pub use passing::pass;

@@ -114,26 +114,3 @@ pub fn pass<R: Threads + Sync, P: Proposer, G: Gate>(
         Err(error) => Err((graph, error)),
     }
 }
-
-/// The graph that a pass leaves, without its report: the same frame, the same values of the observed signals, no more ANDs, and
-/// closed. With one worker it is the same each time; with several it may depend on which commits first. Where memory is refused,
-/// the same graph comes back.
-pub fn improve<R: Threads + Sync, P: Proposer, G: Gate>(
-    rt: &R,
-    alloc: Global,
-    graph: Graph,
-    proposer: &P,
-    workers: u8,
-    zero_gain: bool,
-    gate: &G,
-) -> Result<Graph, (Graph, AllocError)>
-    ensures frame { IfOk result (λ g. frame_in g.frame ≡ frame_in graph.frame) }
-    ensures names { IfOk result (λ g. g.frame.names ≡ graph.frame.names) }
-    ensures values { IfOk result (λ g. (bits : List Bool) → rows_function g.rows g.observed bits ≡ rows_function graph.rows graph.observed bits) }
-    ensures count { IfOk result (λ g. length g.rows ≤ length graph.rows) }
-    ensures closed { IfOk result (λ g. Closed g.rows g.observed (P.proposals proposer.now g.rows)) }
-    ensures refused { IfErr result (λ e. e.0 ≡ graph) }
-{
-    let (improved, _report) = pass(rt, alloc, graph, proposer, workers, zero_gain, gate)?;
-    Ok(improved)
-}

@@ -5,4 +5,4 @@ mod proposing;
 mod refactoring;
 
 pub use proposing::{Cones, NoLists};
-pub use refactoring::{refactor, refactor_keeping_levels};
+pub use refactoring::refactor;

@@ -22,4 +22,4 @@ pub use fan_outs::FanOuts;
 pub use forms::Form;
 pub use laws::divisors_are_divisors;
 pub use proposing::Divisors;
-pub use resubstituting::{resub, resub_keeping_levels};
+pub use resubstituting::resub;

@@ -21,4 +21,4 @@ mod weighing;
 pub use laws::{class_of_function, function_of_table};
 pub use prepared::Prepared;
 pub use proposing::CutPlans;
-pub use rewriting::{rewrite, rewrite_keeping_levels};
+pub use rewriting::rewrite;

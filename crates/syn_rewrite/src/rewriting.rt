@@ -1,10 +1,7 @@
 //! Rewriting until nothing is left to save.
 
-ghost use Rattle.std.specs.Prelude.{◌≡◌, ◌≤◌, Bool, List, IfErr, IfOk, length};
-ghost use Rattle.syn_rows.specs.Values.{rows_function};
-ghost use Rattle.syn_netlist.specs.Frames.{frame_in};
-ghost use Rattle.syn_levels.specs.Levels.{IsNoDeeper, keeping};
-ghost use Rattle.syn_proposals.specs.Closing.{Closed};
+ghost use Rattle.std.specs.Prelude.{◌≡◌, IfErr, IfOk};
+ghost use Rattle.syn_pool.specs.Improving.{IsImproved};
 ghost use Rattle.syn_rewrite.specs.Rewriting.{rewritings};
 
 use crate::CutPlans;
@@ -12,58 +9,26 @@ use std::alloc::{AllocError, Global};
 use std::thread::Threads;
 use syn_commit::Gate;
 use syn_graph::Graph;
-use syn_pool::{improve, improve_keeping_levels};
-use syn_proposals::Keeping;
+use syn_pool::{PassSettings, improve};
 
 /// Rewrites a graph until no proposal of rewriting for any of its ANDs saves: the same frame, the same values of the
-/// observed signals, and no more ANDs. Up to `workers` threads list cuts, commit proposals, and look at proposals again:
-/// with one the graph is the same each time, with several it may depend on which commits first. With `zero` proposals that
-/// save nothing are let through before the graph is checked. The gate is told of each commit. Where memory is refused, the
-/// same graph comes back.
+/// observed signals, and no more ANDs. Where levels are kept, only proposals that keep their root's level are made: no observed
+/// signal is deeper, and none of these proposals saves. Up to as many workers as the settings say list cuts, commit proposals,
+/// and look at proposals again: with one the graph is the same each time, with several it may depend on which commits first.
+/// Where the settings let gains of 0 through, proposals that save nothing are made too, before the graph is checked. The gate is
+/// told of each commit. Where memory is refused, the same graph comes back.
 pub fn rewrite<R: Threads + Sync, G: Gate>(
     rt: &R,
     alloc: Global,
     graph: Graph,
-    workers: u8,
-    zero: bool,
+    settings: PassSettings,
     gate: &G,
 ) -> Result<Graph, (Graph, AllocError)>
-    ensures frame { IfOk result (λ g. frame_in g.frame ≡ frame_in graph.frame) }
-    ensures names { IfOk result (λ g. g.frame.names ≡ graph.frame.names) }
-    ensures values { IfOk result (λ g. (bits : List Bool) → rows_function g.rows g.observed bits ≡ rows_function graph.rows graph.observed bits) }
-    ensures count { IfOk result (λ g. length g.rows ≤ length graph.rows) }
-    ensures closed { IfOk result (λ g. Closed g.rows g.observed (rewritings g.rows)) }
+    ensures improved { IfOk result (IsImproved rewritings settings.levels graph) }
     ensures refused { IfErr result (λ e. e.0 ≡ graph) }
 {
     match CutPlans::new(alloc) {
-        Ok(proposer) => improve(rt, alloc, graph, &proposer, workers, zero, gate),
+        Ok(proposer) => improve(rt, alloc, graph, proposer, settings, gate),
         Err(error) => Err((graph, error)),
-    }
-}
-
-/// Rewrites a graph as `rewrite`, but only by proposals that keep their root's level: no observed signal is deeper, and none
-/// of these proposals saves.
-pub fn rewrite_keeping_levels<R: Threads + Sync, G: Gate>(
-    rt: &R,
-    alloc: Global,
-    graph: Graph,
-    workers: u8,
-    zero: bool,
-    gate: &G,
-) -> Result<Graph, (Graph, AllocError)>
-    ensures frame { IfOk result (λ g. frame_in g.frame ≡ frame_in graph.frame) }
-    ensures names { IfOk result (λ g. g.frame.names ≡ graph.frame.names) }
-    ensures values { IfOk result (λ g. (bits : List Bool) → rows_function g.rows g.observed bits ≡ rows_function graph.rows graph.observed bits) }
-    ensures count { IfOk result (λ g. length g.rows ≤ length graph.rows) }
-    ensures levels { IfOk result (IsNoDeeper graph) }
-    ensures closed { IfOk result (λ g. Closed g.rows g.observed (keeping rewritings g.rows)) }
-    ensures refused { IfErr result (λ e. e.0 ≡ graph) }
-{
-    match CutPlans::new(alloc) {
-        Ok(proposer) => {
-            let keeping = Keeping { proposer };
-            improve_keeping_levels(rt, alloc, graph, &keeping, workers, zero, gate)
-        }
-        Err(refused) => Err((graph, refused)),
     }
 }

@@ -4,6 +4,7 @@ use Rattle.std.proofs.lemmas.List.{length-drop}
 use Rattle.syn_rows.specs.declared.Lit.{Lit}
 use Rattle.syn_rows.specs.declared.Row.{Row}
 use Rattle.syn_rows.specs.Values.{rows_function}
+use Rattle.syn_netlist.specs.Frames.{frame_in}
 use Rattle.syn_netlist.specs.Words.{distinct}
 use Rattle.syn_netlist.specs.Lists.{Frame, Netlist, sources}
 use Rattle.syn_netlist.specs.Values.{HasFunction}
@@ -12,9 +13,12 @@ use Rattle.syn_shapes.specs.GraphShape.{GraphHasFunction, rows_of, observed_of}
 use Rattle.syn_shapes.specs.Graphs.{IsGraph, lit_at}
 use Rattle.syn_shapes.specs.Spelling.{NetworkOfGraph, NetworkSpells, network}
 use Rattle.syn_hashed.specs.Growing.{level_by}
+use Rattle.syn_graph.specs.declared.Graph.{Graph}
+use Rattle.syn_graph.specs.Graphs as graphs
 use Rattle.syn_proposals.specs.Closing.{Closed}
 use Rattle.syn_gain.specs.Replacements.{Replacement}
 use Rattle.syn_levels.specs.Levels.{keeping}
+use Rattle.syn_pool.specs.Improving.{IsImproved}
 use Rattle.syn_shell.specs.Networks.{Network, graph_network}
 use Rattle.syn_shell.specs.Steps.{IsBalanced, IsClosedFor, IsClosedKeepingLevels, IsPassed, IsRemade, level_at}
 
@@ -124,6 +128,16 @@ closed_keeping_levels spells has_function same_meaning proposals frame new_frame
   closed = closed_for spells has_function same_meaning (keeping proposals) frame new_frame rows new_rows lits new_lits same_frame clocks once graph new_graph same fewer closed;
   levels = (rebalanced spells has_function same_meaning frame new_frame rows new_rows lits new_lits same_frame clocks once graph new_graph same fewer (λ i lt. levels i)).levels;
 }
+
+-- what a pass leaves of a graph, by whether levels are kept
+pub passed_by : NetworkOfGraph → GraphHasFunction → SameFromFunction → (proposals : List Row → ℕ → List Replacement) (levels : Bool) (was new : Graph) → IsImproved proposals levels was new
+    → IsPassed levels proposals (graph_network (graphs.network_of was)) (graph_network (graphs.network_of new))
+passed_by spells has_function same_meaning proposals false was new h =
+    closed_for spells has_function same_meaning proposals (frame_in was.frame) (frame_in new.frame) was.rows new.rows was.observed new.observed h.frame
+    was.frame.clocks_once was.frame.sources_once was.graph new.graph h.values h.count h.closed
+passed_by spells has_function same_meaning proposals true was new h =
+    closed_keeping_levels spells has_function same_meaning proposals (frame_in was.frame) (frame_in new.frame) was.rows new.rows was.observed new.observed h.frame
+    was.frame.clocks_once was.frame.sources_once was.graph new.graph h.values h.count (h.levels refl) h.closed
 
 -- either is remade
 pub passed_remade : (levels : Bool) (proposals : List Row → ℕ → List Replacement) (old new : Network) → IsPassed levels proposals old new → IsRemade old new

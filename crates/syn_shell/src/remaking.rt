@@ -1,23 +1,28 @@
 //! What commands make of the network.
 
-ghost use Rattle.std.specs.Prelude.{◌≡◌, ◌≤◌, IfOk, IfErr, Some};
+ghost use Rattle.std.specs.Prelude.{◌≡◌, ◌≤◌, ℕ, Bool, List, IfOk, IfErr, Some};
+ghost use Rattle.syn_rows.specs.declared.Row.{Row};
+ghost use Rattle.syn_graph.specs.declared.Graph.{Graph};
 ghost use Rattle.syn_graph.specs.Graphs as graphs;
 ghost use Rattle.syn_lutnet.specs.Nets as nets;
 ghost use Rattle.syn_build_luts.specs.Refusals.{most_gates};
-ghost use Rattle.syn_refactor.specs.Refactoring.{refactorings};
-ghost use Rattle.syn_resub.specs.Resubstitution.{resubstitutions};
-ghost use Rattle.syn_rewrite.specs.Rewriting.{rewritings};
+ghost use Rattle.syn_gain.specs.Replacements.{Replacement};
+ghost use Rattle.syn_pool.specs.Improving.{IsImproved};
 ghost use Rattle.syn_shell.specs.Networks.{gates_in, graph_network, IsSmall, mapped_network, network_of};
 ghost use Rattle.syn_shell.specs.Steps.{IsBalanced, IsLeastMappedTo, IsMappedForArea, IsMappedTo, IsPassed, IsRemade, IsSweptTo, kind_of, Makes, Making, MakingRefused};
 
 use crate::network::Kept;
 use crate::refusal::Refusal;
-use std::alloc::Global;
+use std::alloc::{AllocError, Global};
 use std::thread::Threads;
 use syn_build_luts::{BuildFault, build_luts};
 use syn_commit::Gate;
 use syn_graph::Graph;
 use syn_lutnet::LutNet;
+use syn_pool::PassSettings;
+use syn_refactor::refactor;
+use syn_resub::resub;
+use syn_rewrite::rewrite;
 use syn_words::{Command, LutInputs, PassOptions};
 
 // A graph, hashed and compacted: it is so already, and stays.
@@ -44,96 +49,26 @@ fn balanced(alloc: Global, graph: Graph) -> Result<Kept, (Graph, Refusal)>
     }
 }
 
-// The number of workers of a command: the one that it names, else the session's.
-fn workers_of(named: Option<u8>, workers: u8) -> u8 {
-    match named {
-        Some(named) => named,
-        None => workers,
+// How a pass is to go: as the options say, with so many workers where these name none.
+fn settings_of(options: &PassOptions, workers: u8) -> PassSettings
+    ensures levels { result.levels ≡ options.now.levels }
+{
+    PassSettings {
+        workers: options.workers.unwrap_or(workers),
+        zero_gain: options.zero,
+        levels: options.levels,
     }
 }
 
-// A graph, rewritten as the options say, by so many workers where these name none; refused, the graph as it was.
-fn rewritten<R: Threads + Sync, G: Gate>(
-    rt: &R,
-    alloc: Global,
-    graph: Graph,
-    options: &PassOptions,
-    workers: u8,
-    gate: &G,
-) -> Result<Kept, (Graph, Refusal)>
-    ensures rewritten { IfOk result (λ new. IsPassed options.now.levels rewritings (graph_network (graphs.network_of graph)) (network_of new)) }
-    ensures refused { IfErr result (λ back. (graphs.network_of back.0 ≡ graphs.network_of graph) × (back.1 ≡ Refusal.NoMemory)) }
+// What a pass left of a graph, as the network; refused, the graph as it was.
+fn passed(left: Result<Graph, (Graph, AllocError)>) -> Result<Kept, (Graph, Refusal)>
+    ensures passed { (proposals : List Row → ℕ → List Replacement) (levels : Bool) (graph : Graph) → IfOk left (IsImproved proposals levels graph) → IfOk result (λ new. IsPassed levels proposals (graph_network (graphs.network_of graph)) (network_of new)) }
+    ensures refused { (graph : Graph) → IfErr left (λ e. e.0 ≡ graph) → IfErr result (λ back. (graphs.network_of back.0 ≡ graphs.network_of graph) × (back.1 ≡ Refusal.NoMemory)) }
 {
     syn_shapes::network_of_graph();
     syn_shapes::graph_has_function();
     syn_netlist::same_from_function();
-    let workers = workers_of(options.workers, workers);
-    let zero = options.zero;
-    if options.levels {
-        return match syn_rewrite::rewrite_keeping_levels(rt, alloc, graph, workers, zero, gate) {
-            Ok(new) => Ok(Kept::Graph(new)),
-            Err((graph, _)) => Err((graph, Refusal::NoMemory)),
-        };
-    }
-    match syn_rewrite::rewrite(rt, alloc, graph, workers, zero, gate) {
-        Ok(new) => Ok(Kept::Graph(new)),
-        Err((graph, _)) => Err((graph, Refusal::NoMemory)),
-    }
-}
-
-// A graph, refactored as the options say, by so many workers where these name none; refused, the graph as it was.
-fn refactored<R: Threads + Sync, G: Gate>(
-    rt: &R,
-    alloc: Global,
-    graph: Graph,
-    options: &PassOptions,
-    workers: u8,
-    gate: &G,
-) -> Result<Kept, (Graph, Refusal)>
-    ensures refactored { IfOk result (λ new. IsPassed options.now.levels refactorings (graph_network (graphs.network_of graph)) (network_of new)) }
-    ensures refused { IfErr result (λ back. (graphs.network_of back.0 ≡ graphs.network_of graph) × (back.1 ≡ Refusal.NoMemory)) }
-{
-    syn_shapes::network_of_graph();
-    syn_shapes::graph_has_function();
-    syn_netlist::same_from_function();
-    let workers = workers_of(options.workers, workers);
-    let zero = options.zero;
-    if options.levels {
-        return match syn_refactor::refactor_keeping_levels(rt, alloc, graph, workers, zero, gate) {
-            Ok(new) => Ok(Kept::Graph(new)),
-            Err((graph, _)) => Err((graph, Refusal::NoMemory)),
-        };
-    }
-    match syn_refactor::refactor(rt, alloc, graph, workers, zero, gate) {
-        Ok(new) => Ok(Kept::Graph(new)),
-        Err((graph, _)) => Err((graph, Refusal::NoMemory)),
-    }
-}
-
-// A graph, resubstituted in as the options say, by so many workers where these name none; refused, the graph as it was.
-fn resubstituted<R: Threads + Sync, G: Gate>(
-    rt: &R,
-    alloc: Global,
-    graph: Graph,
-    options: &PassOptions,
-    workers: u8,
-    gate: &G,
-) -> Result<Kept, (Graph, Refusal)>
-    ensures resubstituted { IfOk result (λ new. IsPassed options.now.levels resubstitutions (graph_network (graphs.network_of graph)) (network_of new)) }
-    ensures refused { IfErr result (λ back. (graphs.network_of back.0 ≡ graphs.network_of graph) × (back.1 ≡ Refusal.NoMemory)) }
-{
-    syn_shapes::network_of_graph();
-    syn_shapes::graph_has_function();
-    syn_netlist::same_from_function();
-    let workers = workers_of(options.workers, workers);
-    let zero = options.zero;
-    if options.levels {
-        return match syn_resub::resub_keeping_levels(rt, alloc, graph, workers, zero, gate) {
-            Ok(new) => Ok(Kept::Graph(new)),
-            Err((graph, _)) => Err((graph, Refusal::NoMemory)),
-        };
-    }
-    match syn_resub::resub(rt, alloc, graph, workers, zero, gate) {
+    match left {
         Ok(new) => Ok(Kept::Graph(new)),
         Err((graph, _)) => Err((graph, Refusal::NoMemory)),
     }
@@ -225,9 +160,18 @@ fn remake_graph<R: Threads + Sync, G: Gate>(
     match command {
         Command::Strash => Ok(hashed(graph)),
         Command::Balance => balanced(alloc, graph),
-        Command::Rewrite(options) => rewritten(rt, alloc, graph, options, workers, gate),
-        Command::Refactor(options) => refactored(rt, alloc, graph, options, workers, gate),
-        Command::Resubstitute(options) => resubstituted(rt, alloc, graph, options, workers, gate),
+        Command::Rewrite(options) => {
+            let settings = settings_of(options, workers);
+            passed(rewrite(rt, alloc, graph, settings, gate))
+        }
+        Command::Refactor(options) => {
+            let settings = settings_of(options, workers);
+            passed(refactor(rt, alloc, graph, settings, gate))
+        }
+        Command::Resubstitute(options) => {
+            let settings = settings_of(options, workers);
+            passed(resub(rt, alloc, graph, settings, gate))
+        }
         Command::Map {
             area: false,
             inputs,

@@ -1,6 +1,0 @@
-use Rattle.syn_refactor.specs.Refactoring.{refactorings}
-use Rattle.syn_proposals.proofs.Kept.{all_keep}
-use Rattle.syn_refactor.proofs.refactoring.refactor_keeping_levels.Goals as goal
-
-pub improve_keeping_levels-requires-clause-keep : goal.improve_keeping_levels-requires-clause-keep
-improve_keeping_levels-requires-clause-keep g c = λ κs within. all_keep refactorings
