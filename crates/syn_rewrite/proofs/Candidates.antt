@@ -21,19 +21,20 @@ use Rattle.syn_library.proofs.Owned.{own_within}
 use Rattle.syn_gain.specs.declared.proposals.Proposal.{Proposal}
 use Rattle.syn_gain.specs.Proposals.{replacement}
 use Rattle.syn_gain.specs.Replacements.{Replacement}
-use Rattle.syn_gain.proofs.Owning.{and_inside}
 use Rattle.syn_apply.specs.Sound.{IsSoundBy}
 use Rattle.syn_proposals.specs.Sound.{IsSound}
-use Rattle.syn_rewrite.specs.Functions.{IsFunctionOver, cut_function}
 use Rattle.syn_cuts.specs.Leaves.{leaves as leaves_in, leaves_of}
 use Rattle.syn_proposals.specs.Closing.{IsFirst, SavesNothing}
 use Rattle.syn_proposals.proofs.Savings.{first_of_parts}
+use Rattle.syn_cut_functions.specs.Cuts.{AreLeavesOf, cuts_of}
+use Rattle.syn_cut_functions.specs.Functions.{AreFunctionsOver, IsFunctionOver, cut_function}
+use Rattle.syn_cut_functions.proofs.Cuts.{leaves_is}
+use Rattle.syn_cut_functions.proofs.Listed.{and_inside}
+use Rattle.syn_cut_functions.proofs.Numbers.{function_of_table}
+use Rattle.syn_function_plans.specs.PlansOf.{ArePlansOf, fitted_plans}
 use Rattle.syn_rewrite.specs.declared.prepared.Prepared.{Prepared}
-use Rattle.syn_rewrite.specs.Prepared.{AreFunctionsOver, AreLeavesOf, ArePlansOf, IsPreparedFor, cuts_of}
-use Rattle.syn_rewrite.specs.Rewriting.{cut_proposals, fitted_plans, over, rewritings}
-use Rattle.syn_rewrite.proofs.Numbers.{function_of_table}
-use Rattle.syn_rewrite.proofs.Cuts.{leaves_at, leaves_is}
-use Rattle.syn_rewrite.proofs.Listed.{listed_leaves}
+use Rattle.syn_rewrite.specs.Prepared.{IsPreparedFor}
+use Rattle.syn_rewrite.specs.Rewriting.{cut_proposals, over, rewritings}
 use Rattle.syn_rewrite.proofs.Parts.{flat_map_at, flat_map_more, map_more, maps}
 use Rattle.syn_rewrite.proofs.Sound.{plan_is_sound}
 
@@ -44,17 +45,16 @@ within_leaves rows leaves node f p function names =
 
 -- an AND is no constant, and is there
 pub and_above : (graph : Graph) (node : ℕ) → is_and (row_at graph.rows node) ≡ true → 0 < node
-and_above graph node gate = let at = and_inside (length (sources (frame_in graph.frame))) graph.rows graph.graph.hashed node gate in omega (arith, at.0)
+and_above graph node gate = let at = and_inside graph node gate in omega (arith, at.0)
 
 pub and_there : (graph : Graph) (node : ℕ) → is_and (row_at graph.rows node) ≡ true → node < length graph.rows
-and_there graph node gate = (and_inside (length (sources (frame_in graph.frame))) graph.rows graph.graph.hashed node gate).1
+and_there graph node gate = (and_inside graph node gate).1
 
 -- the function of an AND over its leaves
 pub is_function : (graph : Graph) (node f : ℕ) (leaves : List ℕ) → is_and (row_at graph.rows node) ≡ true → AreLeavesOf graph.rows node leaves → IsFunctionOver graph.rows leaves node f → f ≡ cut_function graph.rows leaves node
 is_function graph node f leaves gate are function =
     let count = length (sources (frame_in graph.frame)) in
-    let inside = and_inside count graph.rows graph.graph.hashed node gate in
-    function_of_table graph.rows leaves node f (hashed_in_order count graph.rows graph.graph.hashed) inside.1 are.rise are.below function
+    function_of_table graph.rows leaves node f (hashed_in_order count graph.rows graph.graph.hashed) (and_there graph node gate) are.rise are.below function
 
 -- the plans of that function are the proposals of the cut
 pub plans_are : (rows : List Row) (node f : ℕ) (leaves : List ℕ) (plans : List Plan) → f ≡ cut_function rows leaves node → ArePlansOf f plans
@@ -143,9 +143,3 @@ function_read rows node cuts fs i f cut leaves are h lt is same at =
     subst (λ ls. IsFunctionOver rows ls node f) (sym here)
     (subst (λ k. IsFunctionOver rows (get_or (leaves_of cuts) i cut.items) node k) (sym at)
     (zip_at (λ c k. IsFunctionOver rows c node k) (leaves_of cuts) fs i cut.items f over (omega (arith, length-map cuts leaves_in))))
-
-pub leaves_read : (graph : Graph) (node : ℕ) (cuts : List (ArrayVec ℕ)) (i : ℕ) (cut : ArrayVec ℕ) (leaves : List ℕ) → is_and (row_at graph.rows node) ≡ true → leaves_of cuts ≡ cuts_of graph.rows node
-    → i < length cuts → cut ≡ get_or cuts i cut → leaves ≡ cut.items → AreLeavesOf graph.rows node leaves
-leaves_read graph node cuts i cut leaves gate are lt is same =
-    subst (AreLeavesOf graph.rows node) (sym same)
-    (leaves_at graph.rows node cuts i cut (subst (λ cs. All (AreLeavesOf graph.rows node) cs) (sym are) (listed_leaves graph node gate)) lt is)

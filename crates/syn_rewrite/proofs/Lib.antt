@@ -1,14 +1,3 @@
-mod Numbers
-mod Classes
 mod Sound
 mod Parts
-mod Cuts
-mod Fitted
-mod Listed
 mod Candidates
-mod Carried
-mod Own
-mod Told
-mod GoingOn
-mod AllKept
-mod Weighed

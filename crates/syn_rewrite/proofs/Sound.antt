@@ -1,19 +1,16 @@
--- A plan of a node's function over a cut is sound, and so is its place among the proposals of the cut.
+-- A plan of a node's function over a cut is sound.
 use Rattle.std.proofs.Common.{◌≡◌, ℕ, ◌≤◌, Bool, List, [], ◌∷◌, length, take, refl, sym, ap, ◌∙◌, arith}
 use Rattle.syn_rows.specs.declared.Row.{Row}
 use Rattle.syn_truth.specs.Truth.{value_of}
 use Rattle.syn_plan.specs.declared.plan.Plan.{Plan}
 use Rattle.syn_plan.specs.Plans.{plan_truth}
-use Rattle.syn_plan.specs.Factoring.{Built}
-use Rattle.syn_npn.specs.declared.Transform.{Transform}
 use Rattle.syn_plan.specs.Naming.{built_of}
-use Rattle.syn_library.specs.Fitting.{Computes, fitted_built}
+use Rattle.syn_library.specs.Fitting.{Computes}
 use Rattle.syn_cones.specs.Cones.{IsCut}
 use Rattle.syn_gain.specs.Replacements.{leaf_values}
 use Rattle.syn_apply.specs.Sound.{IsSoundBy, PlanComputes}
-use Rattle.syn_rewrite.specs.Functions.{IsFunctionOver}
-use Rattle.syn_rewrite.specs.Laws.{IsAt}
-use Rattle.syn_rewrite.specs.Rewriting.{fitted_at, over}
+use Rattle.syn_cut_functions.specs.Functions.{IsFunctionOver}
+use Rattle.syn_rewrite.specs.Rewriting.{over}
 
 -- the values of four leaves, of which there are fewer
 first_leaves : (xs : List Bool) → length xs ≤ 4 → take (length xs) (leaf_values 4 xs) ≡ xs
@@ -35,7 +32,3 @@ plan_is_sound rows leaves node f p cut function computes = record { cut = cut; t
         ∙ function.values (leaf_values 4 xs) refl
         ∙ ap (λ k. value_of function.table (take k (leaf_values 4 xs))) vars
         ∙ ap (value_of function.table) (first_leaves xs (let le = function.few in omega arith))
-
--- fitting by the transform at a place
-pub fitted_is_at : (place : ℕ) (t : Transform) (b : Built) → IsAt place t → fitted_built t b ≡ fitted_at place b
-fitted_is_at place t b at = cc (at.perm, at.flips, at.neg)

@@ -1,17 +1,13 @@
 //! What is listed once for a graph.
 
-ghost use Rattle.std.specs.Prelude.{◌≡◌, ◌-◌, ◌<◌, All, List, IfOk, length};
-ghost use Rattle.syn_rows.specs.declared.Row.{Row};
-ghost use Rattle.syn_cuts.specs.Cuts.{listed_cuts};
-ghost use Rattle.syn_cuts.specs.Leaves.{leaves_of};
-ghost use Rattle.syn_rewrite.specs.Prepared.{IsPreparedFor, cuts_of};
-ghost use Rattle.syn_rewrite.specs.Rewriting.{all_but_last};
+ghost use Rattle.std.specs.Prelude.{IfOk};
+ghost use Rattle.syn_rewrite.specs.Prepared.{IsPreparedFor};
 
-use crate::completing::all_functions;
-use crate::known_plans::KnownPlans;
 use std::alloc::{AllocError, Global};
 use std::thread::Threads;
-use syn_cuts::{Cut, CutLists, listed};
+use syn_cut_functions::all_functions;
+use syn_cuts::{CutLists, listed};
+use syn_function_plans::KnownPlans;
 use syn_graph::Graph;
 use syn_library::Prepared as Classes;
 
@@ -27,22 +23,6 @@ pub struct Prepared {
     pub functions: Vec<Vec<u16>>,
     /// The plans of these functions, and of those of graphs before.
     pub known: KnownPlans,
-}
-
-// All but the last.
-fn but_last(cuts: &[Cut]) -> &[Cut]
-    ensures { leaves_of result.now ≡ all_but_last (leaves_of cuts.now) }
-{
-    let (first, _) = cuts.split_at(cuts.len().saturating_sub(1));
-    first
-}
-
-/// The cuts of a node that are looked at: the listed ones but the last.
-pub(crate) fn cuts_of(cuts: &CutLists, node: u32) -> &[Cut]
-    requires { node < length cuts.now }
-    ensures { (rows : List Row) → cuts.now ≡ listed_cuts 4 rows → leaves_of result.now ≡ cuts_of rows node }
-{
-    but_last(cuts.of(node))
 }
 
 /// What is listed for a graph, where these plans are known from other graphs.

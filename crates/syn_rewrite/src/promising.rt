@@ -4,19 +4,20 @@ ghost use Rattle.std.specs.Prelude.{◌≡◌, true, All, OnOk};
 ghost use Rattle.syn_rows.specs.Rows.{row_at};
 ghost use Rattle.syn_rows.specs.Reach.{is_and};
 ghost use Rattle.syn_gain.specs.Uses.{IsUsesOf};
-ghost use Rattle.syn_rewrite.specs.Prepared.{ArePlansOf, IsRooted};
-ghost use Rattle.syn_rewrite.specs.Weighing.{BeginsWith};
+ghost use Rattle.syn_weighing.specs.Weighing.{BeginsWith};
+ghost use Rattle.syn_function_plans.specs.PlansOf.{ArePlansOf};
+ghost use Rattle.syn_rewrite.specs.Prepared.{IsRooted};
 
-use crate::known_plans::{FunctionPlans, PlanSource};
 use crate::prepared::MOST_LEAVES;
 use crate::proposing::{MOST_COUNTED, candidate};
 use crate::rooted::RootedCut;
-use crate::weighing::{Weighed, weigh};
 use std::alloc::{AllocError, Global};
+use syn_function_plans::{FunctionPlans, PlanSource};
 use syn_gain::{Candidate, Proposal, Room, Uses, adds_fewer, literal_for, lost_but, owned};
 use syn_graph::Graph;
 use syn_library::Prepared as Classes;
 use syn_plan::Plan;
+use syn_weighing::{Weighed, weigh};
 
 /// Which proposals are worth a commit.
 #[derive(Clone, Copy, Debug)]

@@ -12,25 +12,24 @@ ghost use Rattle.syn_gain.specs.Proposals.{replacement, replacement_of};
 ghost use Rattle.syn_gain.specs.Uses.{IsUsesOf};
 ghost use Rattle.syn_proposals.specs.Closing.{IsFirst, SavesNothing};
 ghost use Rattle.syn_proposals.specs.Sound.{IsSound};
-ghost use Rattle.syn_rewrite.specs.Apart.{are_apart};
-ghost use Rattle.syn_rewrite.specs.Prepared.{ArePlansOf, IsPreparedFor, IsRooted};
+ghost use Rattle.syn_weighing.specs.Apart.{are_apart};
+ghost use Rattle.syn_function_plans.specs.PlansOf.{ArePlansOf};
+ghost use Rattle.syn_rewrite.specs.Prepared.{IsPreparedFor, IsRooted};
 ghost use Rattle.syn_rewrite.specs.Rewriting.{cut_proposals, over, rewritings};
 
-use crate::apart::{are_apart, names_within};
-use crate::known_plans::{FunctionPlans, KnownPlans, PlanSource};
-use crate::plans::plans_of;
-use crate::prepared::{MOST_LEAVES, Prepared, cuts_of, prepare};
+use crate::prepared::{MOST_LEAVES, Prepared, prepare};
 use crate::promising::{push_promising, worth_over};
 use crate::rooted::{RootedCut, rooted_at};
-use crate::telling::saves_nothing;
-use crate::weighing::Weighed;
 use std::alloc::{AllocError, Global};
 use std::thread::Threads;
+use syn_cut_functions::cuts_of;
+use syn_function_plans::{FunctionPlans, KnownPlans, PlanSource, plans_of};
 use syn_gain::{Candidate, Proposal, Room, Uses, lost_but, owned, saves};
 use syn_graph::Graph;
 use syn_library::Prepared as Classes;
 use syn_plan::Plan;
 use syn_proposals::Proposer;
+use syn_weighing::{Weighed, are_apart, names_within, saves_nothing};
 
 /// How many ANDs that go with a row are counted before its plans are looked at; hardly a plan of four leaves adds as many.
 pub(crate) const MOST_COUNTED: u32 = 16;

@@ -4,7 +4,8 @@ ghost use Rattle.std.specs.Prelude.{◌≡◌, ◌<◌, length, slice_index_or, 
 ghost use Rattle.syn_rows.specs.Reach.{is_and};
 ghost use Rattle.syn_rows.specs.Rows.{row_at};
 ghost use Rattle.syn_cuts.specs.Leaves.{leaves_of};
-ghost use Rattle.syn_rewrite.specs.Prepared.{IsPreparedFor, IsRooted, cuts_of};
+ghost use Rattle.syn_cut_functions.specs.Cuts.{cuts_of};
+ghost use Rattle.syn_rewrite.specs.Prepared.{IsPreparedFor, IsRooted};
 
 use crate::prepared::Prepared;
 use syn_cuts::Cut;

@@ -1,5 +1,5 @@
 use Rattle.std.proofs.Common.{◌≡◌, All}
-use Rattle.syn_rewrite.specs.Weighing.{BeginsWith}
+use Rattle.syn_weighing.specs.Weighing.{BeginsWith}
 use Rattle.syn_rewrite.proofs.promising.push_worth.Given as goal
 
 abbrev pub invariant-loop-plan : goal.invariant-loop-plan

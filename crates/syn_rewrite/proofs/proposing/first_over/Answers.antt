@@ -6,9 +6,9 @@ use Rattle.syn_library.specs.Fitting.{Computes}
 use Rattle.syn_gain.specs.Replacements.{Replacement}
 use Rattle.syn_proposals.specs.Closing.{IsFirst, SavesNothing, SavesSome}
 use Rattle.syn_proposals.proofs.Firsts.{first_is}
+use Rattle.syn_proposals.proofs.Maps.{All-read}
 use Rattle.syn_rewrite.specs.Rewriting.{cut_proposals, over}
 use Rattle.syn_rewrite.proofs.Candidates.{is_function, is_sound, plans_are}
-use Rattle.syn_rewrite.proofs.Fitted.{All-read}
 use Rattle.syn_rewrite.proofs.proposing.first_over.Goals as goal
 
 pub returns-then-branch-clause-first : goal.returns-then-branch-clause-first

@@ -7,9 +7,9 @@ use Rattle.syn_library.specs.Fitting.{Computes}
 use Rattle.syn_gain.specs.Proposals.{replacement}
 use Rattle.syn_gain.specs.Replacements.{Replacement}
 use Rattle.syn_proposals.specs.Sound.{IsSound}
+use Rattle.syn_proposals.proofs.Maps.{All-read}
 use Rattle.syn_rewrite.specs.Rewriting.{over}
 use Rattle.syn_rewrite.proofs.Candidates.{has_root, is_function, is_sound, more_proposals, plans_are}
-use Rattle.syn_rewrite.proofs.Fitted.{All-read}
 use Rattle.syn_rewrite.proofs.proposing.push_plans.Goals as goal
 
 pub loop-plan-preserved : goal.loop-plan-preserved

@@ -7,13 +7,13 @@ use Rattle.syn_plan.specs.Naming.{built_of}
 use Rattle.syn_library.specs.Library.{NamesOwn}
 use Rattle.syn_gain.specs.Replacements.{Replacement}
 use Rattle.syn_proposals.specs.Closing.{SavesNothing}
-use Rattle.syn_rewrite.specs.Apart.{IsApartOver, IsApartPlan}
-use Rattle.syn_rewrite.specs.declared.apart.Apart.{Apart}
-use Rattle.syn_rewrite.specs.PlansOf.{ArePlansOf}
+use Rattle.syn_proposals.proofs.Maps.{All-read}
+use Rattle.syn_weighing.specs.Apart.{IsApartOver, IsApartPlan}
+use Rattle.syn_weighing.specs.declared.apart.Apart.{Apart}
+use Rattle.syn_weighing.specs.Weighing.{BeginsWith}
+use Rattle.syn_function_plans.specs.PlansOf.{ArePlansOf}
 use Rattle.syn_rewrite.specs.Rewriting.{cut_proposals, over}
-use Rattle.syn_rewrite.specs.Weighing.{BeginsWith}
 use Rattle.syn_rewrite.proofs.Candidates.{is_function, plans_are}
-use Rattle.syn_rewrite.proofs.Fitted.{All-read}
 use Rattle.syn_rewrite.proofs.proposing.some_saves.Goals.{then-leaves_apart, else-leaves_apart, else-plans-via-then-plans+in_ok-saves_nothing+else-branch, else-plans-via-else-plans}
 use Rattle.syn_rewrite.proofs.proposing.some_saves.Goals as goal
 

@@ -4,8 +4,8 @@ use Rattle.syn_fanout_free.specs.Bounding.{IsMostLost}
 use Rattle.syn_fanout_free.specs.Saved.{count_in}
 use Rattle.syn_plan.specs.Naming.{built_of}
 use Rattle.syn_proposals.specs.Closing.{SavesNothing}
+use Rattle.syn_weighing.specs.Weighing.{BeginsWith}
 use Rattle.syn_rewrite.specs.Rewriting.{over}
-use Rattle.syn_rewrite.specs.Weighing.{BeginsWith}
 use Rattle.syn_rewrite.proofs.proposing.some_saves.Given as goal
 
 abbrev pub invariant-loop-i : goal.invariant-loop-i

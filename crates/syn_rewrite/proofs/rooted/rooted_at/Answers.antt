@@ -1,7 +1,8 @@
 use Rattle.std.proofs.Common.{◌≡◌, List, ℕ, get_or, sym, subst, arith}
 use Rattle.syn_cuts.specs.Leaves.{leaves_of}
-use Rattle.syn_rewrite.proofs.Candidates.{and_there, function_read, functions_at, functions_count, leaves_read}
-use Rattle.syn_rewrite.proofs.Cuts.{leaves_is}
+use Rattle.syn_cut_functions.proofs.Listed.{leaves_read}
+use Rattle.syn_cut_functions.proofs.Cuts.{leaves_is}
+use Rattle.syn_rewrite.proofs.Candidates.{and_there, function_read, functions_at, functions_count}
 use Rattle.syn_rewrite.proofs.rooted.rooted_at.Goals as goal
 
 pub index-function-requires : goal.index-function-requires

@@ -7,9 +7,9 @@ use Rattle.syn_fanout_free.specs.Saved.{count_in}
 use Rattle.syn_gain.specs.Proposals.{replacement}
 use Rattle.syn_gain.specs.Replacements.{Replacement}
 use Rattle.syn_proposals.specs.Closing.{IsFirst, SavesNothing}
+use Rattle.syn_cut_functions.proofs.Listed.{within_lists}
 use Rattle.syn_rewrite.specs.Rewriting.{cut_proposals}
 use Rattle.syn_rewrite.proofs.Candidates.{and_there, first_of_all, nothing_more}
-use Rattle.syn_rewrite.proofs.Listed.{within_lists}
 use Rattle.syn_rewrite.proofs.proposing.CutPlansProposer.first_saving.Goals as goal
 
 pub cuts_of-cuts-requires : goal.cuts_of-cuts-requires

@@ -1,5 +1,5 @@
+use Rattle.syn_cut_functions.proofs.Listed.{within_lists}
 use Rattle.syn_rewrite.proofs.Candidates.{and_there, same_root}
-use Rattle.syn_rewrite.proofs.Listed.{within_lists}
 use Rattle.syn_rewrite.proofs.proposing.CutPlansProposer.promising.Goals as goal
 
 pub cuts_of-cuts-requires : goal.cuts_of-cuts-requires

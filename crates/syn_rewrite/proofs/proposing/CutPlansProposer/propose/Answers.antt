@@ -1,9 +1,9 @@
 use Rattle.std.proofs.Common.{ℕ, ◌++◌, List, flat_map, take, ap, ◌∙◌}
 use Rattle.syn_cuts.specs.Leaves.{leaves_of}
 use Rattle.syn_gain.specs.Replacements.{Replacement}
+use Rattle.syn_cut_functions.proofs.Listed.{within_lists}
 use Rattle.syn_rewrite.specs.Rewriting.{cut_proposals}
 use Rattle.syn_rewrite.proofs.Candidates.{and_there, more_cuts, same_root}
-use Rattle.syn_rewrite.proofs.Listed.{within_lists}
 use Rattle.syn_rewrite.proofs.proposing.CutPlansProposer.propose.Goals as goal
 
 pub cuts_of-cuts-requires : goal.cuts_of-cuts-requires

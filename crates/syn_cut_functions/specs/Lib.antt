@@ -1,0 +1,4 @@
+pub mod Cuts
+pub mod Functions
+pub mod Carried
+pub mod Laws

@@ -1,5 +1,0 @@
-use Rattle.syn_rewrite.proofs.Classes.{class_of_function as law}
-use Rattle.syn_rewrite.proofs.laws.class_of_function.Goals as goal
-
-pub returns : goal.returns
-returns c = law

@@ -1,5 +1,0 @@
-use Rattle.syn_rewrite.specs.Carried.{AreOfAll}
-use Rattle.syn_rewrite.proofs.levels.set_all.Given as goal
-
-abbrev pub invariant-loop-found : goal.invariant-loop-found
-invariant-loop-found l = AreOfAll l.graph.rows l.lists.items

@@ -1,0 +1,5 @@
+mod Own
+mod Told
+mod GoingOn
+mod AllKept
+mod Weights

@@ -1,0 +1,3 @@
+pub mod Lean
+pub mod Apart
+pub mod Weighing
