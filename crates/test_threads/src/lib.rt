@@ -25,6 +25,8 @@ mod pinning;
 #[cfg(test)]
 mod pools;
 #[cfg(test)]
+mod proposing;
+#[cfg(test)]
 mod repeating;
 #[cfg(test)]
 mod rewriting;
