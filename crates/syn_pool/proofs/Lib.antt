@@ -3,4 +3,3 @@ mod Works
 mod Leaving
 mod Numbers
 mod Chains
-mod Improvements

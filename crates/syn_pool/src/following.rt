@@ -213,7 +213,8 @@ pub(crate) fn has_plans<P: Proposer>(proposer: &P, lists: &P::Lists) -> bool {
     false
 }
 
-/// Looks at the cuts of a node, and commits the plan that seems to save most, also one that saves nothing.
+/// Looks at the cuts of a node, and commits the plan that seems to save most; where gains of 0 are let through, also one that saves
+/// nothing.
 #[tactic(auto, using(crate::proofs::Works::has_both, crate::proofs::Works::has_not, crate::proofs::Works::has_saved))]
 pub(crate) fn try_best<P: Proposer, G: Gate>(
     scene: &Scene<'_, P, P::Lists, G>,
@@ -224,7 +225,7 @@ pub(crate) fn try_best<P: Proposer, G: Gate>(
     requires at_work { IsAtWork scene.now.tools.shared.now worker.old }
     requires root { root < nodes_of scene.now.tools.shared.now }
     ensures at_work { IsAtWork scene.now.tools.shared.now worker.new }
-    ensures worked { HasWorked true worker.old worker.new }
+    ensures worked { HasWorked scene.now.board.now.zero_gain worker.old worker.new }
 {
     let shared = scene.tools.shared;
     cuts.find(shared, root);
@@ -244,7 +245,8 @@ pub(crate) fn try_best<P: Proposer, G: Gate>(
         return;
     };
     if let Some(candidate) = candidate(root, cut.leaves.as_slice(), plan) {
-        let _done = is_done(&scene.tools, worker, &owned(candidate), true);
+        let zero_gain = scene.board.zero_gain;
+        let _done = is_done(&scene.tools, worker, &owned(candidate), zero_gain);
     }
 }
 

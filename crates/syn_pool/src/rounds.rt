@@ -56,7 +56,7 @@ fn swept<R: Threads + Sync, P: Proposer, G: Gate>(
     shared: Shared,
     seat: Seat,
 ) -> Result<(Shared, Swept), AllocError>
-    requires lists { (tour.zero_gain ≡ false) ⊎ (tour.looks ≡ false) → P.is_lists_of course.now.proposer.now lists.now graph.now.rows }
+    requires lists { tour.looks ≡ false → P.is_lists_of course.now.proposer.now lists.now graph.now.rows }
     requires workers { (1 ≤ tour.workers) × (tour.workers ≤ 16) }
     requires nodes { length graph.now.rows + 512 * tour.workers ≤ nodes_of shared }
     requires table { IsOf seat shared }
@@ -97,7 +97,7 @@ fn improved<R: Threads + Sync, P: Proposer, G: Gate>(
     lists: &P::Lists,
     tour: Tour<'_>,
 ) -> Result<Improved, AllocError>
-    requires lists { (tour.zero_gain ≡ false) ⊎ (tour.looks ≡ false) → P.is_lists_of course.now.proposer.now lists.now graph.now.rows }
+    requires lists { tour.looks ≡ false → P.is_lists_of course.now.proposer.now lists.now graph.now.rows }
     requires workers { (1 ≤ tour.workers) × (tour.workers ≤ 16) }
     requires nodes { length graph.now.rows + 512 * tour.workers < NODE_LIMIT }
     requires literals { length graph.now.observed < 2 ^ 30 }
@@ -127,7 +127,7 @@ pub(crate) fn round_at<R: Threads + Sync, P: Proposer, G: Gate>(
     lists: &P::Lists,
     tour: Tour<'_>,
 ) -> Result<Option<Improved>, AllocError>
-    requires lists { (tour.zero_gain ≡ false) ⊎ (tour.looks ≡ false) → P.is_lists_of course.now.proposer.now lists.now graph.now.rows }
+    requires lists { tour.looks ≡ false → P.is_lists_of course.now.proposer.now lists.now graph.now.rows }
     ensures follows { IfOk result (λ made. IfSome made (λ m. Follows graph.now m.report.gained m.graph)) }
     ensures gain { IfOk result (λ made. IfSome made (λ m. IsGain (not tour.entry.zero_gain) m.report)) }
     ensures report { IfOk result (λ made. IfSome made (λ m. IsReport m.report)) }
@@ -158,7 +158,7 @@ pub(crate) fn round<R: Threads + Sync, P: Proposer, G: Gate>(
     looks: bool,
     visited: &mut Neighbourhoods,
 ) -> Result<Option<Improved>, AllocError>
-    requires lists { (course.now.zero_gain ≡ false) ⊎ (looks ≡ false) → P.is_lists_of course.now.proposer.now lists.now graph.now.rows }
+    requires lists { looks ≡ false → P.is_lists_of course.now.proposer.now lists.now graph.now.rows }
     ensures follows { IfOk result (λ made. IfSome made (λ m. Follows graph.now m.report.gained m.graph)) }
     ensures gain { IfOk result (λ made. IfSome made (λ m. IsGain (not course.now.zero_gain) m.report)) }
     ensures report { IfOk result (λ made. IfSome made (λ m. IsReport m.report)) }

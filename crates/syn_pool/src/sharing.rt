@@ -1,6 +1,6 @@
 //! The sweep of several workers, each in a thread of its own.
 
-ghost use Rattle.std.specs.Prelude.{◌≡◌, ◌⊎◌, ◌+◌, ◌*◌, ◌<◌, ◌≤◌, false, length};
+ghost use Rattle.std.specs.Prelude.{◌≡◌, ◌+◌, ◌*◌, ◌<◌, ◌≤◌, false, length};
 ghost use Rattle.std.specs.Thread.{IsSync};
 ghost use Rattle.syn_gain.specs.Uses.{IsUsesOf};
 ghost use Rattle.syn_table.specs.Seating.{IsOf, known_of, nodes_of, view_of};
@@ -75,7 +75,7 @@ fn swept_alone<P: Proposer, G: Gate>(
     start: Start,
 ) -> Swept
     requires uses { IsUsesOf board.now.uses graph.now }
-    requires lists { (board.now.zero_gain ≡ false) ⊎ (board.now.looks ≡ false) → P.is_lists_of proposer.now lists.now graph.now.rows }
+    requires lists { board.now.looks ≡ false → P.is_lists_of proposer.now lists.now graph.now.rows }
     requires nodes { length graph.now.rows + 512 * (start.number + 1) ≤ nodes_of board.now.shared }
     requires table { IsOf start.seat board.now.shared }
     requires rest { IsAtRest (view_of start.seat) }
@@ -123,7 +123,7 @@ pub(crate) fn swept_by_all<R: Threads + Sync, P: Proposer, G: Gate>(
     crew: Crew,
 ) -> Swept
     requires uses { IsUsesOf board.now.uses graph.now }
-    requires lists { (board.now.zero_gain ≡ false) ⊎ (board.now.looks ≡ false) → P.is_lists_of proposer.now lists.now graph.now.rows }
+    requires lists { board.now.looks ≡ false → P.is_lists_of proposer.now lists.now graph.now.rows }
     requires nodes { length graph.now.rows + 512 * length crew.queues.items ≤ nodes_of board.now.shared }
     requires table { IsOf crew.seat board.now.shared }
     requires numbers { length crew.queues.items ≤ length (known_of crew.seat).numbers }
@@ -157,11 +157,11 @@ pub(crate) fn swept_by_all<R: Threads + Sync, P: Proposer, G: Gate>(
     };
     let fewer = Crew { seat, queues };
     let alone = move || -> Swept
-        requires { IsUsesOf board.now.uses graph.now × ((board.now.zero_gain ≡ false) ⊎ (board.now.looks ≡ false) → P.is_lists_of proposer.now lists.now graph.now.rows) × (length graph.now.rows + 512 * (start.number + 1) ≤ nodes_of board.now.shared) × IsOf start.seat board.now.shared × IsAtRest (view_of start.seat) }
+        requires { IsUsesOf board.now.uses graph.now × (board.now.looks ≡ false → P.is_lists_of proposer.now lists.now graph.now.rows) × (length graph.now.rows + 512 * (start.number + 1) ≤ nodes_of board.now.shared) × IsOf start.seat board.now.shared × IsAtRest (view_of start.seat) }
         ensures { HasSwept board.entry.now.shared board.entry.now.zero_gain start.seat result.seat result.report }
     { swept_alone(board, graph, proposer, lists, gate, start) };
     let by_others = move || -> Swept
-        requires { IsSync R.row × IsSync P.row × IsSync G.row × IsSync P.Lists.row × IsUsesOf board.now.uses graph.now × ((board.now.zero_gain ≡ false) ⊎ (board.now.looks ≡ false) → P.is_lists_of proposer.now lists.now graph.now.rows) × (length graph.now.rows + 512 * length fewer.queues.items ≤ nodes_of board.now.shared) × IsOf fewer.seat board.now.shared × (length fewer.queues.items ≤ length (known_of fewer.seat).numbers) × (length fewer.queues.items ≤ 16) × IsAtRest (view_of fewer.seat) }
+        requires { IsSync R.row × IsSync P.row × IsSync G.row × IsSync P.Lists.row × IsUsesOf board.now.uses graph.now × (board.now.looks ≡ false → P.is_lists_of proposer.now lists.now graph.now.rows) × (length graph.now.rows + 512 * length fewer.queues.items ≤ nodes_of board.now.shared) × IsOf fewer.seat board.now.shared × (length fewer.queues.items ≤ length (known_of fewer.seat).numbers) × (length fewer.queues.items ≤ 16) × IsAtRest (view_of fewer.seat) }
         ensures { HasSwept board.entry.now.shared board.entry.now.zero_gain fewer.seat result.seat result.report }
     { swept_by_all(rt, board, graph, proposer, lists, gate, fewer) };
     let (second, first) = join(rt, alone, by_others);

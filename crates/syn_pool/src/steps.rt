@@ -1,11 +1,9 @@
 //! One step of a pass: a round of workers, then the check, and what it finds is committed or applied.
 
-ghost use Rattle.std.specs.Prelude.{◌≡◌, ◌⊎◌, ◌<◌, ℕ, Bool, not, false, true, List, All, IfNone, IfOk, IfSome, length};
-ghost use Rattle.syn_rows.specs.declared.Row.{Row};
+ghost use Rattle.std.specs.Prelude.{◌≡◌, ◌<◌, Bool, not, false, true, All, IfNone, IfOk, IfSome, length};
 ghost use Rattle.syn_rows.specs.Reach.{is_and};
 ghost use Rattle.syn_rows.specs.Rows.{row_at};
 ghost use Rattle.syn_gain.specs.Proposals.{replacement};
-ghost use Rattle.syn_gain.specs.Replacements.{Replacement};
 ghost use Rattle.syn_gain.specs.Uses.{IsUsesOf};
 ghost use Rattle.syn_proposals.specs.Closing.{Closed, SavesSome};
 ghost use Rattle.syn_proposals.specs.Following.{Follows};
@@ -239,33 +237,34 @@ fn listed<R: Threads + Sync, P: Proposer, G: Gate>(
     }
 }
 
-// A step on a graph in which workers commit, with these lists, of the graph or, where workers look at the table's cuts alone, of
-// another.
-fn committed<R: Threads + Sync, P: Proposer, G: Gate>(
+// The lists that a round on a graph goes by, and whether its workers look at the table's cuts alone, for which the lists of a graph
+// before it serve.
+fn lists_for_round<R: Threads + Sync, P: Proposer, G: Gate>(
     course: &Course<'_, R, P, G>,
     graph: &Graph,
-    lists: P::Lists,
-    looks: bool,
-    seen: &mut Seen,
-) -> Result<Step<P::Lists>, AllocError>
-    requires lists { (course.now.zero_gain ≡ false) ⊎ (looks ≡ false) → P.is_lists_of course.now.proposer.now lists graph.now.rows }
-    ensures { IfOk result (IsStepOf graph.now (P.proposals course.now.proposer.now) (not course.now.zero_gain)) }
+    before: Option<P::Lists>,
+) -> Result<(P::Lists, bool), AllocError>
+    ensures { IfOk result (λ r. r.1 ≡ false → P.is_lists_of course.now.proposer.now r.0 graph.now.rows) }
 {
-    match round(course, graph, &lists, looks, &mut seen.visited)? {
-        Some(improved) if improved.report.done > 0 => {
-            goes_on(course, graph, improved, lists, &mut seen.clean)
-        }
-        _ => {
-            let lists = listed(course, graph, Some(lists))?;
-            check_given(course, graph, lists, &mut seen.clean)
-        }
-    }
+    let lists = match before {
+        Some(lists) if looks(course, &lists) => return Ok((lists, true)),
+        before => listed(course, graph, before)?,
+    };
+    let looks = looks(course, &lists);
+    Ok((lists, looks))
+}
+
+// Whether workers look at the table's cuts alone.
+fn looks<R: Threads + Sync, P: Proposer, G: Gate>(
+    course: &Course<'_, R, P, G>,
+    lists: &P::Lists,
+) -> bool {
+    course.zero_gain && has_plans(course.proposer, lists)
 }
 
 /// One step on a graph: workers commit, if they are to, and the graph that they leave is checked, unless they are to commit again
 /// first. Where they are not to, the graph has no room for them, nothing was done, or the proposer wouldn't take what they
-/// leave, the given graph is checked. The lists are those of a graph before it, if there was one: they serve where workers look
-/// at the table's cuts alone.
+/// leave, the given graph is checked. The lists are those of a graph before it, if there was one.
 pub(crate) fn one_step<R: Threads + Sync, P: Proposer, G: Gate>(
     course: &Course<'_, R, P, G>,
     graph: &Graph,
@@ -275,18 +274,18 @@ pub(crate) fn one_step<R: Threads + Sync, P: Proposer, G: Gate>(
 ) -> Result<Step<P::Lists>, AllocError>
     ensures { IfOk result (IsStepOf graph.now (P.proposals course.now.proposer.now) (not course.now.zero_gain)) }
 {
-    match before {
-        Some(lists) if commits && course.zero_gain && has_plans(course.proposer, &lists) => {
-            committed(course, graph, lists, true, seen)
+    if !commits {
+        let lists = listed(course, graph, before)?;
+        return check_given(course, graph, lists, &mut seen.clean);
+    }
+    let (lists, looks) = lists_for_round(course, graph, before)?;
+    match round(course, graph, &lists, looks, &mut seen.visited)? {
+        Some(improved) if improved.report.done > 0 => {
+            goes_on(course, graph, improved, lists, &mut seen.clean)
         }
-        before => {
-            let lists = listed(course, graph, before)?;
-            if commits {
-                let looks = course.zero_gain && has_plans(course.proposer, &lists);
-                committed(course, graph, lists, looks, seen)
-            } else {
-                check_given(course, graph, lists, &mut seen.clean)
-            }
+        _ => {
+            let lists = listed(course, graph, Some(lists))?;
+            check_given(course, graph, lists, &mut seen.clean)
         }
     }
 }

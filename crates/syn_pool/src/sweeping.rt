@@ -69,8 +69,7 @@ fn visit_for_gain<P: Proposer, G: Gate>(
     Ok(done)
 }
 
-// The same, and where none saves, one of gain 0 is let through. Where the board says so, only the cuts of the table as it stands
-// are looked at.
+// The same, and where none saves, one of gain 0 is let through.
 #[tactic(auto, using(crate::proofs::Works::has_both, crate::proofs::Works::has_not, crate::proofs::Works::has_saved))]
 fn visit_for_any<P: Proposer, G: Gate>(
     scene: &Scene<'_, P, P::Lists, G>,
@@ -79,15 +78,12 @@ fn visit_for_any<P: Proposer, G: Gate>(
     node: u32,
 ) -> Result<(), AllocError>
     requires ready { IsReady P.is_lists_of scene.now }
+    requires lists { P.is_lists_of scene.now.proposer.now scene.now.lists.now scene.now.graph.now.rows }
     requires gate { is_and (row_at scene.now.graph.now.rows node) ≡ true }
     requires at_work { IsAtWork scene.now.tools.shared.now worker.old }
     ensures at_work { IsAtWork scene.now.tools.shared.now worker.new }
     ensures worked { HasWorked true worker.old worker.new }
 {
-    if scene.board.looks {
-        try_best(scene, worker, cuts, node);
-        return Ok(());
-    }
     if visit_for_gain(scene, worker, cuts, node)? {
         return Ok(());
     }
@@ -104,7 +100,8 @@ fn visit_for_any<P: Proposer, G: Gate>(
 }
 
 /// Commits a proposal for a node, if one seems worth it: the difference in ANDs falls by at least what the worker's report
-/// gains. Where the board says so and none saves, one of gain 0 is let through. A node is left as it is that is no AND of the
+/// gains. Where the board says so, one of gain 0 is let through if none saves, and only the cuts of the table as it stands are
+/// looked at. A node is left as it is that is no AND of the
 /// graph, that a look at the table shows as none, or that is one of the worker's spare nodes. The only error is want of memory
 /// for the proposals; the clauses hold then too.
 #[tactic(auto, using(crate::proofs::Works::has_both, crate::proofs::Works::has_not, crate::proofs::Works::has_saved))]
@@ -120,6 +117,10 @@ fn visit<P: Proposer, G: Gate>(
     ensures worked { HasWorked scene.now.board.now.zero_gain worker.old worker.new }
 {
     if !is_gate(scene.graph, node) || !may_change(&scene.tools, worker, node) {
+        return Ok(());
+    }
+    if scene.board.looks {
+        try_best(scene, worker, cuts, node);
         return Ok(());
     }
     if scene.board.zero_gain {

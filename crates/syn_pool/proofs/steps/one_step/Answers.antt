@@ -16,5 +16,5 @@ returns-in-Some g c =
 pub returns-then-not-commits : goal.returns-then-not-commits
 returns-then-not-commits g c = c.check_given.ensures (not c.args.course.now.zero_gain)
 
-pub returns-in_default : goal.returns-in_default
-returns-in_default g c = c.check_given-in_default.ensures (not c.args.course.now.zero_gain)
+pub returns-in_ok-lists-in_default : goal.returns-in_ok-lists-in_default
+returns-in_ok-lists-in_default g c = c.check_given-in_default.ensures (not c.args.course.now.zero_gain)
