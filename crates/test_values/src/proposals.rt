@@ -293,57 +293,20 @@ fn listed_proposal(
     }
 }
 
-// What a node's listed proposal at this place saves by both counts; none where there is no such proposal.
-fn listed_counts(
+// What a node's listed proposal at this place saves; none where there is no such proposal.
+fn listed_saved(
     alloc: Global,
     graph: &Graph,
     lists: &CutLists,
     node: u32,
     place: usize,
-) -> Result<Option<(i64, i64)>, AllocError>
+) -> Result<Option<i64>, AllocError>
     requires { (n : ℕ) → n < length graph.now.rows → All (λ c. IsCut graph.now.rows c n) (list_at lists.now n) }
 {
     match listed_proposal(alloc, graph, lists, node, place)? {
-        Some(proposal) => both_counts(alloc, graph, proposal.borrow()),
+        Some(proposal) => count_saved(alloc, graph, proposal.borrow()),
         None => Ok(None),
     }
-}
-
-// Whether both counts of a node's listed proposals are one number.
-fn node_counts_alike(alloc: Global, graph: &Graph, lists: &CutLists, node: u32) -> bool
-    requires { (n : ℕ) → n < length graph.now.rows → All (λ c. IsCut graph.now.rows c n) (list_at lists.now n) }
-{
-    for place in 0..31 {
-        match listed_counts(alloc, graph, lists, node, place) {
-            Ok(Some((near, swept))) if near != swept => return false,
-            Ok(_) => {}
-            Err(_) => return false,
-        }
-    }
-    true
-}
-
-// Whether they are at each node.
-fn counts_alike(alloc: Global, graph: &Graph, lists: &CutLists) -> bool
-    requires { (n : ℕ) → n < length graph.now.rows → All (λ c. IsCut graph.now.rows c n) (list_at lists.now n) }
-{
-    for node in 0..100 {
-        if !node_counts_alike(alloc, graph, lists, node) {
-            return false;
-        }
-    }
-    true
-}
-
-#[test]
-fn counts_each_proposal_alike(rt: HostRuntime) -> Result<(), Fail> {
-    let alloc = rt.alloc();
-    let Some(graph) = adder(alloc) else {
-        panic!(rt; "no graph");
-    };
-    let lists = listed(&rt, alloc, &graph, 4, 1)?;
-    assert!(rt; counts_alike(alloc, &graph, &lists));
-    Ok(())
 }
 
 // The place of a node's first listed proposal that saves.
@@ -351,8 +314,8 @@ fn saving_place(alloc: Global, graph: &Graph, lists: &CutLists, node: u32) -> Op
     requires { (n : ℕ) → n < length graph.now.rows → All (λ c. IsCut graph.now.rows c n) (list_at lists.now n) }
 {
     for place in 0..31 {
-        match listed_counts(alloc, graph, lists, node, place) {
-            Ok(Some((near, _))) if near > 0 => return Some(place),
+        match listed_saved(alloc, graph, lists, node, place) {
+            Ok(Some(count)) if count > 0 => return Some(place),
             _ => {}
         }
     }
