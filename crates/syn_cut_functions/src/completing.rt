@@ -12,7 +12,7 @@ ghost use Rattle.syn_cut_functions.specs.Cuts.{cuts_of};
 
 use crate::carrying::Functions;
 use crate::functions::{carried_at, numbers_at};
-use crate::levels::set_levels;
+use crate::levels::set_functions;
 use std::alloc::{AllocError, Global};
 use std::thread::Threads;
 use syn_cuts::CutLists;
@@ -94,7 +94,7 @@ pub fn all_functions<R: Threads + Sync>(
     let _count = graph.count();
     let mut lists = none_found(alloc, graph.rows.as_slice().len())?;
     if workers > 1 {
-        set_levels(rt, alloc, graph, cuts, &mut lists, workers)?;
+        set_functions(rt, alloc, graph, cuts, &mut lists, workers)?;
     }
     all_numbers(alloc, graph, cuts, lists)
 }

@@ -8,9 +8,8 @@ ghost use Rattle.syn_cut_functions.specs.Carried.{AreFoundIn, AreOfAll, IsFoundI
 use crate::carrying::Functions;
 use crate::functions::{carried_at, numbers_at};
 use std::alloc::{AllocError, Global};
-use std::thread;
 use std::thread::Threads;
-use syn_cuts::{CutLists, chunk_size, nodes_by_level};
+use syn_cuts::{CutLists, Finder, set_levels};
 use syn_graph::Graph;
 
 /// A node with its functions.
@@ -60,27 +59,6 @@ fn find_all(
     Ok(found)
 }
 
-// The functions of these nodes, found in chunks, one after the other or at the same time.
-fn find_parts<R: Threads + Sync>(
-    rt: &R,
-    alloc: Global,
-    graph: &Graph,
-    cuts: &CutLists,
-    lists: &[Functions],
-    nodes: &[u32],
-    workers: u8,
-) -> Result<Vec<Result<Vec<Found>, AllocError>>, AllocError>
-    requires cuts { cuts.now ≡ listed_cuts 4 graph.now.rows }
-    requires lists { AreOfAll graph.now.rows lists.now }
-    ensures { IfOk result (λ parts. All (λ part. IfOk part (AreFoundIn graph.now.rows)) parts.items) }
-{
-    let work = move |_start: usize, chunk: &[u32]| -> Result<Vec<Found>, AllocError>
-        requires { (cuts.now ≡ listed_cuts 4 graph.now.rows) × AreOfAll graph.now.rows lists.now }
-        ensures { IfOk result (AreFoundIn graph.entry.now.rows) }
-    { find_all(alloc, graph, cuts, lists, chunk) };
-    thread::map_chunks(rt, alloc, nodes, chunk_size(nodes.len(), workers), &work)
-}
-
 // Sets the functions of a node.
 fn set(graph: &Graph, lists: &mut Vec<Functions>, found: Found)
     requires lists { AreOfAll graph.now.rows lists.old.items }
@@ -102,31 +80,41 @@ fn set_all(graph: &Graph, lists: &mut Vec<Functions>, all: Vec<Found>)
     }
 }
 
-// Sets the functions of these nodes.
-fn set_level<R: Threads + Sync>(
-    rt: &R,
-    alloc: Global,
-    graph: &Graph,
-    cuts: &CutLists,
-    lists: &mut Vec<Functions>,
-    nodes: &[u32],
-    workers: u8,
-) -> Result<(), AllocError>
-    requires cuts { cuts.now ≡ listed_cuts 4 graph.now.rows }
-    requires lists { AreOfAll graph.now.rows lists.old.items }
-    ensures { OnOk result (AreOfAll graph.now.rows lists.new.items) }
-{
-    let parts = find_parts(rt, alloc, graph, cuts, lists, nodes, workers)?;
-    for part in parts {
-        let found = part?;
-        set_all(graph, lists, found);
+// A graph with its listed cuts, of whose nodes the functions are found.
+#[derive(Drop)]
+struct Carrying<'a> {
+    graph: &'a Graph,
+    cuts: &'a CutLists,
+    ghost cuts_are: { cuts.now ≡ listed_cuts 4 graph.now.rows },
+}
+
+impl<'a> Finder for Carrying<'a> {
+    type Known = Vec<Functions>;
+
+    type Found = Vec<Found>;
+
+    ghost is_known = { λ c lists. AreOfAll c.graph.now.rows lists.items };
+
+    ghost is_found = { λ c all. AreFoundIn c.graph.now.rows all };
+
+    fn find(
+        &self,
+        alloc: Global,
+        known: &Vec<Functions>,
+        nodes: &[u32],
+    ) -> Result<Vec<Found>, AllocError> {
+        find_all(alloc, self.graph, self.cuts, known, nodes)
     }
-    Ok(())
+
+    fn set(&self, known: &mut Vec<Functions>, found: Vec<Found>) -> Result<(), AllocError> {
+        set_all(self.graph, known, found);
+        Ok(())
+    }
 }
 
 /// Sets the functions of all nodes, those of a level together, found by up to `workers` threads. The only error is want of
 /// memory.
-pub(crate) fn set_levels<R: Threads + Sync>(
+pub(crate) fn set_functions<R: Threads + Sync>(
     rt: &R,
     alloc: Global,
     graph: &Graph,
@@ -139,8 +127,7 @@ pub(crate) fn set_levels<R: Threads + Sync>(
     requires lists { AreOfAll graph.now.rows lists.old.items }
     ensures { OnOk result (AreOfAll graph.now.rows lists.new.items) }
 {
-    for nodes in nodes_by_level(alloc, graph.rows.as_slice())? {
-        set_level(rt, alloc, graph, cuts, lists, &nodes, workers)?;
-    }
-    Ok(())
+    let carrying = Carrying { graph, cuts };
+    let rows = graph.rows.as_slice();
+    set_levels(rt, alloc, rows, &carrying, lists, workers)
 }

@@ -7,7 +7,7 @@ ghost use Rattle.syn_cuts.specs.Cuts.{listed_cuts};
 ghost use Rattle.syn_cuts.specs.Lists.{list_at};
 
 use crate::Cut;
-use crate::levels::listed_rows;
+use crate::listing::listed_rows;
 use crate::lists::CutLists;
 use std::alloc::{AllocError, Global};
 use std::thread::Threads;

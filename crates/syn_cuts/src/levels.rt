@@ -1,14 +1,7 @@
-//! Rows level by level: their nodes, and their listed cuts.
+//! What is found of nodes from those below them, level by level.
 
-ghost use Rattle.std.specs.Prelude.{◌≡◌, ◌+◌, ◌^◌, ◌<◌, ◌≤◌, All, IfOk, OnOk, length};
-ghost use Rattle.syn_truth.specs.declared.TheConstants.{MOST_VARS};
-ghost use Rattle.syn_rows.specs.Rows.{InOrder};
-ghost use Rattle.syn_cuts.specs.Cuts.{listed_cuts};
-ghost use Rattle.syn_cuts.specs.Lists.{AreListed, IsFound};
+ghost use Rattle.std.specs.Prelude.{◌+◌, ◌^◌, ◌<◌, All, IfOk, OnOk, length};
 
-use crate::found::Found;
-use crate::listing::{find_all, set_all, sweep};
-use crate::lists::CutLists;
 use std::alloc::{AllocError, Global};
 use std::thread;
 use std::thread::Threads;
@@ -17,12 +10,43 @@ use syn_rows::{Row, levels};
 // How many nodes are worth a thread.
 const LEAST: usize = 64;
 
-// How many nodes are listed at most before their lists are set.
+// How many nodes are looked at at most before what is found of them is set.
 const MOST: usize = 16_384;
 
-/// How many nodes a chunk has, of so many nodes for so many workers, so that there are no more chunks than workers; few
-/// nodes are one chunk.
-pub fn chunk_size(nodes: usize, workers: u8) -> usize
+/// Finds something of nodes from what is known of those below them.
+pub trait Finder: Sync {
+    /// What is known of all nodes.
+    type Known: Sync;
+
+    /// What is found of some nodes, before it is set.
+    type Found: Send + Drop;
+
+    /// What is known is right, as far as it goes.
+    ghost is_known: { Self → Self.Known → Type 0 };
+
+    /// What is found is right.
+    ghost is_found: { Self → Self.Found → Type 0 };
+
+    /// What is found of those of these nodes that can be found. The only error is want of memory, as of all calls below.
+    fn find(
+        &self,
+        alloc: Global,
+        known: &Self::Known,
+        nodes: &[u32],
+    ) -> Result<Self::Found, AllocError>
+        requires { is_known self.now known.now }
+        ensures { IfOk result (is_found self.now) };
+
+    /// Sets what was found.
+    fn set(&self, known: &mut Self::Known, found: Self::Found) -> Result<(), AllocError>
+        requires known { is_known self.now known.old }
+        requires found { is_found self.now found }
+        ensures { OnOk result (is_known self.now known.new) };
+}
+
+// How many nodes a chunk has, of so many nodes for so many workers, so that there are no more chunks than workers; few
+// nodes are one chunk.
+fn chunk_size(nodes: usize, workers: u8) -> usize
     ensures { 0 < result }
 {
     let share = if workers == 0 {
@@ -33,47 +57,41 @@ pub fn chunk_size(nodes: usize, workers: u8) -> usize
     if share < LEAST { LEAST } else { share }
 }
 
-// The listed cuts of these nodes, found in chunks, one after the other or at the same time.
-fn find_parts<R: Threads + Sync>(
+// What is found of these nodes, in chunks, one after the other or at the same time.
+fn find_parts<R: Threads + Sync, F: Finder>(
     rt: &R,
     alloc: Global,
-    rows: &[Row],
-    lists: &CutLists,
+    finder: &F,
+    known: &F::Known,
     nodes: &[u32],
-    k: usize,
     workers: u8,
-) -> Result<Vec<Result<Found, AllocError>>, AllocError>
-    requires small { k ≤ MOST_VARS }
-    requires order { InOrder rows.now }
-    requires lists { AreListed k rows.now lists.now }
-    ensures { IfOk result (λ parts. All (λ part. IfOk part (All (IsFound k rows.now))) parts.items) }
+) -> Result<Vec<Result<F::Found, AllocError>>, AllocError>
+    requires { F.is_known finder.now known.now }
+    ensures { IfOk result (λ parts. All (λ part. IfOk part (F.is_found finder.now)) parts.items) }
 {
-    let work = move |_start: usize, chunk: &[u32]| -> Result<Found, AllocError>
-        requires { (k ≤ MOST_VARS) × InOrder rows.now × AreListed k rows.now lists.now }
-        ensures { IfOk result (All (IsFound k rows.entry.now)) }
-    { find_all(alloc, rows, lists, chunk, k) };
+    let work = move |_start: usize, chunk: &[u32]| -> Result<F::Found, AllocError>
+        requires { F.is_known finder.now known.now }
+        ensures { IfOk result (F.is_found finder.entry.now) }
+    { finder.find(alloc, known, chunk) };
     thread::map_chunks(rt, alloc, nodes, chunk_size(nodes.len(), workers), &work)
 }
 
-// Sets the lists of those of these nodes for which all that they refer to have their lists.
-fn set_some<R: Threads + Sync>(
+// Sets what is found of these nodes.
+fn set_some<R: Threads + Sync, F: Finder>(
     rt: &R,
     alloc: Global,
-    rows: &[Row],
-    lists: &mut CutLists,
+    finder: &F,
+    known: &mut F::Known,
     nodes: &[u32],
-    k: usize,
     workers: u8,
 ) -> Result<(), AllocError>
-    requires small { k ≤ MOST_VARS }
-    requires order { InOrder rows.now }
-    requires lists { AreListed k rows.now lists.old }
-    ensures { OnOk result (AreListed k rows.now lists.new) }
+    requires { F.is_known finder.now known.old }
+    ensures { OnOk result (F.is_known finder.now known.new) }
 {
-    let parts = find_parts(rt, alloc, rows, lists, nodes, k, workers)?;
+    let parts = find_parts(rt, alloc, finder, known, nodes, workers)?;
     for part in parts {
         let found = part?;
-        set_all(rows, lists, found, k)?;
+        finder.set(known, found)?;
     }
     Ok(())
 }
@@ -92,10 +110,8 @@ fn add_node(
     Ok(())
 }
 
-/// The nodes of rows by level: lower levels first, and within a level by number.
-///
-/// Nothing is promised of which node is in which level, so nothing may rest on it. The only error is want of memory.
-pub fn nodes_by_level(alloc: Global, rows: &[Row]) -> Result<Vec<Vec<u32>>, AllocError>
+// The nodes of rows by level: lower levels first, and within a level by number. Nothing rests on which node is in which.
+fn nodes_by_level(alloc: Global, rows: &[Row]) -> Result<Vec<Vec<u32>>, AllocError>
     requires { length rows.now + 1 < 2 ^ 32 }
 {
     let heights = levels(alloc, rows)?;
@@ -106,69 +122,41 @@ pub fn nodes_by_level(alloc: Global, rows: &[Row]) -> Result<Vec<Vec<u32>>, Allo
     Ok(by_level)
 }
 
-// Sets the lists of the nodes of a level.
-fn set_level<R: Threads + Sync>(
+// Sets what is found of the nodes of a level.
+fn set_level<R: Threads + Sync, F: Finder>(
     rt: &R,
     alloc: Global,
-    rows: &[Row],
-    lists: &mut CutLists,
+    finder: &F,
+    known: &mut F::Known,
     nodes: &[u32],
-    k: usize,
     workers: u8,
 ) -> Result<(), AllocError>
-    requires small { k ≤ MOST_VARS }
-    requires order { InOrder rows.now }
-    requires lists { AreListed k rows.now lists.old }
-    ensures { OnOk result (AreListed k rows.now lists.new) }
+    requires { F.is_known finder.now known.old }
+    ensures { OnOk result (F.is_known finder.now known.new) }
 {
     for some in nodes.chunks(MOST) {
-        set_some(rt, alloc, rows, lists, some, k, workers)?;
+        set_some(rt, alloc, finder, known, some, workers)?;
     }
     Ok(())
 }
 
-// Sets the lists of all nodes, level by level.
-fn set_levels<R: Threads + Sync>(
+/// Sets what is found of the nodes of rows, level by level: what is known stays right. The nodes of a level are shared among
+/// up to `workers` threads, and few of them are looked at in the caller's own. Nothing is promised of which node is in which
+/// level, so what a finder needs of the nodes below it looks for. The only error is want of memory.
+pub fn set_levels<R: Threads + Sync, F: Finder>(
     rt: &R,
     alloc: Global,
     rows: &[Row],
-    lists: &mut CutLists,
-    k: usize,
+    finder: &F,
+    known: &mut F::Known,
     workers: u8,
 ) -> Result<(), AllocError>
-    requires small { k ≤ MOST_VARS }
     requires few { length rows.now + 1 < 2 ^ 32 }
-    requires order { InOrder rows.now }
-    requires lists { AreListed k rows.now lists.old }
-    ensures { OnOk result (AreListed k rows.now lists.new) }
+    requires known { F.is_known finder.now known.old }
+    ensures { OnOk result (F.is_known finder.now known.new) }
 {
     for nodes in nodes_by_level(alloc, rows)? {
-        set_level(rt, alloc, rows, lists, &nodes, k, workers)?;
+        set_level(rt, alloc, finder, known, &nodes, workers)?;
     }
     Ok(())
-}
-
-/// The listed cuts, with at most `k` leaves, of each node of rows in order.
-///
-/// With several workers the nodes of a level are shared among them, and then the lists of nodes
-/// that have none yet are found in order; with one worker that is all. Few nodes of a level are
-/// listed in the caller's own thread.
-pub(crate) fn listed_rows<R: Threads + Sync>(
-    rt: &R,
-    alloc: Global,
-    rows: &[Row],
-    k: usize,
-    workers: u8,
-) -> Result<CutLists, AllocError>
-    requires small { k ≤ MOST_VARS }
-    requires few { length rows.now + 1 < 2 ^ 32 }
-    requires order { InOrder rows.now }
-    ensures { IfOk result (λ lists. lists ≡ listed_cuts k rows.now) }
-{
-    let mut lists = CutLists::empty(alloc, rows.len())?;
-    if workers > 1 {
-        set_levels(rt, alloc, rows, &mut lists, k, workers)?;
-    }
-    sweep(rows, &mut lists, k)?;
-    Ok(lists)
 }

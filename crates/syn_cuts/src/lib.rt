@@ -20,7 +20,7 @@ pub use graphs::{function, listed};
 pub use laws::{
     arranged_in_order, listed_are_cuts, listed_cuts_rise, signatures_bound_unions, worked_cuts,
 };
-pub use levels::{chunk_size, nodes_by_level};
+pub use levels::{Finder, set_levels};
 pub use lists::CutLists;
 pub use signatures::{least_leaves, signature, signatures_of};
 pub use unions::{KEPT, union};

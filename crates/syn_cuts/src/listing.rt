@@ -1,6 +1,6 @@
 //! Which cuts are listed, node by node.
 
-ghost use Rattle.std.specs.Prelude.{◌≡◌, ◌≢◌, ℕ, ◌^◌, ◌++◌, ◌∷◌, ◌<◌, ◌≤◌, [], All, IfOk, IfSome, IsTrue, OnOk, length, slice_set};
+ghost use Rattle.std.specs.Prelude.{◌≡◌, ◌≢◌, ℕ, ◌+◌, ◌^◌, ◌++◌, ◌∷◌, ◌<◌, ◌≤◌, [], All, IfOk, IfSome, IsTrue, OnOk, length, slice_set};
 ghost use Rattle.syn_truth.specs.declared.TheConstants.{MOST_VARS};
 ghost use Rattle.syn_rows.specs.Rows.{AllRefs, InOrder, row_at};
 ghost use Rattle.syn_cuts.specs.Cuts.{listed_cuts, row_cuts};
@@ -9,10 +9,12 @@ ghost use Rattle.syn_cuts.specs.Lists.{AreListed, IsFound, IsListed, list_at};
 
 use crate::Cut;
 use crate::found::Found;
+use crate::levels::{Finder, set_levels};
 use crate::lists::CutLists;
 use crate::unions::{KEPT, first_unions};
 use arrayvec::ArrayVec;
 use std::alloc::{AllocError, Global};
+use std::thread::Threads;
 use syn_rows::Row;
 
 // The first unions of the listed cuts of the nodes that a row refers to.
@@ -69,7 +71,7 @@ fn find(rows: &[Row], lists: &CutLists, node: u32, k: usize) -> ArrayVec<Cut, KE
 }
 
 // The lists of those of these nodes for which all that they refer to have their lists.
-pub(crate) fn find_all(
+fn find_all(
     alloc: Global,
     rows: &[Row],
     lists: &CutLists,
@@ -91,12 +93,7 @@ pub(crate) fn find_all(
 }
 
 // Sets lists that were found.
-pub(crate) fn set_all(
-    rows: &[Row],
-    lists: &mut CutLists,
-    found: Found,
-    k: usize,
-) -> Result<(), AllocError>
+fn set_all(rows: &[Row], lists: &mut CutLists, found: Found, k: usize) -> Result<(), AllocError>
     requires lists { AreListed k rows.now lists.old }
     requires found { All (IsFound k rows.now) found }
     ensures { OnOk result (AreListed k rows.now lists.new) }
@@ -123,7 +120,7 @@ fn fill(rows: &[Row], lists: &mut CutLists, node: u32, k: usize) -> Result<(), A
 }
 
 // Sets the lists of the nodes that have none, in order.
-pub(crate) fn sweep(rows: &[Row], lists: &mut CutLists, k: usize) -> Result<(), AllocError>
+fn sweep(rows: &[Row], lists: &mut CutLists, k: usize) -> Result<(), AllocError>
     requires small { k ≤ MOST_VARS }
     requires few { length rows.now < 2 ^ 32 }
     requires order { InOrder rows.now }
@@ -134,4 +131,55 @@ pub(crate) fn sweep(rows: &[Row], lists: &mut CutLists, k: usize) -> Result<(), 
         fill(rows, lists, n as u32, k)?;
     }
     Ok(())
+}
+
+// Rows whose cuts are listed, with at most `k` leaves.
+#[derive(Drop)]
+struct Listing<'a> {
+    rows: &'a [Row],
+    k: usize,
+    ghost small: { k ≤ MOST_VARS },
+}
+
+impl<'a> Finder for Listing<'a> {
+    type Known = CutLists;
+
+    type Found = Found;
+
+    ghost is_known = { λ l lists. InOrder l.rows.now × AreListed l.k l.rows.now lists };
+
+    ghost is_found = { λ l found. All (IsFound l.k l.rows.now) found };
+
+    fn find(&self, alloc: Global, known: &CutLists, nodes: &[u32]) -> Result<Found, AllocError> {
+        find_all(alloc, self.rows, known, nodes, self.k)
+    }
+
+    fn set(&self, known: &mut CutLists, found: Found) -> Result<(), AllocError> {
+        set_all(self.rows, known, found, self.k)
+    }
+}
+
+/// The listed cuts, with at most `k` leaves, of each node of rows in order.
+///
+/// With several workers the nodes of a level are shared among them, and then the lists of nodes
+/// that have none yet are found in order; with one worker that is all.
+pub(crate) fn listed_rows<R: Threads + Sync>(
+    rt: &R,
+    alloc: Global,
+    rows: &[Row],
+    k: usize,
+    workers: u8,
+) -> Result<CutLists, AllocError>
+    requires small { k ≤ MOST_VARS }
+    requires few { length rows.now + 1 < 2 ^ 32 }
+    requires order { InOrder rows.now }
+    ensures { IfOk result (λ lists. lists ≡ listed_cuts k rows.now) }
+{
+    let mut lists = CutLists::empty(alloc, rows.len())?;
+    if workers > 1 {
+        let listing = Listing { rows, k };
+        set_levels(rt, alloc, rows, &listing, &mut lists, workers)?;
+    }
+    sweep(rows, &mut lists, k)?;
+    Ok(lists)
 }
