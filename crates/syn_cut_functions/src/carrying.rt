@@ -11,7 +11,6 @@ ghost use Rattle.syn_cuts.specs.Leaves.{leaves_of};
 ghost use Rattle.syn_cut_functions.specs.Carried.{AreCarried, HaveCarried};
 ghost use Rattle.syn_cut_functions.specs.Cuts.{AreLeavesOf};
 
-use crate::nontrivial::cuts_of;
 use std::alloc::{AllocError, Global};
 use syn_cones::CutFunction;
 use syn_cuts::{Cut, CutLists, signature};
@@ -70,7 +69,7 @@ fn fan_in(
         return Some(own);
     }
     let known = lists[node as usize].carried.as_slice();
-    let found = from_cuts(node, cuts_of(cuts, node), known, leaves, bits)?;
+    let found = from_cuts(node, cuts.nontrivial(node), known, leaves, bits)?;
     Some(found)
 }
 

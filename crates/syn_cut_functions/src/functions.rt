@@ -13,7 +13,6 @@ ghost use Rattle.syn_cut_functions.specs.Functions.{AreFunctionsOver, IsFunction
 ghost use Rattle.syn_cut_functions.specs.Cuts.{cuts_of};
 
 use crate::carrying::{Carried, Functions, over_cut};
-use crate::nontrivial::cuts_of;
 use std::alloc::{AllocError, Global};
 use syn_cuts::{Cut, CutLists};
 use syn_graph::Graph;
@@ -45,7 +44,7 @@ fn carried_over(
     ensures carried { IfOk result (λ v. AreCarried graph.now.rows node (cuts_of graph.now.rows node) v.items) }
     ensures all { IfOk result (λ v. length (cuts_of graph.now.rows node) ≤ length v.items) }
 {
-    let own = cuts_of(cuts, node);
+    let own = cuts.nontrivial(node);
     let mut carried = Vec::with_capacity(alloc, own.len())?;
     for i in 0..own.len() {
         let leaves = own[i].as_slice();
@@ -114,7 +113,7 @@ pub(crate) fn numbers_at(
     ensures { IfOk result (λ v. is_and (row_at graph.now.rows node) ≡ true → AreFunctionsOver graph.now.rows node (cuts_of graph.now.rows node) v.items) }
 {
     match graph.rows.as_slice()[node as usize] {
-        Row::And(_, _) => numbers_over(alloc, graph, node, cuts_of(cuts, node), carried),
+        Row::And(_, _) => numbers_over(alloc, graph, node, cuts.nontrivial(node), carried),
         _ => Ok(Vec::new(alloc)),
     }
 }

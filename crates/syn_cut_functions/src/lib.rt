@@ -12,8 +12,6 @@ mod completing;
 mod functions;
 mod laws;
 mod levels;
-mod nontrivial;
 
 pub use completing::all_functions;
 pub use laws::function_of_table;
-pub use nontrivial::cuts_of;

@@ -1,11 +1,12 @@
 -- Cuts put in their places, and the first of them.
-use Rattle.std.proofs.Common.{◌≡◌, ℕ, zero, suc, ◌+◌, ◌<◌, ◌≤◌, ◌==◌, Bool, true, false, if◌then◌else◌, List, [], ◌∷◌, ◌++◌, length, take, drop, get_or, bytes_eq, refl, sym, ap, ap₂, ◌∙◌, arith, append_assoc}
+use Rattle.std.proofs.Common.{◌≡◌, ℕ, zero, suc, ◌+◌, ◌-◌, ◌<◌, ◌≤◌, ◌==◌, Bool, true, false, if◌then◌else◌, List, [], ◌∷◌, ◌++◌, length, take, drop, get_or, bytes_eq, refl, sym, ap, ap₂, ◌∙◌, arith, append_assoc}
 use Rattle.std.specs.List.{insert}
 use Rattle.std.proofs.lemmas.Bool.{cond-true, cond-false}
 use Rattle.std.proofs.lemmas.Bool.Decides.{nat_tests}
 use Rattle.arrayvec.specs.ArrayVec.{ArrayVec}
 use Rattle.syn_cuts.specs.Cuts.{union, is_small, put, arranged, leaves_before, comes_before, unions_with, unions}
 use Rattle.syn_cuts.specs.Leaves.{leaves, leaves_of}
+use Rattle.syn_cuts.specs.Lists.{but_last}
 
 -- where a cut belongs
 
@@ -216,3 +217,8 @@ not_before_none xs ys i le = ap (leaves_before (drop i xs)) (none ys i le) ∙ n
     never : (zs : List ℕ) → leaves_before zs [] ≡ false
     never [] = refl
     never (z ∷ zs) = refl
+
+-- the cuts but the last
+pub front_leaves : (cuts : List (ArrayVec ℕ)) (list : List (List ℕ)) → leaves_of cuts ≡ list → leaves_of (take (length cuts - 1) cuts) ≡ but_last list
+front_leaves cuts list e =
+    take_leaves cuts (length cuts - 1) ∙ ap (λ n. take (n - 1) (leaves_of cuts)) (sym (leaves_length cuts)) ∙ ap but_last e

@@ -1,5 +1,5 @@
 -- Lists of cuts in parts, with a span for each node.
-use Rattle.std.specs.Prelude.{◌≡◌, ◌⊎◌, ℕ, ◌+◌, ◌<◌, ◌≤◌, List, [], ◌∷◌, ◌++◌, length, map, take, drop, slice_index_or, slice_set}
+use Rattle.std.specs.Prelude.{◌≡◌, ◌⊎◌, ℕ, ◌+◌, ◌-◌, ◌<◌, ◌≤◌, List, [], ◌∷◌, ◌++◌, length, map, take, drop, slice_index_or, slice_set}
 use Rattle.syn_cuts.specs.declared.found.Entry.{Entry}
 use Rattle.syn_cuts.specs.declared.lists.Span.{Span}
 use Rattle.syn_rows.specs.declared.Row.{Row}
@@ -50,6 +50,14 @@ with_lists lists (f ∷ fs) = with_lists (slice_set lists f.0 f.1) fs
 -- the list of a node, empty past the end
 abbrev pub list_at : List (List (List ℕ)) → ℕ → List (List ℕ)
 list_at lists n = slice_index_or lists n []
+
+-- the cuts but the last
+abbrev pub but_last : List (List ℕ) → List (List ℕ)
+but_last cuts = take (length cuts - 1) cuts
+
+-- the nontrivial cuts of a node in lists: all but the last, which is the node alone
+abbrev pub nontrivial : List (List (List ℕ)) → ℕ → List (List ℕ)
+nontrivial lists n = but_last (list_at lists n)
 
 -- the cuts, and then the node alone, are the listed cuts of a node that is there
 abbrev pub IsListed : ℕ → List Row → ℕ → List (List ℕ) → Type 0

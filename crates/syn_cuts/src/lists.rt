@@ -2,7 +2,7 @@
 
 ghost use Rattle.std.specs.Prelude.{◌≡◌, ℕ, ◌++◌, ◌∷◌, ◌<◌, [], All, IfOk, OnOk, length, replicate, slice_set};
 ghost use Rattle.syn_cuts.specs.Leaves.{leaves_of};
-ghost use Rattle.syn_cuts.specs.Lists.{list_at, with_lists, with_spans};
+ghost use Rattle.syn_cuts.specs.Lists.{list_at, nontrivial, with_lists, with_spans};
 
 use crate::Cut;
 use crate::found::{Entry, Found};
@@ -87,6 +87,16 @@ impl CutLists {
     {
         let span = self.spans[node as usize];
         self.parts[span.part].slice(span.start, span.len)
+    }
+
+    /// The nontrivial cuts of a node: the listed ones but the last, which is the node alone.
+    pub fn nontrivial(&self, node: u32) -> &[Cut]
+        requires { node < length self.now }
+        ensures { leaves_of result.now ≡ nontrivial self.now node }
+    {
+        let cuts = self.of(node);
+        let (first, _) = cuts.split_at(cuts.len().saturating_sub(1));
+        first
     }
 
     /// Sets the list of a node: these cuts, and the node alone.

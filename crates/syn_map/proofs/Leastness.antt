@@ -1,5 +1,5 @@
 -- The least label and the first cut that gives it, cut by cut; labels row by row.
-use Rattle.std.proofs.Common.{◌≡◌, ℕ, ◌+◌, ◌-◌, ◌<◌, ◌≤◌, min, nat_eq, if◌then◌else◌, true, false, All, List, [], ◌∷◌, ◌++◌, length, get_or, take, drop, refl, sym, ap, ap₂, ◌∙◌, arith}
+use Rattle.std.proofs.Common.{◌≡◌, ℕ, ◌+◌, ◌<◌, ◌≤◌, min, nat_eq, if◌then◌else◌, true, false, All, List, [], ◌∷◌, ◌++◌, length, get_or, drop, refl, sym, ap, ap₂, ◌∙◌, arith}
 use Rattle.std.proofs.lemmas.Bool.{cond-true, cond-false}
 use Rattle.arrayvec.specs.ArrayVec.{ArrayVec}
 use Rattle.std.proofs.lemmas.List.{drop_more}
@@ -10,10 +10,11 @@ use Rattle.syn_rows.specs.Rows.{fold_rows, row_at}
 use Rattle.syn_rows.proofs.Folds.{length-fold}
 use Rattle.syn_cuts.specs.Cuts.{listed_cuts, row_cuts}
 use Rattle.syn_cuts.specs.Leaves.{leaves, leaves_of}
-use Rattle.syn_cuts.proofs.Putting.{take_leaves, drop_leaves, leaves_length}
+use Rattle.syn_cuts.specs.Lists.{nontrivial}
+use Rattle.syn_cuts.proofs.Putting.{drop_leaves}
 use Rattle.syn_lutshapes.specs.Luts.{greatest}
 use Rattle.syn_lutnet.proofs.LutDepths.{depths_low}
-use Rattle.syn_map.specs.Labels.{but_last, choice, chosen, first_at, labels_of, least, list_cuts, row_label}
+use Rattle.syn_map.specs.Labels.{choice, chosen, first_at, labels_of, least, row_label}
 
 -- the least of a label and of what cuts give
 abbrev pub least_after : (ℕ → ℕ) → ℕ → List (List ℕ) → ℕ
@@ -52,25 +53,20 @@ least_low labels [] low = omega arith
 least_low labels (c ∷ []) low = depths_low labels c low
 least_low labels (c ∷ d ∷ ds) low = omega (arith, depths_low labels c low)
 
--- the cuts but the last
-pub front_leaves : (cuts : List (ArrayVec ℕ)) (list : List (List ℕ)) → leaves_of cuts ≡ list → leaves_of (take (length cuts - 1) cuts) ≡ but_last list
-front_leaves cuts list e =
-    take_leaves cuts (length cuts - 1) ∙ ap (λ n. take (n - 1) (leaves_of cuts)) (sym (leaves_length cuts)) ∙ ap but_last e
-
 -- one label more
-pub label_next : (lists : List (List (List ℕ))) (rows : List Row) (done new : List ℕ) (i x : ℕ) (all : List ℕ) → new ≡ done ++ x ∷ [] → length done ≡ i → x ≡ row_label (list_cuts lists) (level_in done) i (row_at rows i) → i < length rows
-    → fold_rows (row_label (list_cuts lists)) 0 done (drop i rows) ≡ all → fold_rows (row_label (list_cuts lists)) 0 new (drop (i + 1) rows) ≡ all
+pub label_next : (lists : List (List (List ℕ))) (rows : List Row) (done new : List ℕ) (i x : ℕ) (all : List ℕ) → new ≡ done ++ x ∷ [] → length done ≡ i → x ≡ row_label (nontrivial lists) (level_in done) i (row_at rows i) → i < length rows
+    → fold_rows (row_label (nontrivial lists)) 0 done (drop i rows) ≡ all → fold_rows (row_label (nontrivial lists)) 0 new (drop (i + 1) rows) ≡ all
 label_next lists rows done new i x all e long is lt h =
-    ap (λ (ls : List ℕ). fold_rows (row_label (list_cuts lists)) 0 ls (drop (i + 1) rows))
-    (e ∙ ap (λ y. done ++ y ∷ []) (is ∙ ap (λ n. row_label (list_cuts lists) (level_in done) n (row_at rows i)) (sym long)))
-    ∙ sym (ap (fold_rows (row_label (list_cuts lists)) 0 done) (drop_more rows i Free lt)) ∙ h
+    ap (λ (ls : List ℕ). fold_rows (row_label (nontrivial lists)) 0 ls (drop (i + 1) rows))
+    (e ∙ ap (λ y. done ++ y ∷ []) (is ∙ ap (λ n. row_label (nontrivial lists) (level_in done) n (row_at rows i)) (sym long)))
+    ∙ sym (ap (fold_rows (row_label (nontrivial lists)) 0 done) (drop_more rows i Free lt)) ∙ h
 
 -- the first cut of the least level, by lists and labels that are known
 pub chosen_is : (k : ℕ) (rows : List Row) (lists : List (List (List ℕ))) (labels : List ℕ) (node : ℕ) (cuts : List (List ℕ)) (level : ℕ) (cut : List ℕ) → lists ≡ listed_cuts k rows → labels ≡ labels_of k rows
-    → cuts ≡ list_cuts lists node → level ≡ least (level_in labels) cuts → cut ≡ first_at level (level_in labels) cuts → cut ≡ chosen k rows node
+    → cuts ≡ nontrivial lists node → level ≡ least (level_in labels) cuts → cut ≡ first_at level (level_in labels) cuts → cut ≡ chosen k rows node
 chosen_is k rows lists labels node cuts level cut lists_are labels_are cuts_are level_is cut_is =
     cut_is ∙ ap (λ x. first_at x (level_in labels) cuts) level_is
-    ∙ ap₂ (λ (ls : List ℕ) (cs : List (List ℕ)). choice (level_in ls) cs) labels_are (cuts_are ∙ ap (λ (l : List (List (List ℕ))). list_cuts l node) lists_are)
+    ∙ ap₂ (λ (ls : List ℕ) (cs : List (List ℕ)). choice (level_in ls) cs) labels_are (cuts_are ∙ ap (λ (l : List (List (List ℕ))). nontrivial l node) lists_are)
 
 -- there are as many lists as rows
 pub length-listed : (k : ℕ) (rows : List Row) → length (listed_cuts k rows) ≡ length rows

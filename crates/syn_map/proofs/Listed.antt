@@ -12,12 +12,12 @@ use Rattle.syn_shapes.proofs.Gates.{gate_parts, first_below}
 use Rattle.syn_cones.specs.Cones.{IsCut}
 use Rattle.syn_cuts.specs.Cuts.{union, comes_before, put, arranged, is_small, unions_with, unions, first_unions, row_cuts, listed_cuts}
 use Rattle.syn_cuts.specs.Laws.{IsListedCut}
-use Rattle.syn_cuts.specs.Lists.{list_at}
+use Rattle.syn_cuts.specs.Lists.{but_last, list_at}
 use Rattle.syn_cuts.proofs.Cutting.{listed_at, listed_are_cuts}
 use Rattle.syn_hashed.proofs.Orders.{hashed_in_order}
 use Rattle.syn_cuts.proofs.Rising.{listed_cuts_rise}
 pub use Rattle.syn_lutshapes.proofs.Folding.{below, In}
-use Rattle.syn_map.specs.Labels.{but_last, choice, cuts_of, label_of, chosen}
+use Rattle.syn_map.specs.Labels.{choice, cuts_of, label_of, chosen}
 use Rattle.syn_map.proofs.Choices.{choice_is}
 
 take_front : (xs ys : List (List ℕ)) → take (length xs) (xs ++ ys) ≡ xs

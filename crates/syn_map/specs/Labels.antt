@@ -1,12 +1,12 @@
 -- Labels: how deep a node lies at best in LUTs over its listed cuts, and the cut that is chosen for it (Mishchenko, Cho, Chatterjee and Brayton, ICCAD 2007, "priority cuts"; which cut is chosen is this project's choice).
-use Rattle.std.specs.Prelude.{◌≡◌, ◌≢◌, ℕ, ◌+◌, ◌-◌, ◌<◌, ◌≤◌, ◌==◌, min, if◌then◌else◌, Bool, All, List, [], ◌∷◌, ◌++◌, length, take}
+use Rattle.std.specs.Prelude.{◌≡◌, ◌≢◌, ℕ, ◌+◌, ◌<◌, ◌≤◌, ◌==◌, min, if◌then◌else◌, Bool, All, List, [], ◌∷◌, ◌++◌}
 use Rattle.syn_rows.specs.declared.Row.{Row}
 use Rattle.syn_rows.specs.declared.Row.TheVariants.{Free, Source, And, Alias}
 use Rattle.syn_rows.specs.Rows.{row_at, fold_rows}
 use Rattle.syn_rows.specs.Levels.{level_in}
 use Rattle.syn_hashed.specs.Hashed.{IsHashed}
 use Rattle.syn_cuts.specs.Cuts.{listed_cuts}
-use Rattle.syn_cuts.specs.Lists.{list_at}
+use Rattle.syn_cuts.specs.Lists.{nontrivial}
 use Rattle.syn_lutshapes.specs.Luts.{greatest}
 
 -- the least, over cuts, of the greatest label of a leaf; 0 where there is no cut
@@ -24,17 +24,9 @@ first_at level label (c ∷ cs) = if greatest label c == level then c else first
 abbrev pub choice : (ℕ → ℕ) → List (List ℕ) → List ℕ
 choice label cuts = first_at (least label cuts) label cuts
 
--- the cuts but the last
-abbrev pub but_last : List (List ℕ) → List (List ℕ)
-but_last cuts = take (length cuts - 1) cuts
-
--- the cuts of a node in these lists, but the last
-abbrev pub list_cuts : List (List (List ℕ)) → ℕ → List (List ℕ)
-list_cuts lists n = but_last (list_at lists n)
-
 -- the listed cuts of a node with at most k leaves, but the last, which is the node alone
 abbrev pub cuts_of : ℕ → List Row → ℕ → List (List ℕ)
-cuts_of k rows n = list_cuts (listed_cuts k rows) n
+cuts_of k rows n = nontrivial (listed_cuts k rows) n
 
 -- the label that a row gives its node: of an AND one more than the least over its cuts, of any other 0
 abbrev pub row_label : (ℕ → List (List ℕ)) → (ℕ → ℕ) → ℕ → Row → ℕ

@@ -5,7 +5,7 @@ ghost use Rattle.syn_truth.specs.declared.TheConstants.{MOST_VARS};
 ghost use Rattle.syn_cuts.specs.Cuts.{listed_cuts};
 ghost use Rattle.syn_map.specs.Labels.{chosen, labels_of};
 
-use crate::labels::{cuts_of, first_at, labels, least};
+use crate::labels::{first_at, labels, least};
 use std::alloc::{AllocError, Global};
 use std::thread::Threads;
 use syn_covering::Choice;
@@ -53,7 +53,7 @@ impl<'a> Labelled<'a> {
         requires { node < length self.now.rows.now }
         ensures { result.now ≡ chosen self.now.k self.now.rows.now node }
     {
-        let cuts = cuts_of(&self.lists, node);
+        let cuts = self.lists.nontrivial(node);
         let labels = self.labels.as_slice();
         first_at(labels, cuts, least(labels, cuts))
     }

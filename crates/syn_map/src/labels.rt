@@ -5,23 +5,13 @@ ghost use Rattle.syn_rows.specs.declared.Row.{Row};
 ghost use Rattle.syn_rows.specs.Levels.{level_in};
 ghost use Rattle.syn_rows.specs.Rows.{fold_rows};
 ghost use Rattle.syn_cuts.specs.Leaves.{leaves_of};
-ghost use Rattle.syn_cuts.specs.Lists.{list_at};
-ghost use Rattle.syn_map.specs.Labels.{but_last, first_at, least, list_cuts, row_label};
+ghost use Rattle.syn_cuts.specs.Lists.{nontrivial};
+ghost use Rattle.syn_map.specs.Labels.{first_at, least, row_label};
 
 use std::alloc::{AllocError, Global};
 use syn_cuts::{Cut, CutLists};
 use syn_lutnet::greatest_depth;
 use syn_rows::Row;
-
-/// The cuts of a node but the last, which is the node alone.
-pub(crate) fn cuts_of(lists: &CutLists, node: u32) -> &[Cut]
-    requires { node < length lists.now }
-    ensures { leaves_of result.now ≡ but_last (list_at lists.now node) }
-{
-    let cuts = lists.of(node);
-    let (first, _) = cuts.split_at(cuts.len().saturating_sub(1));
-    first
-}
 
 // The lesser of two labels.
 #[inline]
@@ -62,11 +52,11 @@ fn row_label(lists: &CutLists, labels: &[u32], node: u32, row: Row) -> u32
     requires there { node < length lists.now }
     requires low { All (λ label. label ≤ length labels.now) labels.now }
     requires few { length labels.now + 1 < 2 ^ 32 }
-    ensures label { result ≡ row_label (list_cuts lists.now) (level_in labels.now) node row }
+    ensures label { result ≡ row_label (nontrivial lists.now) (level_in labels.now) node row }
     ensures low { result ≤ length labels.now + 1 }
 {
     match row {
-        Row::And(_, _) => least(labels, cuts_of(lists, node)) + 1,
+        Row::And(_, _) => least(labels, lists.nontrivial(node)) + 1,
         Row::Free | Row::Source | Row::Alias(_) => 0,
     }
 }
@@ -75,7 +65,7 @@ fn row_label(lists: &CutLists, labels: &[u32], node: u32, row: Row) -> u32
 pub(crate) fn labels(alloc: Global, rows: &[Row], lists: &CutLists) -> Result<Vec<u32>, AllocError>
     requires count { length lists.now ≡ length rows.now }
     requires few { length rows.now + 1 < 2 ^ 32 }
-    ensures { IfOk result (λ v. v.items ≡ fold_rows (row_label (list_cuts lists.now)) 0 [] rows.now) }
+    ensures { IfOk result (λ v. v.items ≡ fold_rows (row_label (nontrivial lists.now)) 0 [] rows.now) }
 {
     let mut labels = Vec::new(alloc);
     for (n, row) in rows.iter().enumerate() {

@@ -22,7 +22,6 @@ use crate::promising::{push_promising, worth_over};
 use crate::rooted::{RootedCut, rooted_at};
 use std::alloc::{AllocError, Global};
 use std::thread::Threads;
-use syn_cut_functions::cuts_of;
 use syn_function_plans::{FunctionPlans, KnownPlans, PlanSource, plans_of};
 use syn_gain::{Candidate, Proposal, Room, Uses, lost_but, owned, saves};
 use syn_graph::Graph;
@@ -287,7 +286,7 @@ impl Proposer for CutPlans {
         lists: &Prepared,
         node: u32,
     ) -> Result<Vec<Proposal>, AllocError> {
-        let cuts = cuts_of(&lists.cuts, node);
+        let cuts = lists.cuts.nontrivial(node);
         let mut proposals = Vec::new(alloc);
         for i in 0..cuts.len() {
             let cut = rooted_at(graph, lists, node, cuts, i);
@@ -305,7 +304,7 @@ impl Proposer for CutPlans {
         lists: &Prepared,
         node: u32,
     ) -> Result<Option<Proposal>, AllocError> {
-        let cuts = cuts_of(&lists.cuts, node);
+        let cuts = lists.cuts.nontrivial(node);
         let most = lost_but(alloc, graph, uses, node, &[], MOST_COUNTED)?;
         let source = self.source(lists);
         let mut room = Room::new(alloc);
@@ -330,7 +329,7 @@ impl Proposer for CutPlans {
         node: u32,
         zero_gain: bool,
     ) -> Result<Vec<Proposal>, AllocError> {
-        let cuts = cuts_of(&lists.cuts, node);
+        let cuts = lists.cuts.nontrivial(node);
         let source = self.source(lists);
         let mut room = Room::new(alloc);
         let mut proposals = Vec::new(alloc);

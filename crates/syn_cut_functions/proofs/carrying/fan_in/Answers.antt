@@ -1,5 +1,6 @@
-use Rattle.std.proofs.Common.{List, subst, sym}
+use Rattle.std.proofs.Common.{List, ap, ◌∙◌, subst, sym}
 use Rattle.syn_cuts.specs.Leaves.{leaves_of}
+use Rattle.syn_cuts.specs.Lists.{nontrivial}
 use Rattle.syn_cut_functions.specs.Carried.{AreCarried}
 use Rattle.syn_cut_functions.specs.declared.carrying.Carried.{Carried}
 use Rattle.syn_cut_functions.proofs.Carried.{at_list}
@@ -7,7 +8,7 @@ use Rattle.syn_cut_functions.proofs.carrying.fan_in.Goals as goal
 
 pub returns : goal.returns
 returns c = λ rows order listed have.
-    let cuts = c.cuts_of.result.now in
+    let cuts = c.nontrivial.result.now in
     let all = c.args.lists.now in
-    let own = at_list rows c.args.node cuts all c.index-lists-node.result have c.requires.node (c.cuts_of.ensures rows listed) in
+    let own = at_list rows c.args.node cuts all c.index-lists-node.result have c.requires.node (c.nontrivial.ensures ∙ ap (λ lists. nontrivial lists c.args.node) listed) in
     c.in_ok-found.ensures rows order (subst (λ (known : List Carried). AreCarried rows c.args.node (leaves_of cuts) known) (sym c.as_slice-known.ensures.value) own)

@@ -3,6 +3,7 @@ use Rattle.std.proofs.lemmas.List.{length_push}
 use Rattle.syn_rows.specs.Reach.{is_and}
 use Rattle.syn_cones.specs.Carried.{IsCutFunction}
 use Rattle.syn_cuts.specs.Leaves.{leaves_of}
+use Rattle.syn_cuts.specs.Lists.{nontrivial}
 use Rattle.syn_cut_functions.specs.Carried.{AreCarried}
 use Rattle.syn_cut_functions.specs.Cuts.{cuts_of}
 use Rattle.syn_cut_functions.proofs.Listed.{leaves_read, within_lists}
@@ -10,24 +11,24 @@ use Rattle.syn_cut_functions.proofs.Carried.{more_carried}
 use Rattle.syn_cut_functions.proofs.Cuts.{leaves_is}
 use Rattle.syn_cut_functions.proofs.functions.carried_over.Goals as goal
 
-pub cuts_of-own-requires : goal.cuts_of-own-requires
-cuts_of-own-requires c = within_lists c.args.cuts.now c.args.graph.now.rows c.args.node c.requires.cuts c.requires.node
+pub nontrivial-own-requires : goal.nontrivial-own-requires
+nontrivial-own-requires c = within_lists c.args.cuts.now c.args.graph.now.rows c.args.node c.requires.cuts c.requires.node
 
 pub over_cut-requires-clause-leaves : goal.over_cut-requires-clause-leaves
 over_cut-requires-clause-leaves c =
     let graph = c.args.graph.now in
-    leaves_read graph c.args.node c.cuts_of-own.result.now c.loop-i.i c.index-own-i.result c.as_slice-leaves.result.now (ap is_and c.requires.row) (c.cuts_of-own.ensures graph.rows c.requires.cuts)
+    leaves_read graph c.args.node c.nontrivial-own.result.now c.loop-i.i c.index-own-i.result c.as_slice-leaves.result.now (ap is_and c.requires.row) (c.nontrivial-own.ensures ∙ ap (λ lists. nontrivial lists c.args.node) c.requires.cuts)
     c.loop-i-test.true c.index-own-i.is c.as_slice-leaves.ensures.value
 
 pub loop-i-preserved : goal.loop-i-preserved
 loop-i-preserved c =
     let rows = c.args.graph.now.rows in
     let node = c.args.node in
-    let cuts = c.cuts_of-own.result.now in
+    let cuts = c.nontrivial-own.result.now in
     let i = c.loop-i.i in
     let cut = c.index-own-i.result in
     let f = c.in_ok-one.one.function in
-    let are : leaves_of cuts ≡ cuts_of rows node = c.cuts_of-own.ensures rows c.requires.cuts in
+    let are : leaves_of cuts ≡ cuts_of rows node = c.nontrivial-own.ensures ∙ ap (λ lists. nontrivial lists node) c.requires.cuts in
     let here : IsCutFunction rows cut.items node f = subst (λ ls. IsCutFunction rows ls node f) c.as_slice-leaves.ensures.value c.in_ok-one.ensures in
     record {
       count = ap length c.in_ok-push.ensures.items ∙ length_push c.loop-i.carried.items _ ∙ ap (λ n. n + 1) c.loop-i.invariant.count;

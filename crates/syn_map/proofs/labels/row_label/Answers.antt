@@ -4,7 +4,7 @@ use Rattle.syn_map.proofs.Leastness.{least_low}
 use Rattle.syn_map.proofs.labels.row_label.Goals as goal
 
 pub overflow_add-result : goal.overflow_add-result
-overflow_add-result c = omega (arith, c.least.ensures, least_low c.args.labels.now (leaves_of c.cuts_of.result.now) c.requires.low, c.requires.few)
+overflow_add-result c = omega (arith, c.least.ensures, least_low c.args.labels.now (leaves_of c.nontrivial.result.now) c.requires.low, c.requires.few)
 
 pub returns-in-And-clause-low : goal.returns-in-And-clause-low
-returns-in-And-clause-low c = omega (arith, c.least.ensures, least_low c.args.labels.now (leaves_of c.cuts_of.result.now) c.requires.low)
+returns-in-And-clause-low c = omega (arith, c.least.ensures, least_low c.args.labels.now (leaves_of c.nontrivial.result.now) c.requires.low)

@@ -1,6 +1,7 @@
 use Rattle.std.proofs.Common.{rules, ℕ, ◌≤◌, [], All, List, flat_map, length, ap, sym, subst, ◌∙◌, arith}
 use Rattle.std.proofs.lemmas.List.{take_all}
 use Rattle.syn_cuts.specs.Leaves.{leaves_of}
+use Rattle.syn_cuts.specs.Lists.{nontrivial}
 use Rattle.syn_cuts.proofs.Putting.{leaves_length}
 use Rattle.syn_fanout_free.specs.Bounding.{IsMostLost}
 use Rattle.syn_fanout_free.specs.Saved.{count_in}
@@ -12,11 +13,11 @@ use Rattle.syn_rewrite.specs.Rewriting.{cut_proposals}
 use Rattle.syn_rewrite.proofs.Candidates.{and_there, first_of_all, nothing_more}
 use Rattle.syn_rewrite.proofs.proposing.CutPlansProposer.first_saving.Goals as goal
 
-pub cuts_of-cuts-requires : goal.cuts_of-cuts-requires
-cuts_of-cuts-requires c = within_lists c.args.lists.now.cuts c.args.graph.now.rows c.args.node c.requires.lists.cuts (and_there c.args.graph.now c.args.node c.requires.node)
+pub nontrivial-cuts-requires : goal.nontrivial-cuts-requires
+nontrivial-cuts-requires c = within_lists c.args.lists.now.cuts c.args.graph.now.rows c.args.node c.requires.lists.cuts (and_there c.args.graph.now c.args.node c.requires.node)
 
 pub rooted_at-cut-requires-clause-cuts : goal.rooted_at-cut-requires-clause-cuts
-rooted_at-cut-requires-clause-cuts c = c.cuts_of-cuts.ensures c.args.graph.now.rows c.requires.lists.cuts
+rooted_at-cut-requires-clause-cuts c = c.nontrivial-cuts.ensures ∙ ap (λ lists. nontrivial lists c.args.node) c.requires.lists.cuts
 
 pub some_of_function_saves-requires-clause-most : goal.some_of_function_saves-requires-clause-most
 some_of_function_saves-requires-clause-most c =
@@ -28,15 +29,15 @@ returns-in-Some-clause-first c =
     let node = c.args.node in
     let cut = c.rooted_at-cut.result in
     let first : IsFirst graph.rows graph.observed (cut_proposals graph.rows cut.root cut.leaves.now) (replacement c.in-Some.found) = search rules in
-    first_of_all graph.rows graph.observed node c.cuts_of-cuts.result.now c.loop-i.i cut.leaves.now (replacement c.in-Some.found)
-    (c.cuts_of-cuts.ensures graph.rows c.requires.lists.cuts) c.loop-i-test.true c.rooted_at-cut.ensures.leaves c.loop-i.invariant
+    first_of_all graph.rows graph.observed node c.nontrivial-cuts.result.now c.loop-i.i cut.leaves.now (replacement c.in-Some.found)
+    (c.nontrivial-cuts.ensures ∙ ap (λ lists. nontrivial lists node) c.requires.lists.cuts) c.loop-i-test.true c.rooted_at-cut.ensures.leaves c.loop-i.invariant
     (subst (λ (n : ℕ). IsFirst graph.rows graph.observed (cut_proposals graph.rows n cut.leaves.now) (replacement c.in-Some.found)) c.rooted_at-cut.ensures.root first)
 
 pub loop-i-preserved : goal.loop-i-preserved
 loop-i-preserved c =
     let graph = c.args.graph.now in
     let node = c.args.node in
-    let cuts = c.cuts_of-cuts.result.now in
+    let cuts = c.nontrivial-cuts.result.now in
     let cut = c.rooted_at-cut.result in
     let none : All (SavesNothing graph.rows graph.observed) (cut_proposals graph.rows cut.root cut.leaves.now) = search rules in
     nothing_more graph.rows graph.observed node cuts c.loop-i.i cut.leaves.now cut.root c.loop-i-test.true c.rooted_at-cut.ensures.root c.rooted_at-cut.ensures.leaves c.loop-i.invariant none
@@ -45,17 +46,17 @@ pub returns-clause-none : goal.returns-clause-none
 returns-clause-none c =
     let graph = c.args.graph.now in
     let node = c.args.node in
-    let cuts = c.cuts_of-cuts.result.now in
+    let cuts = c.nontrivial-cuts.result.now in
     let end : length cuts ≤ c.loop-i.i = c.loop-i-test.false in
     subst (λ (l : List Replacement). All (SavesNothing graph.rows graph.observed) l)
-    (ap (flat_map (cut_proposals graph.rows node)) (take_all c.loop-i.i (leaves_of cuts) (omega (arith, end, leaves_length cuts)) ∙ c.cuts_of-cuts.ensures graph.rows c.requires.lists.cuts))
+    (ap (flat_map (cut_proposals graph.rows node)) (take_all c.loop-i.i (leaves_of cuts) (omega (arith, end, leaves_length cuts)) ∙ c.nontrivial-cuts.ensures ∙ ap (λ lists. nontrivial lists node) c.requires.lists.cuts))
     c.loop-i.invariant
 
 pub loop-i-preserved-then-not-branch : goal.loop-i-preserved-then-not-branch
 loop-i-preserved-then-not-branch c =
     let graph = c.args.graph.now in
     let node = c.args.node in
-    let cuts = c.cuts_of-cuts.result.now in
+    let cuts = c.nontrivial-cuts.result.now in
     let cut = c.rooted_at-cut.result in
     let none : All (SavesNothing graph.rows graph.observed) (cut_proposals graph.rows cut.root cut.leaves.now) = search rules in
     nothing_more graph.rows graph.observed node cuts c.loop-i.i cut.leaves.now cut.root c.loop-i-test.true c.rooted_at-cut.ensures.root c.rooted_at-cut.ensures.leaves c.loop-i.invariant none

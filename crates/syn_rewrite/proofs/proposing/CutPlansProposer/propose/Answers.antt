@@ -1,22 +1,23 @@
 use Rattle.std.proofs.Common.{ℕ, ◌++◌, List, flat_map, take, ap, ◌∙◌}
 use Rattle.syn_cuts.specs.Leaves.{leaves_of}
+use Rattle.syn_cuts.specs.Lists.{nontrivial}
 use Rattle.syn_gain.specs.Replacements.{Replacement}
 use Rattle.syn_cut_functions.proofs.Listed.{within_lists}
 use Rattle.syn_rewrite.specs.Rewriting.{cut_proposals}
 use Rattle.syn_rewrite.proofs.Candidates.{and_there, more_cuts, same_root}
 use Rattle.syn_rewrite.proofs.proposing.CutPlansProposer.propose.Goals as goal
 
-pub cuts_of-cuts-requires : goal.cuts_of-cuts-requires
-cuts_of-cuts-requires c = within_lists c.args.lists.now.cuts c.args.graph.now.rows c.args.node c.requires.lists.cuts (and_there c.args.graph.now c.args.node c.requires.node)
+pub nontrivial-cuts-requires : goal.nontrivial-cuts-requires
+nontrivial-cuts-requires c = within_lists c.args.lists.now.cuts c.args.graph.now.rows c.args.node c.requires.lists.cuts (and_there c.args.graph.now c.args.node c.requires.node)
 
 pub rooted_at-cut-requires-clause-cuts : goal.rooted_at-cut-requires-clause-cuts
-rooted_at-cut-requires-clause-cuts c = c.cuts_of-cuts.ensures c.args.graph.now.rows c.requires.lists.cuts
+rooted_at-cut-requires-clause-cuts c = c.nontrivial-cuts.ensures ∙ ap (λ lists. nontrivial lists c.args.node) c.requires.lists.cuts
 
 pub loop-i-preserved : goal.loop-i-preserved
 loop-i-preserved c =
     let rows = c.args.graph.now.rows in
     let node = c.args.node in
-    let cuts = c.cuts_of-cuts.result.now in
+    let cuts = c.nontrivial-cuts.result.now in
     let cut = c.rooted_at-cut.result in
     let leaves = cut.leaves.now in
     let keeps = c.loop-i.invariant in
