@@ -1,4 +1,4 @@
-use Rattle.std.proofs.Common.{◌≡◌, ℕ, ◌-◌, ◌<◌, ◌≤◌, false, [], length, get_or}
+use Rattle.std.proofs.Common.{◌≡◌, ◌-◌, ◌<◌, ◌≤◌, false, [], length, get_or}
 use Rattle.syn_cuts.specs.Cuts.{comes_before}
 use Rattle.syn_cuts.specs.Leaves.{leaves_of}
 use Rattle.syn_cuts.proofs.Putting.{IsBehind}
