@@ -44,7 +44,7 @@ pub(crate) fn file_fault(alloc: Global, file: &File<'_>) -> Result<Option<FlatFa
 /// names that it reads. Else the first fault: of a subcircuit, by line, and on one line in the order of `FlatFault`; or
 /// else the first name, by model, line and word, that is read and never defined. Models that contain each other in a
 /// circle, and the number of words, aren't looked at.
-pub fn check_models(models: &Models, alloc: Global) -> Result<(), FlatFault>
+pub(crate) fn check_models(models: &Models, alloc: Global) -> Result<(), FlatFault>
     ensures ok { OnOk result (first_fault_of_models (models_in models.now.models) ≡ None) }
     ensures fault { IfErr result (IsFlatFault (models_in models.now.models)) }
 {
