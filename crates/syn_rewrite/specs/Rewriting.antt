@@ -1,4 +1,4 @@
--- The proposals of rewriting: cut by cut, plan by plan.
+-- The proposals of rewriting (Mishchenko, Chatterjee and Brayton, DAC 2006): cut by cut, plan by plan.
 use Rattle.std.specs.Prelude.{ℕ, List, map, flat_map}
 use Rattle.syn_rows.specs.declared.Row.{Row}
 use Rattle.syn_plan.specs.Factoring.{Built}

@@ -170,7 +170,14 @@ fn told_in_line<'a>(fault: &'a ReadFault) -> Option<(u32, &'a [u8], &'static [u8
         ReadFault::UnknownModel(line) => Some((*line, b"", b"unknown model")),
         ReadFault::UnknownPort(line, formal) => Some((*line, formal.as_slice(), b" unknown port")),
         ReadFault::PortMissing(line, port) => Some((*line, port.as_slice(), b" unbound")),
-        _ => None,
+        ReadFault::BadByte(_)
+        | ReadFault::Undriven(_)
+        | ReadFault::Recursion(_)
+        | ReadFault::TooManyWords(_)
+        | ReadFault::Cycle(_)
+        | ReadFault::TooManySources(_)
+        | ReadFault::TooLarge(_)
+        | ReadFault::NoMemory => None,
     }
 }
 
@@ -187,7 +194,24 @@ fn put_file_fault<O: Sink>(out: &mut O, fault: &ReadFault) -> Result<(), SinkFai
         ReadFault::TooManySources(count) => put_number(out, b"", *count as u64, b" sources"),
         ReadFault::TooLarge(cost) => put_number(out, b"cost ", *cost, b""),
         ReadFault::NoMemory => put(out, b"out of memory"),
-        _ => Ok(()),
+        ReadFault::AfterEnd(_)
+        | ReadFault::UnknownKeyword(_)
+        | ReadFault::SecondModel(_)
+        | ReadFault::NoName(_)
+        | ReadFault::ExtraWord(_)
+        | ReadFault::StrayRow(_)
+        | ReadFault::RowShape(_)
+        | ReadFault::MixedRows(_)
+        | ReadFault::LatchShape(_)
+        | ReadFault::LatchType(_)
+        | ReadFault::LatchInit(_)
+        | ReadFault::DefinedTwice(_, _)
+        | ReadFault::ModelTwice(_)
+        | ReadFault::SubcktShape(_)
+        | ReadFault::PortTwice(_, _)
+        | ReadFault::UnknownModel(_)
+        | ReadFault::UnknownPort(_, _)
+        | ReadFault::PortMissing(_, _) => Ok(()),
     }
 }
 
