@@ -1,12 +1,11 @@
 -- The listed cuts of a node but the last, and what is listed for a graph.
-use Rattle.std.proofs.Common.{◌≡◌, ℕ, ◌+◌, ◌-◌, ◌<◌, true, false, All, List, ◌∷◌, [], ◌++◌, length, get_or, inl, inr, refl, sym, ap, ◌∙◌, subst, arith}
-use Rattle.std.proofs.lemmas.Bool.{both_ways, cases_lt}
-use Rattle.std.proofs.lemmas.List.{get_or_append_left, get_or_default, get_or_past, get_or_push, get_or-take, length-take-le, length_push}
+use Rattle.std.proofs.Common.{◌≡◌, ℕ, ◌+◌, ◌-◌, ◌<◌, true, All, List, ◌∷◌, [], ◌++◌, length, get_or, inl, inr, sym, ap, ◌∙◌, subst, arith}
+use Rattle.std.proofs.lemmas.Bool.{cases_lt}
+use Rattle.std.proofs.lemmas.List.{get_or_append_left, get_or_default, get_or_push, get_or-take, length-take-le, length_push}
 use Rattle.std.proofs.lemmas.List.Elements.{All-take}
 use Rattle.std.specs.Global.{Vec}
 use Rattle.arrayvec.specs.ArrayVec.{ArrayVec}
 use Rattle.syn_rows.specs.declared.Row.{Row}
-use Rattle.syn_rows.specs.declared.Row.TheVariants.{Free, Source}
 use Rattle.syn_rows.specs.Rows.{row_at}
 use Rattle.syn_rows.specs.Reach.{is_and}
 use Rattle.syn_rows.proofs.Folds.{length-fold}
@@ -20,7 +19,7 @@ use Rattle.syn_cuts.proofs.Rising.{listed_cuts_rise}
 use Rattle.syn_netlist.specs.Frames.{frame_in}
 use Rattle.syn_netlist.specs.Lists.{sources}
 use Rattle.syn_graph.specs.declared.Graph.{Graph}
-use Rattle.syn_hashed.proofs.Orders.{hashed_in_order}
+use Rattle.syn_hashed.proofs.Orders.{and_inside, hashed_in_order}
 use Rattle.syn_cut_functions.specs.Cuts.{AreLeavesOf, cuts_of}
 use Rattle.syn_cut_functions.specs.Functions.{AreFunctionsOver, HaveFunctions}
 use Rattle.syn_cut_functions.proofs.Cuts.{leaves_at}
@@ -44,19 +43,6 @@ listed_count rows = omega (arith, length-fold (row_cuts 4) [] [] rows)
 pub within_lists : (lists : List (List (List ℕ))) (rows : List Row) (node : ℕ) → lists ≡ listed_cuts 4 rows → node < length rows → node < length lists
 within_lists lists rows node is lt = omega (arith, ap length is, listed_count rows)
 
--- an AND stands behind the sources, and is there
-pub and_inside : (graph : Graph) (node : ℕ) → is_and (row_at graph.rows node) ≡ true → (length (sources (frame_in graph.frame)) < node) × (node < length graph.rows)
-and_inside graph node gate = (behind, there)
-  where
-    other : (row : Row) → row_at graph.rows node ≡ row → is_and row ≡ false → ⊥
-    other row is isnt = both_ways (is_and (row_at graph.rows node)) (ap is_and is ∙ isnt) gate
-
-    behind : length (sources (frame_in graph.frame)) < node
-    behind = elim (cases_lt node (length (sources (frame_in graph.frame)) + 1)) [ inl low ↦ absurd (other Source (graph.graph.hashed.front node low) refl) | inr high ↦ omega (arith, high) ]
-
-    there : node < length graph.rows
-    there = elim (cases_lt node (length graph.rows)) [ inl low ↦ low | inr past ↦ absurd (other Free (get_or_past graph.rows node Free past) refl) ]
-
 -- the cuts of an AND but the last are at most four nodes that rise below it, and cuts of it
 pub listed_leaves : (graph : Graph) (node : ℕ) → is_and (row_at graph.rows node) ≡ true → All (AreLeavesOf graph.rows node) (cuts_of graph.rows node)
 listed_leaves graph node gate k d lt =
@@ -66,7 +52,7 @@ listed_leaves graph node gate k d lt =
     count = length (sources (frame_in graph.frame))
 
     at : (count < node) × (node < length graph.rows)
-    at = and_inside graph node gate
+    at = and_inside count graph.rows graph.graph.hashed node gate
 
     all : List (List ℕ)
     all = list_at (listed_cuts 4 graph.rows) node

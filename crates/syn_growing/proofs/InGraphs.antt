@@ -6,7 +6,7 @@ use Rattle.syn_rows.specs.Reach.{is_and}
 use Rattle.syn_rows.specs.Rows.{InOrder, node_of, row_at}
 use Rattle.syn_hashed.specs.Hashed.{IsHashed, is_gate}
 use Rattle.syn_hashed.proofs.Dropped.{gate_parts}
-use Rattle.syn_hashed.proofs.Orders.{hashed_in_order}
+use Rattle.syn_hashed.proofs.Orders.{and_inside, hashed_in_order}
 use Rattle.syn_netlist.specs.Frames.{frame_in}
 use Rattle.syn_netlist.specs.Lists.{sources}
 use Rattle.syn_graph.specs.declared.Graph.{Graph}
@@ -15,7 +15,6 @@ use Rattle.syn_truth.specs.Truth.{AtEach, value_of}
 use Rattle.syn_cones.specs.Cones.{IsTruthOver}
 use Rattle.syn_cones.specs.Values.{value_over}
 use Rattle.syn_cones.proofs.Valued.{truth_is_value_over}
-use Rattle.syn_gain.proofs.Owning.{and_inside}
 use Rattle.syn_growing.specs.Cones.{AreFanIns, AreLeaves, HaveFanIns}
 use Rattle.syn_growing.proofs.Sorted.{below_from, rise_from}
 

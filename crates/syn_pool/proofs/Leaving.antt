@@ -16,14 +16,14 @@ use Rattle.syn_rows.proofs.Folds.{AllRefs-weaker, one_valuation_is}
 use Rattle.syn_rows.proofs.Reaches.{one_ands_is}
 use Rattle.syn_hashed.specs.Hashed.{IsHashed, is_gate}
 use Rattle.syn_hashed.specs.Compacting.{CanCompact, HasSources, SameValues}
-use Rattle.syn_hashed.proofs.Orders.{hashed_in_order}
+use Rattle.syn_hashed.proofs.Orders.{and_inside, hashed_in_order}
 use Rattle.syn_fanout_free.proofs.Existing.{all_ands_reached}
 use Rattle.syn_fanout_free.proofs.Numbers.{ands_count, one_if, sum_apart, sum_le, sum_none, sum_same}
 use Rattle.syn_fanout_free.proofs.Replaced.{lits_from, within_from}
 use Rattle.syn_netlist.specs.Frames.{frame_in}
 use Rattle.syn_netlist.specs.Lists.{sources}
 use Rattle.syn_graph.specs.declared.Graph.{Graph}
-use Rattle.syn_gain.proofs.Owning.{and_inside, graph_within}
+use Rattle.syn_gain.proofs.Owning.{graph_within}
 use Rattle.syn_core_laws.specs.Sound.{Agree}
 use Rattle.syn_proposals.specs.Following.{Follows}
 use Rattle.syn_table.specs.Closing.{IsClosing}

@@ -137,14 +137,14 @@ fn lists_of(alloc: Global, statements: Vec<Statement>) -> Result<Lists, AllocErr
     Ok(lists)
 }
 
-// A model alone: its netlist, to which its names, its latches and its tables are moved, and the numbers of the names that it
-// reads, by line and word.
+// A model's netlist, and the numbers of the names that it reads, by line and word.
 #[derive(Drop)]
 struct WithReads {
     netlist: Netlist,
     reads: Vec<u32>,
 }
 
+// A model alone: its netlist, to which its names, its latches and its tables are moved, and what it reads.
 fn moved(alloc: Global, main: Model) -> Result<WithReads, AllocError>
     ensures netlist { IfOk result (λ r. netlist_in r.netlist ≡ alone (model_in main)) }
     ensures names { IfOk result (λ r. r.netlist.frame.names ≡ main.names) }

@@ -10,7 +10,7 @@ use Rattle.syn_hashed.proofs.Dropped.{gate_parts}
 use Rattle.syn_netlist.specs.Frames.{frame_in}
 use Rattle.syn_netlist.specs.Lists.{sources}
 use Rattle.syn_graph.specs.declared.Graph.{Graph}
-use Rattle.syn_gain.proofs.Owning.{and_inside}
+use Rattle.syn_hashed.proofs.Orders.{and_inside}
 use Rattle.syn_growing.proofs.InGraphs.{and_there, in_order}
 use Rattle.syn_resub.specs.declared.divided.Divided.{Divided}
 use Rattle.syn_resub.specs.Divided.{AreDivided}

@@ -15,7 +15,8 @@ use Rattle.syn_netlist.specs.Lists.{sources}
 use Rattle.syn_graph.specs.declared.Graph.{Graph}
 use Rattle.syn_gain.specs.Placing.{root_row}
 use Rattle.syn_gain.specs.Replacements.{Replacement, new_root_by, new_rows_by}
-use Rattle.syn_gain.proofs.Owning.{IsBelow, and_inside, as_extra, graph_order, graph_pairs}
+use Rattle.syn_hashed.proofs.Orders.{and_inside}
+use Rattle.syn_gain.proofs.Owning.{IsBelow, as_extra, graph_order, graph_pairs}
 use Rattle.syn_growing.specs.Plans.{over}
 use Rattle.syn_growing.proofs.Sorted.{below_from}
 use Rattle.syn_resub.specs.declared.divided.Divided.{Divided}

@@ -11,7 +11,7 @@ use Rattle.syn_rows.specs.Rows.{row_at}
 use Rattle.syn_rows.specs.Reach.{is_and}
 use Rattle.syn_netlist.specs.Frames.{frame_in}
 use Rattle.syn_netlist.specs.Lists.{sources}
-use Rattle.syn_hashed.proofs.Orders.{hashed_in_order}
+use Rattle.syn_hashed.proofs.Orders.{and_inside, hashed_in_order}
 use Rattle.syn_graph.specs.declared.Graph.{Graph}
 use Rattle.syn_plan.specs.declared.plan.Plan.{Plan}
 use Rattle.syn_plan.specs.Naming.{IsWithin, built_of}
@@ -29,7 +29,6 @@ use Rattle.syn_proposals.proofs.Savings.{first_of_parts}
 use Rattle.syn_cut_functions.specs.Cuts.{AreLeavesOf, cuts_of}
 use Rattle.syn_cut_functions.specs.Functions.{AreFunctionsOver, IsFunctionOver, cut_function}
 use Rattle.syn_cut_functions.proofs.Cuts.{leaves_is}
-use Rattle.syn_cut_functions.proofs.Listed.{and_inside}
 use Rattle.syn_cut_functions.proofs.Numbers.{function_of_table}
 use Rattle.syn_function_plans.specs.PlansOf.{ArePlansOf, fitted_plans}
 use Rattle.syn_rewrite.specs.declared.prepared.Prepared.{Prepared}
@@ -45,10 +44,10 @@ within_leaves rows leaves node f p function names =
 
 -- an AND is no constant, and is there
 pub and_above : (graph : Graph) (node : ℕ) → is_and (row_at graph.rows node) ≡ true → 0 < node
-and_above graph node gate = let at = and_inside graph node gate in omega (arith, at.0)
+and_above graph node gate = let at = and_inside (length (sources (frame_in graph.frame))) graph.rows graph.graph.hashed node gate in omega (arith, at.0)
 
 pub and_there : (graph : Graph) (node : ℕ) → is_and (row_at graph.rows node) ≡ true → node < length graph.rows
-and_there graph node gate = (and_inside graph node gate).1
+and_there graph node gate = (and_inside (length (sources (frame_in graph.frame))) graph.rows graph.graph.hashed node gate).1
 
 -- the function of an AND over its leaves
 pub is_function : (graph : Graph) (node f : ℕ) (leaves : List ℕ) → is_and (row_at graph.rows node) ≡ true → AreLeavesOf graph.rows node leaves → IsFunctionOver graph.rows leaves node f → f ≡ cut_function graph.rows leaves node
