@@ -13,11 +13,11 @@ ghost use Rattle.syn_pool.specs.Reports.{IsReport};
 ghost use Rattle.syn_pool.specs.Steps.{IsFewer, IsStepOf};
 
 use crate::following::has_plans;
+use crate::neighbourhoods::{Marked, Neighbourhoods, Seen};
 use crate::opening::Order;
 use crate::reports::{NOTHING, both};
 use crate::rounds::{round, round_at};
 use crate::scene::{Course, Tour};
-use crate::visited::{Marked, Neighbourhoods, Seen};
 use std::alloc::{AllocError, Global};
 use std::thread::Threads;
 use syn_commit::Gate;
