@@ -18,6 +18,7 @@ mod functions;
 mod improving;
 mod keeping;
 mod looking;
+mod neighbourhoods;
 mod opening;
 mod passing;
 mod queues;
@@ -28,7 +29,6 @@ mod sharing;
 mod steps;
 mod sweeping;
 mod trying;
-mod visited;
 mod weighing;
 mod working;
 

@@ -9,10 +9,10 @@ ghost use Rattle.syn_proposals.specs.Gains.{IsGain};
 ghost use Rattle.syn_pool.specs.Reports.{IsReport};
 ghost use Rattle.syn_pool.specs.Steps.{IsStepOf};
 
+use crate::neighbourhoods::Seen;
 use crate::reports::{NOTHING, both};
 use crate::scene::Course;
 use crate::steps::{Step, one_step};
-use crate::visited::Seen;
 use std::alloc::{AllocError, Global};
 use std::thread::Threads;
 use syn_commit::Gate;

@@ -11,11 +11,11 @@ ghost use Rattle.syn_pool.specs.Working.{HasSwept};
 
 use crate::closing::close;
 use crate::fan_outs::FanOuts;
+use crate::neighbourhoods::Neighbourhoods;
 use crate::opening::{Order, SPARE, gates_of, noted, opened};
 use crate::queues::{queues_of, thieves_of};
 use crate::scene::{Board, Course, Crew, Tour};
 use crate::sharing::{Swept, swept_by_all};
-use crate::visited::Neighbourhoods;
 use std::alloc::{AllocError, Global};
 use std::thread::Threads;
 use syn_commit::Gate;

@@ -13,11 +13,11 @@ ghost use Rattle.syn_pool.specs.Reports.{IsReport};
 ghost use Rattle.syn_pool.specs.Steps.{IsFewer, IsStepOf};
 
 use crate::following::has_plans;
+use crate::neighbourhoods::{Marked, Neighbourhoods, Seen};
 use crate::opening::Order;
 use crate::reports::{NOTHING, both};
 use crate::rounds::{round, round_at};
 use crate::scene::{Course, Tour};
-use crate::visited::{Marked, Neighbourhoods, Seen};
 use std::alloc::{AllocError, Global};
 use std::thread::Threads;
 use syn_commit::Gate;
@@ -117,23 +117,15 @@ fn left<R: Threads + Sync, P: Proposer, G: Gate>(
     ensures each { IfOk result (λ found. All (IsLeftover graph.now.rows graph.now.observed (P.proposals course.now.proposer.now graph.now.rows)) found.items) }
     ensures none { IfOk result (λ found. length found.items ≡ 0 → Closed graph.now.rows graph.now.observed (P.proposals course.now.proposer.now graph.now.rows)) }
 {
-    let (alloc, proposer) = (course.alloc, course.proposer);
+    let (rt, alloc, proposer, workers) = (course.rt, course.alloc, course.proposer, course.workers);
     let others = others.nodes.as_slice();
     if others.len() < graph.rows.as_slice().len() / FEW {
-        let found = leftovers_among(alloc, graph, uses, proposer, lists, others)?;
+        let found = leftovers_among(rt, alloc, graph, uses, proposer, lists, others, workers)?;
         if found.len() > 0 {
             return Ok(found);
         }
     }
-    leftovers(
-        course.rt,
-        alloc,
-        graph,
-        uses,
-        proposer,
-        lists,
-        course.workers,
-    )
+    leftovers(rt, alloc, graph, uses, proposer, lists, workers)
 }
 
 // The check of a graph with its lists: one with fewer ANDs in place of it, and none where it is closed.

@@ -1,11 +1,10 @@
 //! The check of a graph: the proposals that save, or that none does.
 
 ghost use Rattle.std.specs.Prelude.{◌≡◌, ◌-◌, ◌<◌, ◌≤◌, ◌++◌, All, IfOk, IfSome, OnOk, length, map, option_map, option_to_list};
-ghost use Rattle.syn_rows.specs.declared.TheConstants.{NODE_LIMIT};
 ghost use Rattle.syn_gain.specs.Uses.{IsUsesOf};
 ghost use Rattle.syn_gain.specs.Proposals.{replacement};
 ghost use Rattle.syn_proposals.specs.Closing.{Closed};
-ghost use Rattle.syn_proposals.specs.Leftovers.{AreLeftovers, IsAddedBy, IsPartOf};
+ghost use Rattle.syn_proposals.specs.Leftovers.{AreFirst, AreLeftovers, IsAddedBy, IsPartOf, listed};
 ghost use Rattle.syn_proposals.specs.Sound.{IsLeftover, IsSound};
 
 use crate::{Proposer, Turns};
@@ -19,11 +18,12 @@ use syn_rows::Row;
 // How many nodes are worth a thread.
 const LEAST: usize = 256;
 
-// What was found among the nodes from one on, before another: of each AND the first proposal that saves, if one does.
+// What was found among the nodes at the places from one on, before another: of each AND the first proposal that saves, if one
+// does.
 #[derive(Drop)]
 struct Part {
-    from: u32,
-    to: u32,
+    from: usize,
+    to: usize,
     found: Vec<Proposal>,
 }
 
@@ -32,7 +32,8 @@ fn threads_for(nodes: usize, workers: u8) -> usize {
     nodes.div_ceil(LEAST).min(workers as usize).max(1)
 }
 
-// The first proposal of a node that saves, if it is an AND and has one.
+// The first proposal of a node that saves, if it is an AND of the graph and has one.
+#[tactic(auto, using(crate::proofs::Gathered::none_behind))]
 fn first_at<P: Proposer>(
     alloc: Global,
     graph: &Graph,
@@ -43,10 +44,12 @@ fn first_at<P: Proposer>(
 ) -> Result<Option<Proposal>, AllocError>
     requires uses { IsUsesOf uses.now graph.now }
     requires lists { P.is_lists_of proposer.now lists.now graph.now.rows }
-    requires node { node < length graph.now.rows }
     ensures added { IfOk result (λ found. IsAddedBy graph.now.rows graph.now.observed (P.proposals proposer.now graph.now.rows) node (option_map replacement found)) }
     ensures sound { IfOk result (λ found. IfSome found (IsSound graph.now.rows)) }
 {
+    if node as usize >= graph.rows.as_slice().len() {
+        return Ok(None);
+    }
     match graph.rows.as_slice()[node as usize] {
         Row::And(_, _) => proposer.first_saving(alloc, graph, uses, lists, node),
         _ => Ok(None),
@@ -63,26 +66,27 @@ fn add_found(found: &mut Vec<Proposal>, more: Option<Proposal>) -> Result<(), Al
     Ok(())
 }
 
-// The leftovers of the nodes from one on, before another.
+// The leftovers of the nodes at the places from one on, before another.
 fn found_between<P: Proposer>(
     alloc: Global,
     graph: &Graph,
     uses: &Uses,
     proposer: &P,
     lists: &P::Lists,
-    from: u32,
-    to: u32,
+    nodes: &[u32],
+    from: usize,
+    to: usize,
 ) -> Result<Vec<Proposal>, AllocError>
     requires uses { IsUsesOf uses.now graph.now }
     requires lists { P.is_lists_of proposer.now lists.now graph.now.rows }
     requires order { from ≤ to }
-    requires within { to ≤ length graph.now.rows }
-    ensures all { IfOk result (λ found. AreLeftovers graph.now.rows graph.now.observed (P.proposals proposer.now graph.now.rows) from (to - from) (map replacement found.items)) }
+    requires within { to ≤ length nodes.now }
+    ensures all { IfOk result (λ found. AreLeftovers graph.now.rows graph.now.observed (P.proposals proposer.now graph.now.rows) (listed nodes.now) from (to - from) (map replacement found.items)) }
     ensures sound { IfOk result (λ found. All (IsSound graph.now.rows) found.items) }
 {
     let mut found = Vec::new(alloc);
-    for node in from..to {
-        let first = first_at(alloc, graph, uses, proposer, lists, node)?;
+    for place in from..to {
+        let first = first_at(alloc, graph, uses, proposer, lists, nodes[place])?;
         add_found(&mut found, first)?;
     }
     Ok(found)
@@ -95,16 +99,17 @@ fn part_of<P: Proposer>(
     uses: &Uses,
     proposer: &P,
     lists: &P::Lists,
-    from: u32,
-    to: u32,
+    nodes: &[u32],
+    from: usize,
+    to: usize,
 ) -> Result<Part, AllocError>
     requires uses { IsUsesOf uses.now graph.now }
     requires lists { P.is_lists_of proposer.now lists.now graph.now.rows }
     requires order { from ≤ to }
-    requires within { to ≤ length graph.now.rows }
-    ensures { IfOk result (IsPartOf graph.now.rows graph.now.observed (P.proposals proposer.now graph.now.rows)) }
+    requires within { to ≤ length nodes.now }
+    ensures { IfOk result (IsPartOf graph.now.rows graph.now.observed (P.proposals proposer.now graph.now.rows) nodes.now) }
 {
-    let found = found_between(alloc, graph, uses, proposer, lists, from, to)?;
+    let found = found_between(alloc, graph, uses, proposer, lists, nodes, from, to)?;
     Ok(Part { from, to, found })
 }
 
@@ -115,21 +120,21 @@ fn parts_drawn<P: Proposer>(
     uses: &Uses,
     proposer: &P,
     lists: &P::Lists,
+    nodes: &[u32],
     turns: &Turns,
 ) -> Result<Vec<Part>, AllocError>
     requires uses { IsUsesOf uses.now graph.now }
     requires lists { P.is_lists_of proposer.now lists.now graph.now.rows }
-    requires few { length graph.now.rows < NODE_LIMIT }
-    ensures { IfOk result (λ parts. All (IsPartOf graph.now.rows graph.now.observed (P.proposals proposer.now graph.now.rows)) parts.items) }
+    ensures { IfOk result (λ parts. All (IsPartOf graph.now.rows graph.now.observed (P.proposals proposer.now graph.now.rows) nodes.now) parts.items) }
 {
-    let count = graph.rows.as_slice().len();
+    let count = nodes.len();
     let mut parts = Vec::new(alloc);
     for _turn in 0..count {
         let (from, to) = turns.draw(count);
         if from == to {
             break;
         }
-        let part = part_of(alloc, graph, uses, proposer, lists, from as u32, to as u32)?;
+        let part = part_of(alloc, graph, uses, proposer, lists, nodes, from, to)?;
         parts.push(part)?;
     }
     Ok(parts)
@@ -140,10 +145,11 @@ fn gathered<P: Proposer>(
     alloc: Global,
     graph: &Graph,
     proposer: &P,
+    nodes: &[u32],
     drawn: Vec<Result<Vec<Part>, AllocError>>,
 ) -> Result<Vec<Part>, AllocError>
-    requires { All (λ more. IfOk more (λ parts. All (IsPartOf graph.now.rows graph.now.observed (P.proposals proposer.now graph.now.rows)) parts.items)) drawn.items }
-    ensures { IfOk result (λ parts. All (IsPartOf graph.now.rows graph.now.observed (P.proposals proposer.now graph.now.rows)) parts.items) }
+    requires { All (λ more. IfOk more (λ parts. All (IsPartOf graph.now.rows graph.now.observed (P.proposals proposer.now graph.now.rows) nodes.now) parts.items)) drawn.items }
+    ensures { IfOk result (λ parts. All (IsPartOf graph.now.rows graph.now.observed (P.proposals proposer.now graph.now.rows) nodes.now) parts.items) }
 {
     let mut parts = Vec::new(alloc);
     for more in drawn {
@@ -153,7 +159,7 @@ fn gathered<P: Proposer>(
     Ok(parts)
 }
 
-// All parts in node order, found by threads that draw the nodes' blocks.
+// All parts in the nodes' order, found by threads that draw the nodes' blocks. One thread is this one.
 fn find_parts<R: Threads + Sync, P: Proposer>(
     rt: &R,
     alloc: Global,
@@ -161,21 +167,21 @@ fn find_parts<R: Threads + Sync, P: Proposer>(
     uses: &Uses,
     proposer: &P,
     lists: &P::Lists,
+    nodes: &[u32],
     workers: u8,
 ) -> Result<Vec<Part>, AllocError>
     requires uses { IsUsesOf uses.now graph.now }
     requires lists { P.is_lists_of proposer.now lists.now graph.now.rows }
-    requires few { length graph.now.rows < NODE_LIMIT }
-    ensures { IfOk result (λ parts. All (IsPartOf graph.now.rows graph.now.observed (P.proposals proposer.now graph.now.rows)) parts.items) }
+    ensures { IfOk result (λ parts. All (IsPartOf graph.now.rows graph.now.observed (P.proposals proposer.now graph.now.rows) nodes.now) parts.items) }
 {
     let turns = &Turns::new();
     let work = move |_thread: usize| -> Result<Vec<Part>, AllocError>
-        requires { IsUsesOf uses.now graph.now × P.is_lists_of proposer.now lists.now graph.now.rows × (length graph.now.rows < NODE_LIMIT) }
-        ensures { IfOk result (λ parts. All (IsPartOf graph.entry.now.rows graph.entry.now.observed (P.proposals proposer.entry.now graph.entry.now.rows)) parts.items) }
-    { parts_drawn(alloc, graph, uses, proposer, lists, turns) };
-    let threads = threads_for(graph.rows.as_slice().len(), workers);
+        requires { IsUsesOf uses.now graph.now × P.is_lists_of proposer.now lists.now graph.now.rows }
+        ensures { IfOk result (λ parts. All (IsPartOf graph.entry.now.rows graph.entry.now.observed (P.proposals proposer.entry.now graph.entry.now.rows) nodes.entry.now) parts.items) }
+    { parts_drawn(alloc, graph, uses, proposer, lists, nodes, turns) };
+    let threads = threads_for(nodes.len(), workers);
     let drawn = thread::map_indices(rt, alloc, threads, &work)?;
-    let mut parts = gathered(alloc, graph, proposer, drawn)?;
+    let mut parts = gathered(alloc, graph, proposer, nodes, drawn)?;
     parts.sort_unstable_by_key(|part| part.from);
     Ok(parts)
 }
@@ -185,16 +191,17 @@ fn find_parts<R: Threads + Sync, P: Proposer>(
 fn take_part<P: Proposer>(
     graph: &Graph,
     proposer: &P,
+    nodes: &[u32],
     found: &mut Vec<Proposal>,
     part: Part,
-    reached: u32,
-) -> Result<u32, AllocError>
-    requires within { reached ≤ length graph.now.rows }
-    requires all { AreLeftovers graph.now.rows graph.now.observed (P.proposals proposer.now graph.now.rows) 0 reached (map replacement found.old.items) }
+    reached: usize,
+) -> Result<usize, AllocError>
+    requires within { reached ≤ length nodes.now }
+    requires all { AreLeftovers graph.now.rows graph.now.observed (P.proposals proposer.now graph.now.rows) (listed nodes.now) 0 reached (map replacement found.old.items) }
     requires sound { All (IsSound graph.now.rows) found.old.items }
-    requires part { IsPartOf graph.now.rows graph.now.observed (P.proposals proposer.now graph.now.rows) part }
-    ensures within { IfOk result (λ n. n ≤ length graph.now.rows) }
-    ensures all { IfOk result (λ n. AreLeftovers graph.now.rows graph.now.observed (P.proposals proposer.now graph.now.rows) 0 n (map replacement found.new.items)) }
+    requires part { IsPartOf graph.now.rows graph.now.observed (P.proposals proposer.now graph.now.rows) nodes.now part }
+    ensures within { IfOk result (λ n. n ≤ length nodes.now) }
+    ensures all { IfOk result (λ n. AreLeftovers graph.now.rows graph.now.observed (P.proposals proposer.now graph.now.rows) (listed nodes.now) 0 n (map replacement found.new.items)) }
     ensures sound { OnOk result (All (IsSound graph.now.rows) found.new.items) }
 {
     let Part {
@@ -216,24 +223,35 @@ fn found_in_parts<P: Proposer>(
     uses: &Uses,
     proposer: &P,
     lists: &P::Lists,
+    nodes: &[u32],
     parts: Vec<Part>,
 ) -> Result<Vec<Proposal>, AllocError>
     requires uses { IsUsesOf uses.now graph.now }
     requires lists { P.is_lists_of proposer.now lists.now graph.now.rows }
-    requires few { length graph.now.rows < NODE_LIMIT }
-    requires parts { All (IsPartOf graph.now.rows graph.now.observed (P.proposals proposer.now graph.now.rows)) parts.items }
-    ensures all { IfOk result (λ found. AreLeftovers graph.now.rows graph.now.observed (P.proposals proposer.now graph.now.rows) 0 (length graph.now.rows) (map replacement found.items)) }
+    requires parts { All (IsPartOf graph.now.rows graph.now.observed (P.proposals proposer.now graph.now.rows) nodes.now) parts.items }
+    ensures all { IfOk result (λ found. AreLeftovers graph.now.rows graph.now.observed (P.proposals proposer.now graph.now.rows) (listed nodes.now) 0 (length nodes.now) (map replacement found.items)) }
     ensures sound { IfOk result (λ found. All (IsSound graph.now.rows) found.items) }
 {
     let mut found = Vec::new(alloc);
     let mut reached = 0;
     for part in parts {
-        reached = take_part(graph, proposer, &mut found, part, reached)?;
+        reached = take_part(graph, proposer, nodes, &mut found, part, reached)?;
     }
-    let count = graph.rows.as_slice().len() as u32;
-    let mut more = found_between(alloc, graph, uses, proposer, lists, reached, count)?;
+    let count = nodes.len();
+    let mut more = found_between(alloc, graph, uses, proposer, lists, nodes, reached, count)?;
     found.append(&mut more)?;
     Ok(found)
+}
+
+// The first so many nodes.
+fn first_nodes(alloc: Global, count: u32) -> Result<Vec<u32>, AllocError>
+    ensures { IfOk result (λ nodes. AreFirst count nodes.items) }
+{
+    let mut nodes = Vec::with_capacity(alloc, count as usize)?;
+    for node in 0..count {
+        nodes.push(node)?;
+    }
+    Ok(nodes)
 }
 
 /// The leftovers of a proposer on a graph with these lists: of each AND in node order the first proposal that saves, if one
@@ -250,53 +268,34 @@ pub fn leftovers<R: Threads + Sync, P: Proposer>(
 ) -> Result<Vec<Proposal>, AllocError>
     requires uses { IsUsesOf uses.now graph.now }
     requires lists { P.is_lists_of proposer.now lists.now graph.now.rows }
-    ensures all { IfOk result (λ found. AreLeftovers graph.now.rows graph.now.observed (P.proposals proposer.now graph.now.rows) 0 (length graph.now.rows) (map replacement found.items)) }
+    ensures all { IfOk result (λ found. AreLeftovers graph.now.rows graph.now.observed (P.proposals proposer.now graph.now.rows) (λ k. k) 0 (length graph.now.rows) (map replacement found.items)) }
     ensures each { IfOk result (λ found. All (IsLeftover graph.now.rows graph.now.observed (P.proposals proposer.now graph.now.rows)) found.items) }
     ensures none { IfOk result (λ found. length found.items ≡ 0 → Closed graph.now.rows graph.now.observed (P.proposals proposer.now graph.now.rows)) }
 {
     let _count = graph.count();
-    let parts = find_parts(rt, alloc, graph, uses, proposer, lists, workers)?;
-    found_in_parts(alloc, graph, uses, proposer, lists, parts)
-}
-
-// The first proposal of a node that saves, if it is an AND of the graph and has one.
-fn leftover_at<P: Proposer>(
-    alloc: Global,
-    graph: &Graph,
-    uses: &Uses,
-    proposer: &P,
-    lists: &P::Lists,
-    node: u32,
-) -> Result<Option<Proposal>, AllocError>
-    requires uses { IsUsesOf uses.now graph.now }
-    requires lists { P.is_lists_of proposer.now lists.now graph.now.rows }
-    ensures { IfOk result (λ found. IfSome found (IsLeftover graph.now.rows graph.now.observed (P.proposals proposer.now graph.now.rows))) }
-{
-    if node as usize >= graph.rows.as_slice().len() {
-        return Ok(None);
-    }
-    let first = first_at(alloc, graph, uses, proposer, lists, node)?;
-    Ok(first)
+    let nodes = first_nodes(alloc, graph.rows.as_slice().len() as u32)?;
+    let nodes = nodes.as_slice();
+    leftovers_among(rt, alloc, graph, uses, proposer, lists, nodes, workers)
 }
 
 /// The leftovers among some nodes: of each AND of these, in their order, the first proposal that saves, if one does. It takes less
-/// than `leftovers`, and tells nothing of other nodes. The only error is want of memory.
-pub fn leftovers_among<P: Proposer>(
+/// than `leftovers`, and tells nothing of other nodes. With several workers the nodes are shared among them, unless they are
+/// few. The only error is want of memory.
+pub fn leftovers_among<R: Threads + Sync, P: Proposer>(
+    rt: &R,
     alloc: Global,
     graph: &Graph,
     uses: &Uses,
     proposer: &P,
     lists: &P::Lists,
     nodes: &[u32],
+    workers: u8,
 ) -> Result<Vec<Proposal>, AllocError>
     requires uses { IsUsesOf uses.now graph.now }
     requires lists { P.is_lists_of proposer.now lists.now graph.now.rows }
-    ensures { IfOk result (λ found. All (IsLeftover graph.now.rows graph.now.observed (P.proposals proposer.now graph.now.rows)) found.items) }
+    ensures all { IfOk result (λ found. AreLeftovers graph.now.rows graph.now.observed (P.proposals proposer.now graph.now.rows) (listed nodes.now) 0 (length nodes.now) (map replacement found.items)) }
+    ensures each { IfOk result (λ found. All (IsLeftover graph.now.rows graph.now.observed (P.proposals proposer.now graph.now.rows)) found.items) }
 {
-    let mut found = Vec::new(alloc);
-    for node in nodes {
-        let leftover = leftover_at(alloc, graph, uses, proposer, lists, *node)?;
-        add_found(&mut found, leftover)?;
-    }
-    Ok(found)
+    let parts = find_parts(rt, alloc, graph, uses, proposer, lists, nodes, workers)?;
+    found_in_parts(alloc, graph, uses, proposer, lists, nodes, parts)
 }

@@ -1,6 +1,6 @@
 use Rattle.std.proofs.Common.{rules, ◌-◌, length, map}
 use Rattle.syn_gain.specs.Proposals.{replacement}
-use Rattle.syn_proposals.specs.Leftovers.{AreLeftovers}
+use Rattle.syn_proposals.specs.Leftovers.{AreLeftovers, listed}
 use Rattle.syn_proposals.specs.Sound.{IsSound}
 use Rattle.syn_proposals.proofs.Gathered.{with_span}
 use Rattle.syn_proposals.proofs.Maps.{both_found}
@@ -10,8 +10,9 @@ pub returns-clause-all : goal.returns-clause-all
 returns-clause-all g c =
     let graph = c.args.graph.now in
     let proposals = g.P.Proposer.proposals c.args.proposer.now graph.rows in
-    let behind : AreLeftovers graph.rows graph.observed proposals c.loop-part.reached (length graph.rows - c.loop-part.reached) (map replacement c.in_ok-more.more.items) = search rules in
-    with_span graph.rows graph.observed proposals c.loop-part.reached (length graph.rows) c.loop-part.found.items c.in_ok-more.more.items c.append.new.self.items
+    let nodes = c.args.nodes.now in
+    let behind : AreLeftovers graph.rows graph.observed proposals (listed nodes) c.loop-part.reached (length nodes - c.loop-part.reached) (map replacement c.in_ok-more.more.items) = search rules in
+    with_span graph.rows graph.observed proposals (listed nodes) c.loop-part.reached (length nodes) c.loop-part.found.items c.in_ok-more.more.items c.append.new.self.items
     c.loop-part.invariant.within c.loop-part.invariant.all behind c.in_ok-append.ensures.items
 
 pub returns-clause-sound : goal.returns-clause-sound
