@@ -2,11 +2,11 @@
 use Rattle.std.specs.List.{list_all}
 use Rattle.std.specs.Int.Digits.{AllBelowBase, digits_of}
 use Rattle.std.specs.Result.{IfOk}
-use Rattle.std.proofs.Common.{◌≡◌, ℕ, zero, suc, ◌+◌, ◌^◌, ◌<◌, ◌≤◌, ◌==◌, ◌⊎◌, true, false, if◌then◌else◌, List, [], ◌∷◌, length, map, find, drop, get_or, set, slice_index, decimal, Some, None, Result, Ok, Err, refl, sym, ap, ◌∙◌, inl, inr, arith, eq-eqb, ne_eqb}
-use Rattle.std.proofs.lemmas.Bool.{agree_below_at, and_from, and_left, and_right, cases_Bool, cases_eq, cond-true, cond-false}
+use Rattle.std.proofs.Common.{◌≡◌, ℕ, zero, suc, ◌+◌, ◌^◌, ◌<◌, ◌≤◌, ◌==◌, ◌⊎◌, true, false, if◌then◌else◌, List, [], ◌∷◌, length, map, find, drop, get_or, slice_index, decimal, Some, None, Result, Ok, Err, refl, sym, ap, ◌∙◌, inl, inr, arith, ne_eqb}
+use Rattle.std.proofs.lemmas.Bool.{agree_below_at, and_from, and_right, cases_Bool, cond-true, cond-false}
 use Rattle.std.proofs.lemmas.Fmt.{decimal-digits_of, decimal_digit}
 use Rattle.std.proofs.lemmas.Int.Digits.{all_below_base_digits_of}
-use Rattle.std.proofs.lemmas.List.{drop_more, get_or-set_other, get_or-set_same}
+use Rattle.std.proofs.lemmas.List.{drop_more}
 use Rattle.syn_netlist.specs.Words.{is_word, is_word_byte}
 use Rattle.syn_aiger_files.specs.declared.files.Place.{Place}
 use Rattle.syn_aiger_files.specs.declared.files.Symbol.{Symbol}
@@ -41,19 +41,6 @@ symbol_past [] j l = refl
 symbol_past (x ∷ ss) zero l = absurd (omega arith)
 symbol_past (x ∷ ss) (suc j) l = symbol_past ss j (omega arith)
 
-pub put_here : (old : List ℕ) (p : Place) (s : Symbol) (number i : ℕ) → letter_of s.place ≡ letter_of p → s.index < length old → i < length old → slice_index (set old s.index number) i ≡ (if is_at p i s then number else slice_index old i)
-put_here old p s number i e inside l = elim (cases_eq s.index i) [
-  | inl same ↦
-      ap (slice_index (set old s.index number)) (sym same) ∙ get_or-set_same old s.index number 0 inside
-      ∙ sym (cond-true (is_at p i s) number (slice_index old i) (and_from (letter_of s.place == letter_of p) (s.index == i) (eq-eqb (letter_of s.place) (letter_of p) e) (eq-eqb s.index i same)))
-  | inr other ↦
-      get_or-set_other old s.index i number 0 (λ q. other (sym q))
-      ∙ sym (cond-false (is_at p i s) number (slice_index old i) (and_right (letter_of s.place == letter_of p) (s.index == i) (ne_eqb s.index i other)))
-]
-
-pub put_place : (old : List ℕ) (p : Place) (s : Symbol) (number i : ℕ) → (letter_of s.place ≡ letter_of p → ⊥) → slice_index old i ≡ (if is_at p i s then number else slice_index old i)
-put_place old p s number i e = sym (cond-false (is_at p i s) number (slice_index old i) (and_left (letter_of s.place == letter_of p) (s.index == i) (ne_eqb (letter_of s.place) (letter_of p) e)))
-
 pub put_past : (old : List ℕ) (p : Place) (s : Symbol) (number i : ℕ) → length old ≤ s.index → i < length old → slice_index old i ≡ (if is_at p i s then number else slice_index old i)
 put_past old p s number i e l = sym (cond-false (is_at p i s) number (slice_index old i) (and_right (letter_of s.place == letter_of p) (s.index == i) (ne_eqb s.index i (λ q. omega arith))))
 
@@ -73,15 +60,6 @@ table_step ss p count table new j k number s e f le is many found put i l =
           ap (symbol_by ss) (at ∙ cond-false (is_at p i s) number (slice_index table i) n) ∙ found i l
           ∙ sym (ap (find (is_at p i)) here ∙ cond-false (is_at p i s) (Some s) (find (is_at p i) (drop k ss)) n)
     ]
-
-pub table_none : (ss : List Symbol) (p : Place) (i n : ℕ) → n ≡ 0 → (k : ℕ) → length ss ≤ k → symbol_by ss n ≡ find (is_at p i) (drop k ss)
-table_none ss p i n e k l = ap (symbol_by ss) e ∙ sym (ap (find (is_at p i)) (past ss k l))
-  where
-    past : (xs : List Symbol) (k : ℕ) → length xs ≤ k → drop k xs ≡ []
-    past [] zero l = refl
-    past [] (suc k) l = refl
-    past (x ∷ xs) zero l = absurd (omega arith)
-    past (x ∷ xs) (suc k) l = past xs k (omega arith)
 
 -- the first name
 

@@ -1,6 +1,6 @@
 -- All names of a file, given one after the other.
-use Rattle.std.proofs.Common.{◌≡◌, ℕ, suc, ◌+◌, ◌<◌, ◌≤◌, Bool, true, false, List, [], ◌∷◌, ◌++◌, length, map, drop, get_or, sym, ap, ◌∙◌, subst, append_assoc, append-nil, arith, length-append}
-use Rattle.std.proofs.lemmas.List.{drop_all, drop_more, length-map}
+use Rattle.std.proofs.Common.{◌≡◌, ℕ, suc, ◌+◌, ◌<◌, ◌≤◌, Bool, true, false, List, [], ◌∷◌, ◌++◌, length, map, drop, get_or, sym, ap, ◌∙◌, subst, append_assoc, arith, length-append}
+use Rattle.std.proofs.lemmas.List.{drop_more, length-map}
 use Rattle.syn_netlist.specs.Numbers.{word_at}
 use Rattle.syn_aiger_files.specs.declared.files.Aig.{Aig}
 use Rattle.syn_aiger_files.specs.declared.files.AigLatch.{AigLatch}
@@ -29,10 +29,6 @@ places_more new keeps symbols p i ls first mid total l is e k =
           ∙ places_next keeps symbols p i (get_or ls i 0) (drop (i + 1) ls) mid total (ap (λ (x : List ℕ). mid ++ places_named keeps symbols p i x mid) (sym (drop_more ls i 0 l)) ∙ e),
     )
 
-pub places_end : (s : Given) (keeps : Bool) (symbols : List Symbol) (p : Place) (i : ℕ) (ls : List ℕ) (total : List Named) → length ls ≤ i → PlacesLeft s keeps symbols p i ls total → Keeps s total
-places_end s keeps symbols p i ls total l r =
-    subst (Keeps s) (sym (append-nil r.0) ∙ ap (λ (x : List ℕ). r.0 ++ places_named keeps symbols p i x r.0) (sym (drop_all i ls l)) ∙ r.2) r.1
-
 -- The same of what latches load; those of the sources stand in front.
 abbrev pub FeedsLeft : Given → List Named → ℕ → List AigLatch → List Named → Type 0
 FeedsLeft s sources j ls total = (mid : List Named) × (rest : List Named) × Keeps s mid × (mid ≡ sources ++ rest) × (mid ++ feeds_named sources j (drop j ls) mid ≡ total)
@@ -48,10 +44,6 @@ feeds_more new sources j next ls a mid rest total l is front e k =
       ap (λ (i : ℕ). (mid ++ n ∷ []) ++ feeds_named sources i (drop (j + 1) ls) (mid ++ n ∷ [])) (let q : j + 1 ≡ suc j = omega arith in q)
           ∙ feeds_next sources j (get_or ls j a) (drop (j + 1) ls) mid total (ap (λ (x : List AigLatch). mid ++ feeds_named sources j x mid) (sym (drop_more ls j a l)) ∙ e),
     )
-
-pub feeds_end : (s : Given) (sources : List Named) (j : ℕ) (ls : List AigLatch) (total : List Named) → length ls ≤ j → FeedsLeft s sources j ls total → Keeps s total
-feeds_end s sources j ls total l r =
-    subst (Keeps s) (sym (append-nil r.0) ∙ ap (λ (x : List AigLatch). r.0 ++ feeds_named sources j x r.0) (sym (drop_all j ls l)) ∙ r.4) r.2
 
 -- part by part
 

@@ -1,7 +1,7 @@
 -- What is answered of bytes that are read.
 use Rattle.std.specs.Prelude.{IfErr, IfNone}
 use Rattle.std.specs.List.{list_all}
-use Rattle.std.proofs.Common.{◌≡◌, ℕ, ◌+◌, ◌*◌, ◌<◌, ◌≤◌, ◌⊎◌, true, List, [], ◌++◌, length, map, drop, Option, Some, None, Result, Ok, Err, sym, ap, ◌∙◌, subst, append-nil, inl, inr, arith}
+use Rattle.std.proofs.Common.{◌≡◌, ℕ, ◌+◌, ◌*◌, ◌<◌, ◌≤◌, ◌⊎◌, true, List, [], ◌++◌, length, map, drop, Option, None, Result, Ok, Err, sym, ap, ◌∙◌, subst, append-nil, inl, inr, arith}
 use Rattle.std.proofs.lemmas.List.{drop_all}
 use Rattle.syn_rows.specs.declared.Lit.{Lit}
 use Rattle.syn_netlist.specs.Faults.{AnswersCircle}
@@ -56,9 +56,6 @@ no_circle_of bytes g e r =
     (few_from most g.ands (omega arith) (all_right (λ l. l ≤ most) latches ands (all_right (λ l. l ≤ most) g.inputs (latches ++ ands) (all_at_most most [] (g.inputs ++ (latches ++ ands)) f.1.new))) f.1.sides)
 
 module _ (bytes : List ℕ) (g : Aig) (says : spelled bytes ≡ Ok g) where
-  pub undefined_fault : (v : ℕ) → Path (Option ℕ) (Some v) (first_undefined g) → NamesFirstFault bytes (Undefined v)
-  undefined_fault v u = (g, says, sym u)
-
   module _ (none : Path (Option ℕ) None (first_undefined g)) where
     pub cycle_fault : (vs : List ℕ) → (list_all (has_number (map and_variable g.ands)) vs ≡ true) × AnswersCircle (and_tables g) (map variable_word vs) → NamesFirstFault bytes (Cycle vs)
     cycle_fault vs h = (g, says, (sym none, h.0, h.1))

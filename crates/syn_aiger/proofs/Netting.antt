@@ -104,9 +104,6 @@ module _ (g : Aig) (sound : IsSound g) where
         ∙ ap (λ (es : List AigAnd). map (table_in names) tables ++ map and_table es) (ap (λ (x : AigAnd). x ∷ drop (k + 1) g.ands) at ∙ sym (drop_more g.ands k a l))
         ∙ so_far
 
-  pub tables_end : (k : ℕ) (tables : List code.Table) → length g.ands ≤ k → map (table_in names) tables ++ map and_table (drop k g.ands) ≡ and_tables g → map (table_in names) tables ≡ and_tables g
-  tables_end k tables l so_far = sym (append-nil (map (table_in names) tables)) ∙ ap (λ (es : List AigAnd). map (table_in names) tables ++ map and_table es) (sym (drop_all k g.ands l)) ∙ so_far
-
   -- the frame
 
   abbrev count : ℕ

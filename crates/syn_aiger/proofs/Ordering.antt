@@ -1,5 +1,5 @@
 -- ANDs that read only what stands above them, by the places of variables.
-use Rattle.std.proofs.Common.{◌≡◌, ℕ, ◌+◌, ◌<◌, ◌≤◌, ◌&&◌, nat_lt, Bool, true, false, List, [], ◌∷◌, ◌++◌, length, map, take, drop, get_or, Option, Some, None, sym, ap, ap₂, ◌∙◌, append_assoc, append-nil, arith, length-append}
+use Rattle.std.proofs.Common.{◌≡◌, ℕ, ◌+◌, ◌<◌, ◌≤◌, ◌&&◌, nat_lt, Bool, true, false, List, [], ◌∷◌, ◌++◌, length, map, take, drop, get_or, Option, Some, None, sym, ap, ap₂, ◌∙◌, append_assoc, arith, length-append}
 use Rattle.std.proofs.lemmas.Bool.{and_left, and_right}
 use Rattle.std.proofs.lemmas.List.{drop_all, drop_more, length-map, map-append, take-append-drop, take_more, length-take-le}
 use Rattle.syn_netlist.specs.Marks.{has_number}
@@ -68,9 +68,6 @@ module _ (g : Aig) where
 
   pub at_end : (k : ℕ) (total : Bool) → length g.ands ≤ k → reads_above (known_at k) (drop k g.ands) ≡ total → true ≡ total
   at_end k total l so_far = ap (reads_above (known_at k)) (sym (drop_all k g.ands l)) ∙ so_far
-
-  pub at_start : reads_above (known_at 0) g.ands ≡ reads_above (0 ∷ source_variables g) g.ands
-  at_start = ap (λ (ns : List ℕ). reads_above ns g.ands) (append-nil (0 ∷ source_variables g))
 
   -- the order is a rank
   pub order_is_rank : IsSound g → reads_above (0 ∷ source_variables g) g.ands ≡ true → HasRank g

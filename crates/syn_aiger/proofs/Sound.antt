@@ -63,10 +63,6 @@ next_read most (a ∷ ls) h =
     let p = and_parts (latch_is_normal most a) (list_all (latch_is_normal most) ls) h in
     and_from (may_read most a.next) (list_all (may_read most) (map next_of ls)) (and_parts (may_read most a.next) (is_reset a.literal a.reset) p.0).0 (next_read most ls p.1)
 
--- what numbered ANDs read lies below them
-abbrev SidesBelow : AigAnd → Type 0
-SidesBelow a = (variable_of a.first < and_variable a) × (variable_of a.second < and_variable a)
-
 module _ (most : ℕ) (short : most < 2 ^ 63) where
   sides_read : (v : ℕ) (ands : List AigAnd) → map and_literal ands ≡ literals_from v (length ands) → 2 * (v + length ands) ≤ most + 2 → list_all and_is_normal ands ≡ true → list_all (may_read most) (flat_map right_sides ands) ≡ true
   sides_read v [] e few h = refl

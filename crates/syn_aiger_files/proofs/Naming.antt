@@ -4,17 +4,10 @@ use Rattle.std.proofs.Common.{◌≡◌, ℕ, ◌<◌, ◌≤◌, ◌&&◌, not,
 use Rattle.std.proofs.lemmas.Bool.{cond-true, cond-false, and_from}
 use Rattle.syn_lex.specs.Lines.{is_nil}
 use Rattle.syn_aiger_files.specs.Cuts.{cut_at}
-use Rattle.syn_aiger_files.specs.Files.{Header, OfInput, OfLatch, OfOutput, Place, Symbol}
-use Rattle.syn_aiger_files.specs.Headers.{HeaderFits}
-use Rattle.syn_aiger_files.specs.Spelling.{most_variables}
+use Rattle.syn_aiger_files.specs.Files.{Header, Place, Symbol}
 use Rattle.syn_aiger_files.specs.Symbols.{count_of, is_at, symbol_at}
 use Rattle.syn_aiger_files.specs.Texts.{behind, front, number_of}
 use Rattle.syn_aiger_files.proofs.Cutting.{behind_cut, front_cut, or_nothing}
-
-pub few_count : (h : Header) (place : Place) → HeaderFits h → count_of h place ≤ most_variables
-few_count h OfInput f = let a = f.variables in let b = f.defined in omega arith
-few_count h OfLatch f = let a = f.variables in let b = f.defined in omega arith
-few_count h OfOutput f = f.outputs
 
 nil_is : (l : List ℕ) → 0 < length l → is_nil l ≡ false
 nil_is [] l = absurd (omega arith)

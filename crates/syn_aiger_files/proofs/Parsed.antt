@@ -13,9 +13,6 @@ use Rattle.syn_aiger_files.proofs.Cutting.{behind_less}
 
 -- the first of the lines
 
-line_with : (at : ℕ) (more : List ℕ) (line : Line) (lines : List Line) → begun at more (line ∷ lines) ≡ record { at = at; text = more ++ line.text } ∷ lines
-line_with at more line lines = refl
-
 cr_lf : (at : ℕ) (bs : List ℕ) → begins_with_lf bs ≡ true → begun at [] (lines_at (suc at) bs) ≡ record { at = at; text = [] } ∷ lines_at (at + (suc (length bs) - length (behind 10 bs))) (behind 10 bs)
 cr_lf at [] e = absurd (cc)
 cr_lf at (c ∷ cs) e =

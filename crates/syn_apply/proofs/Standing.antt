@@ -18,7 +18,7 @@ use Rattle.syn_netlist.specs.Numbers.{word_at}
 use Rattle.syn_shapes.specs.GraphShape.{place}
 use Rattle.syn_shapes.specs.Graphs.{IsGraph, source_lit}
 use Rattle.syn_shapes.proofs.Spelled.{place_lt}
-use Rattle.syn_hashed.specs.Hashed.{IsHashed, is_gate, lit_at}
+use Rattle.syn_hashed.specs.Hashed.{IsHashed, is_gate}
 use Rattle.syn_hashed.specs.Growing.{Extends, IsAnd, KeepsValues, value_by}
 use Rattle.syn_hashed.proofs.Orders.{hashed_in_order}
 use Rattle.syn_graph.specs.Graphs.{HasOwnSources}
@@ -28,7 +28,6 @@ use Rattle.syn_gain.specs.Leaves.{are_below}
 use Rattle.syn_gain.specs.Placing.{each_below, literal_for}
 use Rattle.syn_gain.specs.Replacements.{Replacement, leaf_values}
 use Rattle.syn_gain.proofs.Bounds.{below_each, each_below_in, each_push, leaf_in, literal_in}
-use Rattle.syn_gain.proofs.Owning.{IsBelow}
 use Rattle.syn_gain.proofs.Values.{Matches, begun_match, each_matches, matches_more, pick_value}
 use Rattle.syn_apply.specs.Remaking.{AllStand, HaveValues, IsGrown, SourcesStay, Stands, moved}
 use Rattle.syn_apply.specs.Sound.{IsSoundBy}
@@ -56,9 +55,6 @@ grown_on a b c first second = record {
   kept = λ given l lt. second.kept given l (omega (arith, first.longer)) ∙ first.kept given l lt;
   few = λ room. second.few (first.few room);
 }
-
-pub grown_same : (a : List Row) → IsGrown a a
-grown_same a = record { longer = omega arith; kept = λ given l lt. refl; few = λ room. room }
 
 pub grown_extends : (old new : List Row) → Extends old new → KeepsValues old new → length new < NODE_LIMIT → IsGrown old new
 grown_extends old new e kept few = record {
@@ -178,9 +174,6 @@ front_is count rows n h inside closed = elim (cases_lt n (count + 1)) [
 
 pub open_stands : (count : ℕ) (rows new : List Row) (n : ℕ) (l : Lit) → IsHashed count rows → IsHashed count new → n < length rows → is_and (row_at rows n) ≡ false → l ≡ lit_of n → Stands rows new n l
 open_stands count rows new n l h k inside closed is = subst (Stands rows new n) (sym is) (source_stands count rows new n h k (front_is count rows n h inside closed))
-
-pub and_is_no_source : (count : ℕ) (rows : List Row) (n : ℕ) (a b : Lit) → IsHashed count rows → row_at rows n ≡ And a b → n < count + 1 → (l : Lit) → l ≡ lit_of n
-and_is_no_source count rows n a b h row lt l = absurd (cc (row, h.front n lt))
 
 -- plans
 

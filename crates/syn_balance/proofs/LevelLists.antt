@@ -1,5 +1,5 @@
 -- The list of the levels of rows that grow.
-use Rattle.std.proofs.Common.{◌≡◌, ℕ, zero, suc, ◌+◌, ◌<◌, ◌≤◌, All, List, [], ◌∷◌, ◌++◌, length, get_or, refl, sym, ap, ap₂, ◌∙◌, subst, arith, inl, inr, append-nil, length-append}
+use Rattle.std.proofs.Common.{◌≡◌, ℕ, zero, suc, ◌+◌, ◌<◌, ◌≤◌, All, List, [], ◌∷◌, ◌++◌, length, get_or, sym, ap, ap₂, ◌∙◌, subst, arith, inl, inr, append-nil, length-append}
 use Rattle.std.proofs.lemmas.Bool.{cases_lt}
 use Rattle.std.proofs.lemmas.List.{get_or_past, get_or_push, get_or_default}
 use Rattle.syn_rows.specs.declared.Lit.{Lit}
@@ -45,11 +45,6 @@ same_levels old new levels e few is = go e.more e.is
     go : (more : List Row) → new ≡ old ++ more → levels ≡ levels_of new
     go [] w = is ∙ ap levels_of (sym (w ∙ append-nil old))
     go (row ∷ more) w = absurd (let a = ap length w in let b = length-append old (row ∷ more) in let c = ap length is in let d = length-levels old in omega (arith, a, b, c, d, few))
-
-at_any : (rows : List Row) (n : ℕ) (d e : Row) → n < length rows → get_or rows n d ≡ get_or rows n e
-at_any [] n d e lt = absurd (omega arith)
-at_any (row ∷ rows) zero d e lt = refl
-at_any (row ∷ rows) (suc n) d e lt = at_any rows n d e (omega arith)
 
 pub more_levels : (old new : List Row) (levels : List ℕ) (n level : ℕ) (row : Row) → Extends old new → length new ≤ length old + 1 → levels ≡ levels_of old → n ≡ length levels → n < length new
     → row ≡ get_or new n row → level ≡ row_level (level_in levels) n row → levels ++ level ∷ [] ≡ levels_of new

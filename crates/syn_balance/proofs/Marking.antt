@@ -1,13 +1,13 @@
 -- Marks of nodes that keep a node of their own.
-use Rattle.std.proofs.Common.{◌≡◌, ◌≢◌, ℕ, suc, ◌+◌, ◌*◌, ◌%◌, ◌<◌, ◌≤◌, ◌⊎◌, nat_eq, Bool, true, false, All, List, length, set, get_or, replicate, refl, sym, ap, ◌∙◌, subst, arith, inl, inr}
-use Rattle.std.proofs.lemmas.Bool.{cases_eq, cases_lt, cond-false, cond-true, eq-eqb, ne_eqb, both_ways, false_from_ne_true}
-use Rattle.std.proofs.lemmas.List.{get_or-set_same, get_or-set_other, get_or-replicate, get_or_past, length-set, length-replicate, get_or_default}
+use Rattle.std.proofs.Common.{◌≡◌, ◌≢◌, ℕ, suc, ◌+◌, ◌*◌, ◌%◌, ◌<◌, ◌≤◌, ◌⊎◌, nat_eq, Bool, true, false, All, List, length, set, get_or, refl, sym, ap, ◌∙◌, subst, arith, inl, inr}
+use Rattle.std.proofs.lemmas.Bool.{cases_eq, cond-false, cond-true, eq-eqb, ne_eqb, both_ways, false_from_ne_true}
+use Rattle.std.proofs.lemmas.List.{get_or-set_same, get_or-set_other, get_or_default}
 use Rattle.syn_rows.specs.declared.Lit.{Lit}
 use Rattle.syn_rows.specs.declared.Row.{Row}
-use Rattle.syn_rows.specs.declared.Row.TheVariants.{And, Alias}
+use Rattle.syn_rows.specs.declared.Row.TheVariants.{And}
 use Rattle.syn_rows.specs.Rows.{node_of, row_at}
 use Rattle.syn_rows.specs.References.{hits, refs}
-use Rattle.syn_balance.specs.Roots.{mark_at, refs_before, complements, complements_before, IsObserved, HasRoots, IsCounted, IsRead, ComplementsOf, AreRead}
+use Rattle.syn_balance.specs.Roots.{mark_at, refs_before, complements, complements_before, IsObserved, HasRoots, IsCounted, ComplementsOf, AreRead}
 
 hits_other : (m n : ℕ) → m ≢ n → hits m n ≡ 0
 hits_other m n ne = cond-false (nat_eq m n) 1 0 (ne_eqb m n ne)
@@ -17,55 +17,6 @@ hits_same n = cond-true (nat_eq n n) 1 0 (eq-eqb n n refl)
 
 unmarked_before : (marks new : List Bool) (m : ℕ) → (mark_at marks m ≡ true → mark_at new m ≡ true) → mark_at new m ≡ false → mark_at marks m ≡ false
 unmarked_before marks new m kept off = false_from_ne_true (mark_at marks m) (λ t. both_ways (mark_at new m) off (kept t))
-
--- one fan-in more
-pub count_more : (count : ℕ) (f g : ℕ → ℕ) (lit : Lit) (seen marks new_seen new_marks : List Bool) → IsCounted count f g seen marks → IsRead lit seen marks new_seen new_marks → node_of lit < count
-    → IsCounted count (λ m. f m + hits m (node_of lit)) (λ m. g m + hits (2 * m + 1) lit.0) new_seen new_marks
-count_more count f g lit seen marks new_seen new_marks c r lt = record {
-  all_seen = ap length r.now_seen ∙ (length-set seen (node_of lit) true ∙ c.all_seen);
-  all_marked = r.size ∙ c.all_marked;
-  unseen = λ m off. elim (cases_eq m (node_of lit)) [
-    | inl same ↦ absurd (both_ways (mark_at new_seen m) off (ap (λ (l : List Bool). mark_at l m) r.now_seen ∙ (ap (mark_at (set seen (node_of lit) true)) same ∙ get_or-set_same seen (node_of lit) true false inside)))
-    | inr ne ↦
-        let h = hits_other m (node_of lit) ne in
-        let z = c.unseen m (sym (ap (λ (l : List Bool). mark_at l m) r.now_seen ∙ get_or-set_other seen (node_of lit) m true false ne) ∙ off) in
-        omega (arith, h, z)
-  ];
-  was_seen = λ m on. elim (cases_eq m (node_of lit)) [
-    | inl same ↦ (let h : hits m (node_of lit) ≡ 1 = subst (λ k. hits k (node_of lit) ≡ 1) (sym same) (hits_same (node_of lit)) in omega (arith, h))
-    | inr ne ↦ (let z = c.was_seen m (sym (get_or-set_other seen (node_of lit) m true false ne) ∙ (sym (ap (λ (l : List Bool). mark_at l m) r.now_seen) ∙ on)) in omega (arith, z))
-  ];
-  marked = λ m on. elim (r.only m on) [
-    | inl old ↦ elim (c.marked m old) [
-      | inl two ↦ inl (omega (arith, two))
-      | inr some ↦ inr (omega (arith, some))
-    ]
-    | inr cause ↦ (
-        let same = cause.0 in
-        elim cause.1 [
-          | inl again ↦
-              let one = c.was_seen (node_of lit) again in
-              let h = hits_same (node_of lit) in
-              inl (subst (λ k. 2 ≤ f k + hits k (node_of lit)) (sym same) (omega (arith, one, h)))
-          | inr odd ↦ inr (let h : hits (2 * m + 1) lit.0 ≡ 1 = ap (hits (2 * m + 1)) (let e : lit.0 ≡ 2 * m + 1 = omega (arith, same, odd) in e) ∙ hits_same (2 * m + 1) in omega (arith, h))
-        ])
-  ];
-  once = λ m off. elim (cases_eq m (node_of lit)) [
-    | inl same ↦
-        let off_there : mark_at new_marks (node_of lit) ≡ false = subst (λ k. mark_at new_marks k ≡ false) same off in
-        let unseen_there = false_from_ne_true (mark_at seen (node_of lit)) (λ t. both_ways (mark_at new_marks (node_of lit)) off_there (r.again t)) in
-        let z = c.unseen (node_of lit) unseen_there in
-        let h = hits_same (node_of lit) in
-        subst (λ k. f k + hits k (node_of lit) ≤ 1) (sym same) (omega (arith, z, h))
-    | inr ne ↦
-        let h = hits_other m (node_of lit) ne in
-        let z = c.once m (unmarked_before marks new_marks m (r.kept m) off) in
-        omega (arith, h, z)
-  ];
-}
-  where
-    inside : node_of lit < length seen
-    inside = let e = c.all_seen in omega (arith, e)
 
 pub count_same : (count : ℕ) (f f2 g g2 : ℕ → ℕ) (seen marks : List Bool) → ((m : ℕ) → f m ≡ f2 m) → ((m : ℕ) → g m ≡ g2 m) → IsCounted count f g seen marks → IsCounted count f2 g2 seen marks
 count_same count f f2 g g2 seen marks same alike c = record {
@@ -79,23 +30,6 @@ count_same count f f2 g g2 seen marks same alike c = record {
     | inr some ↦ inr (let e = alike m in omega (arith, e, some))
   ];
 }
-
-pub count_both : (count : ℕ) (f g : ℕ → ℕ) (a b : Lit) (seen marks mid_seen mid_marks new_seen new_marks : List Bool) → node_of a < count → node_of b < count → IsRead a seen marks mid_seen mid_marks → IsRead b mid_seen mid_marks new_seen new_marks
-    → IsCounted count f g seen marks → IsCounted count (λ m. f m + refs m (And a b)) (λ m. g m + complements m (And a b)) new_seen new_marks
-count_both count f g a b seen marks mid_seen mid_marks new_seen new_marks la lb ra rb c =
-    count_same count (λ m. (f m + hits m (node_of a)) + hits m (node_of b)) (λ m. f m + refs m (And a b)) (λ m. (g m + hits (2 * m + 1) a.0) + hits (2 * m + 1) b.0) (λ m. g m + complements m (And a b)) new_seen new_marks
-    (λ m. (let e : (f m + hits m (node_of a)) + hits m (node_of b) ≡ f m + (hits m (node_of a) + (hits m (node_of b) + 0)) = omega arith in e))
-    (λ m. (let e : (g m + hits (2 * m + 1) a.0) + hits (2 * m + 1) b.0 ≡ g m + (hits (2 * m + 1) a.0 + hits (2 * m + 1) b.0) = omega arith in e))
-    (count_more count (λ m. f m + hits m (node_of a)) (λ m. g m + hits (2 * m + 1) a.0) b mid_seen mid_marks new_seen new_marks (count_more count f g a seen marks mid_seen mid_marks c ra la) rb lb)
-
-pub count_one : (count : ℕ) (f g : ℕ → ℕ) (a : Lit) (seen marks new_seen new_marks : List Bool) → node_of a < count → IsRead a seen marks new_seen new_marks → IsCounted count f g seen marks
-    → IsCounted count (λ m. f m + refs m (Alias a)) (λ m. g m + complements m (Alias a)) new_seen new_marks
-count_one count f g a seen marks new_seen new_marks la ra c =
-    count_same count (λ m. f m + hits m (node_of a)) (λ m. f m + refs m (Alias a)) (λ m. g m + hits (2 * m + 1) a.0) (λ m. g m + complements m (Alias a)) new_seen new_marks
-    (λ m. (let e : f m + hits m (node_of a) ≡ f m + (hits m (node_of a) + 0) = omega arith in e)) (λ m. refl) (count_more count f g a seen marks new_seen new_marks c ra la)
-
-pub count_none : (count : ℕ) (f g : ℕ → ℕ) (seen marks : List Bool) → IsCounted count f g seen marks → IsCounted count (λ m. f m + 0) (λ m. g m + 0) seen marks
-count_none count f g seen marks c = count_same count f (λ m. f m + 0) g (λ m. g m + 0) seen marks (λ m. (let e : f m ≡ f m + 0 = omega arith in e)) (λ m. (let e : g m ≡ g m + 0 = omega arith in e)) c
 
 -- one row more
 parts_of : (marks : List Bool) (row : Row) (a b : Lit) → row ≡ And a b → ComplementsOf row marks → (a.0 % 2 ≡ 1 → mark_at marks (node_of a) ≡ true) × (b.0 % 2 ≡ 1 → mark_at marks (node_of b) ≡ true)
@@ -112,28 +46,6 @@ row_read rows n row seen marks new_seen new_marks s is kept marked counted = rec
         (λ o. kept (node_of a) (old.0 o), λ o. kept (node_of b) (old.1 o))
   ];
 }
-
-pub reading_begins : (rows : List Row) (seen marks : List Bool) → seen ≡ replicate (length rows) false → marks ≡ replicate (length rows) false → AreRead rows 0 seen marks
-reading_begins rows seen marks e f = record {
-  counted = record {
-    all_seen = ap length e ∙ length-replicate (length rows) false;
-    all_marked = ap length f ∙ length-replicate (length rows) false;
-    unseen = λ m off. refl;
-    was_seen = λ m on. absurd (none seen e m on);
-    once = λ m off. omega arith;
-    marked = λ m on. absurd (none marks f m on);
-  };
-  complemented = λ k a b lt is. absurd (omega arith);
-}
-  where
-    none : (l : List Bool) → l ≡ replicate (length rows) false → (m : ℕ) → mark_at l m ≡ true → ⊥
-    none l is m on = both_ways (mark_at l m) (ap (λ (k : List Bool). mark_at k m) is ∙ off m) on
-      where
-        off : (m : ℕ) → mark_at (replicate (length rows) false) m ≡ false
-        off m = elim (cases_lt m (length rows)) [
-          | inl lt ↦ get_or-replicate (length rows) m false false lt
-          | inr past ↦ get_or_past (replicate (length rows) false) m false (omega (arith, past, length-replicate (length rows) false))
-        ]
 
 pub roots_done : (rows : List Row) (observed : List Lit) (seen marks new_marks : List Bool) → AreRead rows (length rows) seen marks → length new_marks ≡ length marks → ((m : ℕ) → mark_at marks m ≡ true → mark_at new_marks m ≡ true)
     → All (λ l. mark_at new_marks (node_of l) ≡ true) observed → ((m : ℕ) → mark_at new_marks m ≡ true → (mark_at marks m ≡ true) ⊎ IsObserved observed m) → HasRoots rows observed new_marks

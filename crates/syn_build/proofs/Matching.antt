@@ -55,12 +55,6 @@ front_more old inputs row i now new all next front there grown lt inside fit = r
       ∙ front.value given at_0;
 }
 
-pub front_all : (old : List Row) (inputs : List Lit) (row : List ℕ) (i : ℕ) (now : List Row) (all : Lit) → IsFront old inputs row i now all → length row ≤ i → IsMatch old row inputs now all
-front_all old inputs row i now all front past given at_0 =
-    sym (and_true (value_by given now all))
-    ∙ sym (ap (λ (cs : List ℕ). value_by given now all && matches cs (map (value_by given old) (drop i inputs))) (drop_all i row past))
-    ∙ front.value given at_0
-
 -- a row of more characters than there are inputs
 pub front_short : (count : ℕ) (old : List Row) (inputs : List Lit) (row : List ℕ) (i : ℕ) (now : List Row) (all none : Lit) → IsHashed count now → IsFront old inputs row i now all → i < length row → length inputs ≤ i
     → none ≡ record { 0 = 0 } → IsMatch old row inputs now none

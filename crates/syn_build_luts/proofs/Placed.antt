@@ -8,7 +8,7 @@ use Rattle.syn_rows.specs.declared.Lit.{Lit}
 use Rattle.syn_rows.specs.declared.Row.{Row}
 use Rattle.syn_rows.specs.Rows.{node_of}
 use Rattle.syn_rows.specs.Values.{given_by, lit_value, value_in, values_of, rows_function}
-use Rattle.syn_netlist.specs.Words.{distinct, has_word}
+use Rattle.syn_netlist.specs.Words.{distinct}
 use Rattle.syn_netlist.specs.Meaning.{SameFromFunction}
 use Rattle.syn_netlist.specs.Lists.{Frame, Netlist, sources, observed}
 use Rattle.syn_netlist.specs.Numbers.{word_at}
@@ -29,7 +29,7 @@ use Rattle.syn_hashed.specs.Growing.{Extends, value_by}
 use Rattle.syn_hashed.proofs.Rising.{extends_longer, literal_kept, source_value}
 use Rattle.syn_graph.specs.Graphs.{HasOwnSources}
 use Rattle.syn_lutshapes.specs.Luts as spelled
-use Rattle.syn_lutshapes.specs.Luts.{fold_luts, lut_at, lut_gates, lut_value, luts_function, net_gates, ones_of, ones_value, signal_values, is_input, is_lut, IsLutNet, none_exceeds}
+use Rattle.syn_lutshapes.specs.Luts.{fold_luts, lut_at, lut_value, luts_function, net_gates, ones_of, ones_value, signal_values, is_input, IsLutNet, none_exceeds}
 use Rattle.syn_lutshapes.specs.LutShape.{LutsHaveFunction, observed_of}
 use Rattle.syn_lutshapes.specs.LutSpelling.{lut_network, NetworkOfLuts, NetworkSpellsLuts}
 use Rattle.syn_lutshapes.proofs.LutTables.{lut_parts}

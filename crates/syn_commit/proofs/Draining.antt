@@ -379,9 +379,6 @@ pool_on : (pool : List ℕ) (es fs : List EventKind) → pool_after_all pool (es
 pool_on pool [] fs = refl
 pool_on pool (k ∷ es) fs = pool_on (pool_after pool k) es fs
 
-pub gives_none : (nodes : ℕ) (v : View) (pool : List ℕ) → Gives nodes v pool v pool
-gives_none nodes v pool = ([], refl, refl)
-
 pub gives_on : (nodes : ℕ) (v u w : View) (pool mid grown : List ℕ) → Gives nodes v pool u mid → Gives nodes u mid w grown → Gives nodes v pool w grown
 gives_on nodes v u w pool mid grown g h = (g.0 ++ h.0, back_on nodes v u w g.0 h.0 g.1 h.1, h.2 ∙ (ap (λ p. pool_after_all p h.0) g.2 ∙ sym (pool_on pool g.0 h.0)))
 
@@ -392,16 +389,6 @@ unpin_gives nodes v w pool n t = (Kind.Unpin n ∷ [], (w, t, tt, refl), refl)
 module _ (nodes : ℕ) (pool : List ℕ) (gates : List NodeRow) (e : NodeRow) (v : View) (shown : IsShown nodes v) (g : IsGiving pool [] (gates ++ e ∷ []) [] v) where
   own_row : known_row v e.node ≡ Some e.row
   own_row = (all_less (λ r. known_row v r.node ≡ Some r.row) gates e g.known).1
-
-  pub left_held : has_node v.held e.node ≡ true
-  left_held = (shown.rows e.node e.row own_row).1
-
-  pub left_off : has_node v.idle e.node ≡ false
-  left_off = go (has_node v.idle e.node) refl
-    where
-      go : (b : Bool) → has_node v.idle e.node ≡ b → b ≡ false
-      go true h = let some = g.idle_there e.node h in absurd (omega (arith, some))
-      go false h = refl
 
   none_more : times e.node (nodes_of gates) ≡ 0
   none_more = let m = times_more e.node gates e in let one = hits_same e.node in let o = g.once e.node in omega (arith, m, one, o)
@@ -439,9 +426,6 @@ module _ (nodes : ℕ) (pool : List ℕ) (gates : List NodeRow) (e : NodeRow) (v
     pinned = g.pinned;
     room = let more : length (gates ++ e ∷ []) ≡ length gates + 1 = length-append gates (e ∷ []) in let r = g.room in omega (arith, more, r);
   }
-
-pub let_go_none : (v : View) → IsLetGo v v
-let_go_none v = record { number = refl; reads = refl; misses = refl; makes = refl; changes = refl; difference = refl }
 
 pub let_go_on : (v w : View) (n : ℕ) → IsLetGo v w → IsLetGo v (released w n)
 let_go_on v w n l = record { number = l.number; reads = l.reads; misses = l.misses; makes = l.makes; changes = l.changes; difference = l.difference }

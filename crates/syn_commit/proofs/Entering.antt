@@ -73,11 +73,6 @@ asks_row s Failed n e = absurd (cc)
 pub row_asked : (d : Decision) (s : State) (n : ℕ) → told d ≡ wants s → d ≡ decision.Next (want.Row n) → (waiting : List ℕ) × (s.stage ≡ Walking (n ∷ waiting))
 row_asked d s n e is = asks_row s s.stage n (sym e ∙ ap told is)
 
-pub none_asked : (d : Decision) (s : State) → told d ≡ wants s → ((n : ℕ) → d ≡ decision.Next (want.Row n) → ⊥) → (n : ℕ) → wants s ≡ Next (want.Row n) → ⊥
-none_asked (decision.Answer answer) s e none n asked = let same : told (decision.Answer answer) ≡ Next (want.Row n) = e ∙ asked in cc
-none_asked (decision.Next next) s e none n asked = let same : told (decision.Next next) ≡ Next (want.Row n) = e ∙ asked in let is : next ≡ want.Row n = cc in none n (ap decision.Next is)
-none_asked decision.Unfit s e none n asked = let same : told decision.Unfit ≡ Next (want.Row n) = e ∙ asked in cc
-
 -- ---- one read
 row_read : (t : Task) (s : State) (n : ℕ) (waiting : List ℕ) (r : Row) → s.stage ≡ Walking (n ∷ waiting) → read_one t s (seen.Row n r) ≡ row_loaded t s n r waiting
 row_read t s n waiting r e = ap (λ g. read_at t s g (seen.Row n r)) e ∙ ap (λ b. if b then row_loaded t s n r waiting else failed s) (node_same n)

@@ -149,9 +149,6 @@ made_more low step need rows start v w new e are few made keeps known derived ke
     keyed_at i (inr same) = subst (MayReferTo w (suc (key_at low step i))) (sym (ap (λ ns. get_or ns i 0) (nodes_more new e) ∙ get_or_push (nodes_of new) e.node 0 i (size ∙ same)))
         (subst (λ k. MayReferTo w (suc (key_at low step k)) e.node) same keyed)
 
-pub made_none : (low step : ℕ) (rows : List Row) (v : View) → AreMade low step rows [] v
-made_none low step rows v = record { stored = λ i d l. absurd (omega (arith, l)); known = tt; gates = tt; keyed = λ i l. absurd (omega (arith, l)) }
-
 -- ---- events and nodes
 rows_more : (low step i : ℕ) (new : List NodeRow) (e : NodeRow) → makes_rows low step i (new ++ e ∷ []) ≡ makes_rows low step i new ++ makes_row e.node e.row (key_at low step (i + length new))
 rows_more low step i [] e = let same : i + 0 ≡ i = omega arith in append-nil (makes_row e.node e.row (key_at low step i)) ∙ ap (λ k. makes_row e.node e.row (key_at low step k)) (sym same)

@@ -19,12 +19,12 @@ use Rattle.syn_decide.specs.declared.decisions.NodeRow.{NodeRow}
 use Rattle.syn_decide.specs.Tasks.{Task}
 use Rattle.syn_decide.specs.Walk.{nodes_of}
 use Rattle.syn_decide.specs.Walked.{AreGates}
-use Rattle.syn_decide.specs.Fold.{State, Stage, Hinting, after_reads, at, begin, is_hinting, placed_now, read_at, read_one}
+use Rattle.syn_decide.specs.Fold.{State, Hinting, after_reads, at, begin, is_hinting, placed_now, read_at, read_one}
 use Rattle.syn_decide.specs.Hints.{is_asked}
 use Rattle.syn_decide.proofs.Walking.{node_row, nodes_more}
 use Rattle.syn_commit.specs.Pools.{found_claimed}
 use Rattle.syn_commit.specs.Walks.{AreKnown, IsOfReads}
-use Rattle.syn_commit.specs.Stages.{IsPastKeys, IsTrying}
+use Rattle.syn_commit.specs.Stages.{IsTrying}
 use Rattle.syn_commit.specs.Hinted.{IsHint, IsHinting, IsOpen, hits_after}
 use Rattle.syn_commit.proofs.Trying.{claimed_append, held_stays}
 use Rattle.syn_commit.proofs.Entering.{known_more, reads_more}
@@ -75,10 +75,6 @@ hit_may t s n pair w open_now known = inl (inl (pair, known, used))
   where
     used : pair ≢ Free
     used e = let yes = asked_and (placed_now t s).extra pair open_now.asked in let no : is_derived pair ≡ false = ap is_derived e in cc
-
--- the stage that takes hints comes behind the keys
-pub hinting_past : (stage : Stage) → is_hinting stage ≡ true → IsPastKeys stage
-hinting_past stage e = let h = hinting_at stage e in subst IsPastKeys (sym h.1) tt
 
 module _ (t : Task) (start v : View) (pool pins : List ℕ) (s : State) (h : IsTrying t start pool pins v s) (n : ℕ) (pair : Row) (open_now : IsOpen t s pair) where
   -- a hit, by what the view before its pin keeps

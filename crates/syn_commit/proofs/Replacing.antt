@@ -68,9 +68,6 @@ row_at_place n row [] i d l = absurd (omega (arith, l))
 row_at_place n row (r ∷ rows) zero d l = refl
 row_at_place n row (r ∷ rows) (suc i) d l = row_at_place n row rows i d (omega (arith, l))
 
-pub setting_begins : (n : ℕ) (row : Row) (rows : List NodeRow) → IsSetting n row rows 0 rows
-setting_begins n row rows = record { taken = refl; rest = λ k d l. refl; size = refl }
-
 module _ (n : ℕ) (row : Row) (rows : List NodeRow) (i : ℕ) (items : List NodeRow) (d : NodeRow) (s : IsSetting n row rows i items) (within : i < length rows) where
   there : i < length (with_row n row rows)
   there = let e = row_length n row rows in omega (arith, e, within)

@@ -7,11 +7,11 @@ use Rattle.syn_core_laws.specs.declared.Seen.TheVariants as seen
 use Rattle.syn_decide.specs.declared.decisions.NodeRow.{NodeRow}
 use Rattle.syn_decide.specs.declared.decisions.TheConstants.{MOST_INNER}
 use Rattle.syn_decide.specs.Tasks.{Task}
-use Rattle.syn_decide.specs.Decided.{Answer, Done, Reach, Busy, Differs, NoGain, NoGap, NoRoom, Unfit, Wide}
+use Rattle.syn_decide.specs.Decided.{Answer, Done, Reach, Busy, Differs, NoGain, NoGap, NoRoom, Wide}
 use Rattle.syn_decide.specs.Walk.{from_entered}
 use Rattle.syn_decide.specs.Functions.{in_circle, is_same_function, now_table, used_from, used_leaves, uses, was_table}
 use Rattle.syn_decide.specs.Hints.{is_asked, may_hit, most_hits}
-use Rattle.syn_decide.specs.Fold.{State, Stage, Walking, Keying, Hinting, Counting, Ended, Failed, after_reads, after_walk, answered, at, begin, concluded, count_on, failed, first_unmet, key_loaded, placed_now, read_at, read_count, read_one, row_loaded, uncounted, walk_on, wanted_at, wanted_count, with_count, with_hit, with_inner}
+use Rattle.syn_decide.specs.Fold.{State, Stage, Walking, Keying, Hinting, Counting, Ended, Failed, after_reads, after_walk, answered, at, begin, concluded, count_on, failed, first_unmet, key_loaded, placed_now, read_at, read_count, read_one, row_loaded, uncounted, walk_on, with_count, with_hit, with_inner}
 use Rattle.syn_decide.proofs.Walking.{node_row}
 
 -- an answer that comes before the counts
@@ -177,19 +177,3 @@ all_staged t s (read ∷ reads) h = all_staged t (read_one t s read) reads (step
 -- It holds after any reads.
 pub always_staged : (t : Task) (reads : List Seen) → IsStaged t (after_reads t (begin t) reads) (after_reads t (begin t) reads).stage
 always_staged t reads = all_staged t (begin t) reads (refl, refl, omega arith)
-
--- ---- a state that fits no step has failed
-count_wanted : (k : ℕ) (rows : List NodeRow) → k < length rows → wanted_count (drop k rows) ≡ Unfit → ⊥
-count_wanted k [] l e = omega (arith, l)
-count_wanted zero (r ∷ rows) l e = cc
-count_wanted (suc k) (r ∷ rows) l e = count_wanted k rows (omega (arith, l)) e
-
-pub unfit_failed : (t : Task) (s : State) (stage : Stage) → IsStaged t s stage → wanted_at s stage ≡ Unfit → stage ≡ Failed
-unfit_failed t s (Walking []) h e = absurd (omega (arith, h.2))
-unfit_failed t s (Walking (n ∷ waiting)) h e = absurd (cc)
-unfit_failed t s (Keying []) h e = absurd (omega (arith, h.2))
-unfit_failed t s (Keying (n ∷ left)) h e = absurd (cc)
-unfit_failed t s (Hinting last) h e = absurd (count_wanted (length s.counts) s.inner h.1 e)
-unfit_failed t s Counting h e = absurd (count_wanted (length s.counts) s.inner h e)
-unfit_failed t s (Ended answer) h e = absurd (cc)
-unfit_failed t s Failed h e = refl

@@ -257,20 +257,6 @@ spare_not_idle nodes v n shown free = go (has_node v.idle n) refl
     go true e = let gate : is_derived_known (known_row v n) ≡ true = (shown.idles n e).0 in let no : is_derived_known (known_row v n) ≡ false = ap is_derived_known free in absurd (cc)
     go false e = refl
 
--- ---- nodes are let go
-pub emptied_none : (v : View) → IsEmptied v [] v
-emptied_none v = record {
-  held = λ n. sym (and_true (has_node v.held n));
-  rows = λ n h. refl;
-  reads = refl;
-  misses = refl;
-  rest = record { number = refl; pins = refl; idle = refl; makes = refl; changes = refl; difference = refl };
-}
-  where
-    and_true : (a : Bool) → (a && true) ≡ a
-    and_true true = refl
-    and_true false = refl
-
 -- what is held beside a node that was let go
 held_else : (w : View) (n m : ℕ) → has_node (released w n).held m ≡ true → (m ≢ n) × (has_node w.held m ≡ true)
 held_else w n m h =

@@ -1,26 +1,19 @@
 -- A commit behind its stores: it gives back, and what its counts found dying is freed.
-use Rattle.std.specs.Prelude.{◌≡◌, ℕ, ◌+◌, ◌<◌, Bool, true, List, [], ◌∷◌, ◌++◌, length, slice_index_or, Some, pos, ◌+ℤ◌}
+use Rattle.std.specs.Prelude.{◌≡◌, ℕ, ◌+◌, ◌<◌, Bool, List, [], ◌∷◌, ◌++◌, Some, pos, ◌+ℤ◌}
 use Rattle.syn_rows.specs.declared.Row.{Row}
-use Rattle.syn_rows.specs.declared.Row.TheVariants.{Free}
-use Rattle.syn_rows.specs.Rows.{is_derived, row_at}
 use Rattle.syn_rows.specs.References.{and_count}
 use Rattle.syn_core_laws.specs.declared.View.{View}
 use Rattle.syn_core_laws.specs.declared.Change.{Change}
 use Rattle.syn_core_laws.specs.Views.{known_row}
 use Rattle.syn_commit_laws.specs.Dying.{AreDoomed, ands_in}
 use Rattle.syn_commit_laws.specs.Freeing.{IsFreeing, late, redefines}
-use Rattle.syn_commit_laws.specs.Turning.{Spares, TurnsAll}
-use Rattle.syn_core_laws.specs.Shown.{IsShown}
+use Rattle.syn_commit_laws.specs.Turning.{Spares}
 use Rattle.syn_decide.specs.declared.decisions.NodeRow.{NodeRow}
-use Rattle.syn_decide.specs.Decided.{Done}
-use Rattle.syn_decide.specs.Fold.{Ended, State, placed_now}
-use Rattle.syn_decide.specs.Hints.{new_root_row, rows_needed}
+use Rattle.syn_decide.specs.Fold.{State, placed_now}
+use Rattle.syn_decide.specs.Hints.{new_root_row}
 use Rattle.syn_decide.specs.Tasks.{Task}
-use Rattle.syn_decide.specs.Walk.{enters, nodes_of}
-use Rattle.syn_commit_laws.specs.Redefining.{IsInOrder, row_made}
-use Rattle.syn_commit.specs.Counts.{CountsAreLoaded, dying_by}
-use Rattle.syn_commit.specs.Stages.{IsTrying}
-use Rattle.syn_commit.specs.Storing.{RedefinesRow, makes_rows, node_at}
+use Rattle.syn_decide.specs.Walk.{nodes_of}
+use Rattle.syn_commit_laws.specs.Redefining.{row_made}
 
 -- the change that gives the root its new row
 abbrev pub root_change : ℕ → Row → Row → Change

@@ -7,11 +7,7 @@ use Rattle.syn_decide.specs.Tasks.{Task}
 use Rattle.syn_decide.specs.Functions.{used_leaves}
 use Rattle.syn_decide.specs.Walk.{nodes_of}
 use Rattle.syn_decide.specs.Decided.{Answer, Done, Busy, Reach, Wide, Differs, NoGain, NoGap, NoRoom}
-use Rattle.syn_decide.specs.Hints.{rows_needed}
-use Rattle.syn_commit_laws.specs.Redefining.{IsInOrder}
-use Rattle.syn_commit.specs.Stages.{IsTrying}
-use Rattle.syn_commit.specs.Storing.{AreNewRows}
-use Rattle.syn_decide.specs.Fold.{placed_now, State, Stage, Walking, Keying, Hinting, Counting, Ended, Failed}
+use Rattle.syn_decide.specs.Fold.{State, Stage, Walking, Keying, Hinting, Counting, Ended, Failed}
 
 -- the node's key is known, and at most this one
 abbrev pub KeyAtMost : View → ℕ → ℕ → Type 0

@@ -5,18 +5,13 @@ use Rattle.syn_rows.specs.declared.Row.TheVariants.{Free}
 use Rattle.syn_rows.specs.Rows.{AllRefs, is_derived}
 use Rattle.syn_core_laws.specs.declared.View.{View}
 use Rattle.syn_core_laws.specs.SameValue.{SameValue}
-use Rattle.syn_core_laws.specs.Shown.{IsShown}
 use Rattle.syn_core_laws.specs.Views.{known_key, known_row}
 use Rattle.syn_decide.specs.declared.decisions.NodeRow.{NodeRow}
-use Rattle.syn_decide.specs.Decided.{Done}
-use Rattle.syn_decide.specs.Fold.{Ended, State, placed_now}
+use Rattle.syn_decide.specs.Fold.{State, placed_now}
 use Rattle.syn_decide.specs.Hints.{rows_needed}
 use Rattle.syn_decide.specs.Tasks.{Task}
-use Rattle.syn_decide.specs.Walk.{enters}
-use Rattle.syn_commit_laws.specs.Redefining.{IsInOrder, met_leaves}
+use Rattle.syn_commit_laws.specs.Redefining.{met_leaves}
 use Rattle.syn_commit.specs.Finishing.{new_row}
-use Rattle.syn_commit.specs.Keyed.{IsKeyedSoFar}
-use Rattle.syn_commit.specs.Stages.{IsTrying}
 use Rattle.syn_commit.specs.Storing.{AreMade, KeepsKnown, MayReferTo, node_at}
 
 -- Since the counts rows were made for the new gates that need one, in nodes that were free, with keys a step apart that stay below the root's.

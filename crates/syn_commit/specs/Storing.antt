@@ -1,6 +1,5 @@
 -- The stores of a commit: rows for its new gates are made in nodes of the pool, in order, and then the root is redefined.
-use Rattle.std.specs.Prelude.{◌≡◌, ◌≢◌, ◌⊎◌, ℕ, suc, ◌+◌, ◌*◌, ◌<◌, ◌==◌, if◌then◌else◌, Bool, true, false, List, [], ◌∷◌, ◌++◌, length, slice_index_or, Some}
-use Rattle.std.specs.List.{AllByRecursion}
+use Rattle.std.specs.Prelude.{◌≡◌, ◌≢◌, ◌⊎◌, ℕ, suc, ◌+◌, ◌*◌, ◌<◌, ◌==◌, if◌then◌else◌, true, false, List, [], ◌∷◌, ◌++◌, length, slice_index_or, Some}
 use Rattle.arrayvec.specs.ArrayVec.{ArrayVec}
 use Rattle.syn_rows.specs.declared.Lit.{Lit}
 use Rattle.syn_rows.specs.declared.Row.{Row}
@@ -17,9 +16,7 @@ use Rattle.syn_decide.specs.Hints.{first_new, is_new_gate}
 use Rattle.syn_decide.specs.Walk.{nodes_of}
 use Rattle.syn_decide.specs.Walked.{AreGates}
 use Rattle.syn_commit_laws.specs.Redefining.{row_made}
-use Rattle.syn_commit_laws.specs.Dying.{AreDoomed}
-use Rattle.syn_commit_laws.specs.Freeing.{IsFreeing}
-use Rattle.syn_commit_laws.specs.Turning.{Spares, TurnsAll}
+use Rattle.syn_commit_laws.specs.Turning.{TurnsAll}
 use Rattle.syn_commit.specs.Walks.{AreKnown}
 
 -- A row of this key may refer to the node: the seat may pin it and knows its key, which is below.

@@ -1,27 +1,26 @@
 -- The gain of a commit, and what its stored rows refer to.
 use Rattle.std.proofs.Common.{◌≡◌, ◌≢◌, ◌⊎◌, ℕ, suc, ◌+◌, ◌-◌, ◌*◌, ◌/◌, ◌%◌, ◌<◌, ◌≤◌, ◌==◌, ◌&&◌, nat_le, nat_lt, Bool, true, false, if◌then◌else◌, List, [], ◌∷◌, length, get_or, refl, sym, ap, ◌∙◌, subst, arith, rules, inl, inr}
-use Rattle.std.proofs.lemmas.Bool.{cases_eq, cond_both, eqb-true, leb-true, ltb-false, ltb-true}
+use Rattle.std.proofs.lemmas.Bool.{cases_eq, cond_both, leb-true, ltb-false, ltb-true}
 use Rattle.std.proofs.lemmas.List.{get_or_default, get_or_past}
 use Rattle.syn_rows.specs.declared.Lit.{Lit}
 use Rattle.syn_rows.specs.declared.Row.{Row}
 use Rattle.syn_rows.specs.declared.Row.TheVariants.{Free, And, Alias}
 use Rattle.syn_rows.specs.Rows.{node_of, row_at}
-use Rattle.syn_rows.specs.Joining.{ordered_and}
 use Rattle.syn_rows.specs.Nodes.{has_node}
-use Rattle.syn_rows.specs.References.{and_count, hits as hits_of, refs}
+use Rattle.syn_rows.specs.References.{and_count, hits as hits_of}
 use Rattle.syn_core_laws.proofs.Counting.{hits_other}
 use Rattle.syn_gain.specs.Placing.{Placed}
 use Rattle.syn_decide.specs.declared.decisions.NodeRow.{NodeRow}
 use Rattle.syn_decide.specs.Tasks.{Task}
 use Rattle.syn_decide.specs.Walk.{nodes_of}
-use Rattle.syn_decide.specs.Decided.{Answer, Done, NoGain, NoGap, NoRoom}
+use Rattle.syn_decide.specs.Decided.{Done, NoGain, NoGap, NoRoom}
 use Rattle.syn_decide.specs.Functions.{used_leaves}
-use Rattle.syn_decide.specs.Fold.{State, by_gap, by_room, concluded, freed_by, least_gain, placed_now}
-use Rattle.syn_decide.specs.Hints.{first_new, is_last_new, is_new_gate, new_root_row, out_literal, placed_by_hits, rows_needed}
+use Rattle.syn_decide.specs.Fold.{by_gap, by_room, freed_by, least_gain, placed_now}
+use Rattle.syn_decide.specs.Hints.{first_new, is_new_gate, new_root_row, out_literal, placed_by_hits, rows_needed}
 use Rattle.syn_commit_laws.specs.Origins.{IsFanIn, IsFrom}
 use Rattle.syn_commit_laws.specs.Redefining.{literal_made, row_made}
 use Rattle.syn_commit_laws.specs.Turning.{Spares}
-use Rattle.syn_commit_laws.specs.Gains.{DoneTellsGain, IsApart, IsGain, NewGatesAreStored, StoredRowsSpare, StoreNothingOf}
+use Rattle.syn_commit_laws.specs.Gains.{DoneTellsGain, IsApart, IsGain, NewGatesAreStored, StoredRowsSpare}
 use Rattle.syn_commit_laws.proofs.Origins.{new_rows_refer_to_origins}
 
 -- ---- the answer

@@ -1,6 +1,6 @@
 -- A commit that gives up; the measure of freeing; an unpin as the shared table tells it.
 use Rattle.std.proofs.Common.{eq-zero-or-pos, ◌≡◌, ◌≢◌, ◌⊎◌, ℕ, ◌+◌, ◌<◌, ◌≤◌, ◌==◌, ◌&&◌, ◌||◌, not, Bool, true, false, if◌then◌else◌, List, [], ◌∷◌, ◌++◌, Some, refl, sym, ap, ◌∙◌, subst, arith, inl, inr, ℤ, pos, ◌+ℤ◌}
-use Rattle.std.proofs.lemmas.Bool.{cases_eq, eq-eqb, ne_eqb, both_ways, false_from_ne_true}
+use Rattle.std.proofs.lemmas.Bool.{cases_eq, ne_eqb, both_ways, false_from_ne_true}
 use Rattle.std.proofs.lemmas.Int.{ints}
 use Rattle.syn_rows.specs.declared.Row.{Row}
 use Rattle.syn_rows.specs.declared.Row.TheVariants.{Free, Source, And, Alias}
@@ -13,7 +13,7 @@ use Rattle.syn_core_laws.specs.declared.EventKind.TheVariants as Kind
 use Rattle.syn_rows.specs.Nodes.{has_node}
 use Rattle.syn_core_laws.specs.Lists.{only, without_one, look, kept}
 use Rattle.syn_rows.specs.Rows.{is_derived}
-use Rattle.syn_core_laws.specs.Views.{is_derived_known, known_row, refs_known, own_refs, own_pins, differs, trimmed, released, pinned, unpinned, count_loaded, key_loaded, freed}
+use Rattle.syn_core_laws.specs.Views.{is_derived_known, known_row, refs_known, own_refs, own_pins, differs, released, pinned, unpinned, count_loaded, key_loaded, freed}
 use Rattle.syn_core_laws.proofs.Listing.{and_both, not_false, has_only, other_test, same_test, look_there, look_here, look_kept, look_dropped}
 use Rattle.syn_core_laws.proofs.Counting.{sum_same, sum_change, sum_at, hits_same, hits_other, times_has, times_append, times_less}
 use Rattle.syn_commit_laws.specs.Dying.{ands_in, AreDoomed}

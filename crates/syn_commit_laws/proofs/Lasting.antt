@@ -8,7 +8,6 @@ use Rattle.syn_rows.specs.References.{hits, refs, times}
 use Rattle.syn_core_laws.specs.declared.View.{View}
 use Rattle.syn_rows.specs.Nodes.{has_node}
 use Rattle.syn_core_laws.specs.Lists.{only, without_one, without_each, look, kept}
-use Rattle.syn_rows.specs.Rows.{is_derived}
 use Rattle.syn_core_laws.specs.Views.{is_derived_known, known_row, refs_known, own_refs, own_pins, differs, stays_sole, is_sole, released, pinned, unpinned, count_loaded, key_loaded, key_set, made, redefined, freed}
 use Rattle.syn_rows.proofs.Nodes.{has_here, has_there}
 use Rattle.syn_core_laws.proofs.Listing.{and_both, other_test, same_test, has_only, only_has, look_here, look_there, look_kept, look_dropped}
@@ -21,9 +20,6 @@ use Rattle.syn_commit_laws.proofs.Sums.{sum_some}
 has_if : (m n : ℕ) (b : Bool) (xs : List ℕ) → has_node xs m ≡ true → has_node (if b then n ∷ xs else xs) m ≡ true
 has_if m n true xs h = has_there n m xs h
 has_if m n false xs h = h
-
-gate_known : (o : Option Row) (r : Row) → o ≡ Some r → is_derived_known o ≡ is_derived r
-gate_known o r e = ap is_derived_known e
 
 module _ (nodes root : ℕ) (dying still : ℕ → Bool) (start v : View) (doom : AreDoomed nodes root dying start) (a : AreLeft nodes root dying still start v) where
   -- a row that is left is a gate, and not the root's

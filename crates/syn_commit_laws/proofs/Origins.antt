@@ -1,7 +1,7 @@
 -- Gate by gate, a literal's node is node 0, a used leaf, a hit or a new gate.
-use Rattle.std.proofs.Common.{◌≡◌, ◌≢◌, ◌⊎◌, ℕ, zero, suc, ◌+◌, ◌*◌, ◌/◌, ◌%◌, ◌<◌, ◌≤◌, ◌==◌, ◌&&◌, ◌||◌, nat_lt, Bool, true, false, if◌then◌else◌, List, [], ◌∷◌, ◌++◌, length, get_or, Option, Some, None, refl, sym, ap, ◌∙◌, subst, arith, inl, inr}
-use Rattle.std.specs.List.{AllByRecursion, list_any}
-use Rattle.std.proofs.lemmas.Bool.{and_from, cases_eq, cases_lt, cond_both, eq-eqb, lt-ltb, or_left, or_right}
+use Rattle.std.proofs.Common.{◌≡◌, ◌≢◌, ◌⊎◌, ℕ, zero, suc, ◌+◌, ◌*◌, ◌/◌, ◌%◌, ◌<◌, ◌≤◌, ◌==◌, ◌&&◌, ◌||◌, nat_lt, Bool, true, false, if◌then◌else◌, List, [], ◌∷◌, ◌++◌, length, get_or, Option, Some, None, refl, sym, ◌∙◌, subst, arith, inl, inr}
+use Rattle.std.specs.List.{AllByRecursion}
+use Rattle.std.proofs.lemmas.Bool.{and_from, cases_lt, cond_both, eq-eqb, lt-ltb, or_left, or_right}
 use Rattle.std.proofs.lemmas.List.{get_or_append_left, get_or_past, get_or_push, length_push}
 use Rattle.syn_rows.specs.declared.Lit.{Lit}
 use Rattle.syn_rows.specs.declared.Row.{Row}
@@ -10,7 +10,7 @@ use Rattle.syn_rows.specs.Rows.{node_of, row_at}
 use Rattle.syn_rows.specs.Joining.{complement, constant, lit_of, ordered_and, same_pair, simple_and}
 use Rattle.syn_rows.specs.Nodes.{has_node}
 use Rattle.syn_rows.proofs.JoinLaws.{complement_node, simple_by}
-use Rattle.syn_rows.proofs.Nodes.{has_here, node_same}
+use Rattle.syn_rows.proofs.Nodes.{has_here}
 use Rattle.syn_plan.specs.declared.PLit.{PLit}
 use Rattle.syn_plan.specs.Gates.{index_of}
 use Rattle.syn_plan.specs.Naming.{gates_name, names}
@@ -19,9 +19,9 @@ use Rattle.syn_gain.proofs.Bounds.{each_push}
 use Rattle.syn_decide.specs.declared.decisions.NodeRow.{NodeRow}
 use Rattle.syn_decide.specs.Tasks.{Task}
 use Rattle.syn_decide.specs.Walk.{nodes_of}
-use Rattle.syn_decide.specs.Functions.{used_from, used_leaves, uses}
-use Rattle.syn_decide.specs.Hints.{first_new, is_new_gate, is_pair_of, literal_hit, literal_listed, out_literal, placed_by_hits}
-use Rattle.syn_commit_laws.specs.Origins.{IsFanIn, IsFrom, NewRowsReferToOrigins, ReferToOrigins}
+use Rattle.syn_decide.specs.Functions.{used_from, uses}
+use Rattle.syn_decide.specs.Hints.{first_new, is_new_gate, is_pair_of, literal_hit, literal_listed, placed_by_hits}
+use Rattle.syn_commit_laws.specs.Origins.{IsFanIn, IsFrom, NewRowsReferToOrigins}
 use Rattle.syn_commit_laws.proofs.Keeping.{length_each}
 
 -- ---- indexes of a plan: those of leaves are used ones
@@ -66,9 +66,6 @@ has_used t i (leaf ∷ leaves) (suc j) k e u lt = go (uses t i) (has_used t (i +
 module _ (t : Task) (hits : List NodeRow) where
   abbrev From : ℕ → ℕ → Type 0
   From m n = IsFrom t (nodes_of hits) m n
-
-  from_zero : (m n : ℕ) → n ≡ 0 → From m n
-  from_zero m n e = inl (inl e)
 
   from_more : (m k n : ℕ) → m ≤ k → From m n → From k n
   from_more m k n le (inl old) = inl old

@@ -19,7 +19,7 @@ use Rattle.syn_core_laws.specs.Views.{is_derived_known, known_row, refs_known, o
 use Rattle.syn_core_laws.specs.Cores.{Core}
 use Rattle.syn_core_laws.specs.Sound.{IsSound}
 use Rattle.syn_core_laws.specs.Runs.{Steps, Runs}
-use Rattle.syn_core_laws.specs.Shown.{HasNoCircle, IsShown}
+use Rattle.syn_core_laws.specs.Shown.{HasNoCircle}
 use Rattle.syn_commit_laws.specs.Dying.{ands_in, explained, IsDying, ands_among, AreFound, explained_by, IsLoaded, AreDoomed, IsWalk, AreLoaded}
 use Rattle.syn_commit_laws.specs.Turning.{Turns, Spares, Commits, GivesUp, stored_by, made_by, makes, TurnsAll, CommitsAll, loads, HasCount, gates_known}
 use Rattle.syn_commit_laws.specs.Freeing.{ands_freed, late, redefines, ands_before, ands_after, IsTold, IsFreeing, IsFreed, IsOut, IsGivenUp}

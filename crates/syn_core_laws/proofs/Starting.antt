@@ -19,12 +19,6 @@ use Rattle.syn_core_laws.proofs.Seating.{rests_on}
 use Rattle.syn_core_laws.proofs.Fitting.{all_refs}
 use Rattle.syn_core_laws.proofs.Laws.{value_below}
 
--- ---- lists
-get_front : {A : Type 0} (xs ys : List A) (n : ℕ) (d : A) → n < length xs → get_or (xs ++ ys) n d ≡ get_or xs n d
-get_front [] ys n d lt = absurd (omega arith)
-get_front (x ∷ xs) ys zero d lt = refl
-get_front (x ∷ xs) ys (suc n) d lt = get_front xs ys n d (omega arith)
-
 -- what stands behind a list is its default: reading is the same
 spare_is : {A : Type 0} (k n : ℕ) (d : A) → get_or (replicate k d) n d ≡ d
 spare_is zero n d = refl

@@ -1,5 +1,5 @@
 -- Which nodes are marked: those that need LUTs, once the leaves of all marked nodes were marked.
-use Rattle.std.proofs.Common.{◌≡◌, ℕ, zero, suc, ◌+◌, ◌<◌, ◌≤◌, ◌&&◌, ◌||◌, nat_eq, Bool, true, false, All, List, [], ◌∷◌, length, map, get_or, replicate, refl, sym, ap, ◌∙◌, subst, inl, inr, arith}
+use Rattle.std.proofs.Common.{◌≡◌, ℕ, zero, suc, ◌+◌, ◌<◌, ◌≤◌, ◌&&◌, ◌||◌, Bool, true, false, All, List, [], ◌∷◌, length, map, get_or, replicate, refl, sym, ap, ◌∙◌, subst, inl, inr, arith}
 use Rattle.std.specs.List.{list_all}
 use Rattle.std.proofs.lemmas.Bool.{cases_lt, and_parts, and_from, or_cases, or_left, or_right, both_ways, ltb-true}
 use Rattle.std.proofs.lemmas.List.{get_or_past, get_or_default, get_or-map, length-map}
@@ -20,13 +20,6 @@ joined false true h true = refl
 joined false true true false = refl
 joined false true false false = refl
 joined false false h a = refl
-
--- one node more is marked where it is an AND
-pub mark_next : (rows : List Row) (old new : List Bool) (n : ℕ) (left rest : List ℕ) (all : ℕ → Bool) → left ≡ n ∷ rest → ((m : ℕ) → value_in new m ≡ (value_in old m || (nat_eq n m && is_and (row_at rows m))))
-    → ((m : ℕ) → (value_in old m || (has_node left m && is_and (row_at rows m))) ≡ all m) → (m : ℕ) → (value_in new m || (has_node rest m && is_and (row_at rows m))) ≡ all m
-mark_next rows old new n left rest all split is h m =
-    ap (λ b. b || (has_node rest m && is_and (row_at rows m))) (is m) ∙ joined (value_in old m) (nat_eq n m) (has_node rest m) (is_and (row_at rows m))
-    ∙ sym (ap (λ (l : List ℕ). value_in old m || (has_node l m && is_and (row_at rows m))) split) ∙ h m
 
 none_marked : (count m : ℕ) → value_in (replicate count false) m ≡ false
 none_marked zero m = refl

@@ -64,30 +64,6 @@ found_listed k rows lists (f ∷ fs) are is =
     let here = All-head (IsFound k rows) f fs is in
     found_listed k rows (set lists f.0 f.1) fs (set_listed k rows lists (set lists f.0 f.1) f.0 f.1 are here.0 here.1 refl) (All-tail (IsFound k rows) f fs is)
 
-pub set_done : (k : ℕ) (rows : List Row) (lists new : List (List (List ℕ))) (n : ℕ) → AreListed k rows lists → n < length rows → ((m : ℕ) → m < n → list_at lists m ≡ list_at (listed_cuts k rows) m)
-    → new ≡ set lists n (list_at (listed_cuts k rows) n) → (m : ℕ) → m < n + 1 → list_at new m ≡ list_at (listed_cuts k rows) m
-set_done k rows lists new n are lt done s m l =
-    let size = are.count in
-    let inside : n < length lists = omega (arith, size) in
-    elim (eqb_tells m n) [
-      | inl p ↦ ap (λ x. list_at x m) s ∙ list_here lists n m (list_at (listed_cuts k rows) n) inside p.1 ∙ ap (list_at (listed_cuts k rows)) (sym p.1)
-      | inr p ↦
-          let other = p.1 in
-          ap (λ x. list_at x m) s ∙ get_or-set_other lists n m (list_at (listed_cuts k rows) n) [] other ∙ done m (omega (arith, other))
-    ]
-
--- a list set to what it is
-pub set_same : (k : ℕ) (rows : List Row) (lists : List (List (List ℕ))) (n : ℕ) → AreListed k rows lists → n < length rows → list_at lists n ≢ [] → lists ≡ set lists n (list_at (listed_cuts k rows) n)
-set_same k rows lists n are lt some =
-    let same : list_at lists n ≡ list_at (listed_cuts k rows) n = elim (are.each n lt) [ inl e ↦ absurd (some e) | inr e ↦ e ] in
-    let size = are.count in
-    go lists n (omega (arith, size)) ∙ ap (set lists n) same
-  where
-    go : (xs : List (List (List ℕ))) (n : ℕ) → n < length xs → xs ≡ set xs n (list_at xs n)
-    go [] n l = absurd (omega arith)
-    go (x ∷ xs) zero l = refl
-    go (x ∷ xs) (suc n) l = ap (λ (t : List (List (List ℕ))). x ∷ t) (go xs n (omega arith))
-
 -- all lists
 pub all_done : (k : ℕ) (rows : List Row) (lists : List (List (List ℕ))) → AreListed k rows lists → ((m : ℕ) → m < length rows → list_at lists m ≡ list_at (listed_cuts k rows) m) → lists ≡ listed_cuts k rows
 all_done k rows lists are done =

@@ -47,23 +47,6 @@ behind_more c ds i j d at b e f g =
     ∙ sym (append_assoc (take i ds) (d ∷ []) (put c rest))
     ∙ ap (λ x. x ++ put c rest) (sym (ap (λ k. take k ds) at ∙ take_one ds i d rest e))
 
-pub behind_all : (c : List ℕ) (ds : List (List ℕ)) (i : ℕ) → IsBehind c ds i → length ds ≤ i → put c ds ≡ insert ds (length ds) c
-behind_all c ds i b le =
-    b ∙ ap₂ (λ (x y : List (List ℕ)). x ++ put c y) (take_past ds i le) (drop_past ds i le)
-    ∙ sym (ap₂ (λ (x y : List (List ℕ)). x ++ c ∷ y) (take_past ds (length ds) (omega arith)) (drop_past ds (length ds) (omega arith)))
-  where
-    take_past : (xs : List (List ℕ)) (i : ℕ) → length xs ≤ i → take i xs ≡ xs
-    take_past [] zero le = refl
-    take_past [] (suc i) le = refl
-    take_past (x ∷ xs) zero le = absurd (omega arith)
-    take_past (x ∷ xs) (suc i) le = ap (λ (l : List (List ℕ)). x ∷ l) (take_past xs i (omega arith))
-
-    drop_past : (xs : List (List ℕ)) (i : ℕ) → length xs ≤ i → drop i xs ≡ []
-    drop_past [] zero le = refl
-    drop_past [] (suc i) le = refl
-    drop_past (x ∷ xs) zero le = absurd (omega arith)
-    drop_past (x ∷ xs) (suc i) le = drop_past xs i (omega arith)
-
 -- the first ones
 
 pub take_short : {X : Type 0} (xs : List X) (n : ℕ) → length xs ≤ n → take n xs ≡ xs

@@ -36,9 +36,6 @@ not_same c d h = false_from_ne_true (bytes_eq c d) (λ t. both_ways (comes_befor
 pub before_other : (c d : List ℕ) → comes_before d c ≡ false → bytes_eq c d ≡ false → comes_before c d ≡ true
 before_other c d h ne = before_total d c h (false_from_ne_true (bytes_eq d c) (λ t. both_ways (bytes_eq c d) ne ((bytes_eq-Decides c d).1 (sym ((bytes_eq-Decides d c).0 t)))))
 
-pub before_same : (c d : List ℕ) → bytes_eq c d ≡ true → comes_before c d ≡ false
-before_same c d e = subst (λ x. comes_before c x ≡ false) ((bytes_eq-Decides c d).0 e) (before_apart c)
-
 pub neither_before : (c d : List ℕ) → comes_before d c ≡ false → comes_before c d ≡ false → bytes_eq c d ≡ true
 neither_before c d h g = go (bytes_eq c d) refl
   where

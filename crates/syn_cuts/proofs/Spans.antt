@@ -1,6 +1,6 @@
 -- Lists in parts, as cuts and parts are appended and lists are set.
 use Rattle.std.proofs.Common.{◌≡◌, ℕ, zero, suc, ◌+◌, ◌<◌, ◌≤◌, All, List, [], ◌∷◌, ◌++◌, length, take, drop, replicate, refl, sym, ap, ap₂, ◌∙◌, inl, inr, ◌⊎◌, arith}
-use Rattle.std.proofs.Math.ListN.{set, length-set, get_or-append}
+use Rattle.std.proofs.Math.ListN.{set, get_or-append}
 use Rattle.std.proofs.Math.Seq.{drop-append_seam, get_or-append_seam}
 use Rattle.std.proofs.lemmas.Bool.Decides.{eqb_tells}
 use Rattle.std.proofs.lemmas.Grind.{get_or-set_at}
@@ -38,9 +38,6 @@ list_added part more start len e f =
 
 -- lists that were found, as one more is appended
 
-pub inside_more : (part new : List (List ℕ)) (entries : List Entry) → length part ≤ length new → All (IsInside part) entries → All (IsInside new) entries
-inside_more part new entries le = All-weaker (IsInside part) (IsInside new) (λ e h. omega (arith, le, h)) entries
-
 found_kept : (part more : List (List ℕ)) (entries : List Entry) → All (IsInside part) entries → found_in (part ++ more) entries ≡ found_in part entries
 found_kept part more [] inside = refl
 found_kept part more (e ∷ es) inside =
@@ -73,23 +70,6 @@ lists_kept parts new (s ∷ ss) keeps within =
 
 at_part : (parts : List (List (List ℕ))) (n m : ℕ) (new : List (List ℕ)) → n < length parts → ((m ≡ n) × (part_at (set parts n new) m ≡ new)) ⊎ (part_at (set parts n new) m ≡ part_at parts m)
 at_part parts n m new lt = elim (eqb_tells m n) [ inl p ↦ inl (p.1, get_or-set_at parts n m new [] p.1 lt) | inr p ↦ inr (get_or-set_other parts n m new [] p.1) ]
-
-pub within_grown : (parts : List (List (List ℕ))) (n : ℕ) (new : List (List ℕ)) (spans : List Span) → n < length parts → length (part_at parts n) ≤ length new
-    → All (IsWithin parts) spans → All (IsWithin (set parts n new)) spans
-within_grown parts n new spans lt le = All-weaker (IsWithin parts) (IsWithin (set parts n new)) each spans
-  where
-    each : (s : Span) → IsWithin parts s → IsWithin (set parts n new) s
-    each s h =
-        let count = length-set parts n new in
-        let there = h.0 in
-        let ends = h.1 in
-        elim (at_part parts n s.part new lt) [
-          | inl at ↦
-              let same = ap (λ k. length (part_at parts k)) at.0 in
-              let here = ap length at.1 in
-              (omega (arith, count, there), omega (arith, le, ends, same, here))
-          | inr other ↦ let same = ap length other in (omega (arith, count, there), omega (arith, ends, same))
-        ]
 
 grown_keeps : (parts : List (List (List ℕ))) (n : ℕ) (more : List (List ℕ)) → n < length parts → Keeps parts (set parts n (part_at parts n ++ more))
 grown_keeps parts n more lt s h =

@@ -48,17 +48,6 @@ concluded_high t s freed added least need new f n a m h r =
 uncounted_is : (s : State) (k : ℕ) (d : NodeRow) → k ≡ length s.counts → k < length s.inner → uncounted s ≡ get_or s.inner k d ∷ drop (suc k) s.inner
 uncounted_is s k d e h = ap (λ n. drop n s.inner) (sym e) ∙ drop-cons s.inner k d h
 
--- no row is without a count
-pub count_past : (t : Task) (s : State) (k node count own : ℕ) → k ≡ length s.counts → length s.inner ≤ k → failed s ≡ read_count t s (uncounted s) node count own
-count_past t s k node count own e h = sym (ap (λ l. read_count t s l node count own) (ap (λ n. drop n s.inner) (sym e) ∙ drop_of_length-le s.inner h))
-
--- the count of another node
-pub count_other : (t : Task) (s : State) (k node count own : ℕ) (d : NodeRow) → k ≡ length s.counts → k < length s.inner → (node == (get_or s.inner k d).node) ≡ false
-    → failed s ≡ read_count t s (uncounted s) node count own
-count_other t s k node count own d e h n =
-    sym (ap (λ l. read_count t s l node count own) (uncounted_is s k d e h)
-    ∙ ap (λ c. if c then count_on t (with_count s count own) (drop (suc k) s.inner) else failed s) n)
-
 -- the count of the next row
 pub count_next : (t : Task) (s : State) (k node count own : ℕ) (d : NodeRow) (left : List NodeRow) → k ≡ length s.counts → k < length s.inner → (node == (get_or s.inner k d).node) ≡ true
     → drop (suc k) s.inner ≡ left → count_on t (with_count s count own) left ≡ read_count t s (uncounted s) node count own

@@ -60,9 +60,6 @@ not_alone : (t : Task) (inner : List NodeRow) (r : NodeRow) (stage : Stage) → 
 not_alone t [] r stage = tt
 not_alone t (q ∷ inner) r stage = tt
 
-no_walk : (t : Task) (inner : List NodeRow) (stage : Stage) → FirstIs t.proposal.root inner → AreMet t inner (nodes_of inner) → RootAlone t inner stage → WaitingAreMet t inner stage → IsLinked t inner stage
-no_walk t inner stage f m a w = record { first = f; alone = a; met = m; waiting = w }
-
 module _ (t : Task) (inner : List NodeRow) (r : NodeRow) (f : FirstIs t.proposal.root (inner ++ r ∷ [])) (m : AreMet t (inner ++ r ∷ []) (nodes_of (inner ++ r ∷ []))) where
   abbrev more : List NodeRow
   more = inner ++ r ∷ []

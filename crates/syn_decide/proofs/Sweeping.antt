@@ -85,8 +85,5 @@ module _ (inner : List NodeRow) (tables : List (Option Truth)) (n i : ℕ) (d : 
       ∙ ap (λ q. if q then get_or tables i o else table_for (drop (suc i) inner) (drop (suc i) tables) n) e
       ∙ ap (λ k. if b then get_or tables i o else table_for (drop k inner) (drop k tables) n) (let next : suc i ≡ i + 1 = omega arith in next)
 
-  pub for_here : ((get_or inner i d).node == n) ≡ true → table_for (drop i inner) (drop i tables) n ≡ get_or tables i o
-  for_here e = here true e
-
   pub for_past : ((get_or inner i d).node == n) ≡ false → table_for (drop (i + 1) inner) (drop (i + 1) tables) n ≡ table_for (drop i inner) (drop i tables) n
   for_past e = sym (here false e)

@@ -29,12 +29,6 @@ pub keys_skip : (t : Task) (leaves w : List ℕ) (root i at : ℕ) → i ≡ at 
 keys_skip t leaves w root i at e l h k =
     k ∙ ap (λ j. used_from t j (drop j leaves) ++ root ∷ []) e ∙ ap (λ us. us ++ root ∷ []) (sym (used_skip t leaves at l h))
 
--- and has a leaf that is used in front
-pub keys_take : (t : Task) (leaves w new : List ℕ) (root i at d : ℕ) → i ≡ at + 1 → at < length leaves → uses t at ≡ true → new ≡ get_or leaves at d ∷ w
-    → w ≡ used_from t i (drop i leaves) ++ root ∷ [] → new ≡ used_from t at (drop at leaves) ++ root ∷ []
-keys_take t leaves w new root i at d e l h n k =
-    n ∙ ap (λ us. get_or leaves at d ∷ us) (k ∙ ap (λ j. used_from t j (drop j leaves) ++ root ∷ []) e) ∙ ap (λ us. us ++ root ∷ []) (sym (used_take t leaves at d l h))
-
 find_not : (inner : List NodeRow) (leaf : ℕ) (rest : List ℕ) → is_met inner leaf ≡ true → find (λ n. not (is_met inner n)) (leaf ∷ rest) ≡ find (λ n. not (is_met inner n)) rest
 find_not inner leaf rest h = ap (λ b. cond (not b) (Some leaf) (find (λ n. not (is_met inner n)) rest)) h
 

@@ -1,5 +1,5 @@
 -- What is saved at least, where only some of the freed rows are known.
-use Rattle.std.proofs.Common.{◌≡◌, ℕ, ◌+◌, ◌<◌, ◌≤◌, ◌||◌, ◌&&◌, ◌==◌, Bool, true, false, not, List, length, refl, sym, ap, ◌∙◌, arith, inl, inr, ℤ, pos, ◌+ℤ◌, ◌-ℤ◌, ◌≤ℤ◌}
+use Rattle.std.proofs.Common.{◌≡◌, ℕ, ◌+◌, ◌<◌, ◌≤◌, ◌||◌, ◌&&◌, ◌==◌, Bool, true, false, not, List, length, refl, ap, ◌∙◌, arith, inl, inr, ℤ, pos, ◌+ℤ◌, ◌-ℤ◌, ◌≤ℤ◌}
 use Rattle.std.proofs.lemmas.Bool.{cases_Bool, eq-eqb, eqb-true, eqb-false, both_ways, and_parts, and_from, or_left, or_right, not-true}
 use Rattle.std.proofs.lemmas.List.{get_or_past}
 use Rattle.std.proofs.lemmas.Int.{ints}
@@ -17,7 +17,7 @@ use Rattle.syn_fanout_free.specs.Freeing.{AreFreed, open_to, ands_among}
 use Rattle.syn_fanout_free.specs.Keeping.{IsKeeping}
 use Rattle.syn_fanout_free.specs.Saved.{replaced, IsSaved, IsOwned, IsExtra}
 use Rattle.syn_fanout_free.proofs.Bounded.{count_le, owned_ands}
-use Rattle.syn_fanout_free.proofs.Counts.{is_and_not_free, frees_by_count}
+use Rattle.syn_fanout_free.proofs.Counts.{frees_by_count}
 use Rattle.syn_fanout_free.proofs.Ends.{added_is, keeping_kept, kept_rows, lost_is, unused_same}
 use Rattle.syn_fanout_free.proofs.Kept.{reached_kept, spares_used}
 use Rattle.syn_fanout_free.proofs.Numbers.{one_if, ands_count, count_beyond}

@@ -1,6 +1,6 @@
 -- The steps of the search for freed rows.
 use Rattle.std.proofs.Common.{◌≡◌, ◌≢◌, ℕ, ◌+◌, ◌<◌, ◌≤◌, ◌||◌, ◌&&◌, ◌==◌, leb, Bool, true, false, not, List, [], ◌∷◌, ◌++◌, length, if◌then◌else◌, refl, sym, ap, ◌∙◌, arith, inl, inr}
-use Rattle.std.proofs.lemmas.Bool.{cases_Bool, cases_eq, cases_lt, eq-eqb, eqb-true, ne_eqb, both_ways, and_parts, and_from, and_right, or_left, le-leb, leb-true}
+use Rattle.std.proofs.lemmas.Bool.{cases_Bool, cases_eq, cases_lt, eq-eqb, eqb-true, ne_eqb, and_parts, and_right, or_left, leb-true}
 use Rattle.syn_rows.specs.declared.Row.{Row}
 use Rattle.syn_rows.specs.Rows.{row_at, InOrder, is_derived}
 use Rattle.syn_rows.specs.Reach.{is_and}
@@ -114,21 +114,6 @@ freeing_takes rows counts n may bound dead waits rest node often referred gates 
   where
     under : node < bound
     under = below_bound rows counts n may bound dead waits node f (omega arith)
-
-pub freeing_skips : (rows : List Row) (counts : ℕ → ℕ) (n : ℕ) (may : ℕ → Bool) (dead : List ℕ) (rest : ℕ → ℕ) (node often : ℕ)
-    → IsTaken rows counts n may node often dead rest → (leb (counts node) often && may node) ≡ false → IsFreeing rows counts n may node dead rest
-freeing_skips rows counts n may dead rest node often t lives = record {
-  waiting = t.waiting;
-  gone = t.gone;
-  settled = λ m le ok few. elim (cases_eq m node) [
-    | inl e ↦ absurd (both_ways (leb (counts node) often && may node) lives
-        (and_from (leb (counts node) often) (may node) (le-leb (counts node) often (omega (arith, t.counted, few, ap counts e, ap (refs_from_dead rows n dead) e))) (ap may (sym e) ∙ ok)))
-    | inr ne ↦ t.settled m (omega arith) ok few
-  ];
-  sound = t.sound;
-  high = λ m h. omega (arith, t.high m h);
-  top = omega (arith, t.below);
-}
 
 pub freeing_frees : (rows : List Row) (counts : ℕ → ℕ) (n : ℕ) (may : ℕ → Bool) (dead : List ℕ) (rest next : ℕ → ℕ) (node often : ℕ)
     → InOrder rows → node < length rows

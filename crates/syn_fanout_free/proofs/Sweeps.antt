@@ -1,17 +1,13 @@
 -- The sweep over the new rows.
-use Rattle.std.proofs.Common.{◌≡◌, ℕ, ◌+◌, ◌-◌, ◌<◌, ◌≤◌, ◌||◌, ◌&&◌, ◌==◌, ltb, Bool, true, false, List, [], ◌∷◌, ◌++◌, length, if◌then◌else◌, refl, sym, ap, ◌∙◌, arith, inl, inr}
-use Rattle.std.proofs.lemmas.Bool.{cases_eq, cases_lt, eq-eqb, ne_eqb, both_ways, and_parts, and_from, and_left, and_right, or_from, or_left, or_right, or_cases, lt-ltb, le-ltb, ltb-true}
+use Rattle.std.proofs.Common.{◌≡◌, ℕ, ◌+◌, ◌-◌, ◌<◌, ◌≤◌, ◌||◌, ◌&&◌, ◌==◌, ltb, Bool, true, false, List, [], ◌∷◌, ◌++◌, length, if◌then◌else◌, sym, ap, ◌∙◌, arith, inl, inr}
+use Rattle.std.proofs.lemmas.Bool.{cases_eq, cases_lt, eq-eqb, ne_eqb, and_parts, and_from, or_left, or_right, or_cases, lt-ltb, le-ltb, ltb-true}
 use Rattle.syn_rows.proofs.Nodes.{has_node-append}
-use Rattle.syn_rows.specs.declared.Lit.{Lit}
-use Rattle.syn_rows.specs.declared.Row.TheVariants.{And, Alias}
 use Rattle.syn_rows.specs.declared.Row.{Row}
 use Rattle.syn_rows.specs.Rows.{row_at}
 use Rattle.syn_rows.specs.Values.{value_in}
 use Rattle.syn_fanout_free.specs.Freed.{refers}
 use Rattle.syn_fanout_free.specs.Saved.{IsExtra}
-use Rattle.syn_rows.specs.Rows.{node_of}
-use Rattle.syn_rows.specs.References.{refs}
-use Rattle.syn_fanout_free.proofs.Pointwise.{at_ref, hits_other, refers_first, refers_second, refers_only}
+use Rattle.syn_fanout_free.proofs.Pointwise.{at_ref}
 use Rattle.syn_rows.specs.Nodes.{has_node}
 use Rattle.syn_fanout_free.specs.Keeping.{noted, IsUsed, IsKeeping}
 
@@ -38,40 +34,6 @@ noted_now first r marks after used next more_marks more_used m h = elim (cases_l
       let back : first + (m - first) ≡ m = omega arith in
       noted_at_new first after next m ge ∙ more_marks (m - first) ∙ or_right (value_in marks (m - first)) (refers r (first + (m - first))) (ap (refers r) back ∙ h)
 ]
-
-pub keeping_begins : (first : ℕ) (row : Row) (extra : List Row) (none marks : List Bool) (nothing used : List ℕ)
-    → IsExtra first row extra → length marks ≡ length extra → ((i : ℕ) → value_in none i ≡ false) → ((m : ℕ) → has_node nothing m ≡ false)
-    → ((i : ℕ) → value_in marks i ≡ (value_in none i || refers row (first + i))) → ((m : ℕ) → has_node used m ≡ (has_node nothing m || (refers row m && ltb m first)))
-    → IsKeeping first row extra (length extra) marks used
-keeping_begins first row extra none marks nothing used fits count no_marks no_used more_marks more_used = record {
-  count = count;
-  root = noted_now first row none marks nothing used more_marks more_used;
-  done = λ i m le h r. absurd (omega (arith, at_ref (λ k. k < first + length extra) row fits.root (first + i) (is_row i h), le));
-  sound = λ set rooted closed i h. rooted (first + i) (is_row i h) (omega arith);
-  using = λ m h. elim (or_cases (has_node nothing m) (refers row m && ltb m first) (sym (more_used m) ∙ h)) [
-    | inl old ↦ absurd (both_ways (has_node nothing m) (no_used m) old)
-    | inr new ↦ let parts = and_parts (refers row m) (ltb m first) new in (ltb-true m first parts.1, inl parts.0)
-  ];
-}
-  where
-    is_row : (i : ℕ) → value_in marks i ≡ true → refers row (first + i) ≡ true
-    is_row i h = elim (or_cases (value_in none i) (refers row (first + i)) (sym (more_marks i) ∙ h)) [
-      | inl old ↦ absurd (both_ways (value_in none i) (no_marks i) old)
-      | inr new ↦ new
-    ]
-
-pub keeping_skips : (first : ℕ) (row : Row) (extra : List Row) (i : ℕ) (marks : List Bool) (used : List ℕ)
-    → IsKeeping first row extra (i + 1) marks used → value_in marks i ≡ false → IsKeeping first row extra i marks used
-keeping_skips first row extra i marks used k unmarked = record {
-  count = k.count;
-  root = k.root;
-  done = λ j m le h r. elim (cases_eq j i) [
-    | inl e ↦ absurd (both_ways (value_in marks i) unmarked (ap (value_in marks) (sym e) ∙ h))
-    | inr ne ↦ k.done j m (omega arith) h r
-  ];
-  sound = k.sound;
-  using = k.using;
-}
 
 pub keeping_notes : (first : ℕ) (row : Row) (extra : List Row) (i : ℕ) (marks after : List Bool) (used next : List ℕ)
     → IsExtra first row extra → IsKeeping first row extra (i + 1) marks used → value_in marks i ≡ true → length after ≡ length extra
@@ -134,44 +96,3 @@ used_more used after node first e lt m = ap (λ (xs : List ℕ). has_node xs m) 
       | inl e ↦ or_left (node == m) false (eq-eqb node m e) ∙ sym (and_from (m == node) (ltb m first) (eq-eqb m node (sym e)) (lt-ltb m first (omega arith)))
       | inr ne ↦ ap (λ t. t || false) (ne_eqb node m ne) ∙ sym (ap (λ t. t && ltb m first) (ne_eqb m node (λ e. ne (sym e))))
     ]
-
-pub used_same : (used : List ℕ) (node first m : ℕ) → first ≤ node → has_node used m ≡ (has_node used m || ((m == node) && ltb m first))
-used_same used node first m le = sym (elim (cases_eq m node) [
-  | inl e ↦ ap (λ t. has_node used m || t) (and_right (m == node) (ltb m first) (le-ltb m first (omega (arith, e)))) ∙ or_no (has_node used m)
-  | inr ne ↦ ap (λ t. has_node used m || t) (and_left (m == node) (ltb m first) (ne_eqb m node ne)) ∙ or_no (has_node used m)
-])
-  where
-    or_no : (b : Bool) → (b || false) ≡ b
-    or_no true = refl
-    or_no false = refl
-
--- the references of an AND and of an alias, as tests
-pub refers_and : (a b : Lit) (m : ℕ) → refers (And a b) m ≡ ((m == node_of a) || (m == node_of b))
-refers_and a b m = elim (cases_eq m (node_of a)) [
-  | inl e ↦ ap (refers (And a b)) e ∙ refers_first a b ∙ sym (or_left (m == node_of a) (m == node_of b) (eq-eqb m (node_of a) e))
-  | inr ne ↦ elim (cases_eq m (node_of b)) [
-    | inl e ↦ ap (refers (And a b)) e ∙ refers_second a b ∙ sym (or_right (m == node_of a) (m == node_of b) (eq-eqb m (node_of b) e))
-    | inr other ↦ le-ltb 0 (refs m (And a b)) (omega (arith, hits_other m (node_of a) ne, hits_other m (node_of b) other)) ∙ sym (or_from (m == node_of a) (m == node_of b) (ne_eqb m (node_of a) ne) (ne_eqb m (node_of b) other))
-  ]
-]
-
-pub refers_alias : (a : Lit) (m : ℕ) → refers (Alias a) m ≡ (m == node_of a)
-refers_alias a m = elim (cases_eq m (node_of a)) [
-  | inl e ↦ ap (refers (Alias a)) e ∙ refers_only a ∙ sym (eq-eqb m (node_of a) e)
-  | inr ne ↦ le-ltb 0 (refs m (Alias a)) (omega (arith, hits_other m (node_of a) ne)) ∙ sym (ne_eqb m (node_of a) ne)
-]
-
--- two marks, two notes, after one another
-pub or_twice : (x y z a b c : Bool) → y ≡ (x || a) → z ≡ (y || b) → c ≡ (a || b) → z ≡ (x || c)
-or_twice true y z a b c e f g = f ∙ ap (λ t. t || b) e
-or_twice false y z a b c e f g = f ∙ ap (λ t. t || b) e ∙ sym g
-
-pub note_twice : (x y z a b l c : Bool) → y ≡ (x || (a && l)) → z ≡ (y || (b && l)) → c ≡ (a || b) → z ≡ (x || (c && l))
-note_twice x y z a b l c e f g = or_twice x y z (a && l) (b && l) (c && l) e f (ap (λ t. t && l) g ∙ both a b l)
-  where
-    both : (a b l : Bool) → ((a || b) && l) ≡ ((a && l) || (b && l))
-    both true true true = refl
-    both true true false = refl
-    both true false true = refl
-    both true false false = refl
-    both false b l = refl

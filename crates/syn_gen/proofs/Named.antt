@@ -94,6 +94,3 @@ signals_at (suc n) i lt = elim (cases_lt i n) [
 
 pub signals_are : (n count : ℕ) → count ≤ n → AreSignals count (signals n)
 signals_are n count le = record { at = λ i lt. signals_at n i (omega arith) }
-
-pub fewer_signals : (n count : ℕ) (names : List (List ℕ)) → count ≤ n → AreSignals n names → AreSignals count names
-fewer_signals n count names le are = record { at = λ i lt. are.at i (omega arith) }

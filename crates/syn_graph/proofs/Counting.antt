@@ -1,7 +1,6 @@
 -- Every AND of a graph counts, and references of rows and literals.
-use Rattle.std.proofs.Common.{if◌then◌else◌, ◌≡◌, ℕ, zero, suc, ◌+◌, ◌-◌, ◌*◌, ◌<◌, ◌≤◌, ◌&&◌, Bool, true, false, List, [], ◌∷◌, length, get_or, drop, nat_eq, refl, sym, ap, ◌∙◌, arith, inl, inr}
+use Rattle.std.proofs.Common.{if◌then◌else◌, ◌≡◌, ℕ, zero, suc, ◌+◌, ◌-◌, ◌*◌, ◌<◌, ◌≤◌, ◌&&◌, Bool, true, false, List, [], ◌∷◌, length, nat_eq, refl, ap, ◌∙◌, arith, inl, inr}
 use Rattle.std.proofs.lemmas.Bool.{cases_lt, cases_Bool, and_from}
-use Rattle.std.proofs.lemmas.List.{drop_more}
 use Rattle.syn_rows.specs.declared.Lit.{Lit}
 use Rattle.syn_rows.specs.declared.Row.{Row}
 use Rattle.syn_rows.specs.declared.Row.TheVariants.{Free, Source, And, Alias}
@@ -75,12 +74,6 @@ pub rows_few : (m n : ℕ) (rows : List Row) → sum_below n (λ i. refs m (row_
 rows_few m zero rows = omega arith
 rows_few m (suc n) rows = omega (arith, rows_few m n rows, refs_few m (row_at rows n))
 
-pub sum_next : (n : ℕ) (f : ℕ → ℕ) → sum_below (n + 1) f ≡ sum_below n f + f n
-sum_next n f = ap (λ k. sum_below k f) (let s : n + 1 ≡ suc n = omega arith in s)
-
 pub literals_few : (m : ℕ) (lits : List Lit) → refs_by_literals m lits ≤ length lits
 literals_few m [] = omega arith
 literals_few m (l ∷ ls) = omega (arith, literals_few m ls, hits_few m (node_of l))
-
-pub literals_more : (m : ℕ) (lits : List Lit) (i : ℕ) (l : Lit) → i < length lits → l ≡ get_or lits i l → refs_by_literals m (drop i lits) ≡ hits m (node_of l) + refs_by_literals m (drop (i + 1) lits)
-literals_more m lits i l lt at = ap (refs_by_literals m) (drop_more lits i l lt) ∙ ap (λ (x : Lit). hits m (node_of x) + refs_by_literals m (drop (i + 1) lits)) (sym at)

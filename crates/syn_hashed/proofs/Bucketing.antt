@@ -96,20 +96,6 @@ and_linked count rows a b heads next k node is inside at room x = record {
   ];
 }
 
--- without rows all is 0
-pub index_begins : (count : ℕ) (heads next : List ℕ) → length heads ≡ count → 0 < count → ((k : ℕ) → number_at heads k ≡ 0) → IsIndex count [] heads next
-index_begins count heads next many some zeros = record {
-  many = many;
-  some = some;
-  long = omega arith;
-  of_bucket = λ k lt. record {
-    own = λ ne. absurd (ne (zeros k));
-    below = λ ne. absurd (ne (zeros k));
-    greatest = λ m lt h. absurd (omega arith);
-  };
-  of_node = λ k n h. absurd (not_none k h);
-}
-
 -- room for a further row
 pub longer_kept : (count : ℕ) (rows : List Row) (heads next : List ℕ) (x : ℕ) → IsIndex count rows heads next → IsIndex count rows heads (next ++ x ∷ [])
 longer_kept count rows heads next x i = record {
@@ -124,12 +110,6 @@ longer_kept count rows heads next x i = record {
 pub record IsSought (count : ℕ) (rows : List Row) (a b : Lit) (node : ℕ) : Type 0 where
   pub own : (node ≡ 0 → ⊥) → IsIn count rows (bucket count a b) node
   pub left : (n : ℕ) → row_at rows n ≡ And a b → n ≤ node
-
-pub sought_first : (count : ℕ) (rows : List Row) (heads next : List ℕ) (a b : Lit) (k : ℕ) → IsIndex count rows heads next → k ≡ bucket count a b → k < count → IsSought count rows a b (number_at heads k)
-sought_first count rows heads next a b k x is lt = record {
-  own = λ ne. (x.of_bucket k lt).own ne ∙ ap Some is;
-  left = λ n at. (let h : IsIn count rows k n = ap (bucket_of count) at ∙ ap Some (sym is) in (x.of_bucket k lt).greatest n (in_there count rows k n h) h);
-}
 
 pub sought_next : (count : ℕ) (rows : List Row) (heads next : List ℕ) (a b : Lit) (node : ℕ) → IsIndex count rows heads next → (node ≡ 0 → ⊥) → (row_at rows node ≡ And a b → ⊥) → IsSought count rows a b node
     → IsSought count rows a b (number_at next node) × (number_at next node < node)

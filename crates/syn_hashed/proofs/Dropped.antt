@@ -54,19 +54,6 @@ gate_is_and n Source h = absurd (both_ways false refl h)
 gate_is_and n (And a b) h = (a, b, refl, gate_parts n a b h)
 gate_is_and n (Alias a) h = absurd (both_ways false refl h)
 
--- a fact of each row of hashed rows, from its three parts
-pub each_hashed : (count : ℕ) (rows : List Row) → IsHashed count rows → (P : ℕ → Row → Type 0) → ((m : ℕ) → m < count + 1 → P m Source) → ((m : ℕ) → length rows ≤ m → P m Free)
-    → ((m : ℕ) (a b : Lit) → count < m → m < length rows → row_at rows m ≡ And a b → IsGate m a b → P m (And a b)) → (m : ℕ) → P m (row_at rows m)
-each_hashed count rows hashed P f g h m = elim (cases_lt m (count + 1)) [
-  | inl lt ↦ subst (P m) (sym (hashed.front m lt)) (f m lt)
-  | inr ge ↦ elim (cases_lt m (length rows)) [
-    | inl lt ↦
-        let (a, b, is, gate) = gate_is_and m (row_at rows m) (hashed.gates m (omega arith) lt) in
-        subst (P m) (sym is) (h m a b (omega arith) lt is gate)
-    | inr past ↦ subst (P m) (sym (get_or_past rows m Free past)) (g m past)
-  ]
-]
-
 -- kept sets
 
 -- the sources are kept, and with each node those that it refers to

@@ -118,9 +118,6 @@ below_le keep (suc n) = elim (cases_Bool (keep n)) [ inl k ↦ omega (arith, bel
 pub moved_node : (place : ℕ → ℕ) (l : Lit) → node_of (moved_lit place l) ≡ place (node_of l)
 moved_node place l = omega arith
 
-pub moved_sign : (place : ℕ → ℕ) (l : Lit) → (2 * place (node_of l) + l.0 % 2) % 2 ≡ l.0 % 2
-moved_sign place l = omega arith
-
 -- one more row
 pub kept_step : (keep : ℕ → Bool) (b : Bool) (n : ℕ) (row : Row) (rest left done new whole : List Row) → left ≡ row ∷ rest → b ≡ keep n
     → new ≡ done ++ (if b then moved_row (kept_below keep) row ∷ [] else []) → done ++ kept_from keep n left ≡ whole → new ++ kept_from keep (n + 1) rest ≡ whole

@@ -180,9 +180,6 @@ hashed_pairs_once count rows h = record {
 
 -- what the AND rules give
 
-pub joined_simple : (rows : List Row) (x y l : Lit) → Some l ≡ simple_and x y → (l ≡ joined_lit rows x y) × (rows ≡ joined_rows rows x y)
-joined_simple rows x y l e = (ap (λ o. lit_or_new rows (or_else o (literal_below rows (length rows) x y))) e, ap (λ o. rows_or_new rows (ordered_and x y) (or_else o (literal_below rows (length rows) x y))) e)
-
 there_is : (rows : List Row) (x y : Lit) (o : Option Lit) → NeedRow x y → o ≡ literal_below rows (length rows) x y → o ≡ literal_there rows x y
 there_is rows x y o needs e = e ∙ ap (λ s. or_else s (literal_below rows (length rows) x y)) (sym (needs_none x y needs))
 

@@ -19,9 +19,6 @@ extends_itself rows = record { more = []; is = sym (append-nil rows) }
 pub extends_through : (a b c : List Row) → Extends a b → Extends b c → Extends a c
 extends_through a b c e f = record { more = e.more ++ f.more; is = f.is ∙ ap (λ (rows : List Row). rows ++ f.more) e.is ∙ append_assoc a e.more f.more }
 
-pub extends_same : (old new : List Row) → new ≡ old → Extends old new
-extends_same old new e = record { more = []; is = e ∙ sym (append-nil old) }
-
 pub extends_longer : (old new : List Row) → Extends old new → length old ≤ length new
 extends_longer old new e = omega (arith, ap length e.is, length-append old e.more)
 

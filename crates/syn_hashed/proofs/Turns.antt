@@ -141,9 +141,6 @@ known_nil : (literals : List (Option Lit)) (m : ℕ) → IsKnown literals [] m �
 known_nil literals m (inl v) = v
 known_nil literals m (inr w) = absurd w
 
-pub all_visited : (literals : List (Option Lit)) (lits : List Lit) → All (λ l. IsKnown literals [] (node_of l)) lits → All (λ l. IsSome (visited literals (node_of l))) lits
-all_visited literals lits h = All-weaker (λ (l : Lit). IsKnown literals [] (node_of l)) (λ (l : Lit). IsSome (visited literals (node_of l))) (λ l k. known_nil literals (node_of l) k) lits h
-
 -- when a node is left, all that it refers to was visited
 pub turns_ready : (rows : List Row) (rank : ℕ → ℕ) (literals : List (Option Lit)) (ss : List Step) (n : ℕ) → InTurn rows rank literals (ss ++ Leave n ∷ []) → AllRefs (λ m. IsSome (visited literals m)) (row_at rows n)
 turns_ready rows rank literals [] n h = AllRefs-weaker (IsKnown literals []) (λ m. IsSome (visited literals m)) (known_nil literals) (row_at rows n) h.1

@@ -6,7 +6,7 @@ use Rattle.std.proofs.lemmas.Bool.{cases_Bool, cases_eq, cases_lt, cond-true, co
 use Rattle.syn_rows.specs.declared.Lit.{Lit}
 use Rattle.syn_rows.specs.declared.Row.{Row}
 use Rattle.syn_rows.specs.declared.Row.TheVariants.{Free, Source, And, Alias}
-use Rattle.syn_rows.specs.Rows.{node_of, row_at, AllRefs}
+use Rattle.syn_rows.specs.Rows.{node_of, row_at}
 use Rattle.syn_rows.specs.Values.{lit_value, value_in, values_of, Fits, RowFits}
 use Rattle.syn_rows.specs.Reach.{ands_in, is_and, IsReachedSet}
 use Rattle.syn_rows.specs.References.{and_count}
@@ -15,7 +15,7 @@ use Rattle.syn_rows.specs.Levels.{HasLevels, level_in, levels_of, row_level}
 use Rattle.std.proofs.Common.{max}
 use Rattle.syn_hashed.specs.Growing.{value_by, level_by, Extends, IsAnd, IsJoin}
 use Rattle.syn_hashed.proofs.LevelLaws.{level_kept, source_level, join_level}
-use Rattle.syn_hashed.specs.Visiting.{visited, with_sign, literal_of, both, fan_ins_of, unvisited, IsVisit, IsMade, IsReady, FirstsOf, StaysVisited, IsMadeAgain}
+use Rattle.syn_hashed.specs.Visiting.{visited, with_sign, literal_of, both, fan_ins_of, unvisited, IsVisit, IsMade, FirstsOf, StaysVisited, IsMadeAgain}
 use Rattle.syn_hashed.specs.Walking.{VisitsReached}
 use Rattle.syn_hashed.specs.Compacting.{CanCompact, HasSources}
 use Rattle.syn_rows.specs.Values.{given_by}
@@ -24,7 +24,6 @@ use Rattle.std.proofs.lemmas.List.{length-map}
 use Rattle.std.proofs.lemmas.List.Elements.{All-nil, All-cons}
 use Rattle.syn_hashed.specs.Hashed.{lit_at}
 use Rattle.std.proofs.lemmas.Bool.{eq-eqb}
-use Rattle.syn_rows.specs.declared.TheConstants.{NODE_LIMIT}
 use Rattle.syn_hashed.proofs.Rising.{extends_itself, extends_longer, literal_kept, source_value}
 use Rattle.syn_hashed.proofs.Joining.{plain_value, not_value}
 use Rattle.syn_hashed.proofs.Counted.{ands_fewer, ands_more}
@@ -200,12 +199,6 @@ pub alias_all : (count : ℕ) (rows : List Row) (literals : List (Option Lit)) (
 alias_all count rows literals new n a None visit is fa = tt
 alias_all count rows literals new n a (Some l) visit is fa = alias_made count rows literals new n a l visit is (sym fa)
 
--- a node that was not visited leaves room for its row
-pub room_left : (count : ℕ) (rows : List Row) (literals : List (Option Lit)) (new : List Row) (n : ℕ) → IsVisit count rows literals new → n < length rows → visited literals n ≡ None → length rows < NODE_LIMIT → length new + 1 < NODE_LIMIT
-room_left count rows literals new n visit lt none few =
-    let inside : n < length literals = omega (arith, visit.all) in
-    omega (arith, sum_by-set unvisited literals n (Some (record { 0 = 0 })) None inside, ap unvisited none, visit.few)
-
 pub stays_more : (literals : List (Option Lit)) (n : ℕ) (l : Lit) → visited literals n ≡ None → StaysVisited literals (set literals n (Some l))
 stays_more literals n l none m k e = elim (cases_eq m n) [
   | inl same ↦ absurd (clash k (sym e ∙ (ap (visited literals) same ∙ none)))
@@ -267,21 +260,6 @@ visit_begins count rows literals new wide made size firsts = record {
 some_sign : (lit : Lit) (o : Option Lit) → IsSome o → IsSome (with_sign lit o)
 some_sign lit None h = h
 some_sign lit (Some l) h = h
-
-both_some : (o p : Option Lit) → IsSome o → IsSome p → IsSome (both o p)
-both_some None p h k = h
-both_some (Some a) None h k = k
-both_some (Some a) (Some b) h k = refl
-
-pub ready_alias : (literals : List (Option Lit)) (row : Row) (a : Lit) → row ≡ Alias a → IsReady literals row → IsSome (literal_of literals a)
-ready_alias literals row a is ready = some_sign a (visited literals (node_of a)) (subst (AllRefs (λ m. IsSome (visited literals m))) is ready.1)
-
--- a row that is ready and no alias has both fan-ins
-pub ready_fan_ins : (literals : List (Option Lit)) (row : Row) → ((a : Lit) → row ≡ Alias a → ⊥) → IsReady literals row → IsSome (fan_ins_of literals row)
-ready_fan_ins literals Free other ready = absurd (both_ways true ready.0 refl)
-ready_fan_ins literals Source other ready = absurd (both_ways true ready.0 refl)
-ready_fan_ins literals (And a b) other ready = both_some (literal_of literals a) (literal_of literals b) (some_sign a (visited literals (node_of a)) ready.1.0) (some_sign b (visited literals (node_of b)) ready.1.1)
-ready_fan_ins literals (Alias a) other ready = absurd (other a refl)
 
 pub some_of : (o : Option Lit) (l : Lit) → o ≡ Some l → IsSome o
 some_of o l e = subst IsSome (sym e) refl

@@ -119,13 +119,6 @@ line_ended (Some all) None line so_far ended some = absurd so_far.consumed
 line_ended (Some all) (Some left) line so_far ended some =
     sym (ap next_line (all_taken all left line so_far.consumed ended) ∙ next_line_some line some ∙ ap Some (take_all (position_or_len is_line_feed line) line (omega (arith, so_far.plain))))
 
-pub none_ended : (first now : Option (List ℕ)) (line : List ℕ) → IsBegun first now line → IsAtEnd now → length line ≡ 0 →
-    IfSome first (λ left. None ≡ next_line left)
-none_ended first now (b ∷ bs) so_far ended none = absurd (omega arith)
-none_ended None now [] so_far ended none = tt
-none_ended (Some all) None [] so_far ended none = absurd so_far.consumed
-none_ended (Some all) (Some left) [] so_far ended none = sym (ap next_line (all_taken all left [] so_far.consumed ended))
-
 pub left_ended : (first now : Option (List ℕ)) (line : List ℕ) → IsBegun first now line → IsAtEnd now →
     IfSome first (λ left. now ≡ Some (after_line left))
 left_ended None now line so_far ended = tt

@@ -8,9 +8,8 @@ use Rattle.std.proofs.lemmas.List.{append-nil, drop_all, drop_more, map-append}
 use Rattle.std.proofs.lemmas.List.Elements.{All-push, filter_agree}
 use Rattle.std.proofs.lemmas.List.Folds.{list_any-append}
 use Rattle.syn_plan.specs.declared.PLit.{PLit}
-use Rattle.syn_plan.specs.Factoring.{Built, factored, names_once}
+use Rattle.syn_plan.specs.Factoring.{Built, factored}
 use Rattle.syn_plan.specs.declared.plan.Plan.{Plan}
-use Rattle.syn_npn.proofs.Computed.{every_at}
 use Rattle.syn_plan.specs.Naming.{built_of}
 use Rattle.syn_library.specs.Library.{firsts, function_of, orders, plans_of, same_built, same_gate}
 
@@ -149,9 +148,6 @@ still-more class i h = ap (map (λ order. factored 4 order (function_of class)))
 pub still-end : (class i : ℕ) → 4 ≤ i → still class i ≡ []
 unfolding still
 still-end class i h = ap (map (λ order. factored 4 order (function_of class))) (drop_all i orders h)
-
-pub names_once-orders : (i : ℕ) → i < 4 → names_once 4 (get_or orders i []) ≡ true
-names_once-orders = every_at 4 (λ i. names_once 4 (get_or orders i [])) refl
 
 -- ---- the plan of a class in an order
 pub built_of-is : (p : Plan) (b : Built) → p.gates.items ≡ b.gates → p.out ≡ b.out → built_of p ≡ b

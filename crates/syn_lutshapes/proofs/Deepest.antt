@@ -1,16 +1,14 @@
 -- The deepest signal of a LUT net is observed.
-use Rattle.std.proofs.Common.{replicate, ◌≡◌, ℕ, zero, suc, ◌+◌, ◌-◌, ◌<◌, ◌≤◌, ◌&&◌, max, nat_le, nat_lt, Bool, true, All, List, [], ◌∷◌, map, length, get_or, refl, sym, ap, ◌∙◌, inl, inr, arith}
+use Rattle.std.proofs.Common.{replicate, ◌≡◌, ℕ, zero, suc, ◌+◌, ◌-◌, ◌<◌, ◌≤◌, ◌&&◌, max, nat_le, nat_lt, Bool, true, List, [], ◌∷◌, map, length, get_or, refl, sym, ap, ◌∙◌, inl, inr, arith}
 use Rattle.std.specs.List.{list_all}
 use Rattle.std.proofs.lemmas.Bool.{cases_lt, and_parts, and_from, leb-true, le-leb}
 use Rattle.std.proofs.lemmas.List.{length-map, get_or-map}
-use Rattle.syn_rows.specs.declared.Lit.{Lit}
 use Rattle.syn_rows.specs.Rows.{node_of}
 use Rattle.syn_rows.specs.Reach.{HasObserved}
 use Rattle.syn_netlist.specs.Lists.{sources}
-use Rattle.syn_netlist.specs.Walk.{distinct_numbers}
-use Rattle.syn_lutshapes.specs.Luts.{Lut, lut_at, greatest, lut_depth, signal_depths, depth_in, net_depth, is_input, IsClosed, DeepestIsObserved}
+use Rattle.syn_lutshapes.specs.Luts.{lut_at, greatest, lut_depth, signal_depths, depth_in, is_input, IsClosed, DeepestIsObserved}
 use Rattle.syn_lutshapes.proofs.Folding.{below, In, IsLocal, length-luts, luts_kept, lut_step}
-use Rattle.syn_lutshapes.proofs.LutTables.{LutParts, lut_parts}
+use Rattle.syn_lutshapes.proofs.LutTables.{lut_parts}
 
 -- the greatest of a list
 

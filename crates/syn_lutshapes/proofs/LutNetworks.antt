@@ -1,5 +1,5 @@
 -- The netlist of a LUT net is ordered, has LUT shape, and spells the net.
-use Rattle.std.proofs.Common.{◌≡◌, ℕ, zero, suc, ◌+◌, ◌-◌, ◌*◌, ◌<◌, ◌≤◌, nat_le, not, Bool, true, false, All, List, [], ◌∷◌, ◌++◌, map, length, filter, find, bytes_eq, refl, sym, ap, ap₂, ◌∙◌, subst, inl, inr, append-nil, arith}
+use Rattle.std.proofs.Common.{◌≡◌, ℕ, ◌+◌, ◌-◌, ◌*◌, ◌<◌, ◌≤◌, nat_le, not, Bool, true, false, All, List, [], ◌∷◌, ◌++◌, map, length, find, bytes_eq, refl, sym, ap, ap₂, ◌∙◌, subst, inl, inr, append-nil, arith}
 use Rattle.std.specs.Prelude.{flat_map}
 use Rattle.std.specs.List.{AllByRecursion}
 use Rattle.std.proofs.lemmas.Bool.{and_parts, and_from, or_from, or_parts, not-true, not_from_false, cases_Bool, both_ways, cond-true, cond-false, false_from_ne_true}
@@ -20,7 +20,7 @@ use Rattle.syn_shapes.proofs.Spelled.{place_in_front}
 use Rattle.syn_shapes.proofs.Inner.{filtered, distinct-filter, length-inner_names, inner_names_distinct, inner_names_free}
 use Rattle.syn_shapes.proofs.Gates.{lit}
 use Rattle.syn_shapes.proofs.Ends.{firsts_distinct, AllWithin, end_outputs, ends_are_ends, ends_read, end_found, end_back}
-use Rattle.syn_lutshapes.specs.Luts.{Lut, IsClosed, Reached, IsLutNet, none_exceeds, net_depth, net_gates}
+use Rattle.syn_lutshapes.specs.Luts.{Lut, IsClosed, Reached, none_exceeds, net_depth, net_gates}
 use Rattle.syn_lutshapes.specs.LutShape.{has_more, lut_tables, end_tables, signal_names, lut_of, luts_of, lit_of, observed_of, is_lut_table, LutShape}
 use Rattle.syn_lutshapes.specs.LutSpelling.{lut_tables_of, lut_names, lut_network, NetworkOfLuts}
 use Rattle.syn_lutshapes.proofs.LutTables.{AreLuts, luts_from_each, keeps_all, keeps_none, not_all, not_none, luts_have_more, lut_outputs, luts_spell, luts_are_tables, luts_read}

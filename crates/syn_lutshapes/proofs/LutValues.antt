@@ -1,12 +1,12 @@
 -- The LUTs that a netlist of LUT shape spells have the values of its names.
-use Rattle.std.proofs.Common.{if◌then◌else◌, ◌≡◌, ℕ, zero, suc, ◌+◌, ◌*◌, ◌/◌, ◌%◌, ◌<◌, ◌&&◌, ◌||◌, nat_eq, nat_le, not, Bool, true, false, All, List, [], ◌∷◌, ◌++◌, map, length, get_or, find, Some, bytes_eq, refl, sym, ap, ap₂, ◌∙◌, subst, inl, inr, append_assoc, append-nil, add-one, eq-eqb, arith}
-use Rattle.std.specs.List.{list_any, list_all, AllByRecursion}
-use Rattle.std.proofs.lemmas.Bool.{and_parts, or_cases, not_from_false, cases_Bool, both_ways, cond-true, cond-false, eqb-true, false_from_ne_true}
+use Rattle.std.proofs.Common.{if◌then◌else◌, ◌≡◌, ℕ, suc, ◌+◌, ◌*◌, ◌/◌, ◌%◌, ◌<◌, ◌&&◌, ◌||◌, nat_eq, nat_le, not, Bool, true, false, All, List, [], ◌∷◌, ◌++◌, map, length, get_or, find, Some, bytes_eq, refl, sym, ap, ap₂, ◌∙◌, subst, inl, inr, append_assoc, append-nil, add-one, eq-eqb, arith}
+use Rattle.std.specs.List.{list_all, AllByRecursion}
+use Rattle.std.proofs.lemmas.Bool.{and_parts, or_cases, cases_Bool, both_ways, cond-true, cond-false, eqb-true, false_from_ne_true}
 use Rattle.std.proofs.lemmas.List.{map-append, length-map, length-append, get_or_append_left, get_or-append-add}
 use Rattle.std.proofs.lemmas.List.Elements.{All-same, recursion_from_All}
 use Rattle.syn_rows.specs.declared.Lit.{Lit}
 use Rattle.syn_rows.specs.Values.{lit_value, value_in}
-use Rattle.syn_netlist.specs.Words.{has_word, distinct, without}
+use Rattle.syn_netlist.specs.Words.{has_word, distinct}
 use Rattle.syn_netlist.specs.Costs.{is_sign}
 use Rattle.syn_netlist.specs.Lists.{Table, Netlist, output_of, sources, observed}
 use Rattle.syn_netlist.specs.Covers.{fits_bit, matches, cover_value}
@@ -15,8 +15,8 @@ use Rattle.syn_netlist.specs.Order.{Ordered, reads_known, OrderedHasOne}
 use Rattle.syn_netlist.proofs.Sets.{same_word, has_head, has_tail, has_left}
 use Rattle.syn_truth.specs.Truth.{digit, minterm_of}
 use Rattle.syn_shapes.specs.GraphShape.{place, shown, lit_shown, lit_of_table, is_end_cover, is_end_table}
-use Rattle.syn_shapes.proofs.Spelled.{in_rest, place_lt, place_in_front, has_without}
-use Rattle.syn_lutshapes.specs.Luts.{Lut, has_one, ones_value, lut_value, fold_luts, signal_values, rising, luts_function}
+use Rattle.syn_shapes.proofs.Spelled.{in_rest, place_in_front, has_without}
+use Rattle.syn_lutshapes.specs.Luts.{ones_value, lut_value, fold_luts, signal_values, rising, luts_function}
 use Rattle.syn_lutshapes.specs.LutShape.{lut_tables, end_tables, signal_names, row_minterm, signal_of, lut_of, luts_of, lit_of, observed_of, is_minterm_row, is_lut_table, LutShape, LutsHaveFunction}
 
 -- a row of signs matches the values of one minterm alone

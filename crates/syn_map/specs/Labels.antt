@@ -1,5 +1,5 @@
 -- Labels: how deep a node lies at best in LUTs over its listed cuts, and the cut that is chosen for it (Mishchenko, Cho, Chatterjee and Brayton, ICCAD 2007, "priority cuts"; which cut is chosen is this project's choice).
-use Rattle.std.specs.Prelude.{◌≡◌, ◌≢◌, ℕ, ◌+◌, ◌<◌, ◌≤◌, ◌==◌, min, if◌then◌else◌, Bool, All, List, [], ◌∷◌, ◌++◌}
+use Rattle.std.specs.Prelude.{◌≡◌, ◌≢◌, ℕ, ◌+◌, ◌<◌, ◌≤◌, ◌==◌, min, if◌then◌else◌, All, List, [], ◌∷◌, ◌++◌}
 use Rattle.syn_rows.specs.declared.Row.{Row}
 use Rattle.syn_rows.specs.declared.Row.TheVariants.{Free, Source, And, Alias}
 use Rattle.syn_rows.specs.Rows.{row_at, fold_rows}

@@ -1,6 +1,6 @@
 -- The flattening is put together, and keeps what a netlist's type asks.
-use Rattle.std.proofs.Common.{◌≡◌, ℕ, zero, suc, ◌+◌, ◌^◌, ◌≤◌, ◌<◌, ◌++◌, ◌&&◌, not, get_or, Bool, true, false, List, [], ◌∷◌, map, flat_map, length, bytes_eq, refl, sym, ap, ap₂, ◌∙◌, subst, inl, inr, Option, Some, None, arith}
-use Rattle.std.specs.List.{list_all, list_any, All, AllByRecursion}
+use Rattle.std.proofs.Common.{◌≡◌, ℕ, suc, ◌+◌, ◌^◌, ◌≤◌, ◌<◌, ◌++◌, ◌&&◌, not, get_or, Bool, true, false, List, [], ◌∷◌, map, flat_map, length, bytes_eq, refl, sym, ap, ap₂, ◌∙◌, subst, inl, inr, Option, Some, None, arith}
+use Rattle.std.specs.List.{list_all, All, AllByRecursion}
 use Rattle.std.proofs.lemmas.Bool.{and_parts, and_from, both_ways, not-true, not_from_false, false_from_ne_true, cases_Bool, cases_lt, cond-true, cond-false}
 use Rattle.std.proofs.lemmas.List.Elements.{All-from_recursion}
 use Rattle.syn_netlist.specs.declared.LatchKind.{LatchKind}
@@ -9,8 +9,8 @@ use Rattle.syn_netlist.specs.declared.tables.Table as code_table
 use Rattle.syn_netlist.specs.Kept.{latch_in, frame_of, no_nil_control, control_number}
 use Rattle.syn_netlist.specs.Lists.{Latch, Table, Frame, Netlist, control_of, output_of, sources}
 use Rattle.syn_netlist.specs.Numbers.{word_at, words_at, all_below, kind_at, Grows}
-use Rattle.syn_netlist.specs.Order.{DefinedOnce, defined}
-use Rattle.syn_netlist.specs.Tables.{table_in, tables_below}
+use Rattle.syn_netlist.specs.Order.{DefinedOnce}
+use Rattle.syn_netlist.specs.Tables.{table_in}
 use Rattle.syn_netlist.specs.Words.{has_word, distinct}
 use Rattle.syn_netlist.proofs.Growing.{all_below-more, length-grows, no_nil_words, words_at-grows}
 use Rattle.syn_netlist.proofs.Places.{has_word_at, below_parts}
@@ -26,16 +26,16 @@ use Rattle.syn_models.specs.declared.met.Part.{Part}
 use Rattle.syn_models.specs.declared.ports.Role.{Role}
 use Rattle.syn_models.specs.declared.ports.Role.TheVariants as roles
 use Rattle.syn_models.specs.Called.{Spells}
-use Rattle.syn_models.specs.Calling.{Calls, IsFewest, inner_count, AreMaps, AreSpelled, IsMapped, BelowPart, SpelledPart, latches_by, tables_by, map_at, home_at}
+use Rattle.syn_models.specs.Calling.{Calls, IsFewest, inner_count, AreMaps, AreSpelled, BelowPart, SpelledPart, latches_by, tables_by, map_at}
 use Rattle.syn_models.specs.FlatFaults.{first_fault_of_models, greatest, told, most_words, NoRecursion, IsFirstFlatFault, WithinWords}
 use Rattle.syn_models.specs.declared.flat_fault.FlatFault.TheVariants.{TooManyWords}
-use Rattle.syn_models.specs.Flattening.{as_it_is, called_inside, outer_or, called_kind, called_latch, inner_name, flat, flattened, latches_called, tables_called, IsFlattening}
+use Rattle.syn_models.specs.Flattening.{as_it_is, called_inside, outer_or, called_kind, called_latch, inner_name, flat, latches_called, tables_called, IsFlattening}
 use Rattle.syn_models.specs.Kept.{actual_number, bind_in, has_no_nil, kind_has_no_nil, kind_in, not_nil, numbers_in, statement_in, statements_below}
 use Rattle.syn_models.specs.Listed.{listed_in, words_listed}
-use Rattle.syn_models.specs.Models.{Bind, Models, StatementKind, Inputs, Outputs, Clock, OneLatch, OneTable, OneSubcircuit, Statement, Model, all_of, actual_in, actual_of, alone, inputs_of, clocks_of, outputs_of, is_closed, model_named, names_in}
+use Rattle.syn_models.specs.Models.{Bind, Models, StatementKind, Inputs, Outputs, Clock, OneLatch, OneTable, OneSubcircuit, Statement, Model, all_of, actual_in, actual_of, alone, inputs_of, clocks_of, is_closed, model_named, names_in}
 use Rattle.syn_models.specs.Opening.{Opened, End, Plain, Instance, Opens, instances, words_inside, words_of}
 use Rattle.syn_models.specs.Views.{model_in}
-use Rattle.syn_models.specs.Walking.{Entry, entries_of, parts_of, entry_in, part_in, homes_of, Homed, HomedPart, IsWalked}
+use Rattle.syn_models.specs.Walking.{entries_of, entry_in, part_in, homes_of, HomedPart, IsWalked}
 use Rattle.syn_models.proofs.Callings.{flat_by_parts, slashes_by_entries, calls_exist, few_names}
 use Rattle.syn_models.proofs.Existing.{Among, named_among}
 use Rattle.syn_models.proofs.Faults.{opened_without}
@@ -150,13 +150,6 @@ flat_clear models inner free all next called clear (s ∷ ss) (Instance c m insi
 
 -- the maps of parts
 
-mapped_parts : (count : ℕ) (homes : List (List (List ℕ))) (maps : List (List ℕ)) (ps : List Part) → AreMaps count homes maps → AllByRecursion (HomedPart homes) ps → AllByRecursion (IsMapped maps) ps
-mapped_parts count homes maps [] are h = tt
-mapped_parts count homes maps (p ∷ ps) are h = (
-  record { there = (let a = are.all in let b = h.0.below in omega arith); size = are.sizes p.place.number h.0.below ∙ ap length h.0.names },
-  mapped_parts count homes maps ps are h.1,
-)
-
 below_parts_all : (count : ℕ) (homes : List (List (List ℕ))) (maps : List (List ℕ)) (ps : List Part) → AreMaps count homes maps → AllByRecursion (HomedPart homes) ps → AllByRecursion (BelowPart count maps) ps
 below_parts_all count homes maps [] are h = tt
 below_parts_all count homes maps (p ∷ ps) are h = (are.below p.place.number h.0.below, below_parts_all count homes maps ps are h.1)
@@ -167,9 +160,6 @@ spelled_parts all homes calls maps (p ∷ ps) s h = (
   subst (λ (own : List (List ℕ)). Spells all own (calls p.place.number) (map_at maps p.place.number)) h.0.names (s p.place.number h.0.below),
   spelled_parts all homes calls maps ps s h.1,
 )
-
-pub parts_mapped : (models : List Model) (main : code.Model) (list : List met.Instance) (parts : List Part) (count : ℕ) (maps : List (List ℕ)) → IsWalked models main list parts → AreMaps count (homes_of main list) maps → AllByRecursion (IsMapped maps) parts
-parts_mapped models main list parts count maps w are = mapped_parts count (homes_of main list) maps parts are w.homed
 
 pub parts_below : (models : List Model) (main : code.Model) (list : List met.Instance) (parts : List Part) (count : ℕ) (maps : List (List ℕ)) → IsWalked models main list parts → AreMaps count (homes_of main list) maps → AllByRecursion (BelowPart count maps) parts
 parts_below models main list parts count maps w are = below_parts_all count (homes_of main list) maps parts are w.homed

@@ -1,7 +1,7 @@
 -- What the names of all instances are called, in a list and in a tree.
-use Rattle.std.proofs.Common.{◌≡◌, ℕ, zero, suc, ◌+◌, ◌≤◌, ◌<◌, ◌++◌, ◌||◌, nat_eq, if◌then◌else◌, Bool, true, false, List, [], ◌∷◌, map, flat_map, length, refl, sym, ap, ap₂, ◌∙◌, subst, inl, inr, Some, append_assoc, length-append, arith}
+use Rattle.std.proofs.Common.{◌≡◌, ℕ, suc, ◌+◌, ◌≤◌, ◌<◌, ◌++◌, ◌||◌, nat_eq, if◌then◌else◌, Bool, true, false, List, [], ◌∷◌, map, flat_map, length, refl, sym, ap, ap₂, ◌∙◌, subst, inl, inr, Some, length-append, arith}
 use Rattle.std.specs.List.{list_any}
-use Rattle.std.proofs.lemmas.Bool.{cond-true, cond-false, cases_eq}
+use Rattle.std.proofs.lemmas.Bool.{cond-true, cond-false}
 use Rattle.std.proofs.lemmas.Bool.Decides.{eqb_tells}
 use Rattle.std.proofs.lemmas.List.Concat.{flat_map-append}
 use Rattle.syn_models.specs.declared.hierarchy.Model as code
@@ -11,7 +11,7 @@ use Rattle.syn_models.specs.Flattening.{called_inside, inner_name, flat, taken, 
 use Rattle.syn_models.specs.Models.{StatementKind, Statement, Model, model_named}
 use Rattle.syn_models.specs.Opening.{Opened, End, Plain, Instance, Opens, instances, words_inside}
 use Rattle.syn_models.specs.Views.{model_in}
-use Rattle.syn_models.specs.Walking.{Entry, entries_of, parts_of, entry_in, inner_names, Homed, Wired}
+use Rattle.syn_models.specs.Walking.{Entry, entries_of, parts_of, entry_in, inner_names, Wired}
 use Rattle.syn_models.proofs.Existing.{Among, named_among}
 
 pub entries_count : (own next : ℕ) (tree : Opened) → length (entries_of own next tree) ≡ instances tree

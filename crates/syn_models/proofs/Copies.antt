@@ -1,6 +1,5 @@
 -- Latches and tables are copied one after the other.
-use Rattle.std.proofs.Common.{◌≡◌, ℕ, ◌++◌, List, [], ◌∷◌, map, flat_map, sym, ap, ap₂, ◌∙◌, subst, append_assoc, append-nil}
-use Rattle.std.specs.List.{AllByRecursion}
+use Rattle.std.proofs.Common.{◌≡◌, ℕ, ◌++◌, List, [], ◌∷◌, map, flat_map, sym, ap, ap₂, ◌∙◌, append_assoc, append-nil}
 use Rattle.syn_models.specs.declared.met.Part.{Part}
 use Rattle.syn_models.specs.Models.{StatementKind}
 use Rattle.syn_models.specs.Walking.{part_in}

@@ -15,7 +15,7 @@ use Rattle.syn_models.specs.Models.{Bind, Subcircuit, StatementKind, Inputs, Out
 use Rattle.syn_models.specs.Opening.{Opened, End, Plain, Instance, Opens, instances}
 use Rattle.syn_models.specs.Flattening.{inner_name, outer_or, called_inside, as_it_is, called_kind, called_latch, flat, latches_called, tables_called, flattened}
 use Rattle.syn_models.specs.declared.flat_fault.FlatFault.TheVariants.{Undriven}
-use Rattle.syn_models.specs.FlatFaults.{Site, checks, statement_fault, first_of_statements, first_of_models, first_fault_of_models, foreign, unbound, reads_of, defines_of, defined_plainly, defined_inside, defined_in, names_read, undriven_in}
+use Rattle.syn_models.specs.FlatFaults.{Site, checks, statement_fault, first_of_statements, first_of_models, first_fault_of_models, foreign, unbound, reads_of, defines_of, defined_plainly, defined_in, names_read, undriven_in}
 use Rattle.syn_models.specs.FlatFaults as faults
 use Rattle.syn_models.specs.Laws.{FlatteningIsDriven}
 use Rattle.syn_models.proofs.Existing.{Among, named_among}

@@ -1,17 +1,16 @@
 -- The names of all instances get their numbers, instance by instance.
-use Rattle.std.proofs.Common.{◌≡◌, ℕ, zero, suc, ◌+◌, ◌^◌, ◌≤◌, ◌<◌, ◌++◌, nat_lt, true, List, [], ◌∷◌, map, length, get_or, slice_index_or, refl, sym, ap, ap₂, ◌∙◌, subst, inl, inr, append_assoc, append-nil, length-append, arith}
+use Rattle.std.proofs.Common.{◌≡◌, ℕ, suc, ◌+◌, ◌^◌, ◌≤◌, ◌<◌, ◌++◌, nat_lt, true, List, [], ◌∷◌, map, length, refl, sym, ap, ap₂, ◌∙◌, subst, inl, inr, append_assoc, append-nil, length-append, arith}
 use Rattle.std.proofs.lemmas.Bool.{cases_eq, and_from, lt-ltb}
 use Rattle.std.proofs.lemmas.List.{get_or_push, get_or_append_left}
 use Rattle.syn_netlist.specs.Numbers.{word_at, all_below, Grows}
 use Rattle.syn_netlist.proofs.Growing.{all_below-more, length-grows, Grows-again, Grows-same}
-use Rattle.syn_models.specs.declared.hierarchy.Bind.{Bind}
 use Rattle.syn_models.specs.declared.hierarchy.Model as code
 use Rattle.syn_models.specs.declared.met.Instance as met
-use Rattle.syn_models.specs.Called.{Spells, called_number, actuals_below}
+use Rattle.syn_models.specs.Called.{Spells, called_number}
 use Rattle.syn_models.specs.Calling.{Calls, inner_count, map_at, home_at, AreMaps, AreSpelled}
 use Rattle.syn_models.specs.Flattening.{as_it_is, called_inside, inner_name}
 use Rattle.syn_models.specs.Views.{bind_in}
-use Rattle.syn_models.specs.Walking.{entry_in, inner_names, homes_of, Homed, Wired}
+use Rattle.syn_models.specs.Walking.{entry_in, inner_names, homes_of, Wired}
 use Rattle.syn_models.proofs.Instance.{spells_grows}
 
 -- the names so far, with what is left of the instances
@@ -42,12 +41,6 @@ calling_begins all maps main list count w few e are s = record {
 
 pub outer_there : (all : List (List ℕ)) (maps : List (List ℕ)) (main : code.Model) (list rest : List met.Instance) (count i : ℕ) (x : met.Instance) (h : IsCalling all maps main list (x ∷ rest) count i) → x.outer.number < length maps
 outer_there all maps main list rest count i x h = (let b = h.wired.0.below in let a = h.maps_are.all in omega arith)
-
-pub outer_size : (all : List (List ℕ)) (maps : List (List ℕ)) (main : code.Model) (list rest : List met.Instance) (count i : ℕ) (x : met.Instance) (h : IsCalling all maps main list (x ∷ rest) count i) → length (map_at maps x.outer.number) ≡ length x.outer.home.now.names
-outer_size all maps main list rest count i x h = h.maps_are.sizes x.outer.number h.wired.0.below ∙ ap length h.wired.0.names
-
-pub outer_below : (all : List (List ℕ)) (maps : List (List ℕ)) (main : code.Model) (list rest : List met.Instance) (count i : ℕ) (x : met.Instance) (h : IsCalling all maps main list (x ∷ rest) count i) → all_below (length all) (map_at maps x.outer.number) ≡ true
-outer_below all maps main list rest count i x h = h.maps_are.below x.outer.number h.wired.0.below
 
 -- one more map
 

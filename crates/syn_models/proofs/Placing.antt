@@ -125,12 +125,6 @@ again_here names before m bs i b w l e some =
     ap (first_again (pushed before (defines_in names m (take i bs)))) (defines_left names m bs i b l e)
     ∙ again_front (pushed before (defines_in names m (take i bs))) (defines_in names m (b ∷ [])) (defines_in names m (drop (i + 1) bs)) w some
 
--- a bind whose actual is marked, or not
-pub again_marked : (names before : List (List ℕ)) (m : models.Model) (b : Bind) (marks : List Bool) → b.actual < length names → Marked names before marks → is_reading m b.formal ≡ false → slice_index_or marks b.actual false ≡ true
-    → first_again before (defines_in names m (b ∷ [])) ≡ Some (word_at names b.actual)
-again_marked names before m b marks l h r t =
-    ap (first_again before) (one_defines names m b [] r) ∙ cond-true (has_word before (word_at names b.actual)) (Some (word_at names b.actual)) None (sym (h.at b.actual l) ∙ t)
-
 pub again_unmarked : (names before : List (List ℕ)) (m : models.Model) (b : Bind) (marks : List Bool) → b.actual < length names → Marked names before marks → is_reading m b.formal ≡ false → slice_index_or marks b.actual false ≡ false
     → first_again before (defines_in names m (b ∷ [])) ≡ None
 again_unmarked names before m b marks l h r t =

@@ -8,7 +8,7 @@ use Rattle.syn_netlist.specs.declared.Latch.{Latch}
 use Rattle.syn_netlist.specs.declared.tables.Table.{Table}
 use Rattle.syn_netlist.specs.Kept.{latch_in, latches_below, latch_numbers, control_number, no_nil_control, nil_word}
 use Rattle.syn_netlist.specs.Numbers.{word_at, words_at, with_word, all_below, kind_at, Grows}
-use Rattle.syn_netlist.specs.Tables.{table_in, tables_below}
+use Rattle.syn_netlist.specs.Tables.{table_in}
 use Rattle.syn_netlist.specs.Words.{has_word}
 use Rattle.syn_netlist.specs.Lists.{control_of}
 use Rattle.syn_netlist.specs.Lists as lists
@@ -88,19 +88,6 @@ pub table_in-grows : (names more : List (List ℕ)) (table : Table) → Grows na
 table_in-grows names more table g h =
     let parts = and_parts (nat_lt table.output (length names)) (all_below (length names) table.inputs) h in
     ap₂ (λ (ws : List (List ℕ)) (w : List ℕ). let t : lists.Table = record { inputs = ws; output = w; rows = table.rows; on = table.on } in t) (words_at-grows names more table.inputs g parts.1) (word_at-grows names more table.output g (ltb-true table.output (length names) parts.0))
-
-pub tables_in-grows : (names more : List (List ℕ)) (tables : List Table) → Grows names more → tables_below (length names) tables ≡ true → map (table_in more) tables ≡ map (table_in names) tables
-tables_in-grows names more [] g h = refl
-tables_in-grows names more (t ∷ ts) g h =
-    let parts = and_parts (nat_lt t.output (length names) && all_below (length names) t.inputs) (tables_below (length names) ts) h in
-    ap₂ (λ (x : lists.Table) (xs : List lists.Table). x ∷ xs) (table_in-grows names more t g parts.0) (tables_in-grows names more ts g parts.1)
-
-pub tables_below-more : (m n : ℕ) (tables : List Table) → m ≤ n → tables_below m tables ≡ true → tables_below n tables ≡ true
-tables_below-more m n [] le h = refl
-tables_below-more m n (t ∷ ts) le h =
-    let parts = and_parts (nat_lt t.output m && all_below m t.inputs) (tables_below m ts) h in
-    let here = and_parts (nat_lt t.output m) (all_below m t.inputs) parts.0 in
-    and_from (nat_lt t.output n && all_below n t.inputs) (tables_below n ts) (and_from (nat_lt t.output n) (all_below n t.inputs) (below-more m n t.output le here.0) (all_below-more m n t.inputs le here.1)) (tables_below-more m n ts le parts.1)
 
 -- the controls by their words
 

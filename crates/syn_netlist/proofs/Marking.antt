@@ -1,13 +1,9 @@
 -- Marks by number.
-use Rattle.std.proofs.Common.{◌≡◌, ℕ, zero, suc, ◌<◌, ◌||◌, not, nat_eq, Bool, true, false, List, [], ◌∷◌, ◌++◌, length, replicate, get_or, refl, sym, ap, ap₂, ◌∙◌, subst, inl, inr, arith, append_assoc, cond}
-use Rattle.std.proofs.Math.ListN.{set, length-set}
+use Rattle.std.proofs.Common.{◌≡◌, ℕ, ◌<◌, ◌||◌, not, nat_eq, Bool, true, false, List, [], ◌∷◌, ◌++◌, refl, sym, ap, ap₂, ◌∙◌, subst, inl, inr, append_assoc, cond}
 use Rattle.std.proofs.lemmas.Bool.{cases_Bool, cond-true, cond-false, or_left, or_right, not_from_false, not_from_true}
 use Rattle.std.proofs.lemmas.Bool.{eqb-true}
-use Rattle.std.proofs.lemmas.Bool.Decides.{eqb_tells}
-use Rattle.std.proofs.lemmas.Grind.{get_or-set_at}
-use Rattle.std.proofs.lemmas.List.{get_or-set_other}
 use Rattle.std.proofs.lemmas.List.Elements.{filter_agree}
-use Rattle.syn_netlist.specs.Marks.{has_number, without_numbers, first_numbers, AreMarks}
+use Rattle.syn_netlist.specs.Marks.{has_number, without_numbers, first_numbers}
 
 pub has_number-append : (xs ys : List ℕ) (i : ℕ) → has_number (xs ++ ys) i ≡ (has_number xs i || has_number ys i)
 has_number-append [] ys i = refl
@@ -17,28 +13,9 @@ has_number-append (x ∷ xs) ys i = ap (λ t. nat_eq x i || t) (has_number-appen
     or_assoc true b c = refl
     or_assoc false b c = refl
 
-pub AreMarks-none : (n : ℕ) → AreMarks [] (replicate n false)
-AreMarks-none n = record { at = none n }
-  where
-    none : (n i : ℕ) → i < length (replicate n false) → get_or (replicate n false) i false ≡ false
-    none zero i lt = absurd (omega arith)
-    none (suc n) zero lt = refl
-    none (suc n) (suc i) lt = none n i (omega arith)
-
 or_none : (b : Bool) → (b || false) ≡ b
 or_none true = refl
 or_none false = refl
-
-pub AreMarks-set : (numbers : List ℕ) (marks : List Bool) (n : ℕ) → AreMarks numbers marks → n < length marks → AreMarks (numbers ++ n ∷ []) (set marks n true)
-AreMarks-set numbers marks n m lt = record {
-  at = λ i less.
-      let inside : i < length marks = omega (arith, length-set {A = Bool}) in
-      elim (eqb_tells n i) [
-        | inl (t, e) ↦ get_or-set_at marks n i true false (sym e) lt ∙ sym (has_number-append numbers (n ∷ []) i ∙ or_right (has_number numbers i) (nat_eq n i || false) (or_left (nat_eq n i) false t))
-        | inr (t, e) ↦ get_or-set_other marks n i true false (λ h. e (sym h)) ∙ m.at i inside
-            ∙ sym (has_number-append numbers (n ∷ []) i ∙ ap (λ b. has_number numbers i || (b || false)) t ∙ or_none (has_number numbers i))
-      ];
-}
 
 -- taking away one number's repeats twice
 

@@ -2,7 +2,7 @@
 use Rattle.std.proofs.Common.{◌≡◌, ℕ, zero, suc, ◌+◌, ◌<◌, ◌≤◌, ◌||◌, not, Bool, true, false, List, [], ◌∷◌, ◌++◌, length, length-append, map, replicate, get_or, bytes_eq, Option, Some, None, refl, sym, ap, ap₂, ◌∙◌, subst, inl, inr, arith}
 use Rattle.std.specs.List.{list_all, sum_by}
 use Rattle.std.proofs.Math.ListN.{set, length-set}
-use Rattle.std.proofs.lemmas.Bool.{and_parts, or_from, cond-true, cond-false}
+use Rattle.std.proofs.lemmas.Bool.{and_parts, or_from, cond-true}
 use Rattle.std.proofs.lemmas.Bool.Decides.{eqb_tells}
 use Rattle.std.proofs.lemmas.Grind.{get_or-set_at}
 use Rattle.std.proofs.lemmas.List.{get_or-set_other, length-replicate}
@@ -99,9 +99,6 @@ room_for names chosen places n dis placed lt none =
     let few = few_chosen names (chosen ++ word_at names n ∷ []) (set places n (Some (length chosen))) (placed_more names chosen places n dis placed lt none) in
     omega (arith, few, length-append chosen (word_at names n ∷ []))
 
-pub not_chosen : (names chosen : List (List ℕ)) (places : List (Option ℕ)) (n : ℕ) → ArePlaces names chosen places → n < length names → get_or places n None ≡ None → has_word chosen (word_at names n) ≡ false
-not_chosen names chosen places n placed lt none = (placed.at n lt).none none
-
 pub place_of : (names chosen : List (List ℕ)) (places : List (Option ℕ)) (n p : ℕ) → ArePlaces names chosen places → n < length names → get_or places n None ≡ Some p → (p < length chosen) × (word_at chosen p ≡ word_at names n)
 place_of names chosen places n p placed lt some = (placed.at n lt).there p some
 
@@ -109,9 +106,6 @@ pub chosen_already : (names chosen : List (List ℕ)) (places : List (Option ℕ
 chosen_already names chosen places n p placed lt some =
     let at = place_of names chosen places n p placed lt some in
     sym (cond-true (has_word chosen (word_at names n)) chosen (chosen ++ word_at names n ∷ []) (subst (λ (w : List ℕ). has_word chosen w ≡ true) at.1 (has_word_at chosen p at.0)))
-
-pub chosen_now : (chosen : List (List ℕ)) (w : List ℕ) → has_word chosen w ≡ false → chosen ++ w ∷ [] ≡ with_word chosen w
-chosen_now chosen w none = sym (cond-false (has_word chosen w) chosen (chosen ++ w ∷ []) none)
 
 -- a word at its place passes a test that all pass
 pub word_passes : (test : List ℕ → Bool) (names : List (List ℕ)) (numbers : List ℕ) (i : ℕ) → list_all test (words_at names numbers) ≡ true → i < length numbers → test (word_at names (get_or numbers i 0)) ≡ true

@@ -1,11 +1,11 @@
 -- The steps of the walk keep its state.
-use Rattle.std.proofs.Common.{◌≡◌, ◌≢◌, ℕ, zero, suc, ◌+◌, ◌<◌, ◌≤◌, ◌&&◌, ◌||◌, not, nat_eq, nat_lt, Bool, true, false, List, [], ◌∷◌, ◌++◌, length, map, take, replicate, get_or, refl, sym, ap, ◌∙◌, subst, inl, inr, arith, Option, Some, None, MatchOption, sum_by}
+use Rattle.std.proofs.Common.{◌≡◌, ◌≢◌, ℕ, zero, suc, ◌+◌, ◌<◌, ◌≤◌, ◌&&◌, ◌||◌, not, nat_eq, nat_lt, Bool, true, false, List, [], ◌∷◌, ◌++◌, length, map, take, get_or, refl, sym, ap, ◌∙◌, subst, inl, inr, arith, Option, Some, None, MatchOption, sum_by}
 use Rattle.std.proofs.Math.ListN.{set, length-set}
 use Rattle.std.specs.List.{list_all}
 use Rattle.std.proofs.lemmas.Bool.{ltb-true, and_parts, and_from, or_left, or_right, or_parts, or_from, both_ways, not-true, not_from_false, false_from_ne_true, cases_lt}
 use Rattle.std.proofs.lemmas.Bool.Decides.{eqb_tells}
 use Rattle.std.proofs.lemmas.Grind.{get_or-set_at}
-use Rattle.std.proofs.lemmas.List.{get_or-set_other, get_or_past, length-replicate}
+use Rattle.std.proofs.lemmas.List.{get_or-set_other, get_or_past}
 use Rattle.std.proofs.lemmas.List.Sums.{sum_by-set}
 use Rattle.syn_netlist.specs.declared.ordering.Stage.{Stage}
 use Rattle.syn_netlist.specs.declared.ordering.Stage.TheVariants.{Waiting, Open, Done}
@@ -13,7 +13,7 @@ use Rattle.syn_netlist.specs.declared.tables.Table.{Table}
 use Rattle.syn_netlist.specs.Marks.{has_number}
 use Rattle.syn_netlist.specs.Numbers.{all_below}
 use Rattle.syn_netlist.specs.Tables.{tables_below}
-use Rattle.syn_netlist.specs.Walk.{AreMakers, table_output, output_at, inputs_at, distinct_numbers, maker_at, stage_at, is_open, is_done, weight, maker_done, is_finished, maker_among, reads_made, seen_at, Leads, Linked, Begins, IsOrderWalk, IsNext, GoOn, Meets, IsOrder}
+use Rattle.syn_netlist.specs.Walk.{AreMakers, table_output, output_at, inputs_at, distinct_numbers, maker_at, stage_at, is_open, is_done, weight, maker_done, is_finished, maker_among, reads_made, seen_at, Leads, Linked, Begins, IsOrderWalk, IsNext, GoOn, Meets}
 use Rattle.syn_netlist.proofs.Marking.{has_number-append}
 use Rattle.syn_netlist.proofs.Places.{below_parts, below_from, all_below-append}
 
@@ -343,76 +343,6 @@ maker_is tables makers name u m e = elim (cases_lt name (length makers)) [
   | inl lt ↦ subst (λ o. MatchOption o (has_number (map table_output tables) name ≡ false) (λ t. (t < length tables) × (output_at tables t ≡ name))) e (m.at name lt)
   | inr le ↦ (let past : maker_at makers name ≡ None = get_or_past makers name None le in cc)
 ]
-
--- goes on and on
-pub GoOn-same : (stages : List Stage) → GoOn stages stages
-GoOn-same stages k = omega arith
-
-pub GoOn-again : (a b c : List Stage) → GoOn a b → GoOn b c → GoOn a c
-GoOn-again a b c g h k = let x = g k in let y = h k in omega arith
-
--- what was opened is done once no table is open
-pub done_now : (tables : List Table) (makers : List (Option ℕ)) (old new : List Stage) (seen order : List ℕ) (root : ℕ) → root < length tables → length old ≡ length tables → GoOn (set old root Open) new → IsOrderWalk tables makers new seen [] order
-    → is_done (stage_at new root) ≡ true
-done_now tables makers old new seen order root below fit g w =
-    let inside : root < length new = subst (λ n. root < n) (sym w.stages_fit) below in
-    let here = ap weight (stage_here old root Open (subst (λ n. root < n) (sym fit) below)) in
-    let less : weight (stage_at new root) ≤ 1 = (let h = g root in omega arith) in
-    neither (stage_at new root) (w.open_ones root inside) less
-  where
-    neither : (s : Stage) → is_open s ≡ false → weight s ≤ 1 → is_done s ≡ true
-    neither Waiting h l = absurd (omega arith)
-    neither Open h l = absurd (both_ways true h refl)
-    neither Done h l = refl
-
-pub GoOn-open : (stages : List Stage) (t : ℕ) → t < length stages → is_open (stage_at stages t) ≡ false → is_done (stage_at stages t) ≡ false → GoOn stages (set stages t Open)
-GoOn-open stages t lt h k = GoOn-set stages t Open lt (let w = waiting_weight (stage_at stages t) h k in omega arith)
-
-pub still_done : (old new : List Stage) → GoOn old new → (root : ℕ) → ((k : ℕ) → k < root → is_done (stage_at old k) ≡ true) → is_done (stage_at new root) ≡ true → (k : ℕ) → k < root + 1 → is_done (stage_at new k) ≡ true
-still_done old new g root before here k lt = elim (eqb_tells k root) [
-  | inl (b, e) ↦ ap (λ j. is_done (stage_at new j)) e ∙ here
-  | inr (b, e) ↦ later_done old new g k (before k (omega arith))
-]
-
--- all tables are done
-pub ordered_all : (tables : List Table) (makers : List (Option ℕ)) (stages : List Stage) (seen path order : List ℕ) → IsOrderWalk tables makers stages seen path order → ((k : ℕ) → k < length tables → is_done (stage_at stages k) ≡ true) → IsOrder tables makers order
-ordered_all tables makers stages seen path order w h = record {
-  below = w.order_below;
-  once = w.order_once;
-  all = λ t lt. sym (w.done_ones t (subst (λ n. t < n) (sym w.stages_fit) lt)) ∙ h t lt;
-  made = w.made;
-}
-
--- the walk at its start
-pub IsOrderWalk-start : (tables : List Table) (makers : List (Option ℕ)) (n : ℕ) → length tables ≡ n → IsOrderWalk tables makers (replicate n Waiting) (replicate n 0) [] []
-IsOrderWalk-start tables makers n e = record {
-  stages_fit = length-replicate n Waiting ∙ sym e;
-  seen_fit = length-replicate n 0 ∙ sym e;
-  open_ones = λ t lt. ap is_open (all_waiting n t);
-  done_ones = λ t lt. ap is_done (all_waiting n t);
-  path_below = refl;
-  path_once = refl;
-  order_below = refl;
-  order_once = refl;
-  looked = λ t lt. ap (λ k. list_all (is_finished makers (replicate n Waiting)) (take k (inputs_at tables t))) (all_zero n t) ∙ none (inputs_at tables t);
-  linked = tt;
-  begins = tt;
-  made = refl;
-}
-  where
-    all_waiting : (n t : ℕ) → stage_at (replicate n Waiting) t ≡ Waiting
-    all_waiting zero t = refl
-    all_waiting (suc n) zero = refl
-    all_waiting (suc n) (suc t) = all_waiting n t
-
-    all_zero : (n t : ℕ) → seen_at (replicate n 0) t ≡ 0
-    all_zero zero t = refl
-    all_zero (suc n) zero = refl
-    all_zero (suc n) (suc t) = all_zero n t
-
-    none : (xs : List ℕ) → list_all (is_finished makers (replicate n Waiting)) (take 0 xs) ≡ true
-    none [] = refl
-    none (x ∷ xs) = refl
 
 pub output_below : (n : ℕ) (tables : List Table) (t : ℕ) → tables_below n tables ≡ true → t < length tables → output_at tables t < n
 output_below n [] t h lt = absurd (omega arith)

@@ -7,7 +7,7 @@ use Rattle.syn_npn.specs.declared.Transform.{Transform}
 use Rattle.syn_npn.specs.Images.{is_permutation}
 use Rattle.syn_npn.specs.Permutations.{image_at, neg_at, perm_at, permutation_at}
 use Rattle.syn_npn.specs.Transforms.{IsCanon, image_of, order_by, order_of}
-use Rattle.syn_npn.proofs.Computed.{every, every_at, every_permutation}
+use Rattle.syn_npn.proofs.Computed.{every, every_at}
 use Rattle.syn_npn.proofs.Computed as computed
 
 same : List ℕ → List ℕ → Bool

@@ -14,7 +14,7 @@ use Rattle.syn_paths.specs.Tops.{IsInTop}
 use Rattle.syn_paths.specs.Augmenting.{along, AreOnce, has_place, IsFlow}
 use Rattle.syn_paths.specs.Checking.{all_within}
 use Rattle.syn_paths.specs.Tops.{label_in}
-use Rattle.syn_paths.specs.Searching.{AreLow, CameFrom, IsFoundAt, IsStart, IsTrail, IsWayAt, next_at, NextWithin, node_at, place_at, TrailFalls, TrailWithin}
+use Rattle.syn_paths.specs.Searching.{AreLow, IsFoundAt, IsStart, IsTrail, IsWayAt, next_at, NextWithin, node_at, place_at, TrailWithin}
 use Rattle.syn_paths.specs.Tops.{FallsBelow}
 use Rattle.syn_paths.specs.Adding.{ArePaths, AreStarts, IsAdded}
 use Rattle.syn_paths.specs.Rooms.{AreTouched, HoldsPaths}
@@ -61,9 +61,6 @@ starts_within rows labels root level starts count order s lt = each starts (λ v
     each (m ∷ ms) f = and_from (nat_lt m count) (all_within count ms) (lt-ltb m count (f m (has_here m ms))) (each ms (λ k h. f k (has_there m k ms h)))
 
 -- the trail's steps
-
-pub trail_falls : (rows : List Row) (next : List Next) (IsBelow : ℕ → Type 0) (trail : List Step) → IsTrail rows next IsBelow trail → TrailFalls trail
-trail_falls rows next IsBelow trail t i j lt is = (subst (CameFrom rows next IsBelow trail i (place_at trail i)) is (t.came i lt)).0
 
 pub trail_within : (rows : List Row) (labels : List ℕ) (root level : ℕ) (next : List Next) (starts : List ℕ) (trail : List Step) (count : ℕ) → InOrder rows → FallsBelow rows (label_in labels) root → AreStarts rows labels root level starts
     → ArePaths rows labels root level next → IsTrail rows next (IsStart starts) trail → root < count → TrailWithin trail count

@@ -83,13 +83,6 @@ leaves_one trail ins stamp limit leaves a (Out w) at = go (is_marked ins stamp w
 pub leaves_more : (trail : List Step) (ins : List ℕ) (stamp limit : ℕ) (leaves : List ℕ) → AreLeavesTo trail ins stamp limit leaves → AreLeavesTo trail ins stamp (suc limit) (with_leaf ins stamp leaves (place_at trail limit))
 leaves_more trail ins stamp limit leaves a = leaves_one trail ins stamp limit leaves a (place_at trail limit) refl
 
-pub leaves_begin : (trail : List Step) (ins : List ℕ) (stamp : ℕ) → AreLeavesTo trail ins stamp 0 []
-leaves_begin trail ins stamp = record {
-  rise = refl;
-  leaf = λ v h. absurd (both_ways false refl h);
-  all = λ v h. absurd (omega (arith, h.1));
-}
-
 pub leaf_last : (trail : List Step) (ins : List ℕ) (stamp limit last v : ℕ) → limit ≤ last → IsLeafOf trail ins stamp limit v → IsLeafOf trail ins stamp last v
 leaf_last trail ins stamp limit last v le (i, lt, at, away) = (i, omega (arith, lt, le), at, away)
 

@@ -75,10 +75,6 @@ along_last next (Out w) v lt = elim (cases_Bool (nat_eq w v)) [
     off true e = absurd (both_ways true e refl)
     off false e = refl
 
--- what is followed so far
-abbrev pub IsFollowed : (ℕ → Next) → List Step → List Place → List Next → ℕ → Type 0
-IsFollowed whole trail way next i = (rest : List Place) × IsWayAt trail i rest × AreOnce (place_at trail i ∷ rest) × ((v : ℕ) → whole v ≡ along (next_at next) (place_at trail i ∷ rest) v)
-
 pub follow_step : (whole : ℕ → Next) (trail : List Step) (next : List Next) (i j : ℕ) → (step_at trail i).from ≡ Some j → node_at (place_at trail i) < length next
     → (rest : List Place) → IsWayAt trail i rest → AreOnce (place_at trail i ∷ rest) → ((v : ℕ) → whole v ≡ along (next_at next) (place_at trail i ∷ rest) v)
     → (after : List Place) × IsWayAt trail j after × AreOnce (place_at trail j ∷ after) × ((v : ℕ) → whole v ≡ along (next_at (left next (place_at trail i) (next_by (node_at (place_at trail i)) (place_at trail j)))) (place_at trail j ∷ after) v)

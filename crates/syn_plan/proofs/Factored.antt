@@ -14,7 +14,7 @@ use Rattle.syn_plan.specs.declared.PLit.{PLit}
 use Rattle.syn_plan.specs.declared.factoring.Split.{Split}
 use Rattle.syn_plan.specs.declared.factoring.Split.TheVariants.{Plain, Complemented, AndHigh, AndLow, OrLow, OrHigh, Exclusive, Choice}
 use Rattle.syn_plan.specs.Gates.{literal_of}
-use Rattle.syn_plan.specs.Factoring.{Built, joined, split_of, cofactor_of, is_constant, is_complement, depends_on, factored_after, Covers, most_gates}
+use Rattle.syn_plan.specs.Factoring.{Built, joined, split_of, cofactor_of, is_constant, depends_on, factored_after, Covers, most_gates}
 use Rattle.syn_plan.proofs.Builds.{IsBuilt, literal_built, built_as, get_or-values_after}
 use Rattle.syn_plan.proofs.Cases.{cost_of, split_tells, joined_built, constant_at}
 use Rattle.syn_plan.proofs.Covered.{covers_none, covers_rest, covers_cofactor, case_cost}
@@ -97,10 +97,6 @@ split_by low_zero low_one high_zero high_one opposite =
     else if high_one then OrHigh
     else if opposite then Exclusive
     else Choice
-
-abbrev pub split_tests : ℕ → (List Bool → Bool) → (List Bool → Bool) → Split
-split_tests n low high =
-    split_by (is_constant n low false) (is_constant n low true) (is_constant n high false) (is_constant n high true) (is_complement n low high)
 
 pub split_by-same : (a b c d e a' b' c' d' e' : Bool) → a ≡ a' → b ≡ b' → c ≡ c' → d ≡ d' → e ≡ e' → split_by a b c d e ≡ split_by a' b' c' d' e'
 split_by-same a b c d e a' b' c' d' e' p q r s t =

@@ -1,6 +1,6 @@
 -- Proposals that keep the level of their root, among all.
-use Rattle.std.proofs.Common.{◌≡◌, ℕ, suc, ◌<◌, ◌≤◌, Bool, true, false, All, List, [], ◌∷◌, ◌++◌, length, map, take, drop, get_or, slice_index_or, refl, sym, ap, ◌∙◌, subst, arith, inl, inr, if◌then◌else◌, append-nil}
-use Rattle.std.specs.List.{AllWithin, filter}
+use Rattle.std.proofs.Common.{◌≡◌, ℕ, suc, ◌<◌, ◌≤◌, Bool, true, false, All, List, [], ◌∷◌, ◌++◌, length, map, take, drop, refl, sym, ap, ◌∙◌, subst, arith, inl, inr, if◌then◌else◌, append-nil}
+use Rattle.std.specs.List.{filter}
 use Rattle.std.proofs.Math.Seq.{drop-cons}
 use Rattle.std.proofs.lemmas.Bool.{cases_Bool, cond-true, cond-false}
 use Rattle.std.proofs.lemmas.List.{append_assoc, get_or-take, length-take-le, take-append-drop}
@@ -36,13 +36,6 @@ kept_are rows all kept rs is same = ap (map replacement) is ∙ filter_map_is re
 -- what holds of all holds of the kept ones
 pub kept_all : (P : Proposal → Type 0) (rows : List Row) (all kept : List Proposal) → kept ≡ filter (λ p. keeps_level rows (replacement p)) all → All P all → All P kept
 kept_all P rows all kept is h = All-same P kept (filter (λ p. keeps_level rows (replacement p)) all) is (All-filter (λ p. keeps_level rows (replacement p)) P all h)
-
--- one more that was looked at
-pub kept_more : (rows : List Row) (seen : List Proposal) (p : Proposal) (kept more : List Proposal) → kept ≡ filter (λ q. keeps_level rows (replacement q)) seen
-    → more ≡ kept ++ (if keeps_level rows (replacement p) then p ∷ [] else []) → more ≡ filter (λ q. keeps_level rows (replacement q)) (seen ++ p ∷ [])
-kept_more rows seen p kept more is grown =
-    grown ∙ ap (λ (ps : List Proposal). ps ++ (if keeps_level rows (replacement p) then p ∷ [] else [])) is
-    ∙ sym (filter-append (λ q. keeps_level rows (replacement q)) seen (p ∷ []))
 
 -- the first that saves of all, where it is kept, is the first of the kept ones
 pub first_kept : (rows : List Row) (observed : List Lit) (all : List Replacement) (r : Replacement) → keeps_level rows r ≡ true → IsFirst rows observed all r

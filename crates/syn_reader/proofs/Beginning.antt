@@ -1,27 +1,25 @@
 -- The beginning of a model.
-use Rattle.std.proofs.Common.{◌≡◌, ℕ, Bool, true, false, if◌then◌else◌, List, [], ◌∷◌, ◌++◌, length, codes, refl, sym, ap, ap₂, ◌∙◌, subst, Option, Some, None, option_map, option_and_then, map, arith}
+use Rattle.std.proofs.Common.{◌≡◌, ℕ, Bool, true, false, if◌then◌else◌, List, [], ◌∷◌, ◌++◌, length, refl, sym, ap, ap₂, ◌∙◌, subst, Option, Some, None, option_map, option_and_then, map, arith}
 use Rattle.std.specs.Option.{option_or}
-use Rattle.std.proofs.lemmas.Bool.{both_ways, cond-false, false_from_ne_true}
+use Rattle.std.proofs.lemmas.Bool.{both_ways, false_from_ne_true}
 use Rattle.syn_netlist.specs.Words.{has_word}
 use Rattle.syn_models.specs.Kept.{statement_in}
 use Rattle.syn_models.specs.Models as hierarchy
 use Rattle.syn_reader.specs.declared.Kind.{Kind}
 use Rattle.syn_reader.specs.declared.Kind.TheVariants as kinds
-use Rattle.syn_reader.specs.Faults.{Fault, ModelTwice}
+use Rattle.syn_reader.specs.Faults.{ModelTwice}
 use Rattle.syn_reader.specs.Heard.{statement, Begins}
-use Rattle.syn_reader.specs.LineFaults.{checks, first_found, first_fault_of_lines}
+use Rattle.syn_reader.specs.LineFaults.{first_found}
 use Rattle.syn_reader.specs.Marking.{Same}
-use Rattle.syn_reader.specs.Shapes.{last_word}
 use Rattle.syn_reader.specs.Statements.{Statement, begins_model, is_model}
 use Rattle.syn_reader.specs.declared.gathering.Gathering.{Gathering}
 use Rattle.syn_reader.specs.Computed.{said_of}
 use Rattle.syn_reader.specs.ModelFaults.{model_checks}
 use Rattle.syn_reader.specs.Gathers.{forbids_in, said_in}
 use Rattle.syn_reader.specs.Owned.{HasGathered, first, others, own}
-use Rattle.syn_reader.specs.Parted.{name_in}
 use Rattle.syn_reader.specs.Saying.{names_of}
 use Rattle.syn_reader.proofs.Owning.{behind_none, own_all}
-use Rattle.syn_reader.proofs.Steps.{found_first, found_more, passed, stopped}
+use Rattle.syn_reader.proofs.Steps.{found_more, passed}
 
 same_said : (o : Option (List hierarchy.Statement)) → option_map (λ out. [] ++ out) o ≡ o
 same_said None = refl
@@ -42,10 +40,6 @@ others_none (s ∷ ss) = behind_none ss
 no_model : (ss : List Statement) → begins_model ss ≡ false → Begins kinds.Model ss → ⊥
 no_model [] h b = b
 no_model (s ∷ ss) h b = both_ways (is_model s.kind) h (ap is_model b)
-
-pub top_name : (ss : List Statement) → begins_model ss ≡ false → codes "top" ≡ name_in ss
-top_name [] h = refl
-top_name (s ∷ ss) h = sym (cond-false (is_model s.kind) (last_word s.words) (codes "top") h)
 
 -- a model without a `.model` line
 pub begun_plain : (models : List (List ℕ)) (ss : List Statement) (g : Gathering) → begins_model ss ≡ false → g.signals.names ≡ [] → g.statements.items ≡ [] → g.words ≡ 0 → Same (λ k w. false) (forbids_in g) → HasGathered models ss ss g
@@ -87,15 +81,6 @@ begun_model models line words name ss g w h names items total free =
     again : (o : Option (List hierarchy.Statement)) → o ≡ option_and_then (λ r. Some r) o
     again None = refl
     again (Some r) = refl
-
-pub model_stops : (models : List (List ℕ)) (line : ℕ) (words : List (List ℕ)) (ss : List Statement) (f : Fault) → first_found checks [] (statement line kinds.Model words) ≡ Some f → first_fault_of_lines (model_checks models) [] (statement line kinds.Model words ∷ ss) ≡ Some f
-model_stops models line words ss f e = stopped models [] (statement line kinds.Model words) ss f (found_first models [] (statement line kinds.Model words) f e)
-
-pub model_again : (models : List (List ℕ)) (line : ℕ) (words : List (List ℕ)) (name : List ℕ) (ss : List Statement) → words ≡ name ∷ [] → has_word models name ≡ true → first_fault_of_lines (model_checks models) [] (statement line kinds.Model words ∷ ss) ≡ Some (ModelTwice line)
-model_again models line words name ss w h =
-    ap (λ (l : List (List ℕ)). first_fault_of_lines (model_checks models) [] (statement line kinds.Model l ∷ ss)) w
-    ∙ stopped models [] (statement line kinds.Model (name ∷ [])) ss (ModelTwice line)
-    (found_more models [] (statement line kinds.Model (name ∷ [])) (Some (ModelTwice line)) refl (ap (λ (b : Bool). option_or (if b then Some (ModelTwice line) else None) None) h))
 
 model_kind : (k : Kind) → is_model k ≡ true → k ≡ kinds.Model
 model_kind kinds.Model h = refl

@@ -1,5 +1,5 @@
 -- Binds and subcircuits, word by word.
-use Rattle.std.proofs.Common.{◌≡◌, ℕ, suc, ◌≤◌, ◌==◌, ◌&&◌, ◌||◌, not, Bool, true, false, if◌then◌else◌, List, [], ◌∷◌, ◌++◌, length, map, take, drop, bytes_eq, refl, sym, ap, ap₂, ◌∙◌, subst, length-append, inl, inr, ◌⊎◌, Option, Some, None, option_map, option_and_then, append_assoc, arith}
+use Rattle.std.proofs.Common.{◌≡◌, ℕ, suc, ◌≤◌, ◌==◌, ◌&&◌, ◌||◌, not, Bool, true, false, if◌then◌else◌, List, [], ◌∷◌, ◌++◌, length, map, take, drop, bytes_eq, refl, sym, ap, ap₂, ◌∙◌, subst, length-append, inl, inr, ◌⊎◌, Option, Some, None, option_map, option_and_then, arith}
 use Rattle.std.specs.List.{list_all}
 use Rattle.std.proofs.lemmas.Bool.{and_from, and_parts, both_ways, cases_Bool, cond-true, cond-false, false_from_ne_true, or_cases, or_parts}
 use Rattle.std.proofs.lemmas.List.Folds.{list_all-append}
@@ -16,35 +16,11 @@ use Rattle.syn_reader.specs.declared.subcircuits.BindLine.{BindLine}
 use Rattle.syn_reader.specs.declared.subcircuits.SubcktLine.{SubcktLine}
 use Rattle.syn_reader.specs.Binds.{actual_in_line, are_bind_words, bind_in_line, formal_in_line, subcircuit_in_line}
 use Rattle.syn_reader.specs.Gathers.{is_held, may_stand}
-use Rattle.syn_reader.specs.Subcircuits.{cut_at, bind_of, bind_with, is_no_bind, binds_of, subcircuit_of}
+use Rattle.syn_reader.specs.Subcircuits.{cut_at, bind_of, bind_with, is_no_bind}
 
 -- the subcircuit of a model whose binds begin with these
 abbrev pub subcircuit_from : List ℕ → List Bind → List Bind → Subcircuit
 subcircuit_from model front rest = record { model = model; binds = front ++ rest }
-
--- one more word is a bind
-pub bind_step : (model : List ℕ) (front : List Bind) (words : List (List ℕ)) (w : List ℕ) (rest : List (List ℕ)) (b : Bind) (all : Option Subcircuit) → words ≡ w ∷ rest → bind_of w ≡ Some b
-    → option_map (subcircuit_from model front) (binds_of words) ≡ all → option_map (subcircuit_from model (front ++ b ∷ [])) (binds_of rest) ≡ all
-bind_step model front words w rest b all e f h = go (binds_of rest) (sym (ap (λ o. option_map (subcircuit_from model front) (option_and_then (λ b. option_map (λ bs. b ∷ bs) (binds_of rest)) o)) f) ∙ (sym (ap (λ l. option_map (subcircuit_from model front) (binds_of l)) e) ∙ h))
-  where
-    go : (o : Option (List Bind)) → option_map (subcircuit_from model front) (option_map (λ bs. b ∷ bs) o) ≡ all → option_map (subcircuit_from model (front ++ b ∷ [])) o ≡ all
-    go None h = h
-    go (Some bs) h = ap (λ l. Some (record { model = model; binds = l })) (append_assoc front (b ∷ []) bs) ∙ h
-
--- or it is none
-pub bind_stop : (model : List ℕ) (front : List Bind) (words : List (List ℕ)) (w : List ℕ) (rest : List (List ℕ)) (all : Option Subcircuit) → words ≡ w ∷ rest → bind_of w ≡ None
-    → option_map (subcircuit_from model front) (binds_of words) ≡ all → all ≡ None
-bind_stop model front words w rest all e f h =
-    sym h ∙ (ap (λ l. option_map (subcircuit_from model front) (binds_of l)) e
-    ∙ ap (λ o. option_map (subcircuit_from model front) (option_and_then (λ b. option_map (λ bs. b ∷ bs) (binds_of rest)) o)) f)
-
--- where no bind stands yet
-pub bind_first : (model : List ℕ) (words : List (List ℕ)) → option_map (subcircuit_from model []) (binds_of words) ≡ subcircuit_of (model ∷ words)
-bind_first model words = go (binds_of words)
-  where
-    go : (o : Option (List Bind)) → option_map (subcircuit_from model []) o ≡ option_map (λ binds. record { model = model; binds = binds }) o
-    go None = refl
-    go (Some bs) = refl
 
 -- a choice of two sides
 abbrev sides : List ℕ → List ℕ → Option (List ℕ × List ℕ)

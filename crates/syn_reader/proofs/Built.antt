@@ -99,10 +99,6 @@ onto_others : (s : Statement) (ps : List (List Statement)) → OthersBegin ps �
 onto_others s [] h = tt
 onto_others s (p ∷ ps) h = h
 
-onto_all : (s : Statement) (ps : List (List Statement)) → is_model s.kind ≡ true → OthersBegin ps → AllBegin (onto_first s ps)
-onto_all s [] m h = (m, tt)
-onto_all s (p ∷ ps) m h = (m, h)
-
 all_begin : (ss : List Statement) → begins_model ss ≡ true → OthersBegin (parted ss) → AllBegin (parted ss)
 all_begin [] e h = absurd (both_ways false refl e)
 all_begin (s ∷ ss) e h = go (begins_model ss) h

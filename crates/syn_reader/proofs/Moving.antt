@@ -8,7 +8,7 @@ use Rattle.syn_netlist.specs.declared.Latch.{Latch}
 use Rattle.syn_netlist.specs.declared.tables.Table.{Table}
 use Rattle.syn_netlist.specs.Kept.{frame_of, latch_in, latch_numbers, latches_below, no_nil_control}
 use Rattle.syn_netlist.specs.Lists as lists
-use Rattle.syn_netlist.specs.Lists.{Netlist, control_of, output_of, sources}
+use Rattle.syn_netlist.specs.Lists.{Netlist, control_of}
 use Rattle.syn_netlist.specs.Numbers.{all_below}
 use Rattle.syn_netlist.specs.Tables.{table_in, tables_below}
 use Rattle.syn_models.specs.declared.flat_fault.FlatFault.TheVariants.{TooManyWords}

@@ -22,7 +22,7 @@ use Rattle.syn_reader.specs.Definitions.{definitions, first_undriven, name_of}
 use Rattle.syn_reader.specs.Faults.{BadByte, ModelTwice, PortTwice, SubcktShape}
 use Rattle.syn_reader.specs.LineFaults.{checks, first_fault_of_lines, first_found}
 use Rattle.syn_reader.specs.ModelFaults as files
-use Rattle.syn_reader.specs.ModelFaults.{model_checks, model_twice, port_twice, subckt_shape}
+use Rattle.syn_reader.specs.ModelFaults.{model_checks, model_twice, subckt_shape}
 use Rattle.syn_reader.specs.Parted.{by_model, parted}
 use Rattle.syn_reader.specs.Reading.{NoCircle, Reads}
 use Rattle.syn_reader.specs.Saying.{Say, SpellAll}

@@ -83,9 +83,6 @@ names_more models items m names more name e n o k =
     o ∙ (ap₂ (λ (l : List (List ℕ)) (w : List ℕ). l ++ w ∷ []) n (sym k)
     ∙ (sym (map-append name_of (map model_in models) (model_in m ∷ [])) ∙ ap (map name_of) (sym (in_words models items m e))))
 
-counted_by : Model → Bool
-counted_by m = nat_le 1 m.words
-
 pub counted_more : (models items : List Model) (m : Model) → items ≡ models ++ m ∷ [] → 1 ≤ length models → all_counted models ≡ true → 1 ≤ m.words → all_counted items ≡ true
 counted_more [] items m e some h w = absurd (omega (arith, some))
 counted_more (main ∷ ms) items m e some h w =

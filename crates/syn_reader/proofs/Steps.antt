@@ -2,7 +2,7 @@
 use Rattle.std.proofs.Common.{◌≡◌, ℕ, suc, ◌+◌, ◌≤◌, ◌||◌, Bool, true, false, if◌then◌else◌, List, [], ◌∷◌, ◌++◌, length, flat_map, refl, sym, ap, ap₂, ◌∙◌, subst, Option, Some, None, option_map, option_and_then, arith, append_assoc, append-nil}
 use Rattle.std.specs.List.{list_any}
 use Rattle.std.specs.Option.{option_or}
-use Rattle.std.proofs.lemmas.Bool.{both_ways, false_from_ne_true}
+use Rattle.std.proofs.lemmas.Bool.{both_ways}
 use Rattle.syn_lex.specs.Lines.{is_nil}
 use Rattle.syn_netlist.specs.Words.{has_word}
 use Rattle.syn_netlist.proofs.Sets.{has_word-append}
@@ -10,7 +10,7 @@ use Rattle.syn_models.specs.Models as models
 use Rattle.syn_models.specs.Models.{Subcircuit, names_in}
 use Rattle.syn_reader.specs.declared.Kind.{Kind}
 use Rattle.syn_reader.specs.declared.Kind.TheVariants as kinds
-use Rattle.syn_reader.specs.Faults.{Fault, AfterEnd, UnknownKeyword, SecondModel, StrayRow, SubcktShape, PortTwice}
+use Rattle.syn_reader.specs.Faults.{Fault, SubcktShape, PortTwice}
 use Rattle.syn_reader.specs.Statements.{Statement, is_end, rows_below}
 use Rattle.syn_reader.specs.Shapes.{all_but_last}
 use Rattle.syn_reader.specs.Definitions.{Definition, definitions, forbids}
@@ -19,7 +19,7 @@ use Rattle.syn_reader.specs.Heard.{statement, Begins, word_count}
 use Rattle.syn_reader.specs.Marking.{by_kind, forbidden_by}
 use Rattle.syn_reader.specs.Keywords.{line_fault}
 use Rattle.syn_reader.specs.Rows.{below_rows, rows_fault}
-use Rattle.syn_reader.proofs.LineLaws.{SameOnRows, found_inputs, found_clocks, found_outputs, found_names, found_latch, found_end, found_unknown, found_subckt, found_model, found_stray, row_kind, rows_law_by, above_rows, rows_end, rows_definitions, rows_nil, rows_gone, rows_count}
+use Rattle.syn_reader.proofs.LineLaws.{SameOnRows, found_inputs, found_clocks, found_outputs, found_names, found_latch, found_subckt, row_kind, rows_law_by, above_rows, rows_end, rows_definitions, rows_nil, rows_gone, rows_count}
 use Rattle.syn_reader.specs.declared.gathering.Gathering.{Gathering}
 use Rattle.syn_reader.specs.Computed.{said_by, said_of}
 use Rattle.syn_reader.specs.ModelFaults.{is_none, model_checks}
@@ -181,33 +181,3 @@ shape_stop models all ss line words old h e = fault models all ss kinds.Subckt l
 
 pub port_stop : (models : List (List ℕ)) (all ss : List Statement) (line : ℕ) (words : List (List ℕ)) (c : Subcircuit) (old : Gathering) (f : Fault) → HasGathered models all (statement line kinds.Subckt words ∷ ss) old → subcircuit_of words ≡ Some c → option_map (PortTwice line) (bound_twice (Some c)) ≡ Some f → first_fault_of_lines (model_checks models) [] all ≡ Some f
 port_stop models all ss line words c old f h e t = fault models all ss kinds.Subckt line words old f h (found_more models h.above (statement line kinds.Subckt words) _ (found_subckt h.above line words h.going) (more_subckt models h.above line words (Some c) e ∙ (or_nothing _ ∙ t)))
-
-pub unknown_stop : (models : List (List ℕ)) (all ss : List Statement) (line : ℕ) (words : List (List ℕ)) (old : Gathering) → HasGathered models all (statement line kinds.Unknown words ∷ ss) old → first_fault_of_lines (model_checks models) [] all ≡ Some (UnknownKeyword line)
-unknown_stop models all ss line words old h = fault models all ss kinds.Unknown line words old _ h (found_first models h.above (statement line kinds.Unknown words) _ (found_unknown h.above line words h.going))
-
-pub model_stop : (models : List (List ℕ)) (all ss : List Statement) (line : ℕ) (words : List (List ℕ)) (old : Gathering) → HasGathered models all (statement line kinds.Model words ∷ ss) old → first_fault_of_lines (model_checks models) [] all ≡ Some (SecondModel line)
-model_stop models all ss line words old h = fault models all ss kinds.Model line words old _ h (found_first models h.above (statement line kinds.Model words) _ (found_model h.above line words h.going (false_from_ne_true (is_nil h.above) (λ e. h.begun e refl))))
-
-pub stray_stop : (models : List (List ℕ)) (all ss : List Statement) (line : ℕ) (words : List (List ℕ)) (old : Gathering) → HasGathered models all (statement line kinds.Row words ∷ ss) old → first_fault_of_lines (model_checks models) [] all ≡ Some (StrayRow line)
-stray_stop models all ss line words old h = fault models all ss kinds.Row line words old _ h (found_first models h.above (statement line kinds.Row words) _ (found_stray h.above line words h.going (h.closed refl)))
-
-pub end_step : (models : List (List ℕ)) (all : List Statement) (line : ℕ) (words : List (List ℕ)) (old : Gathering) → HasGathered models all (statement line kinds.End words ∷ []) old → HasGathered models all [] old
-end_step models all line words old h = record {
-  above = h.above;
-  faults = passed models h.above (statement line kinds.End words) [] (found_by models h.above (statement line kinds.End words) None refl (found_end h.above line words h.going)) ∙ h.faults;
-  going = h.going;
-  begun = λ n b. b;
-  closed = λ b. absurd b;
-  taken = h.taken;
-  said = h.said;
-  known = h.known;
-  count = let c = h.count in omega (arith, c);
-  total = h.total;
-  few = h.few;
-}
-
-pub end_stop : (models : List (List ℕ)) (all : List Statement) (line : ℕ) (words : List (List ℕ)) (s : Statement) (ss : List Statement) (old : Gathering) → HasGathered models all (statement line kinds.End words ∷ (s ∷ ss)) old → first_fault_of_lines (model_checks models) [] all ≡ Some (AfterEnd s.line)
-end_stop models all line words s ss old h =
-    sym h.faults
-    ∙ (sym (passed models h.above (statement line kinds.End words) (s ∷ ss) (found_by models h.above (statement line kinds.End words) None refl (found_end h.above line words h.going)))
-    ∙ stopped models (statement line kinds.End words ∷ h.above) s ss (AfterEnd s.line) (found_first models (statement line kinds.End words ∷ h.above) s (AfterEnd s.line) refl))

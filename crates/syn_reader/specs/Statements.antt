@@ -61,14 +61,6 @@ abbrev pub is_model : Kind → Bool
 is_model kinds.Model = true
 is_model kind = false
 
-abbrev pub is_inputs : Kind → Bool
-is_inputs kinds.Inputs = true
-is_inputs kind = false
-
-abbrev pub is_outputs : Kind → Bool
-is_outputs kinds.Outputs = true
-is_outputs kind = false
-
 abbrev pub is_names : Kind → Bool
 is_names kinds.Names = true
 is_names kind = false

@@ -63,9 +63,6 @@ filter_neither p x y rest no_x no_y =
 
 -- the AND of two literals stands only where both are implied
 
-beq-true : (x y : Bool) → x ≡ y → beq x y ≡ true
-beq-true x y e = same_test x y e
-
 module _ (rows : List Row) (leaves : List ℕ) (node : ℕ) where
   abbrev f : List Bool → Bool
   f xs = value_over rows leaves node xs

@@ -27,18 +27,6 @@ use Rattle.syn_resub.proofs.Valued.{value_of_and, value_of_leaf}
 
 -- indexes
 
-pub index_within : (leaves inner : List ℕ) (n : ℕ) → is_there leaves inner n ≡ true → index_in leaves inner n < 1 + length leaves + length inner
-index_within leaves inner n there = elim (cases_Bool (has_node leaves n)) [
-  | inl leaf ↦ let is = cond-true (has_node leaves n) (1 + place_of n leaves) (1 + length leaves + place_of n inner) leaf in let lt = place_within n leaves leaf in omega (arith, is, lt)
-  | inr never ↦
-      let is = cond-false (has_node leaves n) (1 + place_of n leaves) (1 + length leaves + place_of n inner) never in
-      let lt = place_within n inner (in_inner never) in
-      omega (arith, is, lt)
-]
-  where
-    in_inner : has_node leaves n ≡ false → has_node inner n ≡ true
-    in_inner never = elim (or_cases (has_node leaves n) (has_node inner n) there) [ inl leaf ↦ absurd (both_ways (has_node leaves n) never leaf) | inr t ↦ t ]
-
 -- a node below an inner one has a smaller index than its gate
 pub index_before : (leaves inner : List ℕ) (n j : ℕ) → rises inner ≡ true → is_there leaves inner n ≡ true → n < get_or inner j 0 → index_in leaves inner n < 1 + length leaves + j
 index_before leaves inner n j rise there less = elim (cases_Bool (has_node leaves n)) [

@@ -98,10 +98,6 @@ module _ (rows : List Row) (leaves : List ℕ) where
         cond-false (divides rows leaves (below k) k) (below k ++ k ∷ []) (below k) (ap (λ l. divides rows leaves l k) before ∙ none k (omega (arith, le, other)) (omega arith)) ∙ before
   ]
 
-  begin_left : (ms : List ℕ) → ((m : ℕ) → has_node ms m ≡ true → m < 0) → ms ≡ []
-  begin_left [] h = refl
-  begin_left (m ∷ ms) h = absurd (let lt = h m (has_here m ms) in omega (arith, lt))
-
   joins_none : (row : Row) → joins [] row ≡ false
   joins_none Free = refl
   joins_none Source = refl
@@ -403,14 +399,6 @@ module _ (rows : List Row) (leaves : List ℕ) where
     | inl less ↦ put_ends node d m nodes past (put_past node d low m nodes first.none (omega (arith, less)) put)
     | inr ge ↦ put_ends node d low nodes (omega (arith, past, ge)) put
   ]
-
-  -- the next one is behind it
-  pub next_behind : (d m next : ℕ) → m < length rows → IsFirstOver rows d (suc m) next → m < next
-  next_behind d m next there first = by first.over
-    where
-      by : (next ≡ length rows) ⊎ ((suc m ≤ next) × (next < length rows) × (is_over d (row_at rows next) ≡ true)) → m < next
-      by (inl past) = omega (arith, past, there)
-      by (inr (above, below, over)) = omega (arith, above)
 
 -- a row over d is behind it
 pub over_above : (rows : List Row) (d m : ℕ) → InOrder rows → is_over d (row_at rows m) ≡ true → d < m

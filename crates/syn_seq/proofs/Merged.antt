@@ -1,7 +1,7 @@
 -- Guessed fates: where merged latches are one, observed signals with equal literals have one value.
-use Rattle.std.proofs.Common.{◌≡◌, ℕ, zero, suc, ◌+◌, ◌-◌, ◌<◌, ◌≤◌, nat_lt, Bool, true, false, List, [], ◌∷◌, ◌++◌, length, map, flat_map, drop, get_or, refl, sym, ap, ap₂, ◌∙◌, subst, inl, inr, append_assoc, append-nil, arith}
+use Rattle.std.proofs.Common.{◌≡◌, ℕ, zero, suc, ◌+◌, ◌-◌, ◌<◌, ◌≤◌, nat_lt, Bool, true, false, List, [], ◌∷◌, ◌++◌, length, map, flat_map, drop, get_or, refl, sym, ap, ap₂, ◌∙◌, subst, inl, inr, append-nil, arith}
 use Rattle.std.proofs.lemmas.Bool.{and_parts, both_ways, cases_lt, ltb-true}
-use Rattle.std.proofs.lemmas.List.{drop_all, drop_more, ext_get_or, get_or_append_left, get_or_default, get_or-append_right, get_or-map, get_or_past, length-append, length-map}
+use Rattle.std.proofs.lemmas.List.{drop_all, ext_get_or, get_or_append_left, get_or_default, get_or-append_right, get_or-map, get_or_past, length-append, length-map}
 use Rattle.syn_rows.specs.declared.Lit.{Lit}
 use Rattle.syn_rows.specs.declared.Row.{Row}
 use Rattle.syn_rows.specs.Values.{given_by, lit_value, value_in, values_of}
@@ -196,13 +196,6 @@ merged_alike law g fates count targets rows lits c many found are a b la lb ta t
     merged_value law g fates count targets rows lits c many v cv held (word_at g.frame.names a) ta
     ∙ ap (lit_value (value_in (values_of (given_by (map v (sources (network_of g).frame))) rows))) same
     ∙ sym (merged_value law g fates count targets rows lits c many v cv held (word_at g.frame.names b) tb)
-
--- one place more
-pub merged_step : (first : ℕ) (fates : List Fate) (j : ℕ) (places : List ℕ) (p : ℕ) → j < length fates → p ≡ merged_place first j (fate_at fates j) → (places ++ p ∷ []) ++ merged_from first (j + 1) (drop (j + 1) fates) ≡ places ++ merged_from first j (drop j fates)
-merged_step first fates j places p lt e =
-    append_assoc places (p ∷ []) (merged_from first (j + 1) (drop (j + 1) fates))
-    ∙ ap (λ (x : ℕ). places ++ (x ∷ merged_from first (j + 1) (drop (j + 1) fates))) e
-    ∙ ap (λ (fs : List Fate). places ++ merged_from first j fs) (sym (drop_more fates j Dropped lt))
 
 pub whole : (first : ℕ) (fates : List Fate) (j : ℕ) (places : List ℕ) → length fates ≤ j → places ++ merged_from first j (drop j fates) ≡ merged_places first fates → places ≡ merged_places first fates
 whole first fates j places le e = sym (append-nil places) ∙ ap (λ (fs : List Fate). places ++ merged_from first j fs) (sym (drop_all j fates le)) ∙ e

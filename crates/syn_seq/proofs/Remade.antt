@@ -387,9 +387,6 @@ lits_are_left g lits fates places numbers names k p e words below =
     ∙ ap (map (moved places)) (each_lit (network_of g) g.frame.names lits k numbers inside (λ w t. observed_before (network_of g).frame fates w (subst (λ (ws : List (List ℕ)). has_word ws w ≡ true) own t)) ∙ ap (map (lit_of (network_of g))) own)
     ∙ ap (λ (ps : List ℕ). map (moved ps) (lits_of g fates)) p
 
-pub rows_are_left : (g : Graph) (fates : List Fate) (left : ℕ) (places : List ℕ) (rows moved_rows : List Row) → left ≡ left_of g fates → places ≡ places_of g fates → rows ≡ g.rows → moved_rows ≡ rows_left left rows places → moved_rows ≡ rows_of_left g fates
-rows_are_left g fates left places rows moved_rows l p r e = e ∙ ap (λ (k : ℕ). rows_left k rows places) l ∙ ap₂ (λ (ps : List ℕ) (rs : List Row). rows_left (left_of g fates) rs ps) p r
-
 pub fits_rows : (g : Graph) (fates : List Fate) → AreFates (network_of g) fates → length (places_of g fates) ≤ length g.rows
 fits_rows g fates f = omega (arith, (can_move g fates f).many, g.source_count_is, g.graph.hashed.there)
 

@@ -11,7 +11,7 @@ use Rattle.syn_graph.specs.declared.Graph.{Graph}
 use Rattle.syn_graph.specs.Graphs.{network_of}
 use Rattle.syn_seq.specs.Runs.{free_signals}
 use Rattle.syn_seq.proofs.Alike.{sources_are}
-use Rattle.syn_seq.specs.Code.{SmallTargets, kept_latches, moved_row}
+use Rattle.syn_seq.specs.Code.{SmallTargets, moved_row}
 use Rattle.syn_seq.specs.Rounds.{AreFates, Dropped, Fate, IsFate, Kept, Merged, kept_by}
 
 abbrev pub is_merged : Fate → Bool
@@ -35,15 +35,6 @@ fates_few g fates f =
 
 pub sources_few : (g : Graph) → g.source_count < 536870912
 sources_few g = omega (arith, g.few, g.graph.hashed.there, g.source_count_is)
-
-pub kept_most : (fates : List Fate) (ls : List Latch) → length (kept_latches fates ls) ≤ length fates
-kept_most [] ls = omega arith
-kept_most (Kept ∷ fs) [] = omega arith
-kept_most (Merged i ∷ fs) [] = omega arith
-kept_most (Dropped ∷ fs) [] = omega arith
-kept_most (Kept ∷ fs) (l ∷ ls) = omega (arith, kept_most fs ls)
-kept_most (Merged i ∷ fs) (l ∷ ls) = omega (arith, kept_most fs ls)
-kept_most (Dropped ∷ fs) (l ∷ ls) = omega (arith, kept_most fs ls)
 
 pub kept_by_most : (fates : List Fate) (ls : List lists.Latch) → length (kept_by fates ls) ≤ length fates
 kept_by_most [] ls = omega arith

@@ -1,8 +1,6 @@
 -- Refusals of files as those of reads and writes; an AIGER file of a network's graph as one of the network; how large the graph of a file is.
-use Rattle.std.proofs.Common.{◌≡◌, ◌⊎◌, ℕ, suc, ◌≤◌, ◌<◌, ◌^◌, Bool, true, List, [], ◌∷◌, ◌++◌, length, map, flat_map, refl, sym, ap, ap₂, ◌∙◌, subst, arith, inl, inr, Option, None, Some, IfSome, IfOk, Result, Ok, Err, Vec, Global}
-use Rattle.std.specs.Option.{IsSomeAnd}
+use Rattle.std.proofs.Common.{◌≡◌, ◌⊎◌, ℕ, suc, ◌≤◌, ◌<◌, ◌^◌, Bool, true, List, [], ◌∷◌, ◌++◌, length, map, flat_map, refl, sym, ap, ap₂, ◌∙◌, subst, arith, IfOk, Result, Ok, Err, Vec, Global}
 use Rattle.std.proofs.lemmas.List.{length-append, length-map}
-use Rattle.syn_io.specs.Outside.{Disk, Rose, without_file}
 use Rattle.syn_netlist.specs.Lists.{Frame, Latch, Netlist, control_of, latch_output, latch_reads, observed, sources}
 use Rattle.syn_netlist.specs.Meaning.{SameMeaning}
 use Rattle.syn_netlist.specs.Values.{Consistent}
@@ -22,54 +20,14 @@ use Rattle.syn_aiger.specs.Networks.{IsGraphOfAig, frame_of, latches_from}
 use Rattle.syn_aiger.specs.Values.{source_literals, source_variables}
 use Rattle.syn_aiger.specs.Writing.{IsWrittenAs, feed_of, first_typed, free_signals, init_again}
 use Rattle.syn_shell.specs.declared.refusal.Refusal.{Refusal}
-use Rattle.syn_shell.specs.declared.refusal.Refusal.TheVariants.{Read, ReadAiger, TooManyGates, LatchType, NoNetwork, PutFailed, NoMemory}
 use Rattle.syn_shell.specs.Networks.{IsSmall, Network, gates_in, graph_network, mapped_network}
-use Rattle.syn_shell.specs.Outside.{OthersStand}
-use Rattle.syn_shell.specs.Steps.{AigerReadRefused, AigerRefused, AigerWriteRefused, GetRefused, IsAigerOf, IsRemade, MakingRefused, ReadRefused}
+use Rattle.syn_shell.specs.Steps.{IsAigerOf, IsRemade}
 
 -- bytes that are not there are not read, in either format
 
-pub get_is_read : (name : List ℕ) (before after : Disk) (cause : Refusal) → GetRefused name before after cause → ReadRefused name before after cause
-get_is_read name before after (Read fault) why = absurd why
-get_is_read name before after other why = why
-
-pub get_is_aiger_read : (name : List ℕ) (before after : Disk) (cause : Refusal) → GetRefused name before after cause → AigerReadRefused name before after cause
-get_is_aiger_read name before after (ReadAiger fault) why = absurd why
-get_is_aiger_read name before after other why = why
-
 -- a network that isn't made a graph has no AIGER file, and one whose graph has none has none
 
-pub making_is_aiger : (net : Network) (cause : Refusal) → MakingRefused (Some net) cause → AigerRefused net cause
-making_is_aiger net NoNetwork why = absurd (let e : ◌≡◌ {A = Option Network} (Some net) None = why in cc)
-making_is_aiger net (TooManyGates gates) why = why
-making_is_aiger net NoMemory why = tt
-making_is_aiger net other why = absurd why
-
-pub graph_is_aiger : (old graph : Netlist) (cause : Refusal) → IsRemade (mapped_network old) (graph_network graph) → gates_in (mapped_network old) ≤ most_gates → AigerRefused (graph_network graph) cause → AigerRefused (mapped_network old) cause
-graph_is_aiger old graph (TooManyGates gates) made few why = absurd (omega (arith, why.0, why.1))
-graph_is_aiger old graph (LatchType latch) made few why = (few, ap first_typed made.same.frame ∙ why.1)
-graph_is_aiger old graph NoMemory made few why = tt
-graph_is_aiger old graph other made few why = absurd why
-
 -- refused before anything is put, or at the put
-
-others_same : (name : List ℕ) (files : Disk) → OthersStand name files files
-others_same name files = record { told = same files.told; later = omega arith }
-  where
-    same : (told : Option (List (List ℕ × List ℕ))) → IfSome told (λ was. IsSomeAnd told (λ now. without_file name now ≡ without_file name was))
-    same None = tt
-    same (Some list) = refl
-
-pub aiger_unwritten : (net : Network) (name : List ℕ) (files : Disk) (cause : Refusal) → AigerRefused net cause → AigerWriteRefused (Some net) name files files cause
-aiger_unwritten net name files (TooManyGates gates) why = (why, refl)
-aiger_unwritten net name files (LatchType latch) why = (why, refl)
-aiger_unwritten net name files NoMemory why = others_same name files
-aiger_unwritten net name files other why = absurd why
-
-pub aiger_not_put : (net : Network) (name : List ℕ) (before after : Disk) (cause : Refusal) → OthersStand name before after → (cause ≡ NoMemory) ⊎ ((cause ≡ PutFailed) × Rose before.faults after.faults)
-    → AigerWriteRefused (Some net) name before after cause
-aiger_not_put net name before after cause others (inl is) = subst (AigerWriteRefused (Some net) name before after) (sym is) others
-aiger_not_put net name before after cause others (inr (is, rose)) = subst (AigerWriteRefused (Some net) name before after) (sym is) (refl, rose, others)
 
 -- what latches load has the same values where observed signals have
 

@@ -31,10 +31,6 @@ use Rattle.syn_table.specs.Numbers.{numbers_below}
 use Rattle.syn_table.specs.Openings.{AreKeys, with_spare}
 use Rattle.syn_table.specs.Rule.{IsTied, IsCore, first_known}
 
--- ---- words that are appended
-pub words_begin : (rows : List Row) (counts keys : List ℕ) → AreWords (0 ∷ []) 0 rows counts keys
-words_begin rows counts keys = record { size = refl; claims = λ n lt. absurd (omega arith); rows = λ n lt. absurd (omega arith); counts = λ n lt. absurd (omega arith); keys = λ n lt. absurd (omega arith) }
-
 pub words_more : (words : List ℕ) (n : ℕ) (rows : List Row) (counts keys : List ℕ) → AreWords words n rows counts keys
     → AreWords (words ++ 0 ∷ word_of (row_at rows n) ∷ get_or counts n 0 ∷ get_or keys n 0 ∷ []) (n + 1) rows counts keys
 words_more words n rows counts keys w = record {

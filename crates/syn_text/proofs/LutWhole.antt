@@ -1,8 +1,8 @@
 -- The whole netlist of a LUT net, from the numbers of its names.
 use Rattle.std.proofs.Common.{◌≡◌, ℕ, zero, suc, ◌+◌, ◌-◌, ◌/◌, ◌%◌, ◌^◌, ◌<◌, ◌≤◌, ◌&&◌, if◌then◌else◌, nat_eq, nat_le, nat_lt, Bool, true, false, List, [], ◌∷◌, ◌++◌, length, map, filter, get_or, drop, refl, sym, ap, ap₂, ◌∙◌, subst, append_assoc, inl, inr, arith}
 use Rattle.std.specs.List.{list_all}
-use Rattle.std.proofs.lemmas.Bool.{and_parts, and_from, cases_Bool, or_cases, or_left, or_right, le-leb, leb-true, ltb-true, eq-eqb, cond-true, cond-false, eqb-true}
-use Rattle.std.proofs.lemmas.List.{drop_more, length-map, length-append, get_or-map, map-append}
+use Rattle.std.proofs.lemmas.Bool.{and_parts, and_from, or_cases, le-leb, leb-true, ltb-true, eq-eqb, eqb-true}
+use Rattle.std.proofs.lemmas.List.{drop_more, length-map, length-append, get_or-map}
 use Rattle.std.proofs.lemmas.List.Elements.{recursion_from_All}
 use Rattle.syn_rows.specs.declared.Lit.{Lit}
 use Rattle.syn_rows.specs.Rows.{node_of}
@@ -10,15 +10,15 @@ use Rattle.syn_netlist.specs.declared.frames.Frame as code
 use Rattle.syn_netlist.specs.Costs.{is_sign}
 use Rattle.syn_netlist.specs.Frames.{frame_in}
 use Rattle.syn_netlist.specs.Kept.{is_row_character, polarity_fits, row_fits, rows_fit}
-use Rattle.syn_netlist.specs.Lists.{Frame, Table, Netlist, output_of, sources, observed}
+use Rattle.syn_netlist.specs.Lists.{Frame, Table, output_of, sources}
 use Rattle.syn_netlist.specs.Numbers.{word_at, words_at, all_below}
 use Rattle.syn_netlist.specs.Words.{distinct}
-use Rattle.syn_shapes.specs.Spelling.{inner_names, numbers_from, ends_from}
+use Rattle.syn_shapes.specs.Spelling.{numbers_from, ends_from}
 use Rattle.syn_truth.specs.declared.Truth.{Truth}
 use Rattle.syn_truth.specs.Truth.{value_at}
 use Rattle.syn_lutshapes.specs.Luts as spelled
 use Rattle.syn_lutshapes.specs.Luts.{is_input, is_lut, lut_at, IsLutNet, none_exceeds}
-use Rattle.syn_lutshapes.specs.LutSpelling.{minterm_row, signal_name, lut_table, lut_tables_of, lut_names, lut_network}
+use Rattle.syn_lutshapes.specs.LutSpelling.{minterm_row, signal_name, lut_table, lut_tables_of, lut_network}
 use Rattle.syn_lutshapes.proofs.LutTables.{lut_parts, length-minterm_row, signs_row}
 use Rattle.syn_lutshapes.proofs.LutNetworks.{network_spells_luts}
 use Rattle.syn_lutnet.specs.declared.luts.Lut.{Lut}

@@ -16,7 +16,7 @@ use Rattle.syn_netlist.specs.Words.{distinct}
 use Rattle.syn_netlist.proofs.Growing.{words_at-grows, all_below-more, length-grows}
 use Rattle.syn_netlist.proofs.Places.{all_below-append}
 use Rattle.syn_shapes.specs.Graphs.{IsGraph}
-use Rattle.syn_shapes.specs.Spelling.{inner_names, gate_names, gates_of, gate_tables, ends_from, network}
+use Rattle.syn_shapes.specs.Spelling.{inner_names, gates_of, gate_tables, ends_from, network}
 use Rattle.syn_shapes.proofs.Inner.{length-inner_names}
 use Rattle.syn_shapes.proofs.Gates.{AreGates, hashed_gates, gate_parts, first_there, first_below, second_there}
 use Rattle.syn_shapes.proofs.Networks.{network_spells}
@@ -50,10 +50,6 @@ pub few_taken : (frame : Frame) (names : List (List ℕ)) (srcs signals : List �
     → words_at names signals ≡ observed frame → all_below (length names) signals ≡ true → length (srcs ++ signals) < 2 ^ 34
 few_taken frame names srcs signals few_srcs few signal_words below =
     omega (arith, few_srcs, few, length-append srcs signals, few_signals frame names signals signal_words below)
-
--- so many rows stand behind the sources
-pub gate_count : (frame : Frame) (rows : List Row) (names : List (List ℕ)) (srcs : List ℕ) → words_at names srcs ≡ sources frame → length rows - (length srcs + 1) ≡ length (gates_of frame rows)
-gate_count frame rows names srcs e = omega (arith, length-sources frame names srcs e, length-drop (length (sources frame) + 1) rows)
 
 -- the names that were found are the inner names
 pub found_names : (frame : Frame) (names : List (List ℕ)) (srcs signals : List ℕ) (count : ℕ) (found : List (List ℕ)) → words_at names srcs ≡ sources frame → words_at names signals ≡ observed frame

@@ -2,7 +2,7 @@
 use Rattle.std.proofs.Common.{◌≡◌, ℕ, zero, suc, ◌+◌, ◌*◌, ◌/◌, ◌%◌, ◌^◌, ◌<◌, Bool, true, false, List, [], ◌∷◌, length, get_or, take, nat_eq, refl, sym, ap, ap₂, ◌∙◌, arith}
 use Rattle.std.proofs.Math.ListN.{set}
 use Rattle.std.proofs.Math.Nat.{pow-suc}
-use Rattle.std.proofs.lemmas.List.{get_or-set_other, length-set, set-set, set-get_or, set_comm}
+use Rattle.std.proofs.lemmas.List.{get_or-set_other, length-set, set_comm}
 use Rattle.std.proofs.lemmas.List.Edits.{swap_is}
 use Rattle.std.proofs.lemmas.Nat.Bits.{bit_at_lowest, bit_at-suc, bit_at-zero}
 use Rattle.std.specs.Int.{bit_at}
@@ -84,13 +84,6 @@ minterm_of-swap xs i j h l =
     let two : minterm_of (set first j (get_or xs i false)) + digit (get_or first j false) * 2 ^ j ≡ minterm_of first + digit (get_or xs i false) * 2 ^ j = minterm_of-set first j (get_or xs i false) (omega (arith, length-set xs i (get_or xs j false))) in
     let moved : minterm_of (swap xs i j) + digit (get_or xs j false) * 2 ^ j ≡ minterm_of first + digit (get_or xs i false) * 2 ^ j = ap₂ (λ a b. minterm_of a + digit b * 2 ^ j) (sym there) (sym stays) ∙ two in
     omega (arith, one, moved)
-
-swap_back : {X : Type 0} (xs : List X) (i : ℕ) (d : X) → set (set xs i (get_or xs i d)) i (get_or xs i d) ≡ xs
-swap_back xs i d = set-set xs i (get_or xs i d) (get_or xs i d) ∙ set-get_or xs i d
-
-pub swap-same : {X : Type 0} (xs : List X) (i : ℕ) → swap xs i i ≡ xs
-swap-same [] i = refl
-swap-same (x ∷ xs) i = swap_back (x ∷ xs) i x
 
 pub swap_turned : {X : Type 0} (xs : List X) (i j : ℕ) → i < j → swap xs i j ≡ swap xs j i
 swap_turned [] i j h = refl

@@ -1,10 +1,10 @@
 -- What each operation leaves of a word at the minterm of a list of values.
-use Rattle.std.proofs.Common.{◌≡◌, ℕ, suc, ◌+◌, ◌-◌, ◌*◌, ◌/◌, ◌%◌, ◌^◌, ◌<◌, ◌≤◌, min, max, cond, Bool, true, false, not, List, length, get_or, take, nat_eq, ◌&&◌, refl, sym, subst, ap, ap₂, ◌∙◌, arith, bit_and, bit_or, bit_xor}
+use Rattle.std.proofs.Common.{◌≡◌, ℕ, suc, ◌+◌, ◌-◌, ◌*◌, ◌/◌, ◌%◌, ◌^◌, ◌<◌, ◌≤◌, min, max, cond, Bool, true, false, not, List, length, get_or, take, nat_eq, ◌&&◌, refl, sym, subst, ap, ap₂, ◌∙◌, arith, bit_and, bit_or}
 use Rattle.std.proofs.Math.ListN.{set}
 use Rattle.std.proofs.Math.Nat.{pow-le-pow_right, pow-suc}
 use Rattle.std.proofs.lemmas.Nat.{or_lt, shl_below, shl_whole}
 use Rattle.std.proofs.lemmas.List.{length-take-le}
-use Rattle.std.proofs.lemmas.Nat.Bits.{bit_at_and, bit_at_or, bit_at_xor, bit_at_ones, bit_at_above, bit_at-lt}
+use Rattle.std.proofs.lemmas.Nat.Bits.{bit_at_and, bit_at_or, bit_at_ones, bit_at_above, bit_at-lt}
 use Rattle.std.specs.Int.{bit_at}
 use Rattle.syn_truth.specs.Truth.{digit, minterm_of}
 use Rattle.syn_truth.specs.Words.{IsMask}
@@ -32,11 +32,6 @@ other_bit a h = grind arith
 
 pub and_at : (a b m : ℕ) → nat_eq (bit_at (bit_and a b) m) 1 ≡ (nat_eq (bit_at a m) 1 && nat_eq (bit_at b m) 1)
 and_at a b m = ap (λ x. nat_eq x 1) (bit_at_and a b m) ∙ both_bits _ _ (bit_at-lt a m) (bit_at-lt b m)
-
-pub not_at : (n w m : ℕ) → m < w → nat_eq (bit_at (bit_xor n (2 ^ w - 1)) m) 1 ≡ not (nat_eq (bit_at n m) 1)
-not_at n w m l =
-    ap (λ x. nat_eq x 1) (bit_at_xor n (2 ^ w - 1) m ∙ ap (λ b. (bit_at n m + b) % 2) (bit_at_ones w m l))
-    ∙ other_bit _ (bit_at-lt n m)
 
 -- ---- cofactors: the part that stays and the part that moves
 pick_true : (n m there p : ℕ) (x : Bool) → there + digit x * p ≡ m + 1 * p → max (min (bit_at n m) (digit x)) (min (bit_at n (p + m)) (1 - digit x)) ≡ bit_at n there

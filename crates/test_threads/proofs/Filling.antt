@@ -1,7 +1,7 @@
 -- A seat that knows nothing fills a pool twice and empties it: it holds nothing again.
 use Rattle.std.proofs.Common.{◌≡◌, ℕ, ◌+◌, ◌<◌, ◌≤◌, ◌&&◌, ◌||◌, not, Bool, true, false, List, [], ◌∷◌, ◌++◌, length, refl, ap, ◌∙◌, arith, inl, inr}
 use Rattle.syn_rows.specs.Nodes.{has_node}
-use Rattle.syn_rows.proofs.Nodes.{has_here, has_node-append}
+use Rattle.syn_rows.proofs.Nodes.{has_node-append}
 use Rattle.syn_core_laws.specs.declared.View.{View}
 use Rattle.syn_core_laws.specs.Openings.{empty_view}
 use Rattle.syn_commit.specs.Pools.{HoldsNoneOf, IsEmptied, IsFilled, found_free}

@@ -1,4 +1,4 @@
-use Rattle.std.proofs.Common.{◌≡◌, ℕ, ◌+◌, ◌*◌, IfOk, sym, ap, ◌∙◌, subst, arith, get_or}
+use Rattle.std.proofs.Common.{◌≡◌, ℕ, ◌+◌, ◌*◌, IfOk, sym, ap, ◌∙◌, subst, arith}
 use Rattle.syn_rows.specs.Joining.{lit_of}
 use Rattle.syn_rows.proofs.JoinLaws.{same_lit}
 use Rattle.syn_gain.specs.declared.proposals.Proposal.{Proposal}

@@ -4,7 +4,7 @@ use Rattle.syn_rows.specs.Joining.{constant}
 use Rattle.syn_plan.specs.declared.PLit.{PLit}
 use Rattle.syn_plan.specs.Gates.{values_after}
 use Rattle.syn_gain.specs.Leaves.{are_below}
-use Rattle.syn_gain.specs.Placing.{each_below, literal_for}
+use Rattle.syn_gain.specs.Placing.{literal_for}
 use Rattle.syn_gain.specs.Proposals.{replacement}
 use Rattle.syn_gain.specs.declared.proposals.Proposal.{Proposal}
 use Rattle.syn_hashed.specs.declared.growing.HashedRows.{HashedRows}

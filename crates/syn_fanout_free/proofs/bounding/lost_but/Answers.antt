@@ -2,7 +2,6 @@ use Rattle.std.proofs.Common.{◌≡◌, ◌≤◌, ◌+◌, ◌&&◌, length, a
 use Rattle.syn_rows.specs.Rows.{row_at}
 use Rattle.syn_rows.specs.Reach.{is_and}
 use Rattle.syn_rows.specs.Nodes.{has_node}
-use Rattle.syn_fanout_free.specs.Bounding.{IsLostBut}
 use Rattle.syn_fanout_free.specs.Saved.{count_in}
 use Rattle.syn_fanout_free.proofs.Bounded.{lost_is_but, most_of_all, most_of_but}
 use Rattle.syn_fanout_free.proofs.Numbers.{one_if-le, count-le}

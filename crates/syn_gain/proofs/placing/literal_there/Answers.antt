@@ -1,9 +1,6 @@
-use Rattle.std.proofs.Common.{◌≡◌, ◌+◌, ◌-◌, List, length, sym, ◌∙◌, subst, refl, arith, inl, inr}
+use Rattle.std.proofs.Common.{◌≡◌, ◌+◌, ◌-◌, length, sym, ◌∙◌, refl, arith, inl, inr}
 use Rattle.std.proofs.lemmas.Bool.{cases_lt}
 use Rattle.std.proofs.Math.Nat.{sub-add-eq-max}
-use Rattle.syn_rows.specs.declared.Row.{Row}
-use Rattle.syn_rows.specs.Rows.{AllRefs, row_at}
-use Rattle.syn_gain.specs.Laws.{IsBefore}
 use Rattle.syn_gain.proofs.Fresh.{not_behind}
 use Rattle.syn_gain.proofs.placing.literal_there.Goals as goal
 

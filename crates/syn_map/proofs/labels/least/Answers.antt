@@ -1,4 +1,4 @@
-use Rattle.std.proofs.Common.{◌≡◌, ℕ, List, ◌∷◌, rules, sym, ap, ◌∙◌}
+use Rattle.std.proofs.Common.{◌≡◌, ℕ, ◌∷◌, rules, sym, ap, ◌∙◌}
 use Rattle.syn_rows.specs.Levels.{level_in}
 use Rattle.syn_cuts.specs.Leaves.{leaves, leaves_of}
 use Rattle.syn_lutshapes.specs.Luts.{greatest}

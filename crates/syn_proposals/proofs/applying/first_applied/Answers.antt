@@ -1,6 +1,6 @@
-use Rattle.std.proofs.Common.{◌≡◌, true, sym, ap, ◌∙◌, subst}
+use Rattle.std.proofs.Common.{◌≡◌, sym, ap, ◌∙◌, subst}
 use Rattle.syn_gain.specs.Proposals.{replacement_of}
-use Rattle.syn_levels.specs.Levels.{IsNoDeeper, keeps_level}
+use Rattle.syn_levels.specs.Levels.{keeps_level}
 use Rattle.syn_proposals.specs.Closing.{SavesSome}
 use Rattle.syn_proposals.proofs.Borrowed.{borrowed_is}
 use Rattle.syn_proposals.proofs.Chains.{applied_follows_all}

@@ -1,4 +1,4 @@
-use Rattle.std.proofs.Common.{◌^◌, length, map, ap, ◌∙◌, subst, arith}
+use Rattle.std.proofs.Common.{◌^◌, length, map, ◌∙◌, arith}
 use Rattle.syn_lutshapes.specs.Luts.{ones_of}
 use Rattle.syn_lutshapes.specs.LutSpelling.{minterm_row}
 use Rattle.syn_text.proofs.LutWhole.{ones_next}

@@ -1,7 +1,7 @@
 use Rattle.std.proofs.Common.{◌≡◌, ◌&&◌, nat_lt, true, ℕ, List, length, map, refl, sym, ap, ap₂, ◌∙◌}
 use Rattle.std.proofs.lemmas.Bool.{and_from, lt-ltb}
 use Rattle.std.proofs.lemmas.List.{length-map}
-use Rattle.syn_netlist.specs.Kept.{rows_fit, polarity_fits}
+use Rattle.syn_netlist.specs.Kept.{rows_fit}
 use Rattle.syn_netlist.specs.Lists as lists
 use Rattle.syn_netlist.specs.Numbers.{word_at, words_at, all_below}
 use Rattle.syn_lutshapes.specs.Luts.{ones_of}

@@ -1,4 +1,4 @@
-use Rattle.std.proofs.Common.{length, List, ℕ, ap, sym, ◌∙◌, arith}
+use Rattle.std.proofs.Common.{length, List, ℕ, ap, ◌∙◌, arith}
 use Rattle.syn_cuts.specs.Leaves.{leaves_of}
 use Rattle.syn_map.proofs.Leastness.{chosen_is, length-listed}
 use Rattle.syn_map.proofs.labelled.Labelled.chosen.Goals as goal
