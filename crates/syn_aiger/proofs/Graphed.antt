@@ -17,7 +17,7 @@ use Rattle.syn_shapes.specs.Graphs.{lit_at, source_lit}
 use Rattle.syn_shapes.specs.Spelling.{NetworkOfGraph, NetworkSpells}
 use Rattle.syn_graph.specs.declared.Graph.{Graph}
 use Rattle.syn_graph.specs.Graphs.{HasOwnSources, network_of}
-use Rattle.syn_aiger_files.specs.declared.fault.TheConstants.{MOST_GATES}
+use Rattle.syn_aiger_files.specs.declared.fault.TheConstants.{MAX_GATES}
 use Rattle.syn_aiger_files.specs.declared.files.Aig.{Aig}
 use Rattle.syn_aiger_files.specs.Spelling.{most_variables}
 use Rattle.syn_aiger.specs.Faults.{Within}
@@ -123,7 +123,7 @@ module _ (g : Aig) (sound : IsSound g) (defined : ReadsDefined g) (rank : HasRan
       fewer = omega (arith, spells.ands, length-drop (length (sources (frame_in graph.frame)) + 1) graph.rows, few_graph, ap (λ (f : Frame). length (sources f)) framed);
     }
 
-    pub few_nodes : Within g → length graph.rows ≤ graph.source_count + 1 + MOST_GATES
+    pub few_nodes : Within g → length graph.rows ≤ graph.source_count + 1 + MAX_GATES
     few_nodes w = omega (arith, few_graph, w.gates, graph.source_count_is, ap (λ (f : Frame). length (sources f)) framed)
 
     pub few_outputs : length graph.frame.outputs ≤ most_variables
@@ -134,7 +134,7 @@ module _ (g : Aig) (sound : IsSound g) (defined : ReadsDefined g) (rank : HasRan
     pub graph_with : IsGraphOfAig g (network_of graph)
     graph_with = is_graph of_graph functions graph (framed ∙ e) (values_with frame rows ls e f h graph values) (fewer_with frame rows ls e f h graph fewer)
 
-    pub nodes_with : Within g → length graph.rows ≤ graph.source_count + 1 + MOST_GATES
+    pub nodes_with : Within g → length graph.rows ≤ graph.source_count + 1 + MAX_GATES
     nodes_with = few_nodes of_graph functions graph (framed ∙ e) (values_with frame rows ls e f h graph values) (fewer_with frame rows ls e f h graph fewer)
 
     pub outputs_with : length graph.frame.outputs ≤ most_variables

@@ -14,8 +14,8 @@ use Rattle.syn_aiger_files.specs.declared.files.Place.{Place}
 use Rattle.syn_aiger_files.specs.declared.files.Symbol.{Symbol}
 use Rattle.syn_aiger_files.specs.declared.files.Place.TheVariants.{Input as OfInput, Latch as OfLatch, Output as OfOutput}
 use Rattle.syn_aiger_files.specs.Files.{next_of}
-use Rattle.syn_aiger.specs.declared.writing.AigWriteFault.{AigWriteFault}
-use Rattle.syn_aiger.specs.declared.writing.AigWriteFault.TheVariants as faults
+use Rattle.syn_aiger.specs.declared.writer.AigWriteFault.{AigWriteFault}
+use Rattle.syn_aiger.specs.declared.writer.AigWriteFault.TheVariants as faults
 use Rattle.syn_aiger_files.specs.Literals.{literals_from}
 use Rattle.syn_aiger.specs.Networks.{frame_of}
 use Rattle.syn_aiger.specs.Values.{FitsAig, source_variables, value_of}

@@ -18,8 +18,8 @@ ghost use Rattle.syn_aiger.specs.Ranks.{HasRank, table_netlist};
 ghost use Rattle.syn_aiger.specs.Values.{and_table, and_tables, and_variable, defined_variables, reads_above, source_variables, variable_word};
 ghost use Rattle.syn_shapes.specs.Spelling.{numbers_from, sign_of};
 
-use crate::naming::input_literals;
-use crate::numbering::Numbered;
+use crate::file_numbers::Numbered;
+use crate::names::input_literals;
 use itoa::Buffer;
 use std::alloc::{AllocError, Global};
 use syn_aiger_files::{AigAnd, AigLatch, number_of};

@@ -6,22 +6,22 @@
 #![tactic(auto)]
 
 mod circles;
-mod defining;
+mod file_numbers;
 mod first_names;
-mod framing;
+mod frame;
 mod given;
 mod laws;
-mod naming;
-mod numbering;
+mod names;
 mod places;
-mod reading;
+mod reader;
 mod rows;
-mod writing;
+mod undefined;
+mod writer;
 
 pub use laws::{
     aig_of_is_normal, aig_of_keeps, either_or, not_both, one_aig, one_fault, order_has_no_circle,
     printed_spells, spelled_defines_once,
 };
-pub use reading::read_aig;
-pub use syn_aiger_files::{AigFault, MOST_GATES};
-pub use writing::{AigWriteFault, write_aig};
+pub use reader::read_aig;
+pub use syn_aiger_files::{AigFault, MAX_GATES};
+pub use writer::{AigWriteFault, write_aig};

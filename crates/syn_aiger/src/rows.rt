@@ -4,7 +4,7 @@ ghost use Rattle.std.specs.Prelude.{◌≡◌, ◌++◌, length, map, replicate,
 ghost use Rattle.syn_rows.specs.declared.Row.{Row};
 ghost use Rattle.syn_aiger.specs.Placing.{ReadsDefined, and_row, rows_in};
 
-use crate::numbering::Numbered;
+use crate::file_numbers::Numbered;
 use std::alloc::{AllocError, Global};
 use syn_rows::Row;
 

@@ -11,7 +11,7 @@ use crate::files::Header;
 use crate::numbers::next_number;
 
 /// The greatest number of a first line.
-const MOST_VARIABLES: u32 = 268_435_455;
+const MAX_VARIABLES: u32 = 268_435_455;
 
 // Whether the format is the ASCII one, where the word is that of a format.
 fn format_of(word: &[u8]) -> Option<bool>
@@ -47,11 +47,11 @@ fn fits(h: &Header) -> bool
     ensures fits { result ≡ fits_numbers h.now }
     ensures small { result ≡ true → HeaderFits h.now }
 {
-    if h.variables > MOST_VARIABLES
-        || h.inputs > MOST_VARIABLES
-        || h.latches > MOST_VARIABLES
-        || h.outputs > MOST_VARIABLES
-        || h.ands > MOST_VARIABLES
+    if h.variables > MAX_VARIABLES
+        || h.inputs > MAX_VARIABLES
+        || h.latches > MAX_VARIABLES
+        || h.outputs > MAX_VARIABLES
+        || h.ands > MAX_VARIABLES
     {
         return false;
     }

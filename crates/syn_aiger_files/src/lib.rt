@@ -22,16 +22,16 @@ mod fault;
 mod files;
 mod header;
 mod numbers;
-mod parsing;
-mod printing;
+mod parser;
+mod printer;
 mod sets;
 mod symbols;
 
-pub use fault::{AigFault, MOST_GATES};
+pub use fault::{AigFault, MAX_GATES};
 pub use files::{Aig, AigAnd, AigLatch, Inputs, Place, Symbol};
 pub use numbers::number_of;
-pub use parsing::parse;
-pub use printing::print;
+pub use parser::parse;
+pub use printer::print;
 
 /// What is printed of a file that can be written says it, in both formats.
 pub fn printed_says()

@@ -1,7 +1,7 @@
 //! Proposals applied to a graph, one at a time or many together.
 #![tactic(auto)]
 
-mod remaking;
+mod batch;
 
 ghost use Rattle.std.specs.Prelude.{◌≡◌, ℤ, pos, ◌+ℤ◌, ◌≤ℤ◌, ◌<◌, ◌^◌, Bool, List, true, length, IfErr, IfOk};
 ghost use Rattle.syn_rows.specs.Rows.{row_at};
@@ -14,7 +14,7 @@ ghost use Rattle.syn_gain.specs.Replacements.{SavedBy, rows_after_by};
 ghost use Rattle.syn_levels.specs.Levels.{IsNoDeeper, keeps_level};
 ghost use Rattle.syn_apply.specs.Sound.{IsSoundBy};
 
-pub use remaking::applied_together;
+pub use batch::applied_together;
 use std::alloc::{AllocError, Global};
 use syn_gain::{Candidate, place, replaced_rows};
 use syn_graph::Graph;

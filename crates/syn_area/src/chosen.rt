@@ -1,7 +1,7 @@
 //! The chosen cuts.
 
 ghost use Rattle.std.specs.Prelude.{◌≡◌, ◌<◌, ◌≤◌, IfOk, length, map, slice_set};
-ghost use Rattle.syn_truth.specs.declared.TheConstants.{MOST_VARS};
+ghost use Rattle.syn_truth.specs.declared.TheConstants.{MAX_VARS};
 ghost use Rattle.syn_area.specs.Kept.{cut_in, fan_ins};
 
 use std::alloc::{AllocError, Global};
@@ -27,7 +27,7 @@ impl Model for Chosen {
 
 /// A cut with these leaves.
 pub(crate) fn copied(leaves: &[u32]) -> Cut
-    requires { length leaves.now ≤ MOST_VARS }
+    requires { length leaves.now ≤ MAX_VARS }
     ensures { result.items ≡ leaves.now }
 {
     let mut cut = Cut::new();
@@ -75,7 +75,7 @@ impl Chosen {
     #[inline]
     pub(crate) fn of(&self, node: u32) -> &[u32]
         ensures leaves { result.now ≡ cut_in self.now node }
-        ensures few { length result.now ≤ MOST_VARS }
+        ensures few { length result.now ≤ MAX_VARS }
     {
         if (node as usize) < self.cuts.len() {
             self.cuts[node as usize].as_slice()

@@ -3,7 +3,7 @@
 ghost use Rattle.std.specs.Prelude.{◌<◌, ◌^◌, length};
 
 use crate::chosen::Chosen;
-use crate::covers::{Cover, MOST_FOLLOWED};
+use crate::covers::{Cover, MAX_FOLLOWED};
 use crate::figures::{
     Cost, Figures, at_least, cost_over, depth_of, expect_again, expect_first, set_figures,
 };
@@ -134,7 +134,7 @@ impl Costs {
         if self.is_lifted(node) {
             self.cover.undo_remove();
             if before != chosen.of(node) {
-                self.cover.add(chosen, chosen.of(node), MOST_FOLLOWED);
+                self.cover.add(chosen, chosen.of(node), MAX_FOLLOWED);
                 self.cover.remove(chosen, before);
             }
         }

@@ -16,18 +16,18 @@ pub(crate) struct Cover {
     /// The latest arrival of each node; of one that nothing reads any.
     required: Vec<u32>,
     /// ANDs whose leaves are still to be visited.
-    waiting: ArrayVec<u32, MOST_TOUCHED>,
+    waiting: ArrayVec<u32, MAX_TOUCHED>,
     /// The nodes that got a reader, one after the other, while LUTs were added.
-    added: ArrayVec<u32, MOST_TOUCHED>,
+    added: ArrayVec<u32, MAX_TOUCHED>,
     /// Those that lost one while LUTs were taken out.
-    removed: ArrayVec<u32, MOST_TOUCHED>,
+    removed: ArrayVec<u32, MAX_TOUCHED>,
 }
 
 /// So many LUTs are followed at most below a cut that is added or taken out, so that each node takes so much time at most.
-pub(crate) const MOST_FOLLOWED: u32 = 32;
+pub(crate) const MAX_FOLLOWED: u32 = 32;
 
 // So many leaves are those of a cut and of the LUTs that are followed below it, each of at most eight.
-const MOST_TOUCHED: usize = 264;
+const MAX_TOUCHED: usize = 264;
 
 // So many times a number.
 fn numbers(alloc: Global, count: usize, number: u32) -> Result<Vec<u32>, AllocError> {
@@ -143,10 +143,10 @@ impl Cover {
     /// Adds a LUT over these leaves to the cover, and those that it needs: how many they are, as far as they are followed,
     /// at most so many.
     pub(crate) fn add(&mut self, chosen: &Chosen, leaves: &[u32], most: u32) -> u32 {
-        let most = if most < MOST_FOLLOWED {
+        let most = if most < MAX_FOLLOWED {
             most
         } else {
-            MOST_FOLLOWED
+            MAX_FOLLOWED
         };
         self.added.clear();
         self.waiting.clear();
@@ -173,7 +173,7 @@ impl Cover {
         self.removed.clear();
         self.waiting.clear();
         self.leave_leaves(leaves);
-        for _ in 0..MOST_FOLLOWED {
+        for _ in 0..MAX_FOLLOWED {
             let Some(node) = self.waiting.pop() else {
                 return;
             };

@@ -14,9 +14,9 @@ mod costs;
 mod covers;
 mod figures;
 mod lists;
-mod mapping;
+mod mapper;
 mod near;
 mod picks;
 mod rounds;
 
-pub use mapping::map_for_area;
+pub use mapper::map_for_area;

@@ -2,7 +2,7 @@
 
 ghost use Rattle.std.specs.Prelude.{◌≡◌, ◌+◌, ◌<◌, ◌≤◌, [], ℕ, All, List, IfOk, OnOk, length};
 ghost use Rattle.syn_rows.specs.declared.Row.{Row};
-ghost use Rattle.syn_truth.specs.declared.TheConstants.{MOST_VARS};
+ghost use Rattle.syn_truth.specs.declared.TheConstants.{MAX_VARS};
 ghost use Rattle.syn_cuts.specs.Leaves.{leaves_of};
 ghost use Rattle.syn_area.specs.Kept.{AreListed, IsKept};
 
@@ -94,7 +94,7 @@ impl Lists {
 
     // Lists a cut of a node.
     fn push(&mut self, figures: &[Figures], node: u32, leaves: &[u32]) -> Result<(), AllocError>
-        requires { length leaves.now ≤ MOST_VARS }
+        requires { length leaves.now ≤ MAX_VARS }
         ensures { (rows : List Row) → AreListed rows self.old.listed.items → IsKept rows node leaves.now → OnOk result (AreListed rows self.new.listed.items) }
     {
         self.listed.push(Listed {

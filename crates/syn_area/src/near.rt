@@ -7,10 +7,10 @@ use std::alloc::{AllocError, Global};
 use syn_cuts::Cut;
 
 /// So many leaves have bits.
-pub(crate) const MOST_NEAR: usize = 64;
+pub(crate) const MAX_NEAR: usize = 64;
 
 /// So many cuts of a fan-in are looked at.
-pub(crate) const MOST_PARTS: usize = 9;
+pub(crate) const MAX_PARTS: usize = 9;
 
 /// A cut of a fan-in: its leaves, all bits where one has none, what a LUT over them costs, and its place in its list.
 #[derive(Clone, Copy, Debug, Default)]
@@ -25,7 +25,7 @@ pub(crate) struct Part {
 pub(crate) struct Near {
     /// The bit that each node had where it was near last.
     bits: Vec<u8>,
-    leaves: ArrayVec<u32, MOST_NEAR>,
+    leaves: ArrayVec<u32, MAX_NEAR>,
 }
 
 // No bit of any of so many nodes.
@@ -68,7 +68,7 @@ impl Near {
     #[inline]
     fn see(&mut self, node: u32) -> u64 {
         let bit = self.leaves.len();
-        if bit >= MOST_NEAR || node as usize >= self.bits.len() {
+        if bit >= MAX_NEAR || node as usize >= self.bits.len() {
             return u64::MAX;
         }
         self.bits[node as usize] = bit as u8;
@@ -98,7 +98,7 @@ impl Near {
     }
 
     /// The first cuts of a list as parts.
-    pub(crate) fn parts(&mut self, listed: &[Listed]) -> ArrayVec<Part, MOST_PARTS> {
+    pub(crate) fn parts(&mut self, listed: &[Listed]) -> ArrayVec<Part, MAX_PARTS> {
         let mut parts = ArrayVec::new();
         for one in listed {
             if parts.is_full() {

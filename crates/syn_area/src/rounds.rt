@@ -1,7 +1,7 @@
 //! Rounds over the nodes.
 
 ghost use Rattle.std.specs.Prelude.{◌≡◌, ◌+◌, ◌<◌, ◌≤◌, ℕ, List, All, IfOk, OnOk, length};
-ghost use Rattle.syn_truth.specs.declared.TheConstants.{MOST_VARS};
+ghost use Rattle.syn_truth.specs.declared.TheConstants.{MAX_VARS};
 ghost use Rattle.syn_rows.specs.declared.Row.{Row};
 ghost use Rattle.syn_rows.specs.Rows.{node_of, row_at};
 ghost use Rattle.syn_cuts.specs.Leaves.{leaves_of};
@@ -37,7 +37,7 @@ fn push_union(
     b: u32,
     k: u8,
 )
-    requires small { k ≤ MOST_VARS }
+    requires small { k ≤ MAX_VARS }
     requires first { left.now.node ≡ a }
     requires second { right.now.node ≡ b }
     ensures { (rows : List Row) (node : ℕ) → Joins k rows a b node → IsKept rows left.now.node left.now.cut.items → IsKept rows right.now.node right.now.cut.items → AreCandidates k rows node (leaves_of cuts.old.items) → AreCandidates k rows node (leaves_of cuts.new.items) }
@@ -58,7 +58,7 @@ fn push_union_at(
     b: u32,
     k: u8,
 )
-    requires { k ≤ MOST_VARS }
+    requires { k ≤ MAX_VARS }
     ensures { (rows : List Row) (node : ℕ) → Joins k rows a b node → AreListed rows left.now → AreListed rows right.now → AreCandidates k rows node (leaves_of cuts.old.items) → AreCandidates k rows node (leaves_of cuts.new.items) }
 {
     let i = places.0 as usize;
@@ -91,8 +91,8 @@ fn push_pick(
     b: u32,
     k: u8,
 )
-    requires small { k ≤ MOST_VARS }
-    requires chosen { length chosen.now ≤ MOST_VARS }
+    requires small { k ≤ MAX_VARS }
+    requires chosen { length chosen.now ≤ MAX_VARS }
     ensures { (rows : List Row) (node : ℕ) → Joins k rows a b node → AreListed rows left.now → AreListed rows right.now → IsLutCut k rows node chosen.now → AreCandidates k rows node (leaves_of cuts.old.items) → AreCandidates k rows node (leaves_of cuts.new.items) }
 {
     match pick.origin {
@@ -111,8 +111,8 @@ fn cuts_of(
     b: u32,
     k: u8,
 ) -> ArrayVec<Cut, PICKED>
-    requires small { k ≤ MOST_VARS }
-    requires chosen { length chosen.now ≤ MOST_VARS }
+    requires small { k ≤ MAX_VARS }
+    requires chosen { length chosen.now ≤ MAX_VARS }
     ensures { (rows : List Row) (node : ℕ) → Joins k rows a b node → AreListed rows left.now → AreListed rows right.now → IsLutCut k rows node chosen.now → AreCandidates k rows node (leaves_of result.items) }
 {
     let mut cuts = ArrayVec::new();
@@ -132,7 +132,7 @@ fn candidates_of(
     b: u32,
     k: u8,
 ) -> ArrayVec<Cut, PICKED>
-    requires { k ≤ MOST_VARS }
+    requires { k ≤ MAX_VARS }
     ensures { (rows : List Row) → Joins k rows a b node → AreListed rows lists.now.listed.items → IsLutCut k rows node (cut_in chosen.now node) → AreCandidates k rows node (leaves_of result.items) }
 {
     let left = lists.of(a);
@@ -164,7 +164,7 @@ fn visit_and(
     b: Lit,
     k: u8,
 ) -> Result<(), AllocError>
-    requires small { k ≤ MOST_VARS }
+    requires small { k ≤ MAX_VARS }
     requires positive { 0 < node }
     requires node { node < length graph.now.rows }
     requires gate { row_at graph.now.rows node ≡ Row.And a b }
@@ -199,7 +199,7 @@ fn visit(
     node: u32,
     k: u8,
 ) -> Result<(), AllocError>
-    requires small { k ≤ MOST_VARS }
+    requires small { k ≤ MAX_VARS }
     requires positive { 0 < node }
     requires node { node < length graph.now.rows }
     requires visited { AreVisited k graph.now.rows lists.old.listed.items chosen.old }
@@ -219,7 +219,7 @@ fn round(
     lists: &mut Lists,
     k: u8,
 ) -> Result<(), AllocError>
-    requires small { k ≤ MOST_VARS }
+    requires small { k ≤ MAX_VARS }
     requires count { length chosen.old ≡ length graph.now.rows }
     requires fit { AreLutCuts k graph.now.rows (cut_in chosen.old) }
     ensures count { OnOk result (length chosen.new ≡ length graph.now.rows) }
@@ -246,7 +246,7 @@ const AIMS: [Aim; 7] = [
 /// A cut of at most `k` leaves for each AND of a graph.
 pub(crate) fn choose(alloc: Global, graph: &Graph, k: u8) -> Result<Chosen, AllocError>
     requires many { 2 ≤ k }
-    requires few { k ≤ MOST_VARS }
+    requires few { k ≤ MAX_VARS }
     ensures count { IfOk result (λ chosen. length chosen ≡ length graph.now.rows) }
     ensures fit { IfOk result (λ chosen. AreLutCuts k graph.now.rows (cut_in chosen)) }
 {

@@ -16,7 +16,7 @@ use std::alloc::{AllocError, Global};
 use syn_words::{NumberRange, number_in};
 
 /// The most workers.
-pub const MOST_WORKERS: u8 = 16;
+pub const MAX_WORKERS: u8 = 16;
 
 /// What the program's words ask for.
 #[derive(Clone, Copy, Debug, PartialEq, Eq)]
@@ -80,7 +80,7 @@ fn workers_of(text: Option<&str>) -> Option<u8>
     };
     let range = NumberRange {
         least: 1,
-        most: MOST_WORKERS as u64,
+        most: MAX_WORKERS as u64,
     };
     let workers = number_in(range, text.as_bytes())?;
     Some(workers as u8)

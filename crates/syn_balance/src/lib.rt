@@ -5,11 +5,11 @@ ghost use Rattle.std.specs.Prelude.{◌≡◌, IfErr, IfOk};
 ghost use Rattle.syn_hashed.specs.Compacting.{IsCompaction};
 ghost use Rattle.syn_balance.specs.Balanced.{FollowsRule, IsBalanced};
 
-mod balancing;
-mod joining;
+mod balancer;
+mod joiner;
 mod roots;
 
-use balancing::made_again;
+use balancer::made_again;
 use std::alloc::{AllocError, Global};
 use syn_graph::Graph;
 use syn_hashed::{Rows, compact_hashed};

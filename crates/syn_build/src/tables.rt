@@ -208,7 +208,7 @@ fn and_character(
 }
 
 // The AND of the fits of a row's characters, from constant 1, in the order of the inputs.
-fn row_literal(hashed: &mut HashedRows, inputs: &[Lit], row: &[u8]) -> Result<Lit, AllocError>
+fn cube_literal(hashed: &mut HashedRows, inputs: &[Lit], row: &[u8]) -> Result<Lit, AllocError>
     requires inputs { AllThere hashed.old.rows.items inputs.now }
     requires room { length hashed.old.rows.items + row_cost row.now < NODE_LIMIT }
     ensures sources { hashed.new.source_count ≡ hashed.old.source_count }
@@ -238,7 +238,7 @@ fn or_row(hashed: &mut HashedRows, any: Lit, inputs: &[Lit], row: &[u8]) -> Resu
     ensures there { IfOk result (λ l. node_of l < length hashed.new.rows.items) }
     ensures value { IfOk result (λ l. IsOrMatch hashed.old.rows.items any row.now inputs.now hashed.new.rows.items l) }
 {
-    let literal = row_literal(hashed, inputs, row)?;
+    let literal = cube_literal(hashed, inputs, row)?;
     Ok(hashed.or(any, literal)?)
 }
 

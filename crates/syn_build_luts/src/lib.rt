@@ -3,4 +3,4 @@
 
 mod luts;
 
-pub use luts::{BuildFault, MOST_GATES, build_luts};
+pub use luts::{BuildFault, MAX_GATES, build_luts};

@@ -15,7 +15,7 @@ ghost use Rattle.syn_graph.specs.Graphs as graphs;
 ghost use Rattle.syn_lutshapes.specs.Luts.{fold_luts, lut_gates, lut_value, luts_function, net_gates, ones_of, ones_value};
 ghost use Rattle.syn_lutnet.specs.Data.{lut_data, luts_data};
 ghost use Rattle.syn_lutnet.specs.Nets.{network_of};
-ghost use Rattle.syn_build_luts.specs.declared.luts.TheConstants.{MOST_INDEXES};
+ghost use Rattle.syn_build_luts.specs.declared.luts.TheConstants.{MAX_INDEXES};
 ghost use Rattle.syn_build_luts.specs.Building.{IsGraphOfLuts};
 ghost use Rattle.syn_build_luts.specs.Placing.{AllThere, opposite, plain_literals, ReadEarlier, reads_below, signed_by, stand_for};
 ghost use Rattle.syn_build_luts.specs.Refusals.{TellsFault, most_gates};
@@ -25,20 +25,20 @@ use std::alloc::{AllocError, AllocFailed, Global};
 use syn_graph::{Graph, copy_frame};
 use syn_hashed::HashedRows;
 use syn_lutnet::{Lut, LutNet};
-use syn_plan::{MOST_LEAVES, PLit};
+use syn_plan::{MAX_LEAVES, PLit};
 use syn_rows::{FALSE, Lit};
 use thiserror::Error;
 
 /// The most gates of a LUT net that is made a graph.
-pub const MOST_GATES: u64 = 4_194_304;
+pub const MAX_GATES: u64 = 4_194_304;
 
 // The most indexes of a plan: the constant 0, the leaves and the gates.
-const MOST_INDEXES: usize = 1 + MOST_LEAVES as usize + syn_plan::MOST_GATES;
+const MAX_INDEXES: usize = 1 + MAX_LEAVES as usize + syn_plan::MAX_GATES;
 
 /// Why a LUT net is not made a graph.
 #[derive(Clone, Copy, Debug, PartialEq, Eq, Error)]
 pub enum BuildFault {
-    /// Factoring its LUTs takes so many gates, more than `MOST_GATES`.
+    /// Factoring its LUTs takes so many gates, more than `MAX_GATES`.
     #[error("too many gates: {0}")]
     TooManyGates(u64),
     /// Memory was refused.
@@ -86,12 +86,12 @@ fn stand_for(indexes: &[Lit], literal: PLit) -> Lit
 // Makes the AND of one gate of a plan.
 fn place_gate(
     hashed: &mut HashedRows,
-    indexes: &mut ArrayVec<Lit, MOST_INDEXES>,
+    indexes: &mut ArrayVec<Lit, MAX_INDEXES>,
     gate: &(PLit, PLit),
 ) -> Result<(), AllocError>
     requires first { index_of gate.now.0 < length indexes.old.items }
     requires second { index_of gate.now.1 < length indexes.old.items }
-    requires few { length indexes.old.items < MOST_INDEXES }
+    requires few { length indexes.old.items < MAX_INDEXES }
     requires there { AllThere hashed.old.rows.items indexes.old.items }
     requires room { length hashed.old.rows.items + 1 < NODE_LIMIT }
     ensures sources { hashed.new.source_count ≡ hashed.old.source_count }
@@ -111,11 +111,11 @@ fn place_gate(
 // Makes the ANDs of a plan's gates, in order.
 fn place_gates(
     hashed: &mut HashedRows,
-    indexes: &mut ArrayVec<Lit, MOST_INDEXES>,
+    indexes: &mut ArrayVec<Lit, MAX_INDEXES>,
     gates: &[(PLit, PLit)],
 ) -> Result<(), AllocError>
     requires order { in_order (length indexes.old.items) gates.now ≡ true }
-    requires few { length indexes.old.items + length gates.now ≤ MOST_INDEXES }
+    requires few { length indexes.old.items + length gates.now ≤ MAX_INDEXES }
     requires there { AllThere hashed.old.rows.items indexes.old.items }
     requires room { length hashed.old.rows.items + length gates.now < NODE_LIMIT }
     ensures sources { hashed.new.source_count ≡ hashed.old.source_count }
@@ -132,7 +132,7 @@ fn place_gates(
 }
 
 // The constant 0 and the literals of inputs.
-fn leaf_literals(signals: &[Lit], inputs: &[u32]) -> ArrayVec<Lit, MOST_INDEXES>
+fn leaf_literals(signals: &[Lit], inputs: &[u32]) -> ArrayVec<Lit, MAX_INDEXES>
     requires few { length inputs.now ≤ 8 }
     requires below { list_all (reads_below (length signals.now)) inputs.now ≡ true }
     ensures { result.items ≡ FALSE ∷ map (lit_at signals.now) inputs.now }
@@ -245,7 +245,7 @@ fn build_net(alloc: Global, net: &LutNet) -> Result<Built, AllocError>
 /// The graph of a LUT net: the LUTs in order, each by the gates of factoring its function, with rows that stand once; what
 /// no observed signal reaches is dropped. The frame is copied.
 ///
-/// A net that takes more than `MOST_GATES` gates is refused; the only other error is want of memory.
+/// A net that takes more than `MAX_GATES` gates is refused; the only other error is want of memory.
 pub fn build_luts(alloc: Global, net: &LutNet) -> Result<Graph, BuildFault>
     requires room { length (sources (frame_in net.now.frame)) + 1 + most_gates < NODE_LIMIT }
     ensures frame { IfOk result (λ graph. frame_in graph.frame ≡ frame_in net.now.frame) }
@@ -261,7 +261,7 @@ pub fn build_luts(alloc: Global, net: &LutNet) -> Result<Graph, BuildFault>
     syn_shapes::graph_has_function();
     syn_netlist::same_from_function();
     let gates = net.gates();
-    if gates > MOST_GATES {
+    if gates > MAX_GATES {
         return Err(BuildFault::TooManyGates(gates));
     }
     let built = build_net(alloc, net)?;

@@ -22,7 +22,7 @@ use Rattle.syn_decide.specs.Walk.{nodes_of}
 use Rattle.syn_decide.specs.Walked.{AreGates}
 use Rattle.syn_decide.proofs.Walking.{distinct_more, nodes_more}
 use Rattle.syn_commit_laws.specs.Turning.{Turns}
-use Rattle.syn_commit.specs.declared.leaving.TheConstants.{MOST_HELD}
+use Rattle.syn_commit.specs.declared.returns.TheConstants.{MAX_HELD}
 use Rattle.syn_commit.specs.Pools.{KeepsPool}
 use Rattle.syn_commit.specs.Walks.{AreKnown}
 use Rattle.syn_commit.specs.Giving.{Gives, GivesBackAll, IsGiving, IsLetGo, pool_after, pool_after_all}
@@ -270,7 +270,7 @@ module _ (nodes : ℕ) (pool : List ℕ) (gates idle : List NodeRow) (e : NodeRo
   fewer_once : (m : ℕ) → times m (nodes_of gates) + times m (nodes_of idle) ≤ 1
   fewer_once m = let more = times_more m idle e in let o = g.once m in omega (arith, more, o)
 
-  fewer_room : length gates + length idle ≤ MOST_HELD
+  fewer_room : length gates + length idle ≤ MAX_HELD
   fewer_room = let more : length (idle ++ e ∷ []) ≡ length idle + 1 = length-append idle (e ∷ []) in let r = g.room in omega (arith, more, r)
 
   -- the node joins the pool

@@ -15,7 +15,7 @@ use Rattle.syn_core_laws.specs.Views as views
 use Rattle.syn_core_laws.proofs.Counting.{times_has}
 use Rattle.syn_core_laws.proofs.Listing.{look_here, look_there}
 use Rattle.syn_decide.specs.declared.decisions.NodeRow.{NodeRow}
-use Rattle.syn_decide.specs.declared.decisions.TheConstants.{MOST_INNER}
+use Rattle.syn_decide.specs.declared.decisions.TheConstants.{MAX_INNER}
 use Rattle.syn_decide.specs.declared.decisions.Want.TheVariants as want
 use Rattle.syn_decide.specs.declared.decisions.Decision.{Decision}
 use Rattle.syn_decide.specs.declared.decisions.Decision.TheVariants as decision
@@ -116,7 +116,7 @@ over_waits t inner None = go (in_circle t inner) (is_same_function t inner)
 
 on_waits : (t : Task) (inner : List NodeRow) (ns : List ℕ) → KeysWait t (walk_on t inner ns)
 on_waits t inner [] = over_waits t inner (first_unmet t inner)
-on_waits t inner (n ∷ ns) = go (nat_lt (length inner) MOST_INNER)
+on_waits t inner (n ∷ ns) = go (nat_lt (length inner) MAX_INNER)
   where
     go : (b : Bool) → KeysWait t (if b then Walking (n ∷ ns) else Ended (Wide n))
     go true = tt
@@ -315,10 +315,10 @@ over_less t inner before room None = go (in_circle t inner) (is_same_function t 
 
 on_less : (t : Task) (inner : List NodeRow) (before : ℕ) (ns : List ℕ) → before < 49 → length inner ≡ before + 1 → IsLess before (walk_on t inner ns) (length inner)
 on_less t inner before [] room more = over_less t inner before room (first_unmet t inner)
-on_less t inner before (n ∷ ns) room more = go (nat_lt (length inner) MOST_INNER) refl
+on_less t inner before (n ∷ ns) room more = go (nat_lt (length inner) MAX_INNER) refl
   where
-    go : (b : Bool) → nat_lt (length inner) MOST_INNER ≡ b → IsLess before (if b then Walking (n ∷ ns) else Ended (Wide n)) (length inner)
-    go true e = goes before (length inner) (n ∷ ns) more (ltb-true (length inner) MOST_INNER e)
+    go : (b : Bool) → nat_lt (length inner) MAX_INNER ≡ b → IsLess before (if b then Walking (n ∷ ns) else Ended (Wide n)) (length inner)
+    go true e = goes before (length inner) (n ∷ ns) more (ltb-true (length inner) MAX_INNER e)
     go false e = over before (length inner) (Ended (Wide n)) room refl (λ w h. cc)
 
 pub room_begins : (t : Task) (s : State) → s ≡ begin t → HasRoom s

@@ -12,8 +12,8 @@ use Rattle.syn_core_laws.specs.declared.EventKind.{EventKind}
 use Rattle.syn_core_laws.specs.declared.EventKind.TheVariants as Kind
 use Rattle.syn_core_laws.specs.Views.{known_row}
 use Rattle.syn_core_laws.proofs.Counting.{has_times, hits_other, hits_same, times_append, times_has}
-use Rattle.syn_plan.specs.declared.TheConstants.{MOST_GATES}
-use Rattle.syn_decide.specs.declared.decisions.TheConstants.{MOST_INNER}
+use Rattle.syn_plan.specs.declared.TheConstants.{MAX_GATES}
+use Rattle.syn_decide.specs.declared.decisions.TheConstants.{MAX_INNER}
 use Rattle.syn_decide.specs.declared.decisions.NodeRow.{NodeRow}
 use Rattle.syn_decide.specs.Tasks.{Task}
 use Rattle.syn_decide.specs.Walk.{enters, nodes_of}
@@ -85,7 +85,7 @@ gates_join gates (r ∷ rows) n h = elim (here_or_there r.node n (nodes_of rows)
 
 -- what a commit on the way has, when it begins to give back
 pub trying_gives : (t : Task) (start v : View) (pool pins : List ℕ) (s : State) (gates : List NodeRow) → enters t.proposal.leaves [] t.proposal.root ≡ true → IsTrying t start pool pins v s
-    → gates ≡ with_gates (with_gates [] s.inner) s.hits → length gates ≤ MOST_INNER + MOST_GATES → IsGiving pool pins gates [] v
+    → gates ≡ with_gates (with_gates [] s.inner) s.hits → length gates ≤ MAX_INNER + MAX_GATES → IsGiving pool pins gates [] v
 trying_gives t start v pool pins s gates root h is few = record {
   spare = h.spare;
   held = λ n there. held n (or_cases (has_node pool n) (has_node (nodes_of s.inner) n || has_node (nodes_of s.hits) n) (sym (h.held n) ∙ there));

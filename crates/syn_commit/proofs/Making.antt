@@ -17,7 +17,7 @@ use Rattle.syn_decide.specs.declared.decisions.NodeRow.{NodeRow}
 use Rattle.syn_decide.specs.Dying.{are_distinct}
 use Rattle.syn_decide.specs.Walk.{nodes_of}
 use Rattle.syn_decide.specs.Walked.{AreGates}
-use Rattle.syn_commit.specs.declared.leaving.TheConstants.{MOST_HELD}
+use Rattle.syn_commit.specs.declared.returns.TheConstants.{MAX_HELD}
 use Rattle.syn_commit.specs.Walks.{AreKnown}
 use Rattle.syn_commit.specs.Giving.{IsGiving}
 use Rattle.syn_commit.specs.Storing.{MayReferTo, with_pins}
@@ -198,7 +198,7 @@ module _ (pool pins : List ℕ) (gates idle : List NodeRow) (u : View) (n key : 
       there : (k : ℕ) → times k (refs_of row) ≤ times k u.pins
       there k = let p = g.pinned k in let e = times_append k pins (refs_of row) in omega (arith, p, e)
 
-  pub made_gives : is_derived row ≡ true → length gates + length idle < MOST_HELD → IsGiving pool pins gates (idle ++ entry ∷ []) stored
+  pub made_gives : is_derived row ≡ true → length gates + length idle < MAX_HELD → IsGiving pool pins gates (idle ++ entry ∷ []) stored
   made_gives derived room = record {
     spare = record {
       distinct = left_pool.0;

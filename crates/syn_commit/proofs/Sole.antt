@@ -8,7 +8,7 @@ use Rattle.syn_core_laws.specs.declared.Seen.{Seen}
 use Rattle.syn_core_laws.specs.declared.Seen.TheVariants as seen
 use Rattle.syn_core_laws.specs.Views.{claimed, key_loaded, pinned, released, row_loaded as row_known}
 use Rattle.syn_decide.specs.declared.decisions.NodeRow.{NodeRow}
-use Rattle.syn_decide.specs.declared.decisions.TheConstants.{MOST_INNER}
+use Rattle.syn_decide.specs.declared.decisions.TheConstants.{MAX_INNER}
 use Rattle.syn_decide.specs.Tasks.{Task}
 use Rattle.syn_decide.specs.Decided.{Answer, Answered, Busy, Differs, Done, NoGain, NoGap, NoRoom, Reach, Wide}
 use Rattle.syn_decide.specs.Walk.{from_entered}
@@ -47,7 +47,7 @@ over_free t inner None = go (in_circle t inner) (is_same_function t inner)
 
 on_free : (t : Task) (inner : List NodeRow) (ns : List ℕ) → IsFree (walk_on t inner ns)
 on_free t inner [] = over_free t inner (first_unmet t inner)
-on_free t inner (n ∷ ns) = go (nat_lt (length inner) MOST_INNER)
+on_free t inner (n ∷ ns) = go (nat_lt (length inner) MAX_INNER)
   where
     go : (b : Bool) → IsFree (if b then Walking (n ∷ ns) else Ended (Wide n))
     go true = tt

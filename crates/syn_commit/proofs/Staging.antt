@@ -5,7 +5,7 @@ use Rattle.syn_rows.specs.Rows.{is_derived, refs_of}
 use Rattle.syn_core_laws.specs.declared.Seen.{Seen}
 use Rattle.syn_core_laws.specs.declared.Seen.TheVariants as seen
 use Rattle.syn_decide.specs.declared.decisions.NodeRow.{NodeRow}
-use Rattle.syn_decide.specs.declared.decisions.TheConstants.{MOST_INNER}
+use Rattle.syn_decide.specs.declared.decisions.TheConstants.{MAX_INNER}
 use Rattle.syn_decide.specs.Tasks.{Task}
 use Rattle.syn_decide.specs.Decided.{Answer, Done, Reach, Busy, Differs, NoGain, NoGap, NoRoom, Wide}
 use Rattle.syn_decide.specs.Walk.{from_entered}
@@ -74,7 +74,7 @@ module _ (t : Task) (s : State) (hits : s.hits ≡ []) (counts : s.counts ≡ []
 
   on_staged : (inner : List NodeRow) (ns : List ℕ) → IsStaged t s (walk_on t inner ns)
   on_staged inner [] = over_staged inner (first_unmet t inner)
-  on_staged inner (n ∷ ns) = go (nat_lt (length inner) MOST_INNER)
+  on_staged inner (n ∷ ns) = go (nat_lt (length inner) MAX_INNER)
     where
       go : (b : Bool) → IsStaged t s (if b then Walking (n ∷ ns) else Ended (Wide n))
       go true = (hits, counts, omega arith)

@@ -15,8 +15,8 @@ use Rattle.syn_decide.specs.Walked.{AreGates}
 use Rattle.syn_commit_laws.specs.Freeing.{late, redefines}
 use Rattle.syn_commit_laws.specs.Turning.{Turns}
 use Rattle.syn_decide.specs.Fold.{State}
-use Rattle.syn_commit.specs.declared.leaving.Holding.{Holding}
-use Rattle.syn_commit.specs.declared.leaving.TheConstants.{MOST_HELD}
+use Rattle.syn_commit.specs.declared.returns.Holding.{Holding}
+use Rattle.syn_commit.specs.declared.returns.TheConstants.{MAX_HELD}
 use Rattle.syn_commit.specs.Counts.{dying_by}
 use Rattle.syn_commit.specs.Pools.{KeepsPool}
 use Rattle.syn_commit.specs.Walks.{AreKnown}
@@ -77,7 +77,7 @@ pub record IsGiving (pool pins : List ℕ) (gates idle : List NodeRow) (v : View
   pub idle_there : (n : ℕ) → has_node v.idle n ≡ true → 1 ≤ times n (nodes_of idle)
   pub idle_all : (n : ℕ) → 1 ≤ times n (nodes_of idle) → has_node v.idle n ≡ true
   pub pinned : (n : ℕ) → own_pins v n ≡ times n pins
-  pub room : length gates + length idle ≤ MOST_HELD
+  pub room : length gates + length idle ≤ MAX_HELD
 
 -- the same of a commit's own lists
 abbrev pub IsHolding : List ℕ → Holding → View → Type 0

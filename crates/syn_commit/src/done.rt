@@ -1,8 +1,8 @@
 //! What a commit stores behind the answer `Done`.
 
 ghost use Rattle.std.specs.Prelude.{◌≡◌, ◌+◌, ◌-◌, ◌*◌, ◌/◌, ◌<◌, ◌≤◌, ◌++◌, ℕ, length, reverse, slice_index_or};
-ghost use Rattle.syn_plan.specs.declared.TheConstants.{MOST_GATES};
-ghost use Rattle.syn_decide.specs.declared.decisions.TheConstants.{MOST_INNER};
+ghost use Rattle.syn_plan.specs.declared.TheConstants.{MAX_GATES};
+ghost use Rattle.syn_decide.specs.declared.decisions.TheConstants.{MAX_INNER};
 ghost use Rattle.syn_decide.specs.declared.decisions.NodeRow.{NodeRow};
 ghost use Rattle.syn_decide.specs.Decided.{Done};
 ghost use Rattle.syn_decide.specs.Fold.{Ended};
@@ -16,15 +16,15 @@ ghost use Rattle.syn_commit.specs.Making.{HasMade, IsReady};
 ghost use Rattle.syn_commit.specs.Verdicts.{HasAnswered, IsDone, IsOver};
 
 use crate::Hints;
-use crate::leaving::{Holding, give_back, hold};
-use crate::readying::met_leaves;
+use crate::readiness::met_leaves;
+use crate::returns::{Holding, give_back, hold};
 use crate::spare::Spare;
-use crate::storing::{Spacing, make_rows, redefine_root, row_made};
+use crate::stores::{Spacing, make_rows, redefine_root, row_made};
 use crate::trial::Verdict;
 use arrayvec::ArrayVec;
 use syn_decide::{Deciding, NewRows, NodeRow};
 use syn_keys::between;
-use syn_plan::MOST_GATES;
+use syn_plan::MAX_GATES;
 use syn_rows::Row;
 use syn_table::Seat;
 
@@ -34,7 +34,7 @@ pub(crate) struct Stores {
     /// The rows of its new gates.
     pub(crate) rows: NewRows,
     /// The rows that it made.
-    pub(crate) made: ArrayVec<NodeRow, MOST_GATES>,
+    pub(crate) made: ArrayVec<NodeRow, MAX_GATES>,
 }
 
 impl Stores {
@@ -71,7 +71,7 @@ fn make_new(
     requires answered { HasAnswered verdict.now pool.old seat.old holding.old.pins.items }
     requires done { IsDone verdict.now.deciding.now.stage }
     requires giving { IsHolding pool.old holding.old (view_of seat.old) }
-    requires room { length holding.old.gates.items + length holding.old.idle.items ≤ MOST_INNER + MOST_GATES }
+    requires room { length holding.old.gates.items + length holding.old.idle.items ≤ MAX_INNER + MAX_GATES }
     ensures table { IsOf seat.new verdict.now.shared.now }
     ensures known { known_of seat.new ≡ with_view (known_of seat.old) (view_of seat.new) }
     ensures giving { IsHolding pool.new holding.new (view_of seat.new) }

@@ -1,22 +1,22 @@
 //! One commit on the shared table: its tools.
 #![tactic(auto)]
 
-mod answering;
-mod committing;
+mod answers;
+mod commits;
+mod cone_walk;
 mod done;
 mod gates;
-mod hinting;
 mod hints;
-mod leaving;
-mod loading;
+mod loaded;
 mod pools;
-mod readying;
+mod readiness;
+mod returns;
 mod spare;
-mod storing;
+mod stores;
+mod suggestions;
 mod trial;
-mod walking;
 
-pub use committing::try_commit;
+pub use commits::try_commit;
 pub use gates::{Gate, Moment, OpenGate};
 pub use hints::Hints;
 pub use pools::Pool;

@@ -7,7 +7,7 @@ ghost use Rattle.syn_table.specs.Steps.{with_view};
 ghost use Rattle.syn_commit.specs.Pools.{HoldsNoneOf, IsEmptied, IsFilled, KeepsPool};
 
 use crate::done::Stores;
-use crate::leaving::Holding;
+use crate::returns::Holding;
 use crate::spare::Spare;
 use std::marker::Model;
 use syn_decide::Deciding;

@@ -13,12 +13,12 @@ use syn_rows::Row;
 use syn_table::{Seat, Shared};
 
 /// The most nodes that a pool has.
-pub(crate) const MOST_SPARE: usize = 512;
+pub(crate) const MAX_SPARE: usize = 512;
 
 /// Free nodes that one seat holds, at most 512. Contracts see the list.
 #[derive(Debug, Drop)]
 pub(crate) struct Spare {
-    nodes: ArrayVec<u32, MOST_SPARE>,
+    nodes: ArrayVec<u32, MAX_SPARE>,
 }
 
 impl Model for Spare {
@@ -73,7 +73,7 @@ impl Spare {
         ensures known { known_of seat.new ≡ with_view (known_of seat.old) (view_of seat.new) }
     {
         for node in from..from + count {
-            if self.nodes.len() == MOST_SPARE {
+            if self.nodes.len() == MAX_SPARE {
                 return;
             }
             self.try_node(shared, seat, node);
@@ -112,7 +112,7 @@ impl Spare {
         ensures view { view_of seat.new ≡ (if nat_lt (length self.old) 512 then view_of seat.old else released (view_of seat.old) node) }
         ensures pool { self.new ≡ (if nat_lt (length self.old) 512 then self.old ++ node ∷ [] else self.old) }
     {
-        if self.nodes.len() < MOST_SPARE {
+        if self.nodes.len() < MAX_SPARE {
             self.nodes.push(node);
         } else {
             shared.release(seat, node);

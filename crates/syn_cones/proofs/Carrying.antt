@@ -8,7 +8,7 @@ use Rattle.syn_rows.specs.declared.Row.TheVariants.{And}
 use Rattle.syn_rows.specs.Rows.{node_of, row_at, InOrder}
 use Rattle.syn_rows.specs.Nodes.{has_node}
 use Rattle.syn_truth.specs.Words.{value_in}
-use Rattle.syn_cones.specs.Carried.{AreClear, IsCutFunction, IsFloor, IsMade}
+use Rattle.syn_cones.specs.CutTruth.{AreClear, IsCutFunction, IsFloor, IsMade}
 use Rattle.syn_cones.specs.Cones.{LeadsTo}
 use Rattle.syn_cones.specs.Laws.{FitsPastMore, HasNoInner}
 use Rattle.syn_cones.specs.Walk.{has_all}
@@ -29,12 +29,12 @@ pub fits_past : FitsPastMore
 fits_past rows leaves more root v past fits n path led inner = fits n path (led_past rows leaves more root path n past led) (past n path led inner)
 
 -- leaves that are clear aren't inner nodes
-clear_past : (rows : List Row) (leaves more : List ℕ) (root : ℕ) (f : CutFunction) → InOrder rows → IsFloor rows leaves root f.floor → AreClear f root leaves more → HasNoInner rows leaves more root
-clear_past rows leaves more root f order floor clear n path led inner =
+clear_past : (rows : List Row) (leaves more : List ℕ) (root : ℕ) (f : CutFunction) → InOrder rows → IsFloor rows leaves root f.min_inner → AreClear f root leaves more → HasNoInner rows leaves more root
+clear_past rows leaves more root f order min_inner clear n path led inner =
     false_from_ne_true (has_node more n) (λ has. elim (clear n has) [
       | inl leaf ↦ both_ways (has_node leaves n) inner leaf
       | inr other ↦ elim other [
-        | inl low ↦ omega (arith, low, floor n path led inner)
+        | inl low ↦ omega (arith, low, min_inner n path led inner)
         | inr high ↦ omega (arith, high, led_below rows leaves root path n order led)
       ]
     ])
@@ -48,25 +48,25 @@ led_fewer rows leaves more root [] n has led = led
 led_fewer rows leaves more root (next ∷ path) n has led = (no_leaf leaves more root has led.0, led.1, led_fewer rows leaves more next path n has led.2)
 
 -- the function over more leaves
-pub over_more : (rows : List Row) (leaves more : List ℕ) (root : ℕ) (f g : CutFunction) → InOrder rows → IsMade f root leaves more g.word → g.floor ≡ f.floor → IsCutFunction rows leaves root f → IsCutFunction rows more root g
-over_more rows leaves more root f g order made floor is = record {
+pub over_more : (rows : List Row) (leaves more : List ℕ) (root : ℕ) (f g : CutFunction) → InOrder rows → IsMade f root leaves more g.word → g.min_inner ≡ f.min_inner → IsCutFunction rows leaves root f → IsCutFunction rows more root g
+over_more rows leaves more root f g order made min_inner is = record {
   word = λ xs len v fits at.
-      is.word (map v leaves) (length-map leaves v) v (fits_past rows leaves more root v (clear_past rows leaves more root f order is.floor made.clear) fits) refl
+      is.word (map v leaves) (length-map leaves v) v (fits_past rows leaves more root v (clear_past rows leaves more root f order is.min_inner made.clear) fits) refl
       ∙ sym (made.values v)
       ∙ ap (value_in g.word) at;
-  floor = λ n path led inner. let low = is.floor n path (led_fewer rows leaves more root path n made.has led) (no_leaf leaves more n made.has inner) in omega (arith, low, floor);
+  min_inner = λ n path led inner. let low = is.min_inner n path (led_fewer rows leaves more root path n made.has led) (no_leaf leaves more n made.has inner) in omega (arith, low, min_inner);
 }
 
 -- the function of a leaf: no other node is led to
-pub leaf_floor : (rows : List Row) (leaves : List ℕ) (n floor : ℕ) → has_node leaves n ≡ true → IsFloor rows leaves n floor
-leaf_floor rows leaves n floor leaf m [] led inner = absurd (both_ways (has_node leaves m) inner (subst (λ k. has_node leaves k ≡ true) led leaf))
-leaf_floor rows leaves n floor leaf m (next ∷ path) led inner = absurd (both_ways (has_node leaves n) led.0 leaf)
+pub leaf_floor : (rows : List Row) (leaves : List ℕ) (n min_inner : ℕ) → has_node leaves n ≡ true → IsFloor rows leaves n min_inner
+leaf_floor rows leaves n min_inner leaf m [] led inner = absurd (both_ways (has_node leaves m) inner (subst (λ k. has_node leaves k ≡ true) led leaf))
+leaf_floor rows leaves n min_inner leaf m (next ∷ path) led inner = absurd (both_ways (has_node leaves n) led.0 leaf)
 
 -- the floor of an AND
-pub and_floor : (rows : List Row) (leaves : List ℕ) (n x y floor : ℕ) (a b : Lit) → row_at rows n ≡ And a b → IsFloor rows leaves (node_of a) x → IsFloor rows leaves (node_of b) y → floor ≤ n → floor ≤ x → floor ≤ y
-    → IsFloor rows leaves n floor
-and_floor rows leaves n x y floor a b row first second low left right m [] led inner = omega (arith, led, low)
-and_floor rows leaves n x y floor a b row first second low left right m (next ∷ path) led inner = elim (and_refers rows n next a b row led.1) [
+pub and_floor : (rows : List Row) (leaves : List ℕ) (n x y min_inner : ℕ) (a b : Lit) → row_at rows n ≡ And a b → IsFloor rows leaves (node_of a) x → IsFloor rows leaves (node_of b) y → min_inner ≤ n → min_inner ≤ x → min_inner ≤ y
+    → IsFloor rows leaves n min_inner
+and_floor rows leaves n x y min_inner a b row first second low left right m [] led inner = omega (arith, led, low)
+and_floor rows leaves n x y min_inner a b row first second low left right m (next ∷ path) led inner = elim (and_refers rows n next a b row led.1) [
   | inl s ↦ let at = first m path (subst (λ k. LeadsTo rows leaves k path m) (sym s) led.2) inner in omega (arith, at, left)
   | inr t ↦ let at = second m path (subst (λ k. LeadsTo rows leaves k path m) (sym t) led.2) inner in omega (arith, at, right)
 ]

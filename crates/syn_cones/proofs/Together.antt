@@ -6,7 +6,7 @@ use Rattle.std.proofs.lemmas.List.{drop_more, take_more, map-append, length-map,
 use Rattle.syn_rows.specs.Nodes.{has_node}
 use Rattle.syn_rows.proofs.Nodes.{has_at, has_cases, has_here, has_left, has_one, has_right}
 use Rattle.syn_truth.specs.Words.{value_in}
-use Rattle.syn_cones.specs.Carried.{AreClear, IsMade, IsPutTogether}
+use Rattle.syn_cones.specs.CutTruth.{AreClear, IsMade, IsPutTogether}
 use Rattle.syn_cones.specs.Walk.{has_all}
 use Rattle.syn_cones.specs.declared.carried.CutFunction.{CutFunction}
 use Rattle.syn_cones.specs.declared.carried.Partial.{Partial}
@@ -55,11 +55,11 @@ values_count v leaves more i found lt there =
 -- one leaf more
 
 clear_on : (f : CutFunction) (root : ℕ) (leaves more : List ℕ) (i : ℕ) → i < length more → AreClear f root leaves (take i more)
-    → (has_node leaves (get_or more i 0) ≡ true) ⊎ ((get_or more i 0 < f.floor) ⊎ (root < get_or more i 0)) → AreClear f root leaves (take (i + 1) more)
+    → (has_node leaves (get_or more i 0) ≡ true) ⊎ ((get_or more i 0 < f.min_inner) ⊎ (root < get_or more i 0)) → AreClear f root leaves (take (i + 1) more)
 clear_on f root leaves more i lt clear one m has =
     elim (has_cases (take i more) (get_or more i 0 ∷ []) m (sym (ap (λ l. has_node l m) (take_more more i 0 lt)) ∙ has)) [
       | inl before ↦ clear m before
-      | inr here ↦ subst (λ k. (has_node leaves k ≡ true) ⊎ ((k < f.floor) ⊎ (root < k))) (has_one (get_or more i 0) m here) one
+      | inr here ↦ subst (λ k. (has_node leaves k ≡ true) ⊎ ((k < f.min_inner) ⊎ (root < k))) (has_one (get_or more i 0) m here) one
     ]
 
 has_on : (leaves more : List ℕ) (i : ℕ) → i < length more → has_all (take i more) leaves ≡ true → has_all (take (i + 1) more) leaves ≡ true
@@ -86,7 +86,7 @@ found_next f root leaves more i part next is lt there same word found = record {
 }
 
 pub gap_next : (f : CutFunction) (root : ℕ) (leaves more : List ℕ) (i : ℕ) (part next : Partial) → IsPutTogether f root leaves more i part → i < length more → length more ≤ 4 → length leaves + i < length more + part.found
-    → (get_or more i 0 < f.floor) ⊎ (root < get_or more i 0) → next.found ≡ part.found
+    → (get_or more i 0 < f.min_inner) ⊎ (root < get_or more i 0) → next.found ≡ part.found
     → ((xs : List Bool) → i < length xs → length xs ≤ 4 → value_in next.word xs ≡ value_in part.word (remove xs i)) → IsPutTogether f root leaves more (i + 1) next
 gap_next f root leaves more i part next is lt few room clear found values = record {
   within = omega (arith, is.within, found);

@@ -1,7 +1,7 @@
 pub mod Leaves
 pub mod Cones
 pub mod Words
-pub mod Carried
+pub mod CutTruth
 pub mod Walk
 pub mod Values
 pub mod Laws

@@ -8,7 +8,7 @@ ghost use Rattle.syn_rows.specs.Rows.{InOrder, node_of, row_at};
 ghost use Rattle.syn_rows.specs.Nodes.{has_node};
 ghost use Rattle.syn_truth.specs.Truth.{AtEach, value_of};
 ghost use Rattle.syn_truth.specs.Words.{value_in};
-ghost use Rattle.syn_cones.specs.Carried.{IsCutFunction, IsFloor, IsMade, IsPutTogether};
+ghost use Rattle.syn_cones.specs.CutTruth.{IsCutFunction, IsFloor, IsMade, IsPutTogether};
 ghost use Rattle.syn_cones.specs.Cones.{IsCut, IsTruthOver};
 ghost use Rattle.syn_cones.specs.Words.{IsWordOver};
 
@@ -29,7 +29,7 @@ pub struct CutFunction {
     /// Bit m is the value where the leaves have the values of minterm m.
     pub word: u16,
     /// No node that is led to from the node, but the leaves, is below this one.
-    pub floor: u32,
+    pub min_inner: u32,
 }
 
 // The first 16 bits of a word.
@@ -105,7 +105,7 @@ impl CutFunction {
         if leaves.len() - part.found >= more.len() - i {
             return None;
         }
-        if leaf < self.floor || root < leaf {
+        if leaf < self.min_inner || root < leaf {
             Some(Partial {
                 word: with_gap(part.word, i),
                 found: part.found,
@@ -143,7 +143,7 @@ impl CutFunction {
         let word = self.word_over(root, leaves, more)?;
         Some(CutFunction {
             word,
-            floor: self.floor,
+            min_inner: self.min_inner,
         })
     }
 
@@ -156,7 +156,7 @@ impl CutFunction {
         let i = place_of(leaves, node)?;
         Some(CutFunction {
             word: short(variable(i)),
-            floor: u32::MAX,
+            min_inner: u32::MAX,
         })
     }
 
@@ -174,7 +174,7 @@ impl CutFunction {
         let word = lit_word(u64::from(left.word), first) & lit_word(u64::from(right.word), second);
         CutFunction {
             word: short(word),
-            floor: node.min(left.floor).min(right.floor),
+            min_inner: node.min(left.min_inner).min(right.min_inner),
         }
     }
 
@@ -194,7 +194,7 @@ impl CutFunction {
         let table = function(alloc, rows, root, leaves)?;
         Ok(CutFunction {
             word: word_of_table(table),
-            floor: floor_of(rows, leaves, root, FLOOR_DEPTH),
+            min_inner: floor_of(rows, leaves, root, FLOOR_DEPTH),
         })
     }
 

@@ -4,7 +4,7 @@ ghost use Rattle.std.specs.Prelude.{◌≡◌, ℕ, ◌<◌, ◌≤◌, Bool, Li
 ghost use Rattle.std.specs.List.{insert};
 ghost use Rattle.syn_rows.specs.Rows.{InOrder, node_of, refs_of, row_at};
 ghost use Rattle.syn_rows.specs.Values.{RowFits, is_open, lit_value};
-ghost use Rattle.syn_truth.specs.declared.TheConstants.{MOST_VARS};
+ghost use Rattle.syn_truth.specs.declared.TheConstants.{MAX_VARS};
 ghost use Rattle.syn_truth.specs.Truth.{value_of};
 ghost use Rattle.syn_rows.specs.Nodes.{has_node};
 ghost use Rattle.syn_cones.specs.Cones.{IsCut, IsTruthOver};
@@ -150,7 +150,7 @@ fn lit_table(nodes: &[u32], hints: &[u8; HINTS], tables: &[Truth], lit: Lit) -> 
 
 // The table that a row gives its node, from those of nodes among which are all that it refers to.
 fn row_table(nodes: &[u32], hints: &[u8; HINTS], tables: &[Truth], row: Row, vars: u8) -> Truth
-    requires few { vars ≤ MOST_VARS }
+    requires few { vars ≤ MAX_VARS }
     requires count { length tables.now ≡ length nodes.now }
     requires vars { have_vars vars tables.now ≡ true }
     requires rising { rises nodes.now ≡ true }
@@ -177,7 +177,7 @@ fn node_table(
     tables: &[Truth],
     node: u32,
 ) -> Truth
-    requires few { length leaves.now ≤ MOST_VARS }
+    requires few { length leaves.now ≤ MAX_VARS }
     requires node { node < length rows.now }
     requires count { length tables.now ≡ length nodes.now }
     requires vars { have_vars (length leaves.now) tables.now ≡ true }
@@ -207,7 +207,7 @@ fn cone_table(
     root: u32,
     cone: SmallVec<u32, 32>,
 ) -> Result<Truth, AllocError>
-    requires few { length leaves.now ≤ MOST_VARS }
+    requires few { length leaves.now ≤ MAX_VARS }
     requires order { InOrder rows.now }
     requires root { root < length rows.now }
     requires cut { IsCut rows.now leaves.now root }
@@ -244,7 +244,7 @@ fn cone_table(
 /// and fits the rows between; the rows of leaves aren't looked at. The only error is want of memory, which a small cone
 /// doesn't take.
 pub fn function(alloc: Global, rows: &[Row], root: u32, leaves: &[u32]) -> Result<Truth, AllocError>
-    requires few { length leaves.now ≤ MOST_VARS }
+    requires few { length leaves.now ≤ MAX_VARS }
     requires order { InOrder rows.now }
     requires root { root < length rows.now }
     requires cut { IsCut rows.now leaves.now root }

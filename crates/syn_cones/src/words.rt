@@ -16,7 +16,7 @@ use syn_truth::Truth;
 const WORD_LEAVES: usize = 6;
 
 // How many rows lie at most one below the other between the root and a leaf.
-const MOST_DEPTH: u8 = 8;
+const MAX_DEPTH: u8 = 8;
 
 // The minterms of six variables at which a variable is true, as the bits of a word, one word for each variable.
 static VARIABLES: [u64; 6] = [
@@ -120,6 +120,6 @@ pub(crate) fn small_table(rows: &[Row], root: u32, leaves: &[u32]) -> Option<Tru
     if leaves.len() > WORD_LEAVES {
         return None;
     }
-    let word = word_of(rows, leaves, root, MOST_DEPTH)?;
+    let word = word_of(rows, leaves, root, MAX_DEPTH)?;
     Some(table_of(leaves.len() as u8, word))
 }

@@ -4,10 +4,10 @@
 
 mod choice;
 mod laws;
-mod making;
+mod luts;
 mod needs;
 mod nets;
-mod numbering;
+mod signals;
 
 pub use choice::Choice;
 pub use laws::{

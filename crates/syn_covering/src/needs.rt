@@ -6,7 +6,7 @@ ghost use Rattle.syn_rows.specs.Reach.{is_and};
 ghost use Rattle.syn_rows.specs.Rows.{node_of, row_at};
 ghost use Rattle.syn_rows.specs.Values.{value_in};
 ghost use Rattle.syn_rows.specs.Nodes.{has_node};
-ghost use Rattle.syn_truth.specs.declared.TheConstants.{MOST_VARS};
+ghost use Rattle.syn_truth.specs.declared.TheConstants.{MAX_VARS};
 ghost use Rattle.syn_covering.specs.Cuts.{AreLutCuts};
 ghost use Rattle.syn_covering.specs.Needs.{IsSwept};
 
@@ -84,7 +84,7 @@ pub(crate) fn needed<C: Choice>(
 ) -> Result<Vec<bool>, AllocError>
     requires few { length rows.now < NODE_LIMIT }
     requires count { C.count choice.now ≡ length rows.now }
-    requires cuts { AreLutCuts MOST_VARS rows.now (C.leaves choice.now) }
+    requires cuts { AreLutCuts MAX_VARS rows.now (C.leaves choice.now) }
     ensures { IfOk result (λ v. IsSwept (C.leaves choice.now) rows.now observed.now v.items 0) }
 {
     let mut marks = no_marks(alloc, rows.len())?;
@@ -98,7 +98,7 @@ pub(crate) fn needed<C: Choice>(
 fn sweep<C: Choice>(rows: &[Row], choice: &C, observed: &[Lit], marks: &mut [bool])
     requires few { length rows.now < NODE_LIMIT }
     requires count { C.count choice.now ≡ length rows.now }
-    requires cuts { AreLutCuts MOST_VARS rows.now (C.leaves choice.now) }
+    requires cuts { AreLutCuts MAX_VARS rows.now (C.leaves choice.now) }
     requires observed { IsSwept (C.leaves choice.now) rows.now observed.now marks.old (length rows.now) }
     ensures { IsSwept (C.leaves choice.now) rows.now observed.now marks.new 0 }
 {

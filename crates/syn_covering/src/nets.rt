@@ -5,16 +5,16 @@ ghost use Rattle.syn_rows.specs.Rows.{node_of};
 ghost use Rattle.syn_rows.specs.Values.{rows_function};
 ghost use Rattle.syn_netlist.specs.Frames.{frame_in};
 ghost use Rattle.syn_netlist.specs.Lists.{sources};
-ghost use Rattle.syn_truth.specs.declared.TheConstants.{MOST_VARS};
+ghost use Rattle.syn_truth.specs.declared.TheConstants.{MAX_VARS};
 ghost use Rattle.syn_lutshapes.specs.Luts.{greatest, luts_function, net_depth, none_exceeds};
 ghost use Rattle.syn_lutnet.specs.Data.{luts_data};
 ghost use Rattle.syn_covering.specs.Cuts.{AreDepths, AreLutCuts};
 ghost use Rattle.syn_covering.specs.Making.{IsMappedBy};
 
 use crate::choice::Choice;
-use crate::making::{make_luts, signal_literals};
+use crate::luts::{make_luts, signal_literals};
 use crate::needs::needed;
-use crate::numbering::number;
+use crate::signals::number;
 use std::alloc::{AllocError, Global};
 use syn_graph::{Graph, copy_frame};
 use syn_lutnet::LutNet;
@@ -25,7 +25,7 @@ use syn_netlist::Items;
 /// is 0, the net is as deep as the greatest label of an observed node. The only error is want of memory.
 pub fn net_of<C: Choice>(alloc: Global, graph: &Graph, choice: &C) -> Result<LutNet, AllocError>
     requires count { C.count choice.now ≡ length graph.now.rows }
-    requires cuts { AreLutCuts MOST_VARS graph.now.rows (C.leaves choice.now) }
+    requires cuts { AreLutCuts MAX_VARS graph.now.rows (C.leaves choice.now) }
     ensures frame { IfOk result (λ net. frame_in net.frame ≡ frame_in graph.now.frame) }
     ensures mapping { IfOk result (IsMappedBy (C.leaves choice.now) graph.now) }
     ensures function { IfOk result (λ net. (bits : List Bool) → length bits ≡ length (sources (frame_in graph.now.frame)) → luts_function (luts_data net.luts) net.observed bits ≡ rows_function graph.now.rows graph.now.observed bits) }
@@ -39,7 +39,7 @@ pub fn net_of<C: Choice>(alloc: Global, graph: &Graph, choice: &C) -> Result<Lut
 // The LUTs of a graph's cuts.
 fn make_net<C: Choice>(alloc: Global, graph: &Graph, choice: &C) -> Result<LutNet, AllocError>
     requires count { C.count choice.now ≡ length graph.now.rows }
-    requires cuts { AreLutCuts MOST_VARS graph.now.rows (C.leaves choice.now) }
+    requires cuts { AreLutCuts MAX_VARS graph.now.rows (C.leaves choice.now) }
     ensures frame { IfOk result (λ net. frame_in net.frame ≡ frame_in graph.now.frame) }
     ensures mapping { IfOk result (IsMappedBy (C.leaves choice.now) graph.now) }
 {

@@ -1,4 +1,4 @@
 pub mod Numbers
 pub mod Cuts
 pub mod Listed
-mod Carried
+mod CutTruth

@@ -1,4 +1,4 @@
 pub mod Cuts
 pub mod Functions
-pub mod Carried
+pub mod CutTruth
 pub mod Laws

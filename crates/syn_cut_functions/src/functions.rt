@@ -5,14 +5,14 @@ ghost use Rattle.syn_rows.specs.declared.Row.{Row};
 ghost use Rattle.syn_rows.specs.declared.Row.TheVariants.{And};
 ghost use Rattle.syn_rows.specs.Reach.{is_and};
 ghost use Rattle.syn_rows.specs.Rows.{row_at};
-ghost use Rattle.syn_cones.specs.Carried.{IsCutFunction};
+ghost use Rattle.syn_cones.specs.CutTruth.{IsCutFunction};
 ghost use Rattle.syn_cuts.specs.Cuts.{listed_cuts};
 ghost use Rattle.syn_cuts.specs.Leaves.{leaves_of};
-ghost use Rattle.syn_cut_functions.specs.Carried.{AreCarried, HaveCarried};
+ghost use Rattle.syn_cut_functions.specs.CutTruth.{AreCarried, HaveCarried};
 ghost use Rattle.syn_cut_functions.specs.Functions.{AreFunctionsOver, IsFunctionOver};
 ghost use Rattle.syn_cut_functions.specs.Cuts.{cuts_of};
 
-use crate::carrying::{Carried, Functions, over_cut};
+use crate::cut_truth::{CutTruth, Functions, over_cut};
 use std::alloc::{AllocError, Global};
 use syn_cuts::{Cut, CutLists};
 use syn_graph::Graph;
@@ -20,7 +20,7 @@ use syn_rows::{Lit, Row};
 
 // The number of a function over leaves.
 #[inline]
-fn number_of(one: &Carried, leaves: &[u32]) -> u16
+fn number_of(one: &CutTruth, leaves: &[u32]) -> u16
     requires { length leaves.now ≤ 4 }
     ensures { (rows : List Row) (node : ℕ) → IsCutFunction rows leaves.now node one.now.function → IsFunctionOver rows leaves.now node result }
 {
@@ -35,7 +35,7 @@ fn carried_over(
     lists: &[Functions],
     node: u32,
     fan_ins: (Lit, Lit),
-) -> Result<Vec<Carried>, AllocError>
+) -> Result<Vec<CutTruth>, AllocError>
     requires node { node < length graph.now.rows }
     requires row { row_at graph.now.rows node ≡ And fan_ins.0 fan_ins.1 }
     requires cuts { cuts.now ≡ listed_cuts 4 graph.now.rows }
@@ -55,13 +55,13 @@ fn carried_over(
 }
 
 /// The functions of a node over its cuts, as they are carried on; none where it is no AND. The only error is want of memory.
-pub(crate) fn carried_at(
+pub(crate) fn cut_truths_at(
     alloc: Global,
     graph: &Graph,
     cuts: &CutLists,
     lists: &[Functions],
     node: u32,
-) -> Result<Vec<Carried>, AllocError>
+) -> Result<Vec<CutTruth>, AllocError>
     requires node { node < length graph.now.rows }
     requires cuts { cuts.now ≡ listed_cuts 4 graph.now.rows }
     requires count { node ≤ length lists.now }
@@ -83,7 +83,7 @@ fn numbers_over(
     graph: &Graph,
     node: u32,
     own: &[Cut],
-    carried: &[Carried],
+    carried: &[CutTruth],
 ) -> Result<Vec<u16>, AllocError>
     requires node { is_and (row_at graph.now.rows node) ≡ true }
     requires own { leaves_of own.now ≡ cuts_of graph.now.rows node }
@@ -104,7 +104,7 @@ pub(crate) fn numbers_at(
     graph: &Graph,
     cuts: &CutLists,
     node: u32,
-    carried: &[Carried],
+    carried: &[CutTruth],
 ) -> Result<Vec<u16>, AllocError>
     requires node { node < length graph.now.rows }
     requires cuts { cuts.now ≡ listed_cuts 4 graph.now.rows }

@@ -3,10 +3,10 @@
 ghost use Rattle.std.specs.Prelude.{◌≡◌, ◌<◌, All, IfOk, OnOk, length};
 ghost use Rattle.syn_rows.specs.declared.TheConstants.{NODE_LIMIT};
 ghost use Rattle.syn_cuts.specs.Cuts.{listed_cuts};
-ghost use Rattle.syn_cut_functions.specs.Carried.{AreFoundIn, AreOfAll, IsFoundIn};
+ghost use Rattle.syn_cut_functions.specs.CutTruth.{AreFoundIn, AreOfAll, IsFoundIn};
 
-use crate::carrying::Functions;
-use crate::functions::{carried_at, numbers_at};
+use crate::cut_truth::Functions;
+use crate::functions::{cut_truths_at, numbers_at};
 use std::alloc::{AllocError, Global};
 use std::thread::Threads;
 use syn_cuts::{CutLists, Finder, set_levels};
@@ -32,7 +32,7 @@ fn find(
     requires node { node < length graph.now.rows }
     ensures { IfOk result (IsFoundIn graph.now.rows) }
 {
-    let carried = carried_at(alloc, graph, cuts, lists, node)?;
+    let carried = cut_truths_at(alloc, graph, cuts, lists, node)?;
     let numbers = Some(numbers_at(alloc, graph, cuts, node, carried.as_slice())?);
     let own = Functions { carried, numbers };
     Ok(Found { node, own })

@@ -8,7 +8,7 @@ use Rattle.syn_rows.specs.declared.Row.{Row}
 use Rattle.syn_rows.specs.declared.Row.TheVariants.{Free, Source, And, Alias}
 use Rattle.syn_rows.specs.Rows.{row_at, node_of, AllRefs, InOrder}
 use Rattle.syn_rows.proofs.Folds.{IsLocal, fold_step}
-use Rattle.syn_cuts.specs.Cuts.{among, union, comes_before, put, arranged, is_small, unions_with, unions, first_unions, row_cuts, listed_cuts}
+use Rattle.syn_cuts.specs.Cuts.{among, union, comes_before, put, arranged, is_small, unions_with, unions, merge_cut_sets, row_cuts, listed_cuts}
 use Rattle.syn_rows.specs.Nodes.{has_node}
 use Rattle.syn_cones.specs.Cones.{LeadsToSource, IsCut}
 use Rattle.syn_cuts.specs.Laws.{ListedAreCuts}
@@ -122,7 +122,7 @@ all_row k rows cuts n (And a b) e h =
     let Q : List ℕ → Type 0 = λ c. IsCut rows c n in
     let all : All Q (unions k (cuts (node_of a)) (cuts (node_of b))) =
     all_unions k (λ c. IsCut rows c (node_of a)) (λ c. IsCut rows c (node_of b)) Q (cuts (node_of a)) (cuts (node_of b)) (λ c d f g. cut_union rows c d a b n e f g) h.0 h.1 in
-    All-append Q (first_unions k (cuts (node_of a)) (cuts (node_of b))) ((n ∷ []) ∷ [])
+    All-append Q (merge_cut_sets k (cuts (node_of a)) (cuts (node_of b))) ((n ∷ []) ∷ [])
     (All-take Q 31 (arranged [] (unions k (cuts (node_of a)) (cuts (node_of b)))) (all_arranged Q [] (unions k (cuts (node_of a)) (cuts (node_of b))) (All-nil Q) all))
     (All-cons Q (n ∷ []) [] (cut_alone rows n) (All-nil Q))
 
@@ -131,7 +131,7 @@ all_row k rows cuts n (And a b) e h =
 pub row_cuts-local : (k : ℕ) → IsLocal (row_cuts k)
 row_cuts-local k f g n Free h = refl
 row_cuts-local k f g n Source h = refl
-row_cuts-local k f g n (And a b) h = ap₂ (λ (x y : List (List ℕ)). first_unions k x y ++ (n ∷ []) ∷ []) h.0 h.1
+row_cuts-local k f g n (And a b) h = ap₂ (λ (x y : List (List ℕ)). merge_cut_sets k x y ++ (n ∷ []) ∷ []) h.0 h.1
 row_cuts-local k f g n (Alias a) h = refl
 
 pub listed_at : (k : ℕ) (rows : List Row) → InOrder rows → (n : ℕ) → n < length rows → list_at (listed_cuts k rows) n ≡ row_cuts k (list_at (listed_cuts k rows)) n (row_at rows n)

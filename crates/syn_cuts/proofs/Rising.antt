@@ -11,7 +11,7 @@ use Rattle.syn_rows.specs.Rows.{row_at, node_of, InOrder}
 use Rattle.syn_hashed.specs.Hashed.{is_gate, IsHashed}
 use Rattle.syn_hashed.proofs.Orders.{hashed_in_order}
 use Rattle.syn_cones.specs.Leaves.{are_below, rise_above}
-use Rattle.syn_cuts.specs.Cuts.{among, union, arranged, is_small, unions_with, unions, first_unions, row_cuts, listed_cuts}
+use Rattle.syn_cuts.specs.Cuts.{among, union, arranged, is_small, unions_with, unions, merge_cut_sets, row_cuts, listed_cuts}
 use Rattle.syn_cuts.specs.Laws.{IsListedCut, ListedCutsRise}
 use Rattle.syn_cuts.specs.Lists.{list_at}
 use Rattle.syn_cuts.proofs.Cutting.{all_arranged, all_unions, listed_at}
@@ -147,7 +147,7 @@ unions_small k (c ∷ cs) ds = All-append (λ e. length e ≤ k) (unions_with k 
 both : (P Q : List ℕ → Type 0) (cs : List (List ℕ)) → All P cs → All Q cs → All (λ c. P c × Q c) cs
 both P Q cs p q i d lt = (p i d lt, q i d lt)
 
-firsts : (k a b n : ℕ) (cs ds : List (List ℕ)) → a ≢ b → a < n → b < n → All (IsCutOf a) cs → All (IsCutOf b) ds → All (λ c. IsUnionOf n c × (length c ≤ k)) (first_unions k cs ds)
+firsts : (k a b n : ℕ) (cs ds : List (List ℕ)) → a ≢ b → a < n → b < n → All (IsCutOf a) cs → All (IsCutOf b) ds → All (λ c. IsUnionOf n c × (length c ≤ k)) (merge_cut_sets k cs ds)
 firsts k a b n cs ds ne la lb p q =
     let Q : List ℕ → Type 0 = λ c. IsUnionOf n c × (length c ≤ k) in
     All-take Q 31 (arranged [] (unions k cs ds)) (all_arranged Q [] (unions k cs ds) (All-nil Q)
@@ -175,7 +175,7 @@ fan_ins n a b h =
 -- the cuts of an AND but the last
 and_cuts : (k count : ℕ) (rows : List Row) → IsHashed count rows → (n : ℕ) (a b : Lit) → AreFanIns n a b
     → All (IsCutOf (node_of a)) (list_at (listed_cuts k rows) (node_of a)) → All (IsCutOf (node_of b)) (list_at (listed_cuts k rows) (node_of b))
-    → All (λ c. IsUnionOf n c × (length c ≤ k)) (first_unions k (list_at (listed_cuts k rows) (node_of a)) (list_at (listed_cuts k rows) (node_of b)))
+    → All (λ c. IsUnionOf n c × (length c ≤ k)) (merge_cut_sets k (list_at (listed_cuts k rows) (node_of a)) (list_at (listed_cuts k rows) (node_of b)))
 and_cuts k count rows h n a b f p q = firsts k (node_of a) (node_of b) n (list_at (listed_cuts k rows) (node_of a)) (list_at (listed_cuts k rows) (node_of b)) f.apart f.first_low f.second_low p q
 
 -- what lies below a node lies below the next
@@ -198,7 +198,7 @@ row_all k count rows h n positive (Alias a) gate front below = All-cons (IsCutOf
 row_all k count rows h n positive (And a b) gate front below =
     let at : count < n = after in
     let f = fan_ins n a b (gate at) in
-    let cuts = first_unions k (list_at (listed_cuts k rows) (node_of a)) (list_at (listed_cuts k rows) (node_of b)) in
+    let cuts = merge_cut_sets k (list_at (listed_cuts k rows) (node_of a)) (list_at (listed_cuts k rows) (node_of b)) in
     All-append (IsCutOf n) cuts ((n ∷ []) ∷ [])
     (as_cut k n cuts (and_cuts k count rows h n a b f (below (node_of a) f.first f.first_low) (below (node_of b) f.second f.second_low)))
     (All-cons (IsCutOf n) (n ∷ []) [] (alone_of n positive) (All-nil (IsCutOf n)))
@@ -227,7 +227,7 @@ listed_cuts_rise k count rows h n above lt i inside = go (row_at rows n) refl (h
     go (Alias a) e gate = absurd (cc gate)
     go (And a b) e gate =
         let f = fan_ins n a b gate in
-        let firsts = first_unions k (cuts (node_of a)) (cuts (node_of b)) in
+        let firsts = merge_cut_sets k (cuts (node_of a)) (cuts (node_of b)) in
         let all = and_cuts k count rows h n a b f
         (all_listed k count rows h n (node_of a) f.first_low f.first (omega (arith, f.first_low, lt)))
         (all_listed k count rows h n (node_of b) f.second_low f.second (omega (arith, f.second_low, lt))) in

@@ -47,14 +47,14 @@ abbrev pub unions : ℕ → List (List ℕ) → List (List ℕ) → List (List �
 unions k cs ds = flat_map (λ c. unions_with k c ds) cs
 
 -- the first 31 of these unions, in order and each once
-abbrev pub first_unions : ℕ → List (List ℕ) → List (List ℕ) → List (List ℕ)
-first_unions k cs ds = take 31 (arranged [] (unions k cs ds))
+abbrev pub merge_cut_sets : ℕ → List (List ℕ) → List (List ℕ) → List (List ℕ)
+merge_cut_sets k cs ds = take 31 (arranged [] (unions k cs ds))
 
 -- The listed cuts of a node, from those of the nodes that its row refers to: of an AND the first unions of a cut of each of the two, and then the node alone; of a source the node alone.
 abbrev pub row_cuts : ℕ → (ℕ → List (List ℕ)) → ℕ → Row → List (List ℕ)
 row_cuts k cuts n Free = (n ∷ []) ∷ []
 row_cuts k cuts n Source = (n ∷ []) ∷ []
-row_cuts k cuts n (And a b) = first_unions k (cuts (node_of a)) (cuts (node_of b)) ++ (n ∷ []) ∷ []
+row_cuts k cuts n (And a b) = merge_cut_sets k (cuts (node_of a)) (cuts (node_of b)) ++ (n ∷ []) ∷ []
 row_cuts k cuts n (Alias a) = (n ∷ []) ∷ []
 
 -- the listed cuts of each node with at most k leaves, row by row in order

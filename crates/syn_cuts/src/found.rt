@@ -6,7 +6,7 @@ ghost use Rattle.syn_cuts.specs.Lists.{found_in, IsInside};
 
 use crate::Cut;
 use crate::parts::Part;
-use crate::unions::KEPT;
+use crate::unions::CUTS_PER_NODE;
 use arrayvec::ArrayVec;
 use std::alloc::{AllocError, Global};
 use std::marker::Model;
@@ -49,7 +49,7 @@ impl Found {
     }
 
     // Appends a node with its list: these cuts, and the node alone.
-    pub fn push(&mut self, node: u32, kept: ArrayVec<Cut, KEPT>) -> Result<(), AllocError>
+    pub fn push(&mut self, node: u32, kept: ArrayVec<Cut, CUTS_PER_NODE>) -> Result<(), AllocError>
         ensures { OnOk result (self.new ≡ self.old ++ (node, leaves_of kept.items ++ (node ∷ []) ∷ []) ∷ []) }
     {
         let start = self.part.len();

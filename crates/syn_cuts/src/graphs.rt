@@ -1,14 +1,14 @@
 //! Listed cuts and functions over cuts of the nodes of a graph.
 
 ghost use Rattle.std.specs.Prelude.{◌≡◌, ℕ, ◌<◌, ◌≤◌, All, IfOk, length};
-ghost use Rattle.syn_truth.specs.declared.TheConstants.{MOST_VARS};
+ghost use Rattle.syn_truth.specs.declared.TheConstants.{MAX_VARS};
 ghost use Rattle.syn_cones.specs.Cones.{IsCut, IsTruthOver};
 ghost use Rattle.syn_cuts.specs.Cuts.{listed_cuts};
 ghost use Rattle.syn_cuts.specs.Lists.{list_at};
 
 use crate::Cut;
-use crate::listing::listed_rows;
 use crate::lists::CutLists;
+use crate::node_cuts::listed_rows;
 use std::alloc::{AllocError, Global};
 use std::thread::Threads;
 use syn_graph::Graph;
@@ -27,7 +27,7 @@ pub fn listed<R: Threads + Sync>(
     k: u8,
     workers: u8,
 ) -> Result<CutLists, AllocError>
-    requires { k ≤ MOST_VARS }
+    requires { k ≤ MAX_VARS }
     ensures lists { IfOk result (λ lists. lists ≡ listed_cuts k graph.now.rows) }
     ensures cuts { IfOk result (λ lists. (n : ℕ) → n < length graph.now.rows → All (λ c. IsCut graph.now.rows c n) (list_at lists n)) }
 {

@@ -5,8 +5,8 @@ mod found;
 mod graphs;
 mod laws;
 mod levels;
-mod listing;
 mod lists;
+mod node_cuts;
 mod parts;
 mod signatures;
 mod unions;
@@ -23,4 +23,4 @@ pub use laws::{
 pub use levels::{Finder, set_levels};
 pub use lists::CutLists;
 pub use signatures::{least_leaves, signature, signatures_of};
-pub use unions::{KEPT, union};
+pub use unions::{CUTS_PER_NODE, union};

@@ -7,7 +7,7 @@ ghost use Rattle.syn_cuts.specs.Lists.{list_at, nontrivial, with_lists, with_spa
 use crate::Cut;
 use crate::found::{Entry, Found};
 use crate::parts::Part;
-use crate::unions::KEPT;
+use crate::unions::CUTS_PER_NODE;
 use arrayvec::ArrayVec;
 use std::alloc::{AllocError, Global};
 use std::marker::Model;
@@ -100,7 +100,7 @@ impl CutLists {
     }
 
     /// Sets the list of a node: these cuts, and the node alone.
-    pub fn set(&mut self, node: u32, kept: ArrayVec<Cut, KEPT>) -> Result<(), AllocError>
+    pub fn set(&mut self, node: u32, kept: ArrayVec<Cut, CUTS_PER_NODE>) -> Result<(), AllocError>
         requires { node < length self.old }
         ensures { OnOk result (self.new ≡ slice_set self.old node (leaves_of kept.items ++ (node ∷ []) ∷ [])) }
     {

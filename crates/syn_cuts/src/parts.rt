@@ -5,7 +5,7 @@ ghost use Rattle.arrayvec.specs.ArrayVec.{array_vec_len};
 ghost use Rattle.syn_cuts.specs.Leaves.{leaves_of};
 
 use crate::Cut;
-use crate::unions::KEPT;
+use crate::unions::CUTS_PER_NODE;
 use arrayvec::ArrayVec;
 use std::alloc::{AllocError, Global};
 use std::marker::Model;
@@ -36,7 +36,7 @@ fn cuts_from(cuts: &[Cut], start: usize, len: usize) -> &[Cut]
 }
 
 // Moves cuts behind others, where there is room for them.
-fn push_cuts(cuts: &mut Vec<Cut>, more: ArrayVec<Cut, KEPT>)
+fn push_cuts(cuts: &mut Vec<Cut>, more: ArrayVec<Cut, CUTS_PER_NODE>)
     requires { vec_len cuts.old + array_vec_len more ≤ vec_capacity cuts.old }
     ensures items { cuts.new.items ≡ cuts.old.items ++ more.items }
     ensures len { vec_len cuts.new ≡ vec_len cuts.old + array_vec_len more }
@@ -84,7 +84,11 @@ impl Part {
     }
 
     // Appends the list of a node: these cuts, and the node alone.
-    pub fn push_list(&mut self, kept: ArrayVec<Cut, KEPT>, node: u32) -> Result<(), AllocError>
+    pub fn push_list(
+        &mut self,
+        kept: ArrayVec<Cut, CUTS_PER_NODE>,
+        node: u32,
+    ) -> Result<(), AllocError>
         ensures more { length self.old ≤ length self.new }
         ensures list { OnOk result (self.new ≡ self.old ++ (leaves_of kept.items ++ (node ∷ []) ∷ [])) }
     {

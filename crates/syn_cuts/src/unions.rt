@@ -1,10 +1,10 @@
 //! The first unions of two lists of cuts.
 
 ghost use Rattle.std.specs.Prelude.{◌≡◌, ℕ, ◌+◌, ◌<◌, ◌≤◌, ◌∷◌, true, List, [], IfSome, IfNone, IsTrue, length, map, min, take};
-ghost use Rattle.syn_truth.specs.declared.TheConstants.{MOST_VARS};
+ghost use Rattle.syn_truth.specs.declared.TheConstants.{MAX_VARS};
 ghost use Rattle.std.specs.List.{insert};
 ghost use Rattle.arrayvec.specs.ArrayVec.{array_vec_len};
-ghost use Rattle.syn_cuts.specs.Cuts.{comes_before, leaves_before, put, union, arranged, unions, unions_with, first_unions};
+ghost use Rattle.syn_cuts.specs.Cuts.{comes_before, leaves_before, put, union, arranged, unions, unions_with, merge_cut_sets};
 ghost use Rattle.syn_cuts.specs.Laws.{are_in_order};
 ghost use Rattle.syn_cuts.specs.Leaves.{leaves_of};
 ghost use Rattle.syn_cuts.specs.Keeping.{NoneLonger};
@@ -15,7 +15,7 @@ use crate::signatures::{least_leaves, signature, signatures_of};
 use arrayvec::ArrayVec;
 
 /// How many unions are kept for a node.
-pub const KEPT: usize = 31;
+pub const CUTS_PER_NODE: usize = 31;
 
 // The first node of a union of two rising lists, and what is left of them.
 #[inline]
@@ -41,7 +41,7 @@ fn first_node<'a>(left: &'a [u32], right: &'a [u32]) -> Option<(u32, &'a [u32], 
 
 /// The union of two cuts, where it has at most k leaves.
 pub fn union(left: &[u32], right: &[u32], k: usize) -> Option<Cut>
-    requires { k ≤ MOST_VARS }
+    requires { k ≤ MAX_VARS }
     ensures some { IfSome result (λ c. (c.items ≡ union left.now right.now) × (length (union left.now right.now) ≤ k)) }
     ensures none { IfNone result (k < length (union left.now right.now)) }
 {
@@ -110,7 +110,7 @@ fn place(cuts: &[Cut], cut: &[u32]) -> Option<usize>
 }
 
 // Lets the last cut go where there is no room for one more.
-fn make_room(kept: &mut ArrayVec<Cut, KEPT>)
+fn make_room(kept: &mut ArrayVec<Cut, CUTS_PER_NODE>)
     requires { array_vec_len kept.old ≤ 31 }
     ensures items { kept.new.items ≡ take 30 kept.old.items }
     ensures len { array_vec_len kept.new ≡ min 30 (array_vec_len kept.old) }
@@ -121,28 +121,28 @@ fn make_room(kept: &mut ArrayVec<Cut, KEPT>)
 }
 
 // Whether a cut comes behind the last, where there are as many as are kept.
-fn is_behind(cuts: &[Cut], cut: &[u32]) -> bool
+fn is_worse_than_last(cuts: &[Cut], cut: &[u32]) -> bool
     requires few { length cuts.now ≤ 31 }
     requires order { are_in_order (leaves_of cuts.now) ≡ true }
     ensures { IsTrue result → take 31 (put cut.now (leaves_of cuts.now)) ≡ leaves_of cuts.now }
 {
-    cuts.len() == KEPT && !comes_before(cut, cuts[KEPT - 1].as_slice())
+    cuts.len() == CUTS_PER_NODE && !comes_before(cut, cuts[CUTS_PER_NODE - 1].as_slice())
 }
 
 // Puts a cut in its place among the first cuts, where it isn't there; the last one goes where there is no room.
-fn keep(kept: &mut ArrayVec<Cut, KEPT>, cut: Cut)
+fn keep(kept: &mut ArrayVec<Cut, CUTS_PER_NODE>, cut: Cut)
     requires few { array_vec_len kept.old ≤ 31 }
     requires order { are_in_order (leaves_of kept.old.items) ≡ true }
     ensures few { array_vec_len kept.new ≤ 31 }
     ensures kept { leaves_of kept.new.items ≡ take 31 (put cut.items (leaves_of kept.old.items)) }
 {
-    if is_behind(kept.as_slice(), cut.as_slice()) {
+    if is_worse_than_last(kept.as_slice(), cut.as_slice()) {
         return;
     }
     let Some(i) = place(kept.as_slice(), cut.as_slice()) else {
         return;
     };
-    if i >= KEPT {
+    if i >= CUTS_PER_NODE {
         return;
     }
     make_room(kept);
@@ -158,10 +158,10 @@ fn most_leaves(cuts: &[Cut], k: usize) -> usize
     ensures small { result ≤ k }
     ensures longer { NoneLonger result k (leaves_of cuts.now) }
 {
-    if cuts.len() < KEPT {
+    if cuts.len() < CUTS_PER_NODE {
         return k;
     }
-    let last = cuts[KEPT - 1].len();
+    let last = cuts[CUTS_PER_NODE - 1].len();
     if last < k { last } else { k }
 }
 
@@ -169,14 +169,14 @@ fn most_leaves(cuts: &[Cut], k: usize) -> usize
 // has at least so many, and none of more than `most` is kept.
 #[inline]
 fn keep_union(
-    kept: &mut ArrayVec<Cut, KEPT>,
+    kept: &mut ArrayVec<Cut, CUTS_PER_NODE>,
     left: &[u32],
     right: &[u32],
     least: usize,
     most: usize,
     k: usize,
 ) -> usize
-    requires small { k ≤ MOST_VARS }
+    requires small { k ≤ MAX_VARS }
     requires few { array_vec_len kept.old ≤ 31 }
     requires order { are_in_order (leaves_of kept.old.items) ≡ true }
     requires least { least ≤ length (union left.now right.now) }
@@ -199,13 +199,13 @@ fn keep_union(
 
 // Keeps the unions of a cut with each of others, which have these signatures.
 fn keep_unions(
-    kept: &mut ArrayVec<Cut, KEPT>,
+    kept: &mut ArrayVec<Cut, CUTS_PER_NODE>,
     left: &[u32],
     others: &[Cut],
     words: &[u64],
     k: usize,
 )
-    requires small { k ≤ MOST_VARS }
+    requires small { k ≤ MAX_VARS }
     requires few { array_vec_len kept.old ≤ 31 }
     requires order { are_in_order (leaves_of kept.old.items) ≡ true }
     requires words { AreSignatures words.now (leaves_of others.now) }
@@ -224,9 +224,9 @@ fn keep_unions(
 }
 
 /// The first 31 unions of a cut of one list with a cut of another that have at most k leaves.
-pub(crate) fn first_unions(left: &[Cut], right: &[Cut], k: usize) -> ArrayVec<Cut, KEPT>
-    requires { k ≤ MOST_VARS }
-    ensures { leaves_of result.items ≡ first_unions k (leaves_of left.now) (leaves_of right.now) }
+pub(crate) fn merge_cut_sets(left: &[Cut], right: &[Cut], k: usize) -> ArrayVec<Cut, CUTS_PER_NODE>
+    requires { k ≤ MAX_VARS }
+    ensures { leaves_of result.items ≡ merge_cut_sets k (leaves_of left.now) (leaves_of right.now) }
 {
     let words = signatures_of(right);
     let mut kept = ArrayVec::new();

@@ -7,7 +7,7 @@ use Rattle.syn_rows.specs.Rows.{is_derived, refs_of}
 use Rattle.syn_core_laws.specs.declared.Seen.{Seen}
 use Rattle.syn_core_laws.specs.declared.Seen.TheVariants as seen
 use Rattle.syn_decide.specs.declared.decisions.NodeRow.{NodeRow}
-use Rattle.syn_decide.specs.declared.decisions.TheConstants.{MOST_INNER}
+use Rattle.syn_decide.specs.declared.decisions.TheConstants.{MAX_INNER}
 use Rattle.syn_decide.specs.Tasks.{Task}
 use Rattle.syn_decide.specs.Decided.{Answer, Answered, Done, Busy, Reach, Wide, Differs, NoGain, NoGap, NoRoom}
 use Rattle.syn_decide.specs.Walk.{from_entered}
@@ -69,7 +69,7 @@ walk_over t inner None = go (in_circle t inner) (is_same_function t inner)
 
 goes_on : (t : Task) (inner : List NodeRow) (waiting : List ℕ) → IsFine t (walk_on t inner waiting)
 goes_on t inner [] = walk_over t inner (first_unmet t inner)
-goes_on t inner (n ∷ waiting) = go (nat_lt (length inner) MOST_INNER)
+goes_on t inner (n ∷ waiting) = go (nat_lt (length inner) MAX_INNER)
   where
     go : (b : Bool) → IsFine t (if b then Walking (n ∷ waiting) else Ended (Wide n))
     go true = tt

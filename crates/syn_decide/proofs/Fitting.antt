@@ -9,7 +9,7 @@ use Rattle.syn_core_laws.specs.declared.Seen.TheVariants as seen
 use Rattle.syn_decide.specs.declared.decisions.NodeRow.{NodeRow}
 use Rattle.syn_decide.specs.Tasks.{Task}
 use Rattle.syn_decide.specs.Decided.{Answer, Done, Busy, Reach, Wide, Differs, NoGain, NoGap, NoRoom}
-use Rattle.syn_decide.specs.declared.decisions.TheConstants.{MOST_INNER}
+use Rattle.syn_decide.specs.declared.decisions.TheConstants.{MAX_INNER}
 use Rattle.syn_decide.specs.Walk.{from_entered}
 use Rattle.syn_decide.specs.Functions.{in_circle, is_same_function, now_table, used_leaves, was_table}
 use Rattle.syn_decide.specs.Hints.{first_new, is_asked, may_hit, most_hits}
@@ -42,7 +42,7 @@ walk_over t inner None e = go (in_circle t inner) refl (is_same_function t inner
 
 goes_on : (t : Task) (inner : List NodeRow) (waiting : List ℕ) → FitsAt t inner (walk_on t inner waiting)
 goes_on t inner [] = walk_over t inner (first_unmet t inner) refl
-goes_on t inner (n ∷ waiting) = go (nat_lt (length inner) MOST_INNER)
+goes_on t inner (n ∷ waiting) = go (nat_lt (length inner) MAX_INNER)
   where
     go : (b : Bool) → FitsAt t inner (if b then Walking (n ∷ waiting) else Ended (Wide n))
     go true = tt

@@ -8,7 +8,7 @@ use Rattle.syn_rows.proofs.Nodes.{has_cases, has_one}
 use Rattle.syn_core_laws.specs.declared.Seen.{Seen}
 use Rattle.syn_core_laws.specs.declared.Seen.TheVariants as seen
 use Rattle.syn_decide.specs.declared.decisions.NodeRow.{NodeRow}
-use Rattle.syn_decide.specs.declared.decisions.TheConstants.{MOST_INNER}
+use Rattle.syn_decide.specs.declared.decisions.TheConstants.{MAX_INNER}
 use Rattle.syn_decide.specs.Tasks.{Task}
 use Rattle.syn_decide.specs.Decided.{Reach, Busy, Differs, Wide}
 use Rattle.syn_decide.specs.Walk.{enters, from_entered, is_met, nodes_of}
@@ -88,7 +88,7 @@ module _ (t : Task) (inner : List NodeRow) (r : NodeRow) (f : FirstIs t.proposal
 
   goes_on : (waiting : List ℕ) → AreMet t more waiting → IsLinked t more (walk_on t more waiting)
   goes_on [] w = walk_over (first_unmet t more) refl
-  goes_on (n ∷ waiting) w = go (nat_lt (length more) MOST_INNER)
+  goes_on (n ∷ waiting) w = go (nat_lt (length more) MAX_INNER)
     where
       go : (b : Bool) → IsLinked t more (if b then Walking (n ∷ waiting) else Ended (Wide n))
       go true = linked_at (Walking (n ∷ waiting)) w

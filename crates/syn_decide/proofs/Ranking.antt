@@ -17,7 +17,7 @@ use Rattle.syn_decide.specs.declared.decisions.Want.{Want}
 use Rattle.syn_decide.specs.declared.decisions.Want.TheVariants as want
 use Rattle.syn_decide.specs.Tasks.{Task}
 use Rattle.syn_decide.specs.Decided.{Decided, Answered, Next, Unfit, Reach, Wide, Differs}
-use Rattle.syn_decide.specs.declared.decisions.TheConstants.{MOST_INNER}
+use Rattle.syn_decide.specs.declared.decisions.TheConstants.{MAX_INNER}
 use Rattle.syn_decide.specs.Walk.{enters, from_entered, nodes_of, row_among}
 use Rattle.syn_decide.specs.Functions.{has_none, in_circle, is_same_function, leaf_value, now_table, used_leaves, variables, was_table}
 use Rattle.syn_decide.specs.Fold.{State, Stage, Walking, Keying, Hinting, Counting, Ended, Failed, after_reads, after_walk, answered, at, begin, decided, failed, first_unmet, read_at, read_one, row_loaded, uncounted, walk_on, wanted_at, wanted_count, wanted_key, wants, with_inner}
@@ -236,7 +236,7 @@ over_fits t s inner h None e = go (in_circle t inner) (is_same_function t inner)
 
 on_fits : (t : Task) (s : State) (inner : List NodeRow) (waiting : List ℕ) → (waiting ≡ [] → in_circle t inner ≡ false) → wanted_at s (walk_on t inner waiting) ≡ Unfit → ⊥
 on_fits t s inner [] h e = over_fits t s inner (h refl) (first_unmet t inner) e
-on_fits t s inner (n ∷ waiting) h e = go (nat_lt (length inner) MOST_INNER) e
+on_fits t s inner (n ∷ waiting) h e = go (nat_lt (length inner) MAX_INNER) e
   where
     go : (b : Bool) → wanted_at s (if b then Walking (n ∷ waiting) else Ended (Wide n)) ≡ Unfit → ⊥
     go true e = absurd (cc)

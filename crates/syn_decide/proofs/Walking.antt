@@ -13,7 +13,7 @@ use Rattle.syn_core_laws.specs.declared.Seen.TheVariants as seen
 use Rattle.syn_decide.specs.declared.decisions.NodeRow.{NodeRow}
 use Rattle.syn_decide.specs.Tasks.{Task}
 use Rattle.syn_decide.specs.Decided.{Reach, Busy, Differs, Wide}
-use Rattle.syn_decide.specs.declared.decisions.TheConstants.{MOST_INNER}
+use Rattle.syn_decide.specs.declared.decisions.TheConstants.{MAX_INNER}
 use Rattle.syn_decide.specs.Walk.{enters, from_entered, nodes_of}
 use Rattle.syn_decide.specs.Functions.{in_circle, is_same_function, now_table, used_leaves, was_table}
 use Rattle.syn_decide.specs.Hints.{is_asked, may_hit, most_hits}
@@ -150,7 +150,7 @@ walk_over t inner d h r g None = go (in_circle t inner) (is_same_function t inne
 
 goes_on : (t : Task) (inner : List NodeRow) (waiting : List ℕ) → are_distinct (nodes_of inner) ≡ true → RefersToKnown t inner waiting → FirstEnters t inner waiting → has_node (nodes_of inner) t.proposal.root ≡ true → AreGates inner → IsWalked t inner (walk_on t inner waiting)
 goes_on t inner [] d h f r g = walk_over t inner d h r g (first_unmet t inner)
-goes_on t inner (n ∷ waiting) d h f r g = go (nat_lt (length inner) MOST_INNER)
+goes_on t inner (n ∷ waiting) d h f r g = go (nat_lt (length inner) MAX_INNER)
   where
     go : (b : Bool) → IsWalked t inner (if b then Walking (n ∷ waiting) else Ended (Wide n))
     go true = record { distinct = d; closed = h; next = f; root = inl r; gates = g }

@@ -9,7 +9,7 @@ use Rattle.syn_gain.specs.Placing.{Placed}
 use Rattle.syn_decide.specs.declared.decisions.Want.TheVariants as want
 use Rattle.syn_decide.specs.Tasks.{Task}
 use Rattle.syn_decide.specs.Decided.{Answer, Done, Busy, Reach, Wide, Differs, NoGain, NoGap, NoRoom, Decided, Answered, Next, Unfit}
-use Rattle.syn_decide.specs.declared.decisions.TheConstants.{MOST_INNER}
+use Rattle.syn_decide.specs.declared.decisions.TheConstants.{MAX_INNER}
 use Rattle.syn_decide.specs.Walk.{nodes_of, from_entered, is_met}
 use Rattle.syn_decide.specs.Functions.{in_circle, is_same_function, was_table, now_table, used_leaves}
 use Rattle.syn_decide.specs.Hints.{placed_by_hits, is_asked, may_hit, most_hits, rows_needed}
@@ -89,7 +89,7 @@ first_unmet t inner = find (λ leaf. not (is_met inner leaf)) (used_leaves t)
 -- The walk goes on at the first node that waits, if its row is not one too many.
 abbrev pub walk_on : Task → List NodeRow → List ℕ → Stage
 walk_on t inner [] = after_walk t inner (first_unmet t inner)
-walk_on t inner (n ∷ waiting) = if nat_lt (length inner) MOST_INNER then Walking (n ∷ waiting) else Ended (Wide n)
+walk_on t inner (n ∷ waiting) = if nat_lt (length inner) MAX_INNER then Walking (n ∷ waiting) else Ended (Wide n)
 
 -- the state with one inner row more
 abbrev pub with_inner : State → ℕ → Row → State

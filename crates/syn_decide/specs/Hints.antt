@@ -7,7 +7,7 @@ use Rattle.syn_rows.specs.declared.Row.TheVariants.{Free, Source, And, Alias}
 use Rattle.syn_rows.specs.Rows.{node_of}
 use Rattle.syn_rows.specs.Joining.{lit_of}
 use Rattle.syn_rows.specs.declared.TheConstants.{NODE_LIMIT}
-use Rattle.syn_plan.specs.declared.TheConstants.{MOST_GATES}
+use Rattle.syn_plan.specs.declared.TheConstants.{MAX_GATES}
 use Rattle.syn_rows.specs.Nodes.{has_node}
 use Rattle.syn_decide.specs.declared.decisions.NodeRow.{NodeRow}
 use Rattle.syn_decide.specs.Tasks.{Task}
@@ -62,7 +62,7 @@ out_literal t s = literal_for s.literals t.proposal.out
 
 -- the most gates that a plan has, and so the most hits
 abbrev pub most_hits : ℕ
-most_hits = MOST_GATES
+most_hits = MAX_GATES
 
 -- the output is the last new gate, uncomplemented: that gate's pair becomes the root's row
 abbrev pub is_last_new : List Row → Lit → Bool

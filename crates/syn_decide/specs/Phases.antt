@@ -3,7 +3,7 @@ use Rattle.std.specs.Prelude.{ℕ, ◌-◌, List}
 use Rattle.syn_decide.specs.declared.decisions.NodeRow.{NodeRow}
 use Rattle.syn_decide.specs.declared.decisions.Phase.{Phase}
 use Rattle.syn_decide.specs.declared.decisions.Phase.TheVariants as phase
-use Rattle.syn_decide.specs.declared.decisions.TheConstants.{MOST_INNER}
+use Rattle.syn_decide.specs.declared.decisions.TheConstants.{MAX_INNER}
 use Rattle.syn_decide.specs.declared.found.Found.{Found}
 use Rattle.syn_decide.specs.Decided.{told_answer}
 use Rattle.syn_decide.specs.Fold.{State, Stage, Walking, Keying, Hinting, Counting, Ended, Failed}
@@ -19,12 +19,12 @@ stage_of phase.Failed waiting = Failed
 
 -- the most inner rows at a stage: while the walk goes on there is room for one more
 abbrev pub most_at : Phase → ℕ
-most_at phase.Walking = MOST_INNER - 1
-most_at phase.Keying = MOST_INNER
-most_at (phase.Hinting last) = MOST_INNER
-most_at phase.Counting = MOST_INNER
-most_at (phase.Ended outcome) = MOST_INNER
-most_at phase.Failed = MOST_INNER
+most_at phase.Walking = MAX_INNER - 1
+most_at phase.Keying = MAX_INNER
+most_at (phase.Hinting last) = MAX_INNER
+most_at phase.Counting = MAX_INNER
+most_at (phase.Ended outcome) = MAX_INNER
+most_at phase.Failed = MAX_INNER
 
 -- a state by its stage, the inner rows and what the loads behind the walk found
 abbrev pub state_at : Stage → List NodeRow → Found → State

@@ -2,8 +2,8 @@
 
 ghost use Rattle.std.specs.Prelude.{◌≡◌, ◌<◌, ◌≤◌, ◌==◌, ◌&&◌, nat_lt, true, if◌then◌else◌, max, ℕ, All, List, length};
 ghost use Rattle.syn_rows.specs.declared.TheConstants.{NODE_LIMIT};
-ghost use Rattle.syn_plan.specs.declared.TheConstants.{MOST_GATES};
-ghost use Rattle.syn_decide.specs.declared.decisions.TheConstants.{MOST_INNER};
+ghost use Rattle.syn_plan.specs.declared.TheConstants.{MAX_GATES};
+ghost use Rattle.syn_decide.specs.declared.decisions.TheConstants.{MAX_INNER};
 ghost use Rattle.syn_decide.specs.declared.decisions.NodeRow.{NodeRow};
 ghost use Rattle.syn_decide.specs.Decided.{told_answer};
 ghost use Rattle.syn_decide.specs.Tasks.{task_of};
@@ -12,13 +12,13 @@ ghost use Rattle.syn_decide.specs.Fold as fold;
 ghost use Rattle.syn_decide.specs.Fold.{Stage};
 ghost use Rattle.syn_decide.specs.Phases.{most_at, stage_of, state_at};
 
-use crate::dying::freed_by;
 use crate::found::{Desk, Found};
+use crate::mffc::freed_by;
 use crate::place::Placing;
-use crate::waiting::Waiting;
-use crate::{Attempt, MOST_INNER, NodeRow, Outcome, Phase};
+use crate::worklist::Waiting;
+use crate::{Attempt, MAX_INNER, NodeRow, Outcome, Phase};
 use syn_core_laws::Seen;
-use syn_plan::MOST_GATES;
+use syn_plan::MAX_GATES;
 use syn_rows::{NODE_LIMIT, Row};
 
 fn greater(a: u64, b: u64) -> u64
@@ -31,7 +31,7 @@ fn greater(a: u64, b: u64) -> u64
 fn key_loaded(found: &mut Found, waiting: &mut Waiting, key: u64) -> Phase
     ensures state { (stage : Stage) (inner : List NodeRow) → state_at (stage_of result waiting.new) inner found.new ≡ fold.key_loaded (state_at stage inner found.old) key waiting.old }
     ensures few { length waiting.new ≤ length waiting.old }
-    ensures room { most_at result ≡ MOST_INNER }
+    ensures room { most_at result ≡ MAX_INNER }
 {
     let Some(next) = waiting.pop() else {
         found.high = key;
@@ -46,7 +46,7 @@ fn key_loaded(found: &mut Found, waiting: &mut Waiting, key: u64) -> Phase
 pub(crate) fn read_keying(found: &mut Found, waiting: &mut Waiting, read: Seen) -> Phase
     ensures state { (stage : Stage) (inner : List NodeRow) → state_at (stage_of result waiting.new) inner found.new ≡ fold.read_keying (state_at stage inner found.old) waiting.old read }
     ensures few { length waiting.new ≤ length waiting.old }
-    ensures room { most_at result ≡ MOST_INNER }
+    ensures room { most_at result ≡ MAX_INNER }
 {
     let Some(next) = waiting.pop() else {
         return Phase::Failed;
@@ -83,10 +83,10 @@ fn is_asked(attempt: &Attempt<'_>, hits: &[NodeRow], placing: &mut Placing, row:
 
 // Whether the node is that of the row load, and there is room for a hit.
 fn is_behind(hits: &[NodeRow], last: NodeRow, node: u32) -> bool
-    ensures room { result ≡ true → length hits.now < MOST_GATES }
+    ensures room { result ≡ true → length hits.now < MAX_GATES }
     ensures behind { result ≡ (node == last.node && nat_lt (length hits.now) hints.most_hits) }
 {
-    node == last.node && hits.len() < MOST_GATES
+    node == last.node && hits.len() < MAX_GATES
 }
 
 // Whether the key of a node may be read behind this row load.
@@ -98,7 +98,7 @@ fn is_hint(
     node: u32,
 ) -> bool
     requires { All (λ h. h.node < NODE_LIMIT) hits.now }
-    ensures room { result ≡ true → length hits.now < MOST_GATES }
+    ensures room { result ≡ true → length hits.now < MAX_GATES }
     ensures hint { result ≡ ((node == last.node && nat_lt (length hits.now) hints.most_hits) && hints.is_asked (hints.placed_by_hits (task_of attempt.now) hits.now).extra last.row) }
 {
     is_behind(hits, last, node) && is_asked(attempt, hits, placing, last.row)
@@ -106,11 +106,11 @@ fn is_hint(
 
 // The node, whose row was asked for, is a hit where it may be one.
 fn hinted(attempt: &Attempt<'_>, found: &mut Found, last: NodeRow, key: u64) -> Phase
-    requires { length found.old.hits.items < MOST_GATES }
+    requires { length found.old.hits.items < MAX_GATES }
     ensures state { (stage : Stage) (waiting : List ℕ) (inner : List NodeRow)
         → state_at (stage_of result waiting) inner found.new
         ≡ fold.hinted (task_of attempt.now) (state_at stage inner found.old) last.node last.row key }
-    ensures room { most_at result ≡ MOST_INNER }
+    ensures room { most_at result ≡ MAX_INNER }
 {
     if may_hit(attempt.candidate.leaves, found.high, last.node, key) {
         found.hits.push(last);
@@ -131,7 +131,7 @@ fn hint_key(
     ensures state { (stage : Stage) (waiting : List ℕ) (inner : List NodeRow)
         → state_at (stage_of result waiting) inner found.new
         ≡ fold.hint_key (task_of attempt.now) (state_at stage inner found.old) last node key }
-    ensures room { most_at result ≡ MOST_INNER }
+    ensures room { most_at result ≡ MAX_INNER }
 {
     let Some(last) = last else {
         return Phase::Failed;
@@ -178,7 +178,7 @@ fn least_gain(zero_gain: bool) -> u32
 #[inline(never)]
 fn conclude(attempt: &Attempt<'_>, inner: &[NodeRow], found: &Found, desk: &mut Desk) -> Outcome
     requires within { length found.now.counts.items ≤ length inner.now }
-    requires few { length inner.now ≤ MOST_INNER }
+    requires few { length inner.now ≤ MAX_INNER }
     ensures { (stage : Stage) → told_answer result ≡ fold.concluded (task_of attempt.now) (state_at stage inner.now found.now) }
 {
     let hits = found.hits.as_slice();
@@ -202,8 +202,8 @@ fn read_count(
     count: u32,
     own: u32,
 ) -> Phase
-    requires { length inner.now ≤ MOST_INNER }
-    ensures room { most_at result ≡ MOST_INNER }
+    requires { length inner.now ≤ MAX_INNER }
+    ensures room { most_at result ≡ MAX_INNER }
     ensures state { (stage : Stage) (waiting : List ℕ)
         → state_at (stage_of result waiting) inner.now found.new
         ≡ fold.read_count (task_of attempt.now) (state_at stage inner.now found.old) (fold.uncounted (state_at stage inner.now found.old)) node count own }
@@ -230,8 +230,8 @@ pub(crate) fn read_counting(
     desk: &mut Desk,
     read: Seen,
 ) -> Phase
-    requires { length inner.now ≤ MOST_INNER }
-    ensures room { most_at result ≡ MOST_INNER }
+    requires { length inner.now ≤ MAX_INNER }
+    ensures room { most_at result ≡ MAX_INNER }
     ensures state { (stage : Stage) (waiting : List ℕ)
         → state_at (stage_of result waiting) inner.now found.new
         ≡ fold.read_counting (task_of attempt.now) (state_at stage inner.now found.old) read }
@@ -253,8 +253,8 @@ pub(crate) fn read_hinting(
     last: Option<NodeRow>,
     read: Seen,
 ) -> Phase
-    requires { length inner.now ≤ MOST_INNER }
-    ensures room { most_at result ≡ MOST_INNER }
+    requires { length inner.now ≤ MAX_INNER }
+    ensures room { most_at result ≡ MAX_INNER }
     ensures state { (stage : Stage) (waiting : List ℕ)
         → state_at (stage_of result waiting) inner.now found.new
         ≡ fold.read_hinting (task_of attempt.now) (state_at stage inner.now found.old) last read }

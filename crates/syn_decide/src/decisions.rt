@@ -2,14 +2,14 @@
 
 ghost use Rattle.std.specs.Prelude.{◌<◌, ◌≤◌, length};
 ghost use Rattle.syn_rows.specs.declared.TheConstants.{NODE_LIMIT};
-ghost use Rattle.syn_plan.specs.declared.TheConstants.{MOST_LEAVES};
+ghost use Rattle.syn_plan.specs.declared.TheConstants.{MAX_LEAVES};
 
 use syn_gain::{Candidate, Proposal};
 use syn_rows::{Lit, Row};
 use syn_truth::Truth;
 
 /// The most inner rows that a commit takes.
-pub const MOST_INNER: usize = 48;
+pub const MAX_INNER: usize = 48;
 
 /// What a commit is asked: a proposal of at most 8 leaves, of a root that a table may have.
 #[derive(Clone, Copy, Debug)]
@@ -20,7 +20,7 @@ pub struct Attempt<'a> {
     pub zero_gain: bool,
     /// How many nodes the pool has at entry.
     pub pool: u32,
-    pub ghost leaves_are_few: { length candidate.leaves.now ≤ MOST_LEAVES },
+    pub ghost leaves_are_few: { length candidate.leaves.now ≤ MAX_LEAVES },
     pub ghost root_is_node: { candidate.root < NODE_LIMIT },
 }
 

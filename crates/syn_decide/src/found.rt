@@ -3,12 +3,12 @@
 ghost use Rattle.std.specs.Prelude.{◌<◌, All};
 ghost use Rattle.syn_rows.specs.declared.TheConstants.{NODE_LIMIT};
 
-use crate::dying::CountedRoom;
+use crate::mffc::CountedRoom;
 use crate::place::Placing;
 use crate::tables::Rounds;
-use crate::{MOST_INNER, NodeRow};
+use crate::{MAX_INNER, NodeRow};
 use arrayvec::ArrayVec;
-use syn_plan::MOST_GATES;
+use syn_plan::MAX_GATES;
 
 /// What the loads of keys, hints and counts found.
 #[derive(Debug, Drop)]
@@ -18,9 +18,9 @@ pub(crate) struct Found {
     /// The root's key, once it is loaded.
     pub(crate) high: u64,
     /// The hits, with their rows.
-    pub(crate) hits: ArrayVec<NodeRow, MOST_GATES>,
+    pub(crate) hits: ArrayVec<NodeRow, MAX_GATES>,
     /// For the first of the inner rows, how many references to each are not the seat's own pins.
-    pub(crate) counts: ArrayVec<u32, MOST_INNER>,
+    pub(crate) counts: ArrayVec<u32, MAX_INNER>,
     ghost hits_are_nodes: { All (λ h. h.node < NODE_LIMIT) hits.items },
 }
 

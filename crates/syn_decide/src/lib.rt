@@ -2,26 +2,26 @@
 #![tactic(auto)]
 
 mod answers;
-mod deciding;
 mod decisions;
-mod dying;
 mod found;
 mod laws;
 mod lists;
+mod mffc;
 mod place;
+mod reads;
 mod rows;
 mod stages;
 mod tables;
-mod waiting;
 mod walk;
+mod worklist;
 
-pub use deciding::{Deciding, Reads, decide};
 pub use decisions::{
-    Attempt, Comparison, Counted, Decision, MOST_INNER, MetPair, NodeRow, Outcome, Phase,
+    Attempt, Comparison, Counted, Decision, MAX_INNER, MetPair, NodeRow, Outcome, Phase,
     StaleCause, Want,
 };
 pub use laws::{
     always_fitting, always_linked, always_walked, counted_are_first, dying_are_least, empty_reads,
     hits_in_order, one_read_more, rows_always_fit, worked_reads,
 };
+pub use reads::{Deciding, Reads, decide};
 pub use rows::NewRows;

@@ -5,10 +5,10 @@ ghost use Rattle.std.specs.List.{list_any};
 ghost use Rattle.arrayvec.specs.ArrayVec.{array_vec_len};
 ghost use Rattle.syn_rows.specs.declared.TheConstants.{NODE_LIMIT};
 ghost use Rattle.syn_rows.specs.Joining as joining;
-ghost use Rattle.syn_plan.specs.declared.TheConstants.{MOST_GATES, MOST_LEAVES};
+ghost use Rattle.syn_plan.specs.declared.TheConstants.{MAX_GATES, MAX_LEAVES};
 ghost use Rattle.syn_plan.specs.Gates.{index_of};
 ghost use Rattle.syn_gain.specs.Placing as placing;
-ghost use Rattle.syn_decide.specs.declared.place.TheConstants.{MOST_INDEXES};
+ghost use Rattle.syn_decide.specs.declared.place.TheConstants.{MAX_INDEXES};
 ghost use Rattle.syn_decide.specs.Hints as spec;
 ghost use Rattle.syn_decide.specs.Told.{as_met};
 
@@ -16,18 +16,18 @@ use crate::{MetPair, NodeRow};
 use arrayvec::ArrayVec;
 use std::marker::Model;
 use syn_gain::{literal_for, node_at};
-use syn_plan::{MOST_GATES, MOST_LEAVES, PLit, Plan};
+use syn_plan::{MAX_GATES, MAX_LEAVES, PLit, Plan};
 use syn_rows::{FALSE, Lit, NODE_LIMIT, Row, ordered_and, simple_and};
 
 // The most indexes of a plan: the constant, the leaves and the gates.
-const MOST_INDEXES: usize = 1 + MOST_LEAVES as usize + MOST_GATES;
+const MAX_INDEXES: usize = 1 + MAX_LEAVES as usize + MAX_GATES;
 
 // The number of the first new gate.
 const FIRST_NEW: u32 = NODE_LIMIT as u32;
 
 // Begins the literals: the constant, and a plan's leaves, of which there are so many.
-fn leaf_literals(literals: &mut ArrayVec<Lit, MOST_INDEXES>, count: u8, leaves: &[u32])
-    requires few { count ≤ MOST_LEAVES }
+fn leaf_literals(literals: &mut ArrayVec<Lit, MAX_INDEXES>, count: u8, leaves: &[u32])
+    requires few { count ≤ MAX_LEAVES }
     requires low { (i : ℕ) → slice_index_or leaves.now i 0 < 2 ^ 31 }
     ensures literals { literals.new.items ≡ joining.constant ∷ placing.leaf_literals count leaves.now }
     ensures len { array_vec_len literals.new ≡ 1 + count }
@@ -114,7 +114,7 @@ fn latest(pairs: &[MetPair], x: Lit, y: Lit) -> Option<Lit>
 /// Pairs that were met. Contracts see them with the latest first.
 #[derive(Debug, Drop)]
 pub(crate) struct Pairs {
-    items: ArrayVec<MetPair, MOST_GATES>,
+    items: ArrayVec<MetPair, MAX_GATES>,
 }
 
 impl Model for Pairs {
@@ -143,7 +143,7 @@ impl Pairs {
     }
 
     fn push(&mut self, pair: MetPair)
-        requires { length self.old < MOST_GATES }
+        requires { length self.old < MAX_GATES }
         ensures { self.new ≡ as_met pair ∷ self.old }
     {
         self.items.push(pair);
@@ -160,9 +160,9 @@ impl Pairs {
 /// What the constant, the leaves and the gates so far became. Contracts see it as the definition's record.
 #[derive(Debug, Drop)]
 pub(crate) struct Placing {
-    literals: ArrayVec<Lit, MOST_INDEXES>,
+    literals: ArrayVec<Lit, MAX_INDEXES>,
     met: Pairs,
-    extra: ArrayVec<Row, MOST_GATES>,
+    extra: ArrayVec<Row, MAX_GATES>,
 }
 
 impl Model for Placing {
@@ -185,7 +185,7 @@ impl Placing {
 
     // The constant and the leaves.
     fn begin(&mut self, count: u8, leaves: &[u32])
-        requires few { count ≤ MOST_LEAVES }
+        requires few { count ≤ MAX_LEAVES }
         requires low { (i : ℕ) → slice_index_or leaves.now i 0 < 2 ^ 31 }
         ensures begun { self.new ≡ placing.begun count leaves.now }
         ensures len { length self.new.literals ≡ 1 + count }
@@ -211,8 +211,8 @@ impl Placing {
 
     // A gate of this pair became the literal.
     fn add(&mut self, x: Lit, y: Lit, literal: Lit)
-        requires literals { length self.old.literals < MOST_INDEXES }
-        requires met { length self.old.met < MOST_GATES }
+        requires literals { length self.old.literals < MAX_INDEXES }
+        requires met { length self.old.met < MAX_GATES }
         ensures { self.new ≡ placing.with_gate self.old x y literal self.old.extra }
     {
         self.literals.push(literal);
@@ -225,9 +225,9 @@ impl Placing {
 
     // A new gate of this pair.
     fn add_new(&mut self, x: Lit, y: Lit)
-        requires literals { length self.old.literals < MOST_INDEXES }
-        requires met { length self.old.met < MOST_GATES }
-        requires extra { length self.old.extra < MOST_GATES }
+        requires literals { length self.old.literals < MAX_INDEXES }
+        requires met { length self.old.met < MAX_GATES }
+        requires extra { length self.old.extra < MAX_GATES }
         ensures { self.new ≡ placing.place_pair spec.first_new self.old x y None }
     {
         let literal = Lit::of(FIRST_NEW + self.extra.len() as u32, false);
@@ -238,9 +238,9 @@ impl Placing {
     // One gate of a plan.
     fn place(&mut self, hits: &[NodeRow], gate: (PLit, PLit))
         requires hits { All (λ h. h.node < NODE_LIMIT) hits.now }
-        requires literals { length self.old.literals < MOST_INDEXES }
-        requires met { length self.old.met < MOST_GATES }
-        requires extra { length self.old.extra < MOST_GATES }
+        requires literals { length self.old.literals < MAX_INDEXES }
+        requires met { length self.old.met < MAX_GATES }
+        requires extra { length self.old.extra < MAX_GATES }
         ensures placed { self.new ≡ placing.place_gate (spec.literal_hit hits.now) spec.first_new self.old gate }
         ensures literals { length self.new.literals ≡ length self.old.literals + 1 }
         ensures met { length self.new.met ≡ length self.old.met + 1 }
@@ -277,7 +277,7 @@ impl Placing {
     /// How many new gates there are.
     pub(crate) fn added(&self) -> u32
         ensures number { result ≡ length self.now.extra }
-        ensures few { result ≤ MOST_GATES }
+        ensures few { result ≤ MAX_GATES }
     {
         self.extra.len() as u32
     }
@@ -308,7 +308,7 @@ impl Placing {
     }
 
     /// Copies the rows of the new gates.
-    pub(crate) fn copy_rows(&self, rows: &mut ArrayVec<Row, MOST_GATES>)
+    pub(crate) fn copy_rows(&self, rows: &mut ArrayVec<Row, MAX_GATES>)
         ensures { rows.new.items ≡ self.now.extra }
     {
         rows.clear();

@@ -9,14 +9,14 @@ use crate::answers::place;
 use crate::place::{Placing, is_asked};
 use crate::{Attempt, NodeRow};
 use arrayvec::ArrayVec;
-use syn_plan::MOST_GATES;
+use syn_plan::MAX_GATES;
 use syn_rows::Row;
 
 /// What a commit is to store. New gates go by the numbers from 2^29 on.
 #[derive(Debug, Drop)]
 pub struct NewRows {
     /// The rows of the new gates, in order.
-    pub rows: ArrayVec<Row, MOST_GATES>,
+    pub rows: ArrayVec<Row, MAX_GATES>,
     /// How many of them, the first ones, need a node of their own.
     pub needed: u32,
     /// The row that the root becomes.

@@ -2,7 +2,7 @@
 
 ghost use Rattle.std.specs.Prelude.{◌≡◌, ◌<◌, ◌≤◌, ◌+◌, ◌^◌, ◌++◌, ◌∷◌, ℕ, List, [], find, length, not};
 ghost use Rattle.syn_plan.specs.Naming as naming;
-ghost use Rattle.syn_decide.specs.declared.decisions.TheConstants.{MOST_INNER};
+ghost use Rattle.syn_decide.specs.declared.decisions.TheConstants.{MAX_INNER};
 ghost use Rattle.syn_decide.specs.declared.found.Found.{Found};
 ghost use Rattle.syn_decide.specs.Tasks.{task_of};
 ghost use Rattle.syn_decide.specs.Functions as functions;
@@ -11,9 +11,9 @@ ghost use Rattle.syn_decide.specs.Fold.{Stage};
 ghost use Rattle.syn_decide.specs.Phases.{stage_of, most_at, state_at};
 
 use crate::tables::{Rounds, compare};
-use crate::waiting::Waiting;
 use crate::walk::{add_fan_ins, is_met, skip_known};
-use crate::{Attempt, Comparison, MOST_INNER, NodeRow, Outcome, Phase, StaleCause};
+use crate::worklist::Waiting;
+use crate::{Attempt, Comparison, MAX_INNER, NodeRow, Outcome, Phase, StaleCause};
 use arrayvec::ArrayVec;
 use syn_core_laws::Seen;
 use syn_plan::PLit;
@@ -89,7 +89,7 @@ fn after_walk(
     rounds: &mut Rounds,
 ) -> Phase
     requires empty { waiting.old ≡ [] }
-    requires inner { length inner.now ≤ MOST_INNER }
+    requires inner { length inner.now ≤ MAX_INNER }
     ensures stage { stage_of result waiting.new ≡ fold.after_walk (task_of attempt.now) inner.now (fold.first_unmet (task_of attempt.now) inner.now) }
     ensures few { length waiting.new ≤ 9 }
     ensures room { length inner.now ≤ most_at result }
@@ -116,7 +116,7 @@ fn walk_on(
     waiting: &mut Waiting,
     rounds: &mut Rounds,
 ) -> Phase
-    requires inner { length inner.now ≤ MOST_INNER }
+    requires inner { length inner.now ≤ MAX_INNER }
     requires few { length waiting.old ≤ 9 + length inner.now }
     ensures stage { stage_of result waiting.new ≡ fold.walk_on (task_of attempt.now) inner.now waiting.old }
     ensures few { length waiting.new ≤ 9 + length inner.now }
@@ -125,7 +125,7 @@ fn walk_on(
     let Some(node) = waiting.pop() else {
         return after_walk(attempt, inner, waiting, rounds);
     };
-    if inner.len() < MOST_INNER {
+    if inner.len() < MAX_INNER {
         waiting.push(node);
         Phase::Walking
     } else {
@@ -136,13 +136,13 @@ fn walk_on(
 // A row of the walk was loaded.
 fn row_loaded(
     attempt: &Attempt<'_>,
-    inner: &mut ArrayVec<NodeRow, MOST_INNER>,
+    inner: &mut ArrayVec<NodeRow, MAX_INNER>,
     waiting: &mut Waiting,
     rounds: &mut Rounds,
     node: u32,
     row: Row,
 ) -> Phase
-    requires room { length inner.old.items < MOST_INNER }
+    requires room { length inner.old.items < MAX_INNER }
     requires few { length waiting.old + 1 ≤ 9 + length inner.old.items }
     ensures state { (stage : Stage) (found : Found)
         → state_at (stage_of result waiting.new) inner.new.items found
@@ -162,12 +162,12 @@ fn row_loaded(
 /// One read of the walk.
 pub(crate) fn read_walking(
     attempt: &Attempt<'_>,
-    inner: &mut ArrayVec<NodeRow, MOST_INNER>,
+    inner: &mut ArrayVec<NodeRow, MAX_INNER>,
     waiting: &mut Waiting,
     rounds: &mut Rounds,
     read: Seen,
 ) -> Phase
-    requires room { length inner.old.items < MOST_INNER }
+    requires room { length inner.old.items < MAX_INNER }
     requires few { length waiting.old ≤ 9 + length inner.old.items }
     ensures state { (stage : Stage) (found : Found)
         → state_at (stage_of result waiting.new) inner.new.items found

@@ -2,30 +2,30 @@
 
 ghost use Rattle.std.specs.Prelude.{◌≡◌, ◌<◌, ◌≤◌, ◌+◌, ◌^◌, ℕ, max, length, false, true, IfNone, IfSome, None, Some, slice_set, take, All};
 ghost use Rattle.std.specs.List.{AllZip};
-ghost use Rattle.syn_truth.specs.declared.TheConstants.{MOST_VARS};
+ghost use Rattle.syn_truth.specs.declared.TheConstants.{MAX_VARS};
 ghost use Rattle.syn_truth.specs.Truth.{AtEach, value_of};
 ghost use Rattle.syn_plan.specs.Plans.{plan_truth};
 ghost use Rattle.syn_rows.specs.Nodes.{has_node};
 ghost use Rattle.syn_core_laws.specs.SameValue.{both, turned_by};
 ghost use Rattle.syn_rows.specs.Rows.{node_of};
-ghost use Rattle.syn_decide.specs.declared.decisions.TheConstants.{MOST_INNER};
+ghost use Rattle.syn_decide.specs.declared.decisions.TheConstants.{MAX_INNER};
 ghost use Rattle.syn_decide.specs.Functions.{leaf_value};
 ghost use Rattle.syn_decide.specs.Tables as spec;
 ghost use Rattle.syn_decide.specs.Tasks.{task_of};
 
-use crate::{Attempt, Comparison, MOST_INNER, NodeRow};
+use crate::{Attempt, Comparison, MAX_INNER, NodeRow};
 use arrayvec::ArrayVec;
 use syn_plan::Plan;
 use syn_rows::{Lit, Row};
 use syn_truth::Truth;
 
 // How often the inner rows are swept. A sweep leaves out a row that refers to one before it, as where paths meet again.
-const MOST_SWEEPS: usize = 4;
+const MAX_SWEEPS: usize = 4;
 
 // The table of a leaf.
 #[inline(always)]
 fn leaf_table(vars: u8, leaves: &[u32], node: u32) -> Option<Truth>
-    requires few { vars ≤ MOST_VARS }
+    requires few { vars ≤ MAX_VARS }
     requires within { length leaves.now ≤ vars }
     ensures none { IfNone result (has_node leaves.now node ≡ false) }
     ensures leaf { IfSome result (λ t. has_node leaves.now node ≡ true) }
@@ -64,7 +64,7 @@ fn node_table(
     tables: &[Option<Truth>],
     node: u32,
 ) -> Option<Truth>
-    requires few { vars ≤ MOST_VARS }
+    requires few { vars ≤ MAX_VARS }
     requires within { length leaves.now ≤ vars }
     requires count { length tables.now ≡ length inner.now }
     requires alike { spec.AllVars vars tables.now }
@@ -89,7 +89,7 @@ fn literal_table(
     tables: &[Option<Truth>],
     l: Lit,
 ) -> Option<Truth>
-    requires few { vars ≤ MOST_VARS }
+    requires few { vars ≤ MAX_VARS }
     requires within { length leaves.now ≤ vars }
     requires count { length tables.now ≡ length inner.now }
     requires alike { spec.AllVars vars tables.now }
@@ -129,7 +129,7 @@ fn row_table(
     tables: &[Option<Truth>],
     row: Row,
 ) -> Option<Truth>
-    requires few { vars ≤ MOST_VARS }
+    requires few { vars ≤ MAX_VARS }
     requires within { length leaves.now ≤ vars }
     requires count { length tables.now ≡ length inner.now }
     requires alike { spec.AllVars vars tables.now }
@@ -151,8 +151,8 @@ fn row_table(
 /// than to fill.
 #[derive(Debug, Drop)]
 pub(crate) struct Rounds {
-    last: ArrayVec<Option<Truth>, MOST_INNER>,
-    next: ArrayVec<Option<Truth>, MOST_INNER>,
+    last: ArrayVec<Option<Truth>, MAX_INNER>,
+    next: ArrayVec<Option<Truth>, MAX_INNER>,
 }
 
 impl Rounds {
@@ -166,8 +166,8 @@ impl Rounds {
 }
 
 // No table for any of so many rows.
-fn no_tables(count: usize, tables: &mut ArrayVec<Option<Truth>, MOST_INNER>)
-    requires { count ≤ MOST_INNER }
+fn no_tables(count: usize, tables: &mut ArrayVec<Option<Truth>, MAX_INNER>)
+    requires { count ≤ MAX_INNER }
     ensures count { length tables.new.items ≡ count }
     ensures none { All (λ t. t ≡ None) tables.new.items }
 {
@@ -178,7 +178,7 @@ fn no_tables(count: usize, tables: &mut ArrayVec<Option<Truth>, MOST_INNER>)
 }
 
 // The row at this place has a table now.
-fn set_table(tables: &mut ArrayVec<Option<Truth>, MOST_INNER>, i: usize, table: Truth)
+fn set_table(tables: &mut ArrayVec<Option<Truth>, MAX_INNER>, i: usize, table: Truth)
     requires { i < length tables.old.items }
     ensures { tables.new.items ≡ slice_set tables.old.items i (Some table) }
 {
@@ -190,10 +190,10 @@ fn make_table(
     vars: u8,
     leaves: &[u32],
     inner: &[NodeRow],
-    made: &mut ArrayVec<Option<Truth>, MOST_INNER>,
+    made: &mut ArrayVec<Option<Truth>, MAX_INNER>,
     i: usize,
 ) -> usize
-    requires few { vars ≤ MOST_VARS }
+    requires few { vars ≤ MAX_VARS }
     requires within { length leaves.now ≤ vars }
     requires inner { i < length inner.now }
     requires count { length made.old.items ≡ length inner.now }
@@ -219,11 +219,11 @@ fn sweep(
     vars: u8,
     leaves: &[u32],
     inner: &[NodeRow],
-    made: &mut ArrayVec<Option<Truth>, MOST_INNER>,
+    made: &mut ArrayVec<Option<Truth>, MAX_INNER>,
 ) -> usize
-    requires few { vars ≤ MOST_VARS }
+    requires few { vars ≤ MAX_VARS }
     requires within { length leaves.now ≤ vars }
-    requires inner { length inner.now ≤ MOST_INNER }
+    requires inner { length inner.now ≤ MAX_INNER }
     requires count { length made.old.items ≡ length inner.now }
     requires alike { spec.AllVars vars made.old.items }
     ensures few { result ≤ length inner.now }
@@ -246,11 +246,11 @@ fn round(
     leaves: &[u32],
     inner: &[NodeRow],
     tables: &[Option<Truth>],
-    next: &mut ArrayVec<Option<Truth>, MOST_INNER>,
+    next: &mut ArrayVec<Option<Truth>, MAX_INNER>,
 )
-    requires few { vars ≤ MOST_VARS }
+    requires few { vars ≤ MAX_VARS }
     requires within { length leaves.now ≤ vars }
-    requires inner { length inner.now ≤ MOST_INNER }
+    requires inner { length inner.now ≤ MAX_INNER }
     requires count { length tables.now ≡ length inner.now }
     requires alike { spec.AllVars vars tables.now }
     ensures count { length next.new.items ≡ length inner.now }
@@ -265,8 +265,8 @@ fn round(
 
 // One list becomes the other, whose entries alone are copied.
 fn copy_tables(
-    to: &mut ArrayVec<Option<Truth>, MOST_INNER>,
-    from: &ArrayVec<Option<Truth>, MOST_INNER>,
+    to: &mut ArrayVec<Option<Truth>, MAX_INNER>,
+    from: &ArrayVec<Option<Truth>, MAX_INNER>,
 )
     ensures { to.new.items ≡ from.now.items }
 {
@@ -283,9 +283,9 @@ fn root_by_rounds(
     root: u32,
     rounds: &mut Rounds,
 ) -> Option<Truth>
-    requires few { vars ≤ MOST_VARS }
+    requires few { vars ≤ MAX_VARS }
     requires within { length leaves.now ≤ vars }
-    requires inner { length inner.now ≤ MOST_INNER }
+    requires inner { length inner.now ≤ MAX_INNER }
     ensures vars { spec.HasVars vars result }
     ensures values { spec.IsNodeTable vars leaves.now inner.now (length inner.now) root result }
 {
@@ -317,15 +317,15 @@ fn root_table(
     root: u32,
     rounds: &mut Rounds,
 ) -> Option<Truth>
-    requires few { vars ≤ MOST_VARS }
+    requires few { vars ≤ MAX_VARS }
     requires within { length leaves.now ≤ vars }
-    requires inner { length inner.now ≤ MOST_INNER }
+    requires inner { length inner.now ≤ MAX_INNER }
     ensures vars { spec.HasVars vars result }
     ensures values { spec.IsNodeTable vars leaves.now inner.now (length inner.now) root result }
 {
     no_tables(inner.len(), &mut rounds.last);
     let mut steps = 0;
-    for _sweep in 0..MOST_SWEEPS {
+    for _sweep in 0..MAX_SWEEPS {
         steps += sweep(vars, leaves, inner, &mut rounds.last);
         if inner.len() < steps {
             return root_by_rounds(vars, leaves, inner, root, rounds);
@@ -345,7 +345,7 @@ fn greater(a: u8, b: u8) -> u8
 
 // The table of a plan, widened.
 fn was_table(plan: &Plan, vars: u8) -> Truth
-    requires few { vars ≤ MOST_VARS }
+    requires few { vars ≤ MAX_VARS }
     requires within { plan.now.leaves ≤ vars }
     ensures vars { result.vars ≡ vars }
     ensures values { AtEach vars (λ xs. value_of result xs ≡ plan_truth plan.now (take plan.now.leaves xs)) }
@@ -356,7 +356,7 @@ fn was_table(plan: &Plan, vars: u8) -> Truth
 /// The function of the root by the inner rows, against the plan's.
 #[inline(never)]
 pub(crate) fn compare(attempt: &Attempt<'_>, inner: &[NodeRow], rounds: &mut Rounds) -> Comparison
-    requires { length inner.now ≤ MOST_INNER }
+    requires { length inner.now ≤ MAX_INNER }
     ensures { spec.IsCompared (task_of attempt.now) inner.now result }
 {
     let leaves = attempt.candidate.leaves;

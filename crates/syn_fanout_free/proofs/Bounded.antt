@@ -14,7 +14,7 @@ use Rattle.syn_rows.specs.Nodes.{has_node}
 use Rattle.syn_rows.proofs.Ends.{reached_set}
 use Rattle.syn_rows.proofs.Nodes.{here_or_there}
 use Rattle.syn_rows.proofs.Reaches.{one_ands_is}
-use Rattle.syn_fanout_free.specs.Bounding.{IsHeld, IsLostBut, IsMostLost, SavedIsBounded}
+use Rattle.syn_fanout_free.specs.Bounding.{IsHeld, IsMffcSize, IsMostLost, SavedIsBounded}
 use Rattle.syn_fanout_free.specs.Freed.{is_free, is_new, refers, uses, IsKept, Frees, FreesByCount, IsFreedByCount, added, lost, count_below}
 use Rattle.syn_fanout_free.specs.Freeing.{ands_among, open_to}
 use Rattle.syn_fanout_free.specs.Keeping.{IsKeeping}
@@ -181,14 +181,14 @@ root_stays was counts n used dead by = elim (cases_Bool (has_node dead n)) [
 
 -- the number of a list of freed rows
 pub lost_is_but : (was : List Row) (counts : ℕ → ℕ) (n : ℕ) (spared dead : List ℕ) (k : ℕ) → n < length was → IsFreedByCount was counts n (open_to was n spared) (λ m. has_node dead m)
-    → k ≡ and_count (row_at was n) + ands_among was dead → IsLostBut was counts n spared k
+    → k ≡ and_count (row_at was n) + ands_among was dead → IsMffcSize was counts n spared k
 lost_is_but was counts n spared dead k there by is = record {
   freed = λ m. has_node dead m;
   freeing = by;
   lost = is ∙ sym (lost_is was n dead there (root_stays was counts n spared dead by));
 }
 
-pub most_of_but : (was : List Row) (counts : ℕ → ℕ) (n : ℕ) (spared : List ℕ) (k : ℕ) → IsLostBut was counts n spared k → IsMostLost was counts n spared k
+pub most_of_but : (was : List Row) (counts : ℕ → ℕ) (n : ℕ) (spared : List ℕ) (k : ℕ) → IsMffcSize was counts n spared k → IsMostLost was counts n spared k
 most_of_but was counts n spared k but = record { freed = but.freed; frees = but.freeing.frees; most = omega (arith, but.lost) }
 
 -- all nodes obey the rule of freeing, and are no more than there are rows

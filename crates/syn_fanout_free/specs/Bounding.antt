@@ -9,7 +9,7 @@ use Rattle.syn_fanout_free.specs.Freeing.{open_to}
 use Rattle.syn_fanout_free.specs.Saved.{IsExtra, IsOwned, IsSaved, replaced}
 
 -- So many ANDs go with the row of n where only these nodes stay: that of n, and the freed ones.
-pub record IsLostBut (was : List Row) (counts : ℕ → ℕ) (n : ℕ) (spared : List ℕ) (k : ℕ) : Type 0 where
+pub record IsMffcSize (was : List Row) (counts : ℕ → ℕ) (n : ℕ) (spared : List ℕ) (k : ℕ) : Type 0 where
   pub freed : ℕ → Bool
   pub freeing : IsFreedByCount was counts n (open_to was n spared) freed
   pub lost : k ≡ lost was n freed

@@ -5,7 +5,7 @@ use Rattle.syn_rows.specs.declared.Row.{Row}
 use Rattle.syn_rows.specs.Rows.{node_of, row_at, AllRefs, InOrder, is_derived}
 use Rattle.syn_rows.specs.Reach.{Ands, Reached}
 use Rattle.syn_rows.specs.References.{refs_by_rows, refs_by_literals}
-use Rattle.syn_fanout_free.specs.declared.saving.Change.{Change}
+use Rattle.syn_fanout_free.specs.declared.gain.Change.{Change}
 use Rattle.syn_fanout_free.specs.Freed.{is_free}
 
 -- the row of n replaced, and new rows at the end

@@ -1,7 +1,7 @@
 -- How often a node waits.
 use Rattle.std.specs.Prelude.{ℕ}
 use Rattle.std.specs.BinaryHeap.{heap_items}
-use Rattle.syn_fanout_free.specs.declared.waiting.Waiting.{Waiting}
+use Rattle.syn_fanout_free.specs.declared.worklist.Waiting.{Waiting}
 use Rattle.syn_fanout_free.specs.Nodes.{waits}
 
 abbrev pub waits_in : Waiting → ℕ → ℕ

@@ -11,7 +11,7 @@ ghost use Rattle.syn_rows.specs.Nodes.{has_node};
 ghost use Rattle.syn_fanout_free.specs.Saved.{count_in};
 ghost use Rattle.syn_fanout_free.specs.Waits.{waits_in};
 
-use crate::waiting::Waiting;
+use crate::worklist::Waiting;
 use smallvec::SmallVec;
 use std::alloc::{AllocError, Global};
 use syn_rows::Row;
@@ -71,7 +71,7 @@ fn dies(rows: &[Row], counts: &[u32], n: u32, used: &[u32], node: u32, often: u1
 
 /// Freed rows, the greatest first, and how many of them are ANDs.
 #[derive(Drop)]
-pub struct DeadRows {
+pub struct Mffc {
     pub nodes: SmallVec<u32, 32>,
     pub ands: u32,
 }
@@ -86,7 +86,7 @@ pub fn freed(
     n: u32,
     used: &[u32],
     limit: u32,
-) -> Result<DeadRows, AllocError>
+) -> Result<Mffc, AllocError>
     requires few { length rows.now < 2 ^ 31 }
     requires within { n < length rows.now }
     requires same { length counts.now ≡ length rows.now }
@@ -99,7 +99,7 @@ pub fn freed(
 {
     let mut waiting = Waiting::new(alloc);
     add_references(rows[n as usize], &mut waiting)?;
-    let mut dead = DeadRows {
+    let mut dead = Mffc {
         nodes: SmallVec::new(alloc),
         ands: 0,
     };
@@ -124,7 +124,7 @@ fn settle(
     node: u32,
     often: u128,
     waiting: &mut Waiting,
-    dead: &mut DeadRows,
+    dead: &mut Mffc,
 ) -> Result<(), AllocError>
     requires few { length rows.now < 2 ^ 31 }
     requires ands { dead.old.ands ≡ ands_among rows.now dead.old.nodes.items }

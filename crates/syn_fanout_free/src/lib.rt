@@ -9,18 +9,18 @@ ghost use Rattle.syn_fanout_free.specs.Laws.{AllAndsReached, CountsTell, FewerAr
 ghost use Rattle.syn_fanout_free.specs.Bounding.{SavedIsBounded};
 ghost use Rattle.syn_fanout_free.specs.Saved.{count_in, IsExtra, IsOwned, IsSaved, changed};
 
-mod bounding;
+mod bound;
 mod cone;
 mod extra;
-mod saving;
-mod waiting;
+mod gain;
+mod worklist;
 
 use crate::extra::keep;
-use crate::saving::saved_of_kept;
-pub use bounding::{lost_but, saves_near};
+use crate::gain::saved_of_kept;
+pub use bound::{gain_is_positive, mffc_size};
 pub use cone::and_count;
 pub use extra::KeptRows;
-pub use saving::Change;
+pub use gain::Change;
 use std::alloc::{AllocError, Global};
 use syn_rows::{Lit, Row};
 

@@ -18,7 +18,7 @@ use Rattle.syn_paths.specs.Outcomes.{IsOwnCut}
 use Rattle.syn_flow.specs.Witness.{AreBorneOut, IsShownAt, Shown}
 use Rattle.syn_flow.specs.Labels.{AreFlowLabels, IsChosenCut}
 use Rattle.syn_flow.specs.Labelling.{AreLabelled, cut_at, IsChoice, IsLabelling, IsNode, leaves_of}
-use Rattle.syn_flow.specs.declared.labelling.Labelling.{Labelling}
+use Rattle.syn_flow.specs.declared.labels.Labelling.{Labelling}
 use Rattle.syn_flow.specs.declared.witness.Paths.{Paths}
 use Rattle.syn_flow.specs.Flows.{shown_of}
 use Rattle.syn_rows.proofs.Nodes.{has_here, has_there}

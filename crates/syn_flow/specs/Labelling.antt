@@ -9,7 +9,7 @@ use Rattle.syn_covering.specs.Cuts.{IsLutCut}
 use Rattle.syn_paths.specs.Tops.{fan_in_label, FallsBelow, IsInTop, label_in}
 use Rattle.syn_paths.specs.Paths.{ArePathsInto}
 use Rattle.syn_paths.specs.Outcomes.{IsOwnCut}
-use Rattle.syn_flow.specs.declared.labelling.Labelling.{Labelling}
+use Rattle.syn_flow.specs.declared.labels.Labelling.{Labelling}
 use Rattle.syn_flow.specs.Witness.{IsLabelOver, Shown}
 use Rattle.syn_flow.specs.Flows.{shown_of}
 use Rattle.syn_flow.specs.Labels.{IsChosenCut, IsFlowLabel}

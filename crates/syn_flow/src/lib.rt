@@ -1,13 +1,13 @@
 //! Least depth in lookup tables, by flow (Cong and Ding, "FlowMap", IEEE TCAD 1994), with paths that bear the labels out.
 #![tactic(auto)]
 
-mod checking;
-mod flowing;
-mod labelling;
+mod certificate;
+mod labels;
 mod laws;
+mod mapper;
 mod witness;
 
-pub use checking::check_paths;
-pub use flowing::flow;
+pub use certificate::check_paths;
 pub use laws::{borne_out_bound_coverings, borne_out_bound_cuts, one_flow_labels};
+pub use mapper::flow;
 pub use witness::{FlowProof, Paths};

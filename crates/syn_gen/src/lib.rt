@@ -2,10 +2,10 @@
 #![tactic(auto)]
 
 mod draws;
-mod generating;
+mod generator;
 mod laws;
-mod naming;
+mod names;
 mod tables;
 
-pub use generating::generate;
+pub use generator::generate;
 pub use laws::{generated_costs, generated_is_checked, generated_outputs};

@@ -10,7 +10,7 @@ ghost use Rattle.syn_gen.specs.Generated.{generated_tables, is_true_at, minterm_
 ghost use Rattle.syn_gen.specs.Signals.{AreSignals};
 
 use crate::draws::{Drawn, Draws};
-use crate::naming::INPUTS;
+use crate::names::INPUTS;
 use std::alloc::{AllocError, Global};
 use syn_netlist::{Items, Table, Word};
 

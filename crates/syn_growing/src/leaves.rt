@@ -12,16 +12,16 @@ use syn_cones::gap_for;
 use syn_rows::Lit;
 
 /// The most leaves of a cone.
-pub const MOST_LEAVES: usize = 8;
+pub const MAX_LEAVES: usize = 8;
 
 /// The most inner nodes of a cone.
-pub(crate) const MOST_INNER: usize = 48;
+pub(crate) const MAX_INNER: usize = 48;
 
 /// Leaves, rising.
-pub type Leaves = ArrayVec<u32, MOST_LEAVES>;
+pub type Leaves = ArrayVec<u32, MAX_LEAVES>;
 
 /// Inner nodes, in the order in which they were replaced.
-pub(crate) type Inner = ArrayVec<u32, MOST_INNER>;
+pub(crate) type Inner = ArrayVec<u32, MAX_INNER>;
 
 // Whether a node is among others.
 fn has(nodes: &[u32], node: u32) -> bool
@@ -95,7 +95,7 @@ pub(crate) fn has_room(inner: &[u32], leaf: u32, a: u32, b: u32) -> bool
     requires { length inner.now ≤ 48 }
     ensures { result ≡ nat_le (length (without_numbers (a ∷ b ∷ []) inner.now ++ leaf ∷ [])) 48 }
 {
-    inner.len() < MOST_INNER || has(inner, a) || has(inner, b)
+    inner.len() < MAX_INNER || has(inner, a) || has(inner, b)
 }
 
 // Takes two nodes out.

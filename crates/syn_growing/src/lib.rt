@@ -5,12 +5,12 @@
 //! node is in both. Both lists stand inline, so that growing takes no memory.
 #![tactic(auto)]
 
-mod growing;
+mod bound;
+mod grown_cone;
 mod laws;
 mod leaves;
-mod promising;
 
-pub use growing::cone_leaves;
+pub use bound::may_save;
+pub use grown_cone::cone_leaves;
 pub use laws::{chooses_next_leaf, counts_inner_nodes, grows_until_none};
-pub use leaves::{Leaves, MOST_LEAVES};
-pub use promising::may_save;
+pub use leaves::{Leaves, MAX_LEAVES};

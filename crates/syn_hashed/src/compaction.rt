@@ -12,8 +12,8 @@ ghost use Rattle.syn_hashed.specs.Hashed.{IsHashed, lit_at};
 ghost use Rattle.syn_hashed.specs.Growing.{level_by};
 ghost use Rattle.syn_hashed.specs.Compacting.{CanCompact, HasValuation, IsCompacted, IsCompaction, is_kept, IsPlaces, kept_below, kept_lits, kept_rows, moved_lit, moved_row, SameValues};
 
-use crate::renumbering::renumbered;
 use crate::visit::in_visiting_order;
+use crate::visit_order::renumbered;
 use std::alloc::{AllocError, Global};
 use syn_rows::{Lit, Row};
 

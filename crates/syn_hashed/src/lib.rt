@@ -2,13 +2,13 @@
 #![tactic(auto)]
 
 mod compaction;
-mod growing;
+mod construction;
 mod literals;
 mod pairs;
-mod renumbering;
 mod visit;
+mod visit_order;
 
 pub use compaction::{Rows, compact_hashed, compact_rows, has_level, has_valuation};
-pub use growing::HashedRows;
+pub use construction::HashedRows;
 pub use literals::{first_literals, literal_of, literals_of};
 pub use pairs::PairIndex;

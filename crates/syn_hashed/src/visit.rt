@@ -14,7 +14,7 @@ ghost use Rattle.syn_hashed.specs.Visiting.{first_literal, FirstsOf, fan_ins_of,
 ghost use Rattle.syn_hashed.specs.Walking.{enters, steps_of, VisitsReached};
 
 use crate::compaction::Rows;
-use crate::growing::HashedRows;
+use crate::construction::HashedRows;
 use crate::literals::{first_literals, literal_of, literals_of};
 use std::alloc::{AllocError, Global};
 use syn_rows::{Lit, Row};

@@ -2,10 +2,10 @@
 //! no observed signal is deeper. A replacement's level is told by a list of the graph's levels, which is made once.
 #![tactic(auto)]
 
-mod comparing;
-mod keeping;
+mod comparison;
 mod laws;
+mod root_levels;
 
-pub use comparing::is_no_deeper;
-pub use keeping::{is_low, keeps_level, levels};
+pub use comparison::is_no_deeper;
 pub use laws::levels_stay;
+pub use root_levels::{is_low, keeps_level, levels};

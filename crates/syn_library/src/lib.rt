@@ -21,7 +21,7 @@ pub use laws::own_within;
 pub use library::plans;
 pub use prepared::Prepared;
 use syn_npn::Transform;
-use syn_plan::{MOST_GATES, PLit, Plan};
+use syn_plan::{MAX_GATES, PLit, Plan};
 
 /// The leaf that a leaf of a class's plan becomes.
 #[inline]
@@ -47,7 +47,7 @@ fn fitted(literal: PLit, transform: Transform) -> PLit
 }
 
 /// The gates after fitting.
-fn fitted_gates(plan: &Plan, transform: Transform) -> ArrayVec<(PLit, PLit), MOST_GATES>
+fn fitted_gates(plan: &Plan, transform: Transform) -> ArrayVec<(PLit, PLit), MAX_GATES>
     ensures { result.items ≡ map (fitted_gate transform.perm transform.flips) plan.now.gates.items }
 {
     let mut gates = ArrayVec::new();

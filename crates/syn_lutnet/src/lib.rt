@@ -6,5 +6,5 @@ mod luts;
 mod nets;
 
 pub use depths::greatest_depth;
-pub use luts::{Lut, MOST_INPUTS};
+pub use luts::{Lut, MAX_INPUTS};
 pub use nets::LutNet;

@@ -1,18 +1,18 @@
 //! Lookup tables.
 
 ghost use Rattle.std.specs.Prelude.{◌≡◌, ◌≤◌, length};
-ghost use Rattle.syn_plan.specs.declared.TheConstants.{MOST_GATES};
+ghost use Rattle.syn_plan.specs.declared.TheConstants.{MAX_GATES};
 
 use arrayvec::ArrayVec;
 use syn_truth::Truth;
 
 /// The most inputs of a LUT, as many as a truth table has variables.
-pub const MOST_INPUTS: usize = 8;
+pub const MAX_INPUTS: usize = 8;
 
 /// A lookup table: the signals that it reads, and its function of them. Variable i is input i.
 #[derive(Debug, Drop)]
 pub struct Lut {
-    pub inputs: ArrayVec<u32, MOST_INPUTS>,
+    pub inputs: ArrayVec<u32, MAX_INPUTS>,
     pub truth: Truth,
     pub ghost vars: { truth.vars ≡ length inputs.items },
 }
@@ -37,7 +37,7 @@ impl Lut {
     /// The gates that factoring its function takes.
     pub fn gates(&self) -> u32
         ensures gates { result ≡ lut_gates (lut_data self.now) }
-        ensures few { result ≤ MOST_GATES }
+        ensures few { result ≤ MAX_GATES }
     {
         let plan = syn_plan::factor(self.truth);
         plan.gates.len() as u32

@@ -10,7 +10,7 @@ use Rattle.syn_rows.specs.Reach.{is_and}
 use Rattle.syn_hashed.specs.Hashed.{is_gate, IsHashed}
 use Rattle.syn_shapes.proofs.Gates.{gate_parts, first_below}
 use Rattle.syn_cones.specs.Cones.{IsCut}
-use Rattle.syn_cuts.specs.Cuts.{union, comes_before, put, arranged, is_small, unions_with, unions, first_unions, row_cuts, listed_cuts}
+use Rattle.syn_cuts.specs.Cuts.{union, comes_before, put, arranged, is_small, unions_with, unions, merge_cut_sets, row_cuts, listed_cuts}
 use Rattle.syn_cuts.specs.Laws.{IsListedCut}
 use Rattle.syn_cuts.specs.Lists.{but_last, list_at}
 use Rattle.syn_cuts.proofs.Cutting.{listed_at, listed_are_cuts}
@@ -93,7 +93,7 @@ unions_some : (k : ℕ) (cs : List (List ℕ)) (c : List ℕ) (ds : List (List �
 unions_some k [] c ds h = omega (arith, h, length-append (unions_with k c ds) [])
 unions_some k (e ∷ cs) c ds h = omega (arith, unions_some k cs c ds h, length-append (unions_with k e ds) (unions k (cs ++ c ∷ []) ds))
 
-firsts_some : (k a b : ℕ) → 2 ≤ k → nat_eq a b ≡ false → (cs ds : List (List ℕ)) → 1 ≤ length (first_unions k (cs ++ (a ∷ []) ∷ []) (ds ++ (b ∷ []) ∷ []))
+firsts_some : (k a b : ℕ) → 2 ≤ k → nat_eq a b ≡ false → (cs ds : List (List ℕ)) → 1 ≤ length (merge_cut_sets k (cs ++ (a ∷ []) ∷ []) (ds ++ (b ∷ []) ∷ []))
 firsts_some k a b two differ cs ds =
     take_some 31 (arranged [] (unions k (cs ++ (a ∷ []) ∷ []) (ds ++ (b ∷ []) ∷ []))) (omega arith)
     (arranged_some (unions k (cs ++ (a ∷ []) ∷ []) (ds ++ (b ∷ []) ∷ [])) (unions_some k cs (a ∷ []) (ds ++ (b ∷ []) ∷ []) (kept_some k (a ∷ []) ds (b ∷ []) (omega (arith, two, two_alone a b differ)))))
@@ -119,7 +119,7 @@ module _ (count k : ℕ) (rows : List Row) (hashed : IsHashed count rows) (two :
   row_ends : (cuts : ℕ → List (List ℕ)) (n : ℕ) (row : Row) → (xs : List (List ℕ)) × (row_cuts k cuts n row ≡ xs ++ (n ∷ []) ∷ [])
   row_ends cuts n Free = ([], refl)
   row_ends cuts n Source = ([], refl)
-  row_ends cuts n (And a b) = (first_unions k (cuts (node_of a)) (cuts (node_of b)), refl)
+  row_ends cuts n (And a b) = (merge_cut_sets k (cuts (node_of a)) (cuts (node_of b)), refl)
   row_ends cuts n (Alias a) = ([], refl)
 
   list_ends : (m : ℕ) → m < length rows → (xs : List (List ℕ)) × (list_at (listed_cuts k rows) m ≡ xs ++ (m ∷ []) ∷ [])
@@ -131,7 +131,7 @@ module _ (count k : ℕ) (rows : List Row) (hashed : IsHashed count rows) (two :
       let low = first_below n a b parts in
       let (xs, e) = list_ends (node_of a) (omega (arith, low, lt)) in
       let (ys, q) = list_ends (node_of b) (omega (arith, parts.below, lt)) in
-      subst (λ (l : List (List ℕ)). 1 ≤ length l) (sym (but_last_is (first_unions k (list_at (listed_cuts k rows) (node_of a)) (list_at (listed_cuts k rows) (node_of b))) (n ∷ []) ∙ ap₂ (first_unions k) e q))
+      subst (λ (l : List (List ℕ)). 1 ≤ length l) (sym (but_last_is (merge_cut_sets k (list_at (listed_cuts k rows) (node_of a)) (list_at (listed_cuts k rows) (node_of b))) (n ∷ []) ∙ ap₂ (merge_cut_sets k) e q))
       (firsts_some k (node_of a) (node_of b) two parts.differ xs ys)
   row_filled n lt row h g = absurd (both_ways false refl h)
 

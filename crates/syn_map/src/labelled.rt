@@ -1,7 +1,7 @@
 //! Rows with the listed cuts and the labels of their nodes.
 
 ghost use Rattle.std.specs.Prelude.{◌≡◌, ◌+◌, ◌<◌, ◌≤◌, IfOk, length};
-ghost use Rattle.syn_truth.specs.declared.TheConstants.{MOST_VARS};
+ghost use Rattle.syn_truth.specs.declared.TheConstants.{MAX_VARS};
 ghost use Rattle.syn_cuts.specs.Cuts.{listed_cuts};
 ghost use Rattle.syn_map.specs.Labels.{chosen, labels_of};
 
@@ -33,7 +33,7 @@ impl<'a> Labelled<'a> {
         k: u8,
         workers: u8,
     ) -> Result<Labelled<'a>, AllocError>
-        requires { k ≤ MOST_VARS }
+        requires { k ≤ MAX_VARS }
         ensures rows { IfOk result (λ l. l.rows.now ≡ graph.now.rows) }
         ensures k { IfOk result (λ l. l.k ≡ k) }
     {

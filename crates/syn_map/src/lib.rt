@@ -6,9 +6,9 @@
 mod labelled;
 mod labels;
 mod laws;
-mod mapping;
+mod mapper;
 
 pub use laws::{
     choice_is_first_least, chosen_are_lut_cuts, labels_are_depths, labels_are_labels, worked_labels,
 };
-pub use mapping::map;
+pub use mapper::map;

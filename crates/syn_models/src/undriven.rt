@@ -12,8 +12,8 @@ ghost use Rattle.syn_netlist.specs.Numbers.{all_below};
 ghost use Rattle.syn_netlist.specs.Walk.{is_unmarked};
 
 use crate::files::File;
+use crate::first_fault::model_marks;
 use crate::hierarchy::{Bind, Model, Statement, StatementKind, Subcircuit};
-use crate::marking::model_marks;
 use crate::ports::{Ports, is_reading, number_named};
 use std::alloc::{AllocError, Global};
 use syn_netlist::{Latch, Word};

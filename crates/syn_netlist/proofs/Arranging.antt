@@ -17,14 +17,14 @@ use Rattle.syn_netlist.specs.Numbers.{word_at, words_at, all_below}
 use Rattle.syn_netlist.specs.Order.{defined, reads_known}
 use Rattle.syn_netlist.specs.Tables.{table_in}
 use Rattle.syn_netlist.specs.Views.{netlist_in}
-use Rattle.syn_netlist.specs.Walk.{table_output, inputs_at, output_at, distinct_numbers, maker_at, maker_among, reads_made, AreMakers, IsOrder}
+use Rattle.syn_netlist.specs.Walk.{table_output, inputs_at, output_at, distinct_numbers, driver_at, driver_among, reads_made, AreDrivers, IsOrder}
 use Rattle.syn_netlist.specs.Words.{has_word, distinct}
 use Rattle.syn_netlist.proofs.Finding.{bytes_eq-sym}
 use Rattle.syn_netlist.proofs.Places.{below_parts, has_words}
 use Rattle.syn_netlist.proofs.Sets.{word_same, has_left, has_right, has_word-append}
 use Rattle.syn_netlist.proofs.Firsts.{table_outputs_below}
 use Rattle.syn_netlist.proofs.Undriven.{words_at-table_outputs}
-use Rattle.syn_netlist.proofs.Walking.{maker_is, inputs_below}
+use Rattle.syn_netlist.proofs.Walking.{driver_is, inputs_below}
 
 -- numbers that are each below the length once, in any order
 
@@ -195,7 +195,7 @@ inputs_defined n h t =
 
 -- each table of the order reads what is known
 
-module _ (n : Netlist) (makers : List (Option ℕ)) (d : distinct n.frame.names ≡ true) (len : length makers ≡ length n.frame.names) (are : AreMakers n.tables makers) (driven : first_undriven (netlist_in n) ≡ None) where
+module _ (n : Netlist) (drivers : List (Option ℕ)) (d : distinct n.frame.names ≡ true) (len : length drivers ≡ length n.frame.names) (are : AreDrivers n.tables drivers) (driven : first_undriven (netlist_in n) ≡ None) where
   abbrev the_names : List (List ℕ)
   the_names = n.frame.names
 
@@ -214,11 +214,11 @@ module _ (n : Netlist) (makers : List (Option ℕ)) (d : distinct n.frame.names 
             (among_known bs rest u (elim (or_cases (nat_eq b u) (has_number bs u) k) [ inl y ↦ absurd (both_ways (nat_eq b u) t y) | inr y ↦ y ]))
       ]
 
-  name_known : (before : List ℕ) → all_below (length n.tables) before ≡ true → (name : ℕ) → name < length the_names → has_word (defined (netlist_in n)) (word_at the_names name) ≡ true → maker_among before (maker_at makers name) ≡ true
+  name_known : (before : List ℕ) → all_below (length n.tables) before ≡ true → (name : ℕ) → name < length the_names → has_word (defined (netlist_in n)) (word_at the_names name) ≡ true → driver_among before (driver_at drivers name) ≡ true
       → has_word (known_after before) (word_at the_names name) ≡ true
-  name_known before h name lt def among = go (maker_at makers name) refl (are.at name (subst (λ k. name < k) (sym len) lt)) among
+  name_known before h name lt def among = go (driver_at drivers name) refl (are.at name (subst (λ k. name < k) (sym len) lt)) among
     where
-      go : (m : Option ℕ) → maker_at makers name ≡ m → MatchOption (maker_at makers name) (has_number (map table_output n.tables) name ≡ false) (λ t. (t < length n.tables) × (output_at n.tables t ≡ name)) → maker_among before m ≡ true
+      go : (m : Option ℕ) → driver_at drivers name ≡ m → MatchOption (driver_at drivers name) (has_number (map table_output n.tables) name ≡ false) (λ t. (t < length n.tables) × (output_at n.tables t ≡ name)) → driver_among before m ≡ true
           → has_word (known_after before) (word_at the_names name) ≡ true
       go None e at k = has_left (sources (netlist_in n).frame) (map output_of (tables_at (netlist_in n) before)) (word_at the_names name)
           (elim (or_cases (has_word (sources (netlist_in n).frame) (word_at the_names name)) (has_word (map output_of (netlist_in n).tables) (word_at the_names name)) (sym (has_word-append (sources (netlist_in n).frame) (map output_of (netlist_in n).tables) (word_at the_names name)) ∙ def)) [
@@ -228,15 +228,15 @@ module _ (n : Netlist) (makers : List (Option ℕ)) (d : distinct n.frame.names 
                 ∙ subst (λ o. MatchOption o (has_number (map table_output n.tables) name ≡ false) (λ t. (t < length n.tables) × (output_at n.tables t ≡ name))) e at) y)
           ])
       go (Some u) e at k = has_right (sources (netlist_in n).frame) (map output_of (tables_at (netlist_in n) before)) (word_at the_names name)
-          (subst (λ i. has_word (map output_of (tables_at (netlist_in n) before)) (word_at the_names i) ≡ true) (maker_is n.tables makers name u are e).1 (among_known before h u k))
+          (subst (λ i. has_word (map output_of (tables_at (netlist_in n) before)) (word_at the_names i) ≡ true) (driver_is n.tables drivers name u are e).1 (among_known before h u k))
 
   names_known : (before : List ℕ) → all_below (length n.tables) before ≡ true → (inputs : List ℕ) → all_below (length the_names) inputs ≡ true → list_all (has_word (defined (netlist_in n))) (words_at the_names inputs) ≡ true
-      → list_all (λ name. maker_among before (maker_at makers name)) inputs ≡ true → list_all (has_word (known_after before)) (words_at the_names inputs) ≡ true
+      → list_all (λ name. driver_among before (driver_at drivers name)) inputs ≡ true → list_all (has_word (known_after before)) (words_at the_names inputs) ≡ true
   names_known before h [] b def among = refl
   names_known before h (i ∷ is) b def among =
       let (lt, rest) = below_parts (length the_names) i is b in
       let defs = and_parts (has_word (defined (netlist_in n)) (word_at the_names i)) (list_all (has_word (defined (netlist_in n))) (words_at the_names is)) def in
-      let made = and_parts (maker_among before (maker_at makers i)) (list_all (λ name. maker_among before (maker_at makers name)) is) among in
+      let made = and_parts (driver_among before (driver_at drivers i)) (list_all (λ name. driver_among before (driver_at drivers name)) is) among in
       and_from (has_word (known_after before) (word_at the_names i)) (list_all (has_word (known_after before)) (words_at the_names is)) (name_known before h i lt defs.0 made.0) (names_known before h is rest defs.1 made.1)
 
   known_more : (before : List ℕ) (t : ℕ) → known_after (before ++ t ∷ []) ≡ known_after before ++ (get_or (netlist_in n).tables t no_table).output ∷ []
@@ -245,10 +245,10 @@ module _ (n : Netlist) (makers : List (Option ℕ)) (d : distinct n.frame.names 
       ∙ ap (λ (l : List (List ℕ)). sources (netlist_in n).frame ++ l) (map-append output_of (tables_at (netlist_in n) before) (get_or (netlist_in n).tables t no_table ∷ []))
       ∙ sym (append_assoc (sources (netlist_in n).frame) (map output_of (tables_at (netlist_in n) before)) ((get_or (netlist_in n).tables t no_table).output ∷ []))
 
-  order_known : (before order : List ℕ) → all_below (length n.tables) (before ++ order) ≡ true → reads_made n.tables makers before order ≡ true → reads_known (known_after before) (tables_at (netlist_in n) order) ≡ true
+  order_known : (before order : List ℕ) → all_below (length n.tables) (before ++ order) ≡ true → reads_made n.tables drivers before order ≡ true → reads_known (known_after before) (tables_at (netlist_in n) order) ≡ true
   order_known before [] b r = refl
   order_known before (t ∷ order) b r =
-      let parts = and_parts (list_all (λ name. maker_among before (maker_at makers name)) (inputs_at n.tables t)) (reads_made n.tables makers (before ++ t ∷ []) order) r in
+      let parts = and_parts (list_all (λ name. driver_among before (driver_at drivers name)) (inputs_at n.tables t)) (reads_made n.tables drivers (before ++ t ∷ []) order) r in
       let lt : t < length n.tables = (below_parts (length n.tables) t order (below_right before (t ∷ order) b)).0 in
       and_from (list_all (has_word (known_after before)) (get_or (netlist_in n).tables t no_table).inputs) (reads_known (known_after before ++ (get_or (netlist_in n).tables t no_table).output ∷ []) (tables_at (netlist_in n) order))
       (ap (list_all (has_word (known_after before))) (words_of_inputs n.tables the_names t lt) ∙ names_known before (below_left before (t ∷ order) b) (inputs_at n.tables t) (inputs_below (length the_names) n.tables t n.tables_below) (inputs_defined n driven t) parts.0)
@@ -264,7 +264,7 @@ module _ (n : Netlist) (makers : List (Option ℕ)) (d : distinct n.frame.names 
       below_left (x ∷ xs) ys h = let (lt, rest) = below_parts (length n.tables) x (xs ++ ys) h in and_from (nat_lt x (length n.tables)) (all_below (length n.tables) xs) (lt-ltb x (length n.tables) lt) (below_left xs ys rest)
 
   -- what the walk gives, in words
-  pub order_is : (order : List ℕ) → IsOrder n.tables makers order → IsTableOrder (netlist_in n) order
+  pub order_is : (order : List ℕ) → IsOrder n.tables drivers order → IsTableOrder (netlist_in n) order
   order_is order o = record {
     driven = driven;
     below = subst (λ k. all_below k order ≡ true) (sym count) o.below;

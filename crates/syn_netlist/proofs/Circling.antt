@@ -7,7 +7,7 @@ use Rattle.std.proofs.lemmas.List.{map-append, length-map}
 use Rattle.std.proofs.lemmas.List.Elements.{Contains-get_or}
 use Rattle.std.proofs.lemmas.List.Folds.{list_any_at}
 use Rattle.syn_netlist.specs.declared.netlists.Netlist.{Netlist}
-use Rattle.syn_netlist.specs.declared.ordering.Stage.{Stage}
+use Rattle.syn_netlist.specs.declared.order_walk.Stage.{Stage}
 use Rattle.syn_netlist.specs.declared.tables.Table.{Table}
 use Rattle.syn_netlist.specs.Faults.{EachReadsAnother, IsCyclicSet, AnswersCircle, GoesOn, next_in, no_table}
 use Rattle.syn_netlist.specs.Lists as lists
@@ -16,7 +16,7 @@ use Rattle.syn_netlist.specs.Marks.{has_number}
 use Rattle.syn_netlist.specs.Numbers.{word_at, words_at, all_below}
 use Rattle.syn_netlist.specs.Tables.{table_in}
 use Rattle.syn_netlist.specs.Views.{netlist_in}
-use Rattle.syn_netlist.specs.Walk.{table_output, inputs_at, output_at, distinct_numbers, maker_at, stage_at, is_done, is_finished, maker_among, reads_made, seen_at, Leads, Linked, Begins, AreMakers, IsOrderWalk, Meets, from_number, output_words}
+use Rattle.syn_netlist.specs.Walk.{table_output, inputs_at, output_at, distinct_numbers, driver_at, stage_at, is_done, is_finished, driver_among, reads_made, seen_at, Leads, Linked, Begins, AreDrivers, IsOrderWalk, Meets, from_number, output_words}
 use Rattle.syn_netlist.specs.Words.{has_word, distinct}
 use Rattle.syn_netlist.proofs.Arranging.{word_of_output, words_of_inputs}
 use Rattle.syn_netlist.proofs.CyclicSets.{to_in, in_has, one_table, next_is, cyclic_set}
@@ -24,7 +24,7 @@ use Rattle.syn_netlist.proofs.Firsts.{table_outputs_below}
 use Rattle.syn_netlist.proofs.Places.{below_at, below_parts, has_words}
 use Rattle.syn_netlist.proofs.Sets.{word_same, same_word, distinct_right}
 use Rattle.syn_netlist.proofs.Undriven.{words_at-table_outputs}
-use Rattle.syn_netlist.proofs.Walking.{maker_is, inputs_below, finished_among, has_other}
+use Rattle.syn_netlist.proofs.Walking.{driver_is, inputs_below, finished_among, has_other}
 
 -- the first that passes
 find_first : (p : List ℕ → Bool) (xs : List (List ℕ)) (k : ℕ) → k < length xs → ((j : ℕ) → j < k → p (word_at xs j) ≡ false) → p (word_at xs k) ≡ true → find p xs ≡ Some (word_at xs k)
@@ -88,25 +88,25 @@ from_below count n (x ∷ xs) b = elim (cases_Bool (nat_eq x n)) [
 
 -- each table leads to the next, the last to `back`
 abbrev Chain : List Table → List (Option ℕ) → List ℕ → List ℕ → ℕ → Type 0
-Chain tables makers seen [] back = Unit {0}
-Chain tables makers seen (t ∷ []) back = Leads tables makers seen t back
-Chain tables makers seen (t ∷ u ∷ path) back = Leads tables makers seen t u × Chain tables makers seen (u ∷ path) back
+Chain tables drivers seen [] back = Unit {0}
+Chain tables drivers seen (t ∷ []) back = Leads tables drivers seen t back
+Chain tables drivers seen (t ∷ u ∷ path) back = Leads tables drivers seen t u × Chain tables drivers seen (u ∷ path) back
 
-chain_from : (tables : List Table) (makers : List (Option ℕ)) (seen front : List ℕ) (last back : ℕ) → Linked tables makers seen (front ++ last ∷ []) → Leads tables makers seen last back → Chain tables makers seen (front ++ last ∷ []) back
-chain_from tables makers seen [] last back l m = m
-chain_from tables makers seen (p ∷ []) last back l m = (l.0, m)
-chain_from tables makers seen (p ∷ q ∷ ps) last back l m = (l.0, chain_from tables makers seen (q ∷ ps) last back l.1 m)
+chain_from : (tables : List Table) (drivers : List (Option ℕ)) (seen front : List ℕ) (last back : ℕ) → Linked tables drivers seen (front ++ last ∷ []) → Leads tables drivers seen last back → Chain tables drivers seen (front ++ last ∷ []) back
+chain_from tables drivers seen [] last back l m = m
+chain_from tables drivers seen (p ∷ []) last back l m = (l.0, m)
+chain_from tables drivers seen (p ∷ q ∷ ps) last back l m = (l.0, chain_from tables drivers seen (q ∷ ps) last back l.1 m)
 
-chain_leads : (tables : List Table) (makers : List (Option ℕ)) (seen whole path : List ℕ) (back : ℕ) → Chain tables makers seen path back → ((x : ℕ) → has_number path x ≡ true → has_number whole x ≡ true) → has_number whole back ≡ true
-    → (t : ℕ) → has_number path t ≡ true → (u : ℕ) × Leads tables makers seen t u × (has_number whole u ≡ true)
-chain_leads tables makers seen whole [] back c sub again t h = absurd (both_ways false refl h)
-chain_leads tables makers seen whole (p ∷ []) back c sub again t h = elim (eqb_tells p t) [
-  | inl (u, e) ↦ (back, subst (λ k. Leads tables makers seen k back) e c, again)
+chain_leads : (tables : List Table) (drivers : List (Option ℕ)) (seen whole path : List ℕ) (back : ℕ) → Chain tables drivers seen path back → ((x : ℕ) → has_number path x ≡ true → has_number whole x ≡ true) → has_number whole back ≡ true
+    → (t : ℕ) → has_number path t ≡ true → (u : ℕ) × Leads tables drivers seen t u × (has_number whole u ≡ true)
+chain_leads tables drivers seen whole [] back c sub again t h = absurd (both_ways false refl h)
+chain_leads tables drivers seen whole (p ∷ []) back c sub again t h = elim (eqb_tells p t) [
+  | inl (u, e) ↦ (back, subst (λ k. Leads tables drivers seen k back) e c, again)
   | inr (u, e) ↦ absurd (both_ways (nat_eq p t || false) (or_from (nat_eq p t) false u refl) h)
 ]
-chain_leads tables makers seen whole (p ∷ q ∷ ps) back c sub again t h = elim (eqb_tells p t) [
-  | inl (u, e) ↦ (q, subst (λ k. Leads tables makers seen k q) e c.0, sub q (or_right (nat_eq p q) (has_number (q ∷ ps) q) (or_left (nat_eq q q) (has_number ps q) (elim (eqb_tells q q) [ inl (v, f) ↦ v | inr (v, f) ↦ absurd (f refl) ]))))
-  | inr (u, e) ↦ chain_leads tables makers seen whole (q ∷ ps) back c.1 (λ x k. sub x (or_right (nat_eq p x) (has_number (q ∷ ps) x) k)) again t
+chain_leads tables drivers seen whole (p ∷ q ∷ ps) back c sub again t h = elim (eqb_tells p t) [
+  | inl (u, e) ↦ (q, subst (λ k. Leads tables drivers seen k q) e c.0, sub q (or_right (nat_eq p q) (has_number (q ∷ ps) q) (or_left (nat_eq q q) (has_number ps q) (elim (eqb_tells q q) [ inl (v, f) ↦ v | inr (v, f) ↦ absurd (f refl) ]))))
+  | inr (u, e) ↦ chain_leads tables drivers seen whole (q ∷ ps) back c.1 (λ x k. sub x (or_right (nat_eq p x) (has_number (q ∷ ps) x) k)) again t
       (elim (or_cases (nat_eq p t) (has_number (q ∷ ps) t) h) [ inl y ↦ absurd (both_ways (nat_eq p t) u y) | inr y ↦ y ])
 ]
 
@@ -146,11 +146,11 @@ table_there n t lt = Contains-get_or (netlist_in n).tables t no_table (subst (λ
 table_output_is : (n : Netlist) (t : ℕ) → t < length n.tables → (the_table n t).output ≡ word_at (outs n) t
 table_output_is n t lt = word_of_output n.tables n.frame.names t lt ∙ sym (out_word n t lt)
 
-module _ (n : Netlist) (makers : List (Option ℕ)) (d : distinct n.frame.names ≡ true) (len : length makers ≡ length n.frame.names) (are : AreMakers n.tables makers)
-    (stages : List Stage) (seen path order : List ℕ) (w : IsOrderWalk n.tables makers stages seen path order) where
+module _ (n : Netlist) (drivers : List (Option ℕ)) (d : distinct n.frame.names ≡ true) (len : length drivers ≡ length n.frame.names) (are : AreDrivers n.tables drivers)
+    (stages : List Stage) (seen path order : List ℕ) (w : IsOrderWalk n.tables drivers stages seen path order) where
   -- where the maker is u, the name is its output
-  made_word : (name u : ℕ) → maker_at makers name ≡ Some u → word_at (outs n) u ≡ word_at n.frame.names name
-  made_word name u e = let m = maker_is n.tables makers name u are e in out_word n u m.0 ∙ ap (word_at n.frame.names) m.1
+  made_word : (name u : ℕ) → driver_at drivers name ≡ Some u → word_at (outs n) u ≡ word_at n.frame.names name
+  made_word name u e = let m = driver_is n.tables drivers name u are e in out_word n u m.0 ∙ ap (word_at n.frame.names) m.1
 
   module _ (set : List ℕ → Bool) (reading : EachReadsAnother (netlist_in n).tables set) where
     reads_one : (t : ℕ) → t < length n.tables → set (word_at (outs n) t) ≡ true → list_any set (the_table n t).inputs ≡ true
@@ -160,7 +160,7 @@ module _ (n : Netlist) (makers : List (Option ℕ)) (d : distinct n.frame.names 
         let same : r.0 ≡ the_table n t = one_table (netlist_in n).tables r.0 (the_table n t) (outs_once n) (to_in (netlist_in n).tables r.0 r.1.0 r.1.1 r.1.2) (to_in (netlist_in n).tables (the_table n t) c.0 c.1 c.2) (r.2 ∙ sym (table_output_is n t lt)) in
         subst (λ (x : lists.Table). list_any set x.inputs ≡ true) same r.3
 
-    unmade_out : (name : ℕ) → name < length n.frame.names → maker_at makers name ≡ None → set (word_at n.frame.names name) ≡ false
+    unmade_out : (name : ℕ) → name < length n.frame.names → driver_at drivers name ≡ None → set (word_at n.frame.names name) ≡ false
     unmade_out name lt e = false_from_ne_true (set (word_at n.frame.names name)) (λ h.
         let r = reading (word_at n.frame.names name) h in
         let there : has_word (outs n) (word_at n.frame.names name) ≡ true = subst (λ x. has_word (outs n) x ≡ true) r.2 (in_has (netlist_in n).tables r.0 (to_in (netlist_in n).tables r.0 r.1.0 r.1.1 r.1.2)) in
@@ -168,27 +168,27 @@ module _ (n : Netlist) (makers : List (Option ℕ)) (d : distinct n.frame.names 
         both_ways (has_word (outs n) (word_at n.frame.names name))
         (ap (λ (l : List (List ℕ)). has_word l (word_at n.frame.names name)) (sym (words_at-table_outputs n.frame.names n.tables)) ∙ has_words n.frame.names (map table_output n.tables) name d (table_outputs_below (length n.frame.names) n.tables n.tables_below) lt ∙ away) there)
 
-    maker_out : (before : List ℕ) → ((t : ℕ) → has_number before t ≡ true → set (word_at (outs n) t) ≡ false) → (name : ℕ) → name < length n.frame.names → maker_among before (maker_at makers name) ≡ true → set (word_at n.frame.names name) ≡ false
-    maker_out before out name lt h = go (maker_at makers name) refl h
+    driver_out : (before : List ℕ) → ((t : ℕ) → has_number before t ≡ true → set (word_at (outs n) t) ≡ false) → (name : ℕ) → name < length n.frame.names → driver_among before (driver_at drivers name) ≡ true → set (word_at n.frame.names name) ≡ false
+    driver_out before out name lt h = go (driver_at drivers name) refl h
       where
-        go : (m : Option ℕ) → maker_at makers name ≡ m → maker_among before m ≡ true → set (word_at n.frame.names name) ≡ false
+        go : (m : Option ℕ) → driver_at drivers name ≡ m → driver_among before m ≡ true → set (word_at n.frame.names name) ≡ false
         go None e h = unmade_out name lt e
         go (Some u) e h = ap set (sym (made_word name u e)) ∙ out u h
 
-    none_of : (before : List ℕ) → ((t : ℕ) → has_number before t ≡ true → set (word_at (outs n) t) ≡ false) → (inputs : List ℕ) → all_below (length n.frame.names) inputs ≡ true → list_all (λ name. maker_among before (maker_at makers name)) inputs ≡ true
+    none_of : (before : List ℕ) → ((t : ℕ) → has_number before t ≡ true → set (word_at (outs n) t) ≡ false) → (inputs : List ℕ) → all_below (length n.frame.names) inputs ≡ true → list_all (λ name. driver_among before (driver_at drivers name)) inputs ≡ true
         → list_any set (words_at n.frame.names inputs) ≡ false
     none_of before out [] b h = refl
     none_of before out (i ∷ is) b h =
         let (lt, rest) = below_parts (length n.frame.names) i is b in
-        let parts = and_parts (maker_among before (maker_at makers i)) (list_all (λ name. maker_among before (maker_at makers name)) is) h in
-        or_from (set (word_at n.frame.names i)) (list_any set (words_at n.frame.names is)) (maker_out before out i lt parts.0) (none_of before out is rest parts.1)
+        let parts = and_parts (driver_among before (driver_at drivers i)) (list_all (λ name. driver_among before (driver_at drivers name)) is) h in
+        or_from (set (word_at n.frame.names i)) (list_any set (words_at n.frame.names is)) (driver_out before out i lt parts.0) (none_of before out is rest parts.1)
 
-    order_out : (before rest : List ℕ) → ((t : ℕ) → has_number before t ≡ true → set (word_at (outs n) t) ≡ false) → all_below (length n.tables) rest ≡ true → reads_made n.tables makers before rest ≡ true
+    order_out : (before rest : List ℕ) → ((t : ℕ) → has_number before t ≡ true → set (word_at (outs n) t) ≡ false) → all_below (length n.tables) rest ≡ true → reads_made n.tables drivers before rest ≡ true
         → (t : ℕ) → has_number rest t ≡ true → set (word_at (outs n) t) ≡ false
     order_out before [] out b r t h = absurd (both_ways false refl h)
     order_out before (x ∷ xs) out b r t h =
         let (lt, rest) = below_parts (length n.tables) x xs b in
-        let parts = and_parts (list_all (λ name. maker_among before (maker_at makers name)) (inputs_at n.tables x)) (reads_made n.tables makers (before ++ x ∷ []) xs) r in
+        let parts = and_parts (list_all (λ name. driver_among before (driver_at drivers name)) (inputs_at n.tables x)) (reads_made n.tables drivers (before ++ x ∷ []) xs) r in
         let none : list_any set (the_table n x).inputs ≡ false = ap (list_any set) (words_of_inputs n.tables n.frame.names x lt) ∙ none_of before out (inputs_at n.tables x) (inputs_below (length n.frame.names) n.tables x n.tables_below) parts.0 in
         let here : set (word_at (outs n) x) ≡ false = false_from_ne_true (set (word_at (outs n) x)) (λ k. both_ways (list_any set (the_table n x).inputs) none (reads_one x lt k)) in
         elim (eqb_tells x t) [
@@ -209,11 +209,11 @@ module _ (n : Netlist) (makers : List (Option ℕ)) (d : distinct n.frame.names 
     pub done_out : (t : ℕ) → t < length n.tables → is_done (stage_at stages t) ≡ true → set (word_at (outs n) t) ≡ false
     done_out t lt h = ordered_out t (sym (w.done_ones t (subst (λ k. t < k) (sym w.stages_fit) lt)) ∙ h)
 
-    finished_out : (name : ℕ) → name < length n.frame.names → is_finished makers stages name ≡ true → set (word_at n.frame.names name) ≡ false
-    finished_out name lt h = maker_out order ordered_out name lt (and_parts (maker_among order (maker_at makers name)) true (finished_among n.tables makers stages order w.done_ones (name ∷ []) (and_from (is_finished makers stages name) true h refl))).0
+    finished_out : (name : ℕ) → name < length n.frame.names → is_finished drivers stages name ≡ true → set (word_at n.frame.names name) ≡ false
+    finished_out name lt h = driver_out order ordered_out name lt (and_parts (driver_among order (driver_at drivers name)) true (finished_among n.tables drivers stages order w.done_ones (name ∷ []) (and_from (is_finished drivers stages name) true h refl))).0
 
     -- the first input in the set is the one to which the table leads
-    pub next_found : (t u : ℕ) → t < length n.tables → Leads n.tables makers seen t u → set (word_at (outs n) u) ≡ true → find set (the_table n t).inputs ≡ Some (word_at (outs n) u)
+    pub next_found : (t u : ℕ) → t < length n.tables → Leads n.tables drivers seen t u → set (word_at (outs n) u) ≡ true → find set (the_table n t).inputs ≡ Some (word_at (outs n) u)
     next_found t u lt l here =
         let inputs : List ℕ = inputs_at n.tables t in
         let at : ℕ = seen_at seen t in
@@ -223,10 +223,10 @@ module _ (n : Netlist) (makers : List (Option ℕ)) (d : distinct n.frame.names 
         ∙ find_first set words at (subst (λ k. at < k) (sym (length-map inputs (word_at n.frame.names))) l.inside) (λ j less. before inputs at j (inputs_below (length n.frame.names) n.tables t n.tables_below) l.inside less (w.looked t lt)) (ap set word ∙ here)
         ∙ ap (λ (x : List ℕ). Some x) word
       where
-        before : (inputs : List ℕ) (at j : ℕ) → all_below (length n.frame.names) inputs ≡ true → at < length inputs → j < at → list_all (is_finished makers stages) (take at inputs) ≡ true → set (word_at (words_at n.frame.names inputs) j) ≡ false
+        before : (inputs : List ℕ) (at j : ℕ) → all_below (length n.frame.names) inputs ≡ true → at < length inputs → j < at → list_all (is_finished drivers stages) (take at inputs) ≡ true → set (word_at (words_at n.frame.names inputs) j) ≡ false
         before inputs at j b inside less h =
             let lt : j < length inputs = omega arith in
-            ap set (word_at-words n.frame.names inputs j lt) ∙ finished_out (get_or inputs j 0) (below_at (length n.frame.names) inputs j b lt) (all_taken (is_finished makers stages) at inputs j h less lt)
+            ap set (word_at-words n.frame.names inputs j lt) ∙ finished_out (get_or inputs j 0) (below_at (length n.frame.names) inputs j b lt) (all_taken (is_finished drivers stages) at inputs j h less lt)
 
 -- the answer
 
@@ -234,10 +234,10 @@ head_of : (path a : List ℕ) (n : ℕ) (b : List ℕ) → path ≡ a ++ n ∷ b
 head_of path [] n b e = (n, b, e)
 head_of path (x ∷ xs) n b e = (x, xs ++ n ∷ b, e)
 
-module _ (n : Netlist) (makers : List (Option ℕ)) (d : distinct n.frame.names ≡ true) (len : length makers ≡ length n.frame.names) (are : AreMakers n.tables makers)
-    (stages : List Stage) (seen path order : List ℕ) (back : ℕ) (m : Meets n.tables makers stages seen path order back) where
-  chain : Chain n.tables makers seen path back
-  chain = subst (λ (l : List ℕ). Chain n.tables makers seen l back) (sym m.path_is) (chain_from n.tables makers seen m.front m.last back (subst (λ (l : List ℕ). Linked n.tables makers seen l) m.path_is m.walk.linked) m.leads)
+module _ (n : Netlist) (drivers : List (Option ℕ)) (d : distinct n.frame.names ≡ true) (len : length drivers ≡ length n.frame.names) (are : AreDrivers n.tables drivers)
+    (stages : List Stage) (seen path order : List ℕ) (back : ℕ) (m : Meets n.tables drivers stages seen path order back) where
+  chain : Chain n.tables drivers seen path back
+  chain = subst (λ (l : List ℕ). Chain n.tables drivers seen l back) (sym m.path_is) (chain_from n.tables drivers seen m.front m.last back (subst (λ (l : List ℕ). Linked n.tables drivers seen l) m.path_is m.walk.linked) m.leads)
 
   inside_path : (t : ℕ) → has_number path t ≡ true → t < length n.tables
   inside_path t h = has_below (length n.tables) path t m.walk.path_below h
@@ -249,11 +249,11 @@ module _ (n : Netlist) (makers : List (Option ℕ)) (d : distinct n.frame.names 
   path_reads : EachReadsAnother (netlist_in n).tables on_path
   path_reads word h =
       let (t, there, same) = word_among (outs n) path word h in
-      let (u, leads, next) = chain_leads n.tables makers seen path path back chain (λ x k. k) m.again t there in
+      let (u, leads, next) = chain_leads n.tables drivers seen path path back chain (λ x k. k) m.again t there in
       let lt : t < length n.tables = inside_path t there in
       let inputs : List ℕ = inputs_at n.tables t in
       let at : ℕ = seen_at seen t in
-      let read : word_at (words_at n.frame.names inputs) at ≡ word_at (outs n) u = word_at-words n.frame.names inputs at leads.inside ∙ sym (made_word n makers d len are stages seen path order m.walk (get_or inputs at 0) u leads.made) in (
+      let read : word_at (words_at n.frame.names inputs) at ≡ word_at (outs n) u = word_at-words n.frame.names inputs at leads.inside ∙ sym (made_word n drivers d len are stages seen path order m.walk (get_or inputs at 0) u leads.made) in (
         the_table n t,
         table_there n t lt,
         table_output_is n t lt ∙ same_word (word_at (outs n) t) word same,
@@ -269,7 +269,7 @@ module _ (n : Netlist) (makers : List (Option ℕ)) (d : distinct n.frame.names 
     record {
       cyclic = cyclic;
       begins = begins;
-      path = (words_at (outs n) rest, joined, (word_at (outs n) back, words_at (outs n) b, ap (words_at (outs n)) from_is, goes root rest (subst (λ (l : List ℕ). Chain n.tables makers seen l back) path_is chain) (λ x h. subst (λ (l : List ℕ). has_number l x ≡ true) (sym path_is) h)));
+      path = (words_at (outs n) rest, joined, (word_at (outs n) back, words_at (outs n) b, ap (words_at (outs n)) from_is, goes root rest (subst (λ (l : List ℕ). Chain n.tables drivers seen l back) path_is chain) (λ x h. subst (λ (l : List ℕ). has_number l x ≡ true) (sym path_is) h)));
       once = ap distinct whole ∙ distinct_words (outs n) path (outs_once n) (subst (λ k. all_below k path ≡ true) (sym (outs_length n)) m.walk.path_below) m.walk.path_once;
     },
   )
@@ -315,7 +315,7 @@ module _ (n : Netlist) (makers : List (Option ℕ)) (d : distinct n.frame.names 
 
       begins : find set (outs n) ≡ Some (word_at (outs n) root)
       begins = find_first set (outs n) root (subst (λ k. root < k) (sym (outs_length n)) (inside_path root root_there))
-          (λ j less. done_out n makers d len are stages seen path order m.walk set cyclic.reading j (let lt = inside_path root root_there in omega arith) (subst (λ (l : List ℕ). Begins stages l) path_is m.walk.begins j less))
+          (λ j less. done_out n drivers d len are stages seen path order m.walk set cyclic.reading j (let lt = inside_path root root_there in omega arith) (subst (λ (l : List ℕ). Begins stages l) path_is m.walk.begins j less))
           (on_it root root_there)
 
       whole : words_at (outs n) a ++ words_at (outs n) (from_number back path) ≡ words_at (outs n) path
@@ -324,15 +324,15 @@ module _ (n : Netlist) (makers : List (Option ℕ)) (d : distinct n.frame.names 
       joined : words_at (outs n) a ++ words_at (outs n) (from_number back path) ≡ word_at (outs n) root ∷ words_at (outs n) rest
       joined = whole ∙ ap (words_at (outs n)) path_is
 
-      next_of : (t u : ℕ) → has_number path t ≡ true → Leads n.tables makers seen t u → has_number path u ≡ true → next_in (netlist_in n).tables set (word_at (outs n) t) ≡ Some (word_at (outs n) u)
+      next_of : (t u : ℕ) → has_number path t ≡ true → Leads n.tables drivers seen t u → has_number path u ≡ true → next_in (netlist_in n).tables set (word_at (outs n) t) ≡ Some (word_at (outs n) u)
       next_of t u h l k =
           let lt : t < length n.tables = inside_path t h in
           let c = table_there n t lt in
           ap (next_in (netlist_in n).tables set) (sym (table_output_is n t lt))
           ∙ next_is (netlist_in n).tables set (the_table n t) (outs_once n) (to_in (netlist_in n).tables (the_table n t) c.0 c.1 c.2)
-          ∙ next_found n makers d len are stages seen path order m.walk set cyclic.reading t u lt l (on_it u k)
+          ∙ next_found n drivers d len are stages seen path order m.walk set cyclic.reading t u lt l (on_it u k)
 
-      goes : (t : ℕ) (ps : List ℕ) → Chain n.tables makers seen (t ∷ ps) back → ((x : ℕ) → has_number (t ∷ ps) x ≡ true → has_number path x ≡ true) → GoesOn (netlist_in n).tables set (word_at (outs n) t) (words_at (outs n) ps) (word_at (outs n) back)
+      goes : (t : ℕ) (ps : List ℕ) → Chain n.tables drivers seen (t ∷ ps) back → ((x : ℕ) → has_number (t ∷ ps) x ≡ true → has_number path x ≡ true) → GoesOn (netlist_in n).tables set (word_at (outs n) t) (words_at (outs n) ps) (word_at (outs n) back)
       goes t [] l sub = next_of t back (sub t (number_there t [])) l m.again
       goes t (u ∷ ps) l sub = (next_of t u (sub t (number_there t (u ∷ ps))) l.0 (sub u (or_right (nat_eq t u) (has_number (u ∷ ps) u) (number_there u ps))), goes u ps l.1 (λ x h. sub x (or_right (nat_eq t x) (has_number (u ∷ ps) x) h)))
 

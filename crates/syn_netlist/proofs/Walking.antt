@@ -7,13 +7,13 @@ use Rattle.std.proofs.lemmas.Bool.Decides.{eqb_tells}
 use Rattle.std.proofs.lemmas.Grind.{get_or-set_at}
 use Rattle.std.proofs.lemmas.List.{get_or-set_other, get_or_past}
 use Rattle.std.proofs.lemmas.List.Sums.{sum_by-set}
-use Rattle.syn_netlist.specs.declared.ordering.Stage.{Stage}
-use Rattle.syn_netlist.specs.declared.ordering.Stage.TheVariants.{Waiting, Open, Done}
+use Rattle.syn_netlist.specs.declared.order_walk.Stage.{Stage}
+use Rattle.syn_netlist.specs.declared.order_walk.Stage.TheVariants.{Waiting, Open, Done}
 use Rattle.syn_netlist.specs.declared.tables.Table.{Table}
 use Rattle.syn_netlist.specs.Marks.{has_number}
 use Rattle.syn_netlist.specs.Numbers.{all_below}
 use Rattle.syn_netlist.specs.Tables.{tables_below}
-use Rattle.syn_netlist.specs.Walk.{AreMakers, table_output, output_at, inputs_at, distinct_numbers, maker_at, stage_at, is_open, is_done, weight, maker_done, is_finished, maker_among, reads_made, seen_at, Leads, Linked, Begins, IsOrderWalk, IsNext, GoOn, Meets}
+use Rattle.syn_netlist.specs.Walk.{AreDrivers, table_output, output_at, inputs_at, distinct_numbers, driver_at, stage_at, is_open, is_done, weight, driver_done, is_finished, driver_among, reads_made, seen_at, Leads, Linked, Begins, IsOrderWalk, IsNext, GoOn, Meets}
 use Rattle.syn_netlist.proofs.Marking.{has_number-append}
 use Rattle.syn_netlist.proofs.Places.{below_parts, below_from, all_below-append}
 
@@ -107,13 +107,13 @@ GoOn-set stages t s lt le k = elim (eqb_tells t k) [
 later_done : (old new : List Stage) → GoOn old new → (k : ℕ) → is_done (stage_at old k) ≡ true → is_done (stage_at new k) ≡ true
 later_done old new g k h = weight_done (stage_at new k) (let a = done_weight (stage_at old k) h in let b = g k in omega arith)
 
-later_finished : (makers : List (Option ℕ)) (old new : List Stage) → GoOn old new → (names : List ℕ) → list_all (is_finished makers old) names ≡ true → list_all (is_finished makers new) names ≡ true
-later_finished makers old new g [] h = refl
-later_finished makers old new g (name ∷ names) h =
-    let parts = and_parts (is_finished makers old name) (list_all (is_finished makers old) names) h in
-    and_from (is_finished makers new name) (list_all (is_finished makers new) names) (one (maker_at makers name) parts.0) (later_finished makers old new g names parts.1)
+later_finished : (drivers : List (Option ℕ)) (old new : List Stage) → GoOn old new → (names : List ℕ) → list_all (is_finished drivers old) names ≡ true → list_all (is_finished drivers new) names ≡ true
+later_finished drivers old new g [] h = refl
+later_finished drivers old new g (name ∷ names) h =
+    let parts = and_parts (is_finished drivers old name) (list_all (is_finished drivers old) names) h in
+    and_from (is_finished drivers new name) (list_all (is_finished drivers new) names) (one (driver_at drivers name) parts.0) (later_finished drivers old new g names parts.1)
   where
-    one : (m : Option ℕ) → maker_done old m ≡ true → maker_done new m ≡ true
+    one : (m : Option ℕ) → driver_done old m ≡ true → driver_done new m ≡ true
     one None h = refl
     one (Some t) h = later_done old new g t h
 
@@ -129,29 +129,29 @@ pub Begins-more : (stages : List Stage) (front : List ℕ) (t u : ℕ) → Begin
 Begins-more stages [] t u b = b
 Begins-more stages (p ∷ ps) t u b = b
 
-module _ (tables : List Table) (makers : List (Option ℕ)) where
+module _ (tables : List Table) (drivers : List (Option ℕ)) where
   -- the path
 
-  Linked-front : (seen front : List ℕ) (t : ℕ) → Linked tables makers seen (front ++ t ∷ []) → Linked tables makers seen front
+  Linked-front : (seen front : List ℕ) (t : ℕ) → Linked tables drivers seen (front ++ t ∷ []) → Linked tables drivers seen front
   Linked-front seen [] t l = tt
   Linked-front seen (p ∷ []) t l = tt
   Linked-front seen (p ∷ q ∷ ps) t l = (l.0, Linked-front seen (q ∷ ps) t l.1)
 
-  pub Linked-more : (seen front : List ℕ) (t u : ℕ) → Linked tables makers seen (front ++ t ∷ []) → Leads tables makers seen t u → Linked tables makers seen ((front ++ t ∷ []) ++ u ∷ [])
+  pub Linked-more : (seen front : List ℕ) (t u : ℕ) → Linked tables drivers seen (front ++ t ∷ []) → Leads tables drivers seen t u → Linked tables drivers seen ((front ++ t ∷ []) ++ u ∷ [])
   Linked-more seen [] t u l m = (m, tt)
   Linked-more seen (p ∷ []) t u l m = (l.0, (m, tt))
   Linked-more seen (p ∷ q ∷ ps) t u l m = (l.0, Linked-more seen (q ∷ ps) t u l.1 m)
 
-  Leads-set : (seen : List ℕ) (t at p u : ℕ) → p ≢ t → Leads tables makers seen p u → Leads tables makers (set seen t at) p u
+  Leads-set : (seen : List ℕ) (t at p u : ℕ) → p ≢ t → Leads tables drivers seen p u → Leads tables drivers (set seen t at) p u
   Leads-set seen t at p u ne l =
       let same : seen_at (set seen t at) p ≡ seen_at seen p = get_or-set_other seen t p at 0 ne in
       record {
         inside = subst (λ k. k < length (inputs_at tables p)) (sym same) l.inside;
-        made = ap (λ k. maker_at makers (get_or (inputs_at tables p) k 0)) same ∙ l.made;
+        made = ap (λ k. driver_at drivers (get_or (inputs_at tables p) k 0)) same ∙ l.made;
       }
 
   -- a change of the last table's place leaves the links before it
-  Linked-set : (seen front : List ℕ) (t at : ℕ) → has_number front t ≡ false → Linked tables makers seen (front ++ t ∷ []) → Linked tables makers (set seen t at) (front ++ t ∷ [])
+  Linked-set : (seen front : List ℕ) (t at : ℕ) → has_number front t ≡ false → Linked tables drivers seen (front ++ t ∷ []) → Linked tables drivers (set seen t at) (front ++ t ∷ [])
   Linked-set seen [] t at h l = tt
   Linked-set seen (p ∷ []) t at h l = (Leads-set seen t at p t (not_same p h) l.0, tt)
     where
@@ -163,30 +163,30 @@ module _ (tables : List Table) (makers : List (Option ℕ)) where
 
   -- the order
 
-  reads_made-more : (before order : List ℕ) (t : ℕ) → reads_made tables makers before order ≡ true → list_all (λ name. maker_among (before ++ order) (maker_at makers name)) (inputs_at tables t) ≡ true
-      → reads_made tables makers before (order ++ t ∷ []) ≡ true
-  reads_made-more before [] t r h = and_from _ true (subst (λ (l : List ℕ). list_all (λ name. maker_among l (maker_at makers name)) (inputs_at tables t) ≡ true) (append_nil before) h) refl
+  reads_made-more : (before order : List ℕ) (t : ℕ) → reads_made tables drivers before order ≡ true → list_all (λ name. driver_among (before ++ order) (driver_at drivers name)) (inputs_at tables t) ≡ true
+      → reads_made tables drivers before (order ++ t ∷ []) ≡ true
+  reads_made-more before [] t r h = and_from _ true (subst (λ (l : List ℕ). list_all (λ name. driver_among l (driver_at drivers name)) (inputs_at tables t) ≡ true) (append_nil before) h) refl
     where
       append_nil : (xs : List ℕ) → xs ++ [] ≡ xs
       append_nil [] = refl
       append_nil (x ∷ xs) = ap (λ (l : List ℕ). x ∷ l) (append_nil xs)
   reads_made-more before (u ∷ order) t r h =
-      let parts = and_parts (list_all (λ name. maker_among before (maker_at makers name)) (inputs_at tables u)) (reads_made tables makers (before ++ u ∷ []) order) r in
-      and_from (list_all (λ name. maker_among before (maker_at makers name)) (inputs_at tables u)) (reads_made tables makers (before ++ u ∷ []) (order ++ t ∷ [])) parts.0
-      (reads_made-more (before ++ u ∷ []) order t parts.1 (subst (λ (l : List ℕ). list_all (λ name. maker_among l (maker_at makers name)) (inputs_at tables t) ≡ true) (sym (append_assoc before u order)) h))
+      let parts = and_parts (list_all (λ name. driver_among before (driver_at drivers name)) (inputs_at tables u)) (reads_made tables drivers (before ++ u ∷ []) order) r in
+      and_from (list_all (λ name. driver_among before (driver_at drivers name)) (inputs_at tables u)) (reads_made tables drivers (before ++ u ∷ []) (order ++ t ∷ [])) parts.0
+      (reads_made-more (before ++ u ∷ []) order t parts.1 (subst (λ (l : List ℕ). list_all (λ name. driver_among l (driver_at drivers name)) (inputs_at tables t) ≡ true) (sym (append_assoc before u order)) h))
     where
       append_assoc : (xs : List ℕ) (y : ℕ) (zs : List ℕ) → (xs ++ y ∷ []) ++ zs ≡ xs ++ (y ∷ zs)
       append_assoc [] y zs = refl
       append_assoc (x ∷ xs) y zs = ap (λ (l : List ℕ). x ∷ l) (append_assoc xs y zs)
 
-  pub finished_among : (stages : List Stage) (order : List ℕ) → ((t : ℕ) → t < length stages → is_done (stage_at stages t) ≡ has_number order t) → (names : List ℕ) → list_all (is_finished makers stages) names ≡ true
-      → list_all (λ name. maker_among order (maker_at makers name)) names ≡ true
+  pub finished_among : (stages : List Stage) (order : List ℕ) → ((t : ℕ) → t < length stages → is_done (stage_at stages t) ≡ has_number order t) → (names : List ℕ) → list_all (is_finished drivers stages) names ≡ true
+      → list_all (λ name. driver_among order (driver_at drivers name)) names ≡ true
   finished_among stages order d [] h = refl
   finished_among stages order d (name ∷ names) h =
-      let parts = and_parts (is_finished makers stages name) (list_all (is_finished makers stages) names) h in
-      and_from (maker_among order (maker_at makers name)) (list_all (λ name. maker_among order (maker_at makers name)) names) (one (maker_at makers name) parts.0) (finished_among stages order d names parts.1)
+      let parts = and_parts (is_finished drivers stages name) (list_all (is_finished drivers stages) names) h in
+      and_from (driver_among order (driver_at drivers name)) (list_all (λ name. driver_among order (driver_at drivers name)) names) (one (driver_at drivers name) parts.0) (finished_among stages order d names parts.1)
     where
-      one : (m : Option ℕ) → maker_done stages m ≡ true → maker_among order m ≡ true
+      one : (m : Option ℕ) → driver_done stages m ≡ true → driver_among order m ≡ true
       one None h = refl
       one (Some t) h = elim (cases_lt t (length stages)) [
         | inl lt ↦ sym (d t lt) ∙ h
@@ -195,8 +195,8 @@ module _ (tables : List Table) (makers : List (Option ℕ)) where
 
   -- the steps
 
-  pub finish : (stages : List Stage) (seen front order : List ℕ) (top : ℕ) → IsOrderWalk tables makers stages seen (front ++ top ∷ []) order → list_all (is_finished makers stages) (inputs_at tables top) ≡ true
-      → IsOrderWalk tables makers (set stages top Done) seen front (order ++ top ∷ [])
+  pub finish : (stages : List Stage) (seen front order : List ℕ) (top : ℕ) → IsOrderWalk tables drivers stages seen (front ++ top ∷ []) order → list_all (is_finished drivers stages) (inputs_at tables top) ≡ true
+      → IsOrderWalk tables drivers (set stages top Done) seen front (order ++ top ∷ [])
   finish stages seen front order top w h = record {
     stages_fit = length-set stages top Done ∙ w.stages_fit;
     seen_fit = w.seen_fit;
@@ -212,7 +212,7 @@ module _ (tables : List Table) (makers : List (Option ℕ)) where
     path_once = (once_front front top w.path_once).0;
     order_below = all_below-append (length tables) order (top ∷ []) w.order_below (below_from (length tables) top [] below refl);
     order_once = once_more order top w.order_once fresh;
-    looked = λ t lt. later_finished makers stages (set stages top Done) goes (take (seen_at seen t) (inputs_at tables t)) (w.looked t lt);
+    looked = λ t lt. later_finished drivers stages (set stages top Done) goes (take (seen_at seen t) (inputs_at tables t)) (w.looked t lt);
     linked = Linked-front seen front top w.linked;
     begins = later_begins stages (set stages top Done) goes front (Begins-front stages front top w.begins);
     made = reads_made-more [] order top w.made (finished_among stages order w.done_ones (inputs_at tables top) h);
@@ -236,8 +236,8 @@ module _ (tables : List Table) (makers : List (Option ℕ)) where
       goes : GoOn stages (set stages top Done)
       goes = GoOn-set stages top Done inside (omega arith)
 
-  pub open_one : (stages : List Stage) (seen path order : List ℕ) (next : ℕ) → IsOrderWalk tables makers stages seen path order → next < length tables → is_open (stage_at stages next) ≡ false → is_done (stage_at stages next) ≡ false
-      → Linked tables makers seen (path ++ next ∷ []) → Begins stages (path ++ next ∷ []) → IsOrderWalk tables makers (set stages next Open) seen (path ++ next ∷ []) order
+  pub open_one : (stages : List Stage) (seen path order : List ℕ) (next : ℕ) → IsOrderWalk tables drivers stages seen path order → next < length tables → is_open (stage_at stages next) ≡ false → is_done (stage_at stages next) ≡ false
+      → Linked tables drivers seen (path ++ next ∷ []) → Begins stages (path ++ next ∷ []) → IsOrderWalk tables drivers (set stages next Open) seen (path ++ next ∷ []) order
   open_one stages seen path order next w below unopened undone linked begins = record {
     stages_fit = length-set stages next Open ∙ w.stages_fit;
     seen_fit = w.seen_fit;
@@ -253,7 +253,7 @@ module _ (tables : List Table) (makers : List (Option ℕ)) where
     path_once = once_more path next w.path_once (sym (w.open_ones next inside) ∙ unopened);
     order_below = w.order_below;
     order_once = w.order_once;
-    looked = λ t lt. later_finished makers stages (set stages next Open) goes (take (seen_at seen t) (inputs_at tables t)) (w.looked t lt);
+    looked = λ t lt. later_finished drivers stages (set stages next Open) goes (take (seen_at seen t) (inputs_at tables t)) (w.looked t lt);
     linked = linked;
     begins = later_begins stages (set stages next Open) goes (path ++ next ∷ []) begins;
     made = w.made;
@@ -265,8 +265,8 @@ module _ (tables : List Table) (makers : List (Option ℕ)) where
       goes : GoOn stages (set stages next Open)
       goes = GoOn-set stages next Open inside (let h = waiting_weight (stage_at stages next) unopened undone in omega arith)
 
-  pub look_on : (stages : List Stage) (seen front order : List ℕ) (top at : ℕ) → IsOrderWalk tables makers stages seen (front ++ top ∷ []) order → list_all (is_finished makers stages) (take at (inputs_at tables top)) ≡ true
-      → IsOrderWalk tables makers stages (set seen top at) (front ++ top ∷ []) order
+  pub look_on : (stages : List Stage) (seen front order : List ℕ) (top at : ℕ) → IsOrderWalk tables drivers stages seen (front ++ top ∷ []) order → list_all (is_finished drivers stages) (take at (inputs_at tables top)) ≡ true
+      → IsOrderWalk tables drivers stages (set seen top at) (front ++ top ∷ []) order
   look_on stages seen front order top at w h = record {
     stages_fit = w.stages_fit;
     seen_fit = length-set seen top at ∙ w.seen_fit;
@@ -277,9 +277,9 @@ module _ (tables : List Table) (makers : List (Option ℕ)) where
     order_below = w.order_below;
     order_once = w.order_once;
     looked = λ t lt. elim (eqb_tells top t) [
-      | inl (b, e) ↦ subst (λ j. list_all (is_finished makers stages) (take (seen_at (set seen top at) j) (inputs_at tables j)) ≡ true) e
-          (ap (λ k. list_all (is_finished makers stages) (take k (inputs_at tables top))) (get_or-set_at seen top top at 0 refl inside) ∙ h)
-      | inr (b, e) ↦ ap (λ k. list_all (is_finished makers stages) (take k (inputs_at tables t))) (get_or-set_other seen top t at 0 (λ q. e (sym q))) ∙ w.looked t lt
+      | inl (b, e) ↦ subst (λ j. list_all (is_finished drivers stages) (take (seen_at (set seen top at) j) (inputs_at tables j)) ≡ true) e
+          (ap (λ k. list_all (is_finished drivers stages) (take k (inputs_at tables top))) (get_or-set_at seen top top at 0 refl inside) ∙ h)
+      | inr (b, e) ↦ ap (λ k. list_all (is_finished drivers stages) (take k (inputs_at tables t))) (get_or-set_other seen top t at 0 (λ q. e (sym q))) ∙ w.looked t lt
     ];
     linked = Linked-set seen front top at (once_front front top w.path_once).1 w.linked;
     begins = w.begins;
@@ -289,25 +289,25 @@ module _ (tables : List Table) (makers : List (Option ℕ)) where
       inside : top < length seen
       inside = subst (λ n. top < n) (sym w.seen_fit) (below_front (length tables) front top w.path_below).1
 
-  leads_now : (stages : List Stage) (seen front order : List ℕ) (top at next : ℕ) → IsOrderWalk tables makers stages seen (front ++ top ∷ []) order → IsNext makers stages (inputs_at tables top) at next → Leads tables makers (set seen top at) top next
+  leads_now : (stages : List Stage) (seen front order : List ℕ) (top at next : ℕ) → IsOrderWalk tables drivers stages seen (front ++ top ∷ []) order → IsNext drivers stages (inputs_at tables top) at next → Leads tables drivers (set seen top at) top next
   leads_now stages seen front order top at next w n = record {
     inside = subst (λ k. k < length (inputs_at tables top)) (sym here) n.inside;
-    made = ap (λ k. maker_at makers (get_or (inputs_at tables top) k 0)) here ∙ n.maker;
+    made = ap (λ k. driver_at drivers (get_or (inputs_at tables top) k 0)) here ∙ n.driver;
   }
     where
       here : seen_at (set seen top at) top ≡ at
       here = get_or-set_at seen top top at 0 refl (subst (λ n. top < n) (sym w.seen_fit) (below_front (length tables) front top w.path_below).1)
 
-  pub advance : (stages : List Stage) (seen front order : List ℕ) (top at next : ℕ) → IsOrderWalk tables makers stages seen (front ++ top ∷ []) order → IsNext makers stages (inputs_at tables top) at next → next < length tables
-      → is_open (stage_at stages next) ≡ false → IsOrderWalk tables makers (set stages next Open) (set seen top at) ((front ++ top ∷ []) ++ next ∷ []) order
+  pub advance : (stages : List Stage) (seen front order : List ℕ) (top at next : ℕ) → IsOrderWalk tables drivers stages seen (front ++ top ∷ []) order → IsNext drivers stages (inputs_at tables top) at next → next < length tables
+      → is_open (stage_at stages next) ≡ false → IsOrderWalk tables drivers (set stages next Open) (set seen top at) ((front ++ top ∷ []) ++ next ∷ []) order
   advance stages seen front order top at next w n below unopened =
       let on = look_on stages seen front order top at w n.before in
       open_one stages (set seen top at) (front ++ top ∷ []) order next on below unopened n.waits
       (Linked-more (set seen top at) front top next on.linked (leads_now stages seen front order top at next w n))
       (Begins-more stages front top next on.begins)
 
-  pub meet : (stages : List Stage) (seen front order : List ℕ) (top at next : ℕ) → IsOrderWalk tables makers stages seen (front ++ top ∷ []) order → IsNext makers stages (inputs_at tables top) at next → next < length tables
-      → is_open (stage_at stages next) ≡ true → Meets tables makers stages (set seen top at) (front ++ top ∷ []) order next
+  pub meet : (stages : List Stage) (seen front order : List ℕ) (top at next : ℕ) → IsOrderWalk tables drivers stages seen (front ++ top ∷ []) order → IsNext drivers stages (inputs_at tables top) at next → next < length tables
+      → is_open (stage_at stages next) ≡ true → Meets tables drivers stages (set seen top at) (front ++ top ∷ []) order next
   meet stages seen front order top at next w n below opened = record {
     walk = look_on stages seen front order top at w n.before;
     front = front;
@@ -318,12 +318,12 @@ module _ (tables : List Table) (makers : List (Option ℕ)) where
   }
 
   -- the first table of a path
-  pub begin : (stages : List Stage) (seen order : List ℕ) (root : ℕ) → IsOrderWalk tables makers stages seen [] order → root < length tables → is_done (stage_at stages root) ≡ false
-      → ((k : ℕ) → k < root → is_done (stage_at stages k) ≡ true) → IsOrderWalk tables makers (set stages root Open) seen (root ∷ []) order
+  pub begin : (stages : List Stage) (seen order : List ℕ) (root : ℕ) → IsOrderWalk tables drivers stages seen [] order → root < length tables → is_done (stage_at stages root) ≡ false
+      → ((k : ℕ) → k < root → is_done (stage_at stages k) ≡ true) → IsOrderWalk tables drivers (set stages root Open) seen (root ∷ []) order
   begin stages seen order root w below undone before = open_one stages seen [] order root w below (w.open_ones root (subst (λ n. root < n) (sym w.stages_fit) below)) undone tt before
 
   -- the last of the path is open, and there
-  pub top_is : (stages : List Stage) (seen front order : List ℕ) (top : ℕ) → IsOrderWalk tables makers stages seen (front ++ top ∷ []) order → (top < length tables) × (is_open (stage_at stages top) ≡ true)
+  pub top_is : (stages : List Stage) (seen front order : List ℕ) (top : ℕ) → IsOrderWalk tables drivers stages seen (front ++ top ∷ []) order → (top < length tables) × (is_open (stage_at stages top) ≡ true)
   top_is stages seen front order top w =
       let below = (below_front (length tables) front top w.path_below).1 in
       (below, w.open_ones top (subst (λ n. top < n) (sym w.stages_fit) below) ∙ has_last front top)
@@ -338,10 +338,10 @@ inputs_below n [] t h = refl
 inputs_below n (x ∷ xs) zero h = (and_parts (nat_lt x.output n) (all_below n x.inputs) (and_parts (nat_lt x.output n && all_below n x.inputs) (tables_below n xs) h).0).1
 inputs_below n (x ∷ xs) (suc t) h = inputs_below n xs t (and_parts (nat_lt x.output n && all_below n x.inputs) (tables_below n xs) h).1
 
-pub maker_is : (tables : List Table) (makers : List (Option ℕ)) (name u : ℕ) → AreMakers tables makers → maker_at makers name ≡ Some u → (u < length tables) × (output_at tables u ≡ name)
-maker_is tables makers name u m e = elim (cases_lt name (length makers)) [
+pub driver_is : (tables : List Table) (drivers : List (Option ℕ)) (name u : ℕ) → AreDrivers tables drivers → driver_at drivers name ≡ Some u → (u < length tables) × (output_at tables u ≡ name)
+driver_is tables drivers name u m e = elim (cases_lt name (length drivers)) [
   | inl lt ↦ subst (λ o. MatchOption o (has_number (map table_output tables) name ≡ false) (λ t. (t < length tables) × (output_at tables t ≡ name))) e (m.at name lt)
-  | inr le ↦ (let past : maker_at makers name ≡ None = get_or_past makers name None le in cc)
+  | inr le ↦ (let past : driver_at drivers name ≡ None = get_or_past drivers name None le in cc)
 ]
 
 pub output_below : (n : ℕ) (tables : List Table) (t : ℕ) → tables_below n tables ≡ true → t < length tables → output_at tables t < n

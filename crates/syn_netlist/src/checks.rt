@@ -8,13 +8,13 @@ ghost use Rattle.syn_netlist.specs.Views.{netlist_in};
 ghost use Rattle.syn_netlist.specs.Walk.{from_number, output_at, output_words};
 
 use crate::NetFault;
-use crate::driving::{defined_marks, first_read};
 use crate::items::Items;
+use crate::name_numbers::Names;
 use crate::netlists::Netlist;
-use crate::numbering::Names;
-use crate::ordering::{Walked, walk};
+use crate::order_walk::{Walked, walk};
 use crate::signals::latch_reads;
 use crate::tables::Table;
+use crate::undriven_names::{defined_marks, first_read};
 use crate::words::Word;
 use std::alloc::{AllocError, Global};
 

@@ -8,7 +8,7 @@ ghost use Rattle.syn_netlist.specs.Words.{distinct, is_word};
 
 use crate::Latch;
 use crate::items::Items;
-use crate::numbering::Names;
+use crate::name_numbers::Names;
 use crate::signals::{observed_numbers, source_numbers};
 use crate::words::Word;
 use std::alloc::{AllocError, Global};

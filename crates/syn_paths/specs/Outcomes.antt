@@ -7,8 +7,8 @@ use Rattle.syn_cones.specs.Walk.{put_node, rises}
 use Rattle.syn_paths.specs.declared.places.Place.{Place}
 use Rattle.syn_paths.specs.declared.places.Place.TheVariants.{In, Out}
 use Rattle.syn_paths.specs.declared.places.Step.{Step}
-use Rattle.syn_paths.specs.declared.choosing.Outcome.{Outcome}
-use Rattle.syn_paths.specs.declared.choosing.Outcome.TheVariants.{Paths, Cut}
+use Rattle.syn_paths.specs.declared.node_cut.Outcome.{Outcome}
+use Rattle.syn_paths.specs.declared.node_cut.Outcome.TheVariants.{Paths, Cut}
 use Rattle.syn_paths.specs.Tops.{IsInTop, label_in}
 use Rattle.syn_paths.specs.Paths.{ArePathsInto}
 use Rattle.syn_paths.specs.LeastCuts.{IsLeastCut}

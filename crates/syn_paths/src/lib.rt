@@ -2,18 +2,18 @@
 //! none, the least cut outside the top (Cong and Ding, "FlowMap", IEEE TCAD 1994; Ford and Fulkerson for the search).
 #![tactic(auto)]
 
-mod adding;
-mod checking;
-mod choosing;
+mod added_paths;
 mod laws;
-mod listing;
+mod node_cut;
+mod node_facts;
+mod path_checks;
+mod path_lists;
+mod path_search;
 mod places;
-mod reading;
 mod room;
-mod searching;
 mod tops;
 
-pub use checking::are_paths_for;
-pub use choosing::{Outcome, find};
 pub use laws::{disjoint_meet_at_most, one_least_cut};
+pub use node_cut::{Outcome, find};
+pub use path_checks::are_paths_for;
 pub use room::Room;

@@ -11,7 +11,7 @@ ghost use Rattle.syn_paths.specs.Adding.{AreStarts};
 ghost use Rattle.syn_paths.specs.Walking.{start_all, start_with, wait_all, wait_with};
 ghost use Rattle.syn_paths.specs.Tops.{FallsBelow, IsLowFor};
 
-use crate::reading::{label_of, row_at};
+use crate::node_facts::{label_of, row_at};
 use std::alloc::AllocError;
 use syn_rows::Row;
 

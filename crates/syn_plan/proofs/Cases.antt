@@ -6,8 +6,8 @@ use Rattle.std.specs.Bool.{beq}
 use Rattle.syn_truth.specs.Truth.{AtEach}
 use Rattle.syn_truth.proofs.Each.{each_at, same_from_test}
 use Rattle.syn_plan.specs.declared.PLit.{PLit}
-use Rattle.syn_plan.specs.declared.factoring.Split.{Split}
-use Rattle.syn_plan.specs.declared.factoring.Split.TheVariants.{Plain, Complemented, AndHigh, AndLow, OrLow, OrHigh, Exclusive, Choice}
+use Rattle.syn_plan.specs.declared.factors.Split.{Split}
+use Rattle.syn_plan.specs.declared.factors.Split.TheVariants.{Plain, Complemented, AndHigh, AndLow, OrLow, OrHigh, Exclusive, Choice}
 use Rattle.syn_plan.specs.Gates.{index_of, literal_of, complement_of, values_after}
 use Rattle.syn_plan.specs.Factoring.{Built, with_gate, joined, split_of, cofactor_of, is_constant, is_complement}
 use Rattle.syn_plan.proofs.Builds.{IsBuilt, after, literal_built, complement_built, gate_built, built_then, built_as, choice_of, choice_built, literal_value-even, literal_value-complement_of, index_of-complement_of, get_or-values_after}

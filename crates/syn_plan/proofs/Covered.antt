@@ -9,8 +9,8 @@ use Rattle.std.specs.Bool.{beq}
 use Rattle.std.specs.List.{list_any}
 use Rattle.syn_truth.specs.Truth.{AtEach}
 use Rattle.syn_truth.proofs.Each.{each_at, each_from, same_from_test, same_test}
-use Rattle.syn_plan.specs.declared.factoring.Split.{Split}
-use Rattle.syn_plan.specs.declared.factoring.Split.TheVariants.{Plain, Complemented, AndHigh, AndLow, OrLow, OrHigh, Exclusive, Choice}
+use Rattle.syn_plan.specs.declared.factors.Split.{Split}
+use Rattle.syn_plan.specs.declared.factors.Split.TheVariants.{Plain, Complemented, AndHigh, AndLow, OrLow, OrHigh, Exclusive, Choice}
 use Rattle.syn_plan.specs.Factoring.{split_of, cofactor_of, is_constant, depends_on, Covers, most_gates}
 use Rattle.syn_plan.proofs.Cases.{cost_of, constant_at}
 

@@ -11,8 +11,8 @@ use Rattle.std.specs.List.{list_all}
 use Rattle.syn_truth.specs.Truth.{AtEach}
 use Rattle.syn_truth.proofs.Each.{each_same, some_from}
 use Rattle.syn_plan.specs.declared.PLit.{PLit}
-use Rattle.syn_plan.specs.declared.factoring.Split.{Split}
-use Rattle.syn_plan.specs.declared.factoring.Split.TheVariants.{Plain, Complemented, AndHigh, AndLow, OrLow, OrHigh, Exclusive, Choice}
+use Rattle.syn_plan.specs.declared.factors.Split.{Split}
+use Rattle.syn_plan.specs.declared.factors.Split.TheVariants.{Plain, Complemented, AndHigh, AndLow, OrLow, OrHigh, Exclusive, Choice}
 use Rattle.syn_plan.specs.Gates.{literal_of}
 use Rattle.syn_plan.specs.Factoring.{Built, joined, split_of, cofactor_of, is_constant, depends_on, factored_after, Covers, most_gates}
 use Rattle.syn_plan.proofs.Builds.{IsBuilt, literal_built, built_as, get_or-values_after}

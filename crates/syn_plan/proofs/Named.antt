@@ -3,8 +3,8 @@ use Rattle.std.proofs.Common.{◌≡◌, ℕ, ◌+◌, ◌-◌, ◌<◌, ◌≤�
 use Rattle.std.proofs.lemmas.Bool.{and_from, or_parts, or_from, or_left, or_right, cond_both, cases_lt, le-leb, lt-ltb, eq-eqb, ne_eqb, false≢true, false_from_ne_true}
 use Rattle.std.proofs.lemmas.List.Folds.{list_any-append}
 use Rattle.syn_plan.specs.declared.PLit.{PLit}
-use Rattle.syn_plan.specs.declared.factoring.Split.{Split}
-use Rattle.syn_plan.specs.declared.factoring.Split.TheVariants.{Plain, Complemented, AndHigh, AndLow, OrLow, OrHigh, Exclusive, Choice}
+use Rattle.syn_plan.specs.declared.factors.Split.{Split}
+use Rattle.syn_plan.specs.declared.factors.Split.TheVariants.{Plain, Complemented, AndHigh, AndLow, OrLow, OrHigh, Exclusive, Choice}
 use Rattle.syn_plan.specs.Gates.{index_of, literal_of, complement_of}
 use Rattle.syn_plan.specs.Factoring.{Built, with_gate, complemented, with_choice, joined, split_of, cofactor_of, depends_on, factored_after, is_constant}
 use Rattle.syn_plan.specs.Naming.{names, gates_name, built_names, NamesNeeded, DependsWithin, names_within, gates_within, IsWithin}

@@ -6,8 +6,8 @@ use Rattle.syn_truth.specs.declared.Truth.{Truth}
 use Rattle.syn_truth.specs.Truth.{AtEach, Depends, value_of}
 use Rattle.syn_truth.proofs.Each.{depends_from, depends_test}
 use Rattle.syn_plan.specs.declared.PLit.{PLit}
-use Rattle.syn_plan.specs.declared.factoring.Split.{Split}
-use Rattle.syn_plan.specs.declared.factoring.Split.TheVariants.{Choice}
+use Rattle.syn_plan.specs.declared.factors.Split.{Split}
+use Rattle.syn_plan.specs.declared.factors.Split.TheVariants.{Choice}
 use Rattle.syn_plan.specs.Gates.{literal_of}
 use Rattle.syn_plan.specs.Factoring.{Built, with_choice, joined, joined_at, split_of, cofactor_of, is_constant, depends_on, factored_after, Covers, most_gates}
 use Rattle.syn_plan.proofs.Builds.{IsBuilt}

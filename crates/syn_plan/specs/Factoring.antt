@@ -5,8 +5,8 @@ use Rattle.std.specs.Bool.{beq}
 use Rattle.std.specs.List.{list_any, list_all}
 use Rattle.syn_truth.specs.Truth.{AtEach, holds_at_each}
 use Rattle.syn_plan.specs.declared.PLit.{PLit}
-use Rattle.syn_plan.specs.declared.factoring.Split.{Split}
-use Rattle.syn_plan.specs.declared.factoring.Split.TheVariants.{Plain, Complemented, AndHigh, AndLow, OrLow, OrHigh, Exclusive, Choice}
+use Rattle.syn_plan.specs.declared.factors.Split.{Split}
+use Rattle.syn_plan.specs.declared.factors.Split.TheVariants.{Plain, Complemented, AndHigh, AndLow, OrLow, OrHigh, Exclusive, Choice}
 use Rattle.syn_plan.specs.Gates.{literal_of, complement_of, literal_value, values_after}
 
 -- the function with variable i set to v

@@ -1,7 +1,7 @@
 //! Plans: small circuits of AND gates over leaves, and the plans that factoring gives.
 #![tactic(auto)]
 
-mod factoring;
+mod factors;
 mod laws;
 mod plan;
 mod tables;
@@ -9,18 +9,18 @@ mod tables;
 ghost use Rattle.std.specs.Prelude.{◌≡◌, ℕ, ◌+◌, ◌*◌, ◌/◌, ◌%◌, ◌^◌, ◌<◌, ◌==◌, if◌then◌else◌, IsTrue, ◌↔◌};
 ghost use Rattle.syn_plan.specs.Gates.{complement_of};
 
-pub use factoring::{Split, factor, factor_in};
+pub use factors::{Split, factor, factor_in};
 pub use laws::{factored_names, factored_truth, needed_within};
 pub use plan::Plan;
 
 /// The most leaves of a plan, as many as a truth table has variables.
-pub const MOST_LEAVES: u8 = 8;
+pub const MAX_LEAVES: u8 = 8;
 
 /// The most gates of a plan: what factoring a function of 8 variables may take.
-pub const MOST_GATES: usize = 381;
+pub const MAX_GATES: usize = 381;
 
 /// The most indexes of a plan: the constant 0, the leaves and the gates.
-const MOST_INDEXES: usize = 390;
+const MAX_INDEXES: usize = 390;
 
 /// The indexes of a small plan, whose tables stand in less room.
 const FEW_INDEXES: usize = 32;

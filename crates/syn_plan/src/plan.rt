@@ -2,11 +2,11 @@
 
 ghost use Rattle.std.specs.Prelude.{◌≡◌, ℕ, ◌+◌, ◌-◌, ◌*◌, ◌/◌, ◌<◌, ◌≤◌, ◌∷◌, [], ◌++◌, length, Bool, true, false};
 ghost use Rattle.arrayvec.specs.ArrayVec.{array_vec_len};
-ghost use Rattle.syn_plan.specs.declared.TheConstants.{MOST_INDEXES, MOST_LEAVES};
+ghost use Rattle.syn_plan.specs.declared.TheConstants.{MAX_INDEXES, MAX_LEAVES};
 ghost use Rattle.syn_plan.specs.Gates.{complement_of, in_order, index_of, literal_of};
 
 use crate::tables::Tables;
-use crate::{FEW_INDEXES, MOST_GATES, MOST_INDEXES, MOST_LEAVES, PLit};
+use crate::{FEW_INDEXES, MAX_GATES, MAX_INDEXES, MAX_LEAVES, PLit};
 use arrayvec::ArrayVec;
 use syn_truth::Truth;
 
@@ -15,9 +15,9 @@ use syn_truth::Truth;
 #[derive(Debug, PartialEq, Eq, Drop)]
 pub struct Plan {
     pub leaves: u8,
-    pub gates: ArrayVec<(PLit, PLit), MOST_GATES>,
+    pub gates: ArrayVec<(PLit, PLit), MAX_GATES>,
     pub out: PLit,
-    ghost few: { leaves ≤ MOST_LEAVES },
+    ghost few: { leaves ≤ MAX_LEAVES },
     ghost ordered: { in_order (1 + leaves) gates.items ≡ true },
     ghost there: { index_of out < 1 + leaves + array_vec_len gates },
 }
@@ -28,7 +28,7 @@ impl Plan {
 
     /// The plan over so many leaves that has no gate, and is 0.
     pub fn new(leaves: u8) -> Plan
-        requires { leaves ≤ MOST_LEAVES }
+        requires { leaves ≤ MAX_LEAVES }
         ensures leaves { result.leaves ≡ leaves }
         ensures gates { result.gates.items ≡ [] }
         ensures out { result.out ≡ literal_of 0 }
@@ -42,7 +42,7 @@ impl Plan {
 
     /// Adds the gate that is the AND of two literals, and gives its plain literal. The output stays.
     pub fn and(&mut self, a: PLit, b: PLit) -> PLit
-        requires room { array_vec_len self.old.gates < MOST_GATES }
+        requires room { array_vec_len self.old.gates < MAX_GATES }
         requires first { index_of a < 1 + self.old.leaves + array_vec_len self.old.gates }
         requires second { index_of b < 1 + self.old.leaves + array_vec_len self.old.gates }
         ensures literal { result ≡ literal_of (1 + self.old.leaves + array_vec_len self.old.gates) }
@@ -58,7 +58,7 @@ impl Plan {
     // The table that the plan computes, in room for the tables of so many indexes.
     fn truth_in<const INDEXES: usize>(&self) -> Truth
         requires room { self.now.leaves + array_vec_len self.now.gates < INDEXES }
-        requires most { INDEXES ≤ MOST_INDEXES }
+        requires most { INDEXES ≤ MAX_INDEXES }
         ensures vars { result.vars ≡ self.now.leaves }
         ensures values { AtEach self.now.leaves (λ xs. value_of result xs ≡ plan_truth self.now xs) }
     {
@@ -78,7 +78,7 @@ impl Plan {
         if self.leaves as usize + self.gates.len() < FEW_INDEXES {
             self.truth_in::<FEW_INDEXES>()
         } else {
-            self.truth_in::<MOST_INDEXES>()
+            self.truth_in::<MAX_INDEXES>()
         }
     }
 }

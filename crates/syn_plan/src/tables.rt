@@ -3,11 +3,11 @@
 ghost use Rattle.std.specs.Prelude.{◌≡◌, ℕ, ◌+◌, ◌/◌, ◌<◌, ◌≤◌, [], ◌∷◌, ◌++◌, length, All, Bool, false};
 ghost use Rattle.arrayvec.specs.ArrayVec.{array_vec_len};
 ghost use Rattle.syn_truth.specs.Truth.{AtEach, value_of};
-ghost use Rattle.syn_plan.specs.declared.TheConstants.{MOST_LEAVES};
+ghost use Rattle.syn_plan.specs.declared.TheConstants.{MAX_LEAVES};
 ghost use Rattle.syn_plan.specs.Gates.{index_of, literal_value};
 ghost use Rattle.syn_plan.specs.Tables.{values_in};
 
-use crate::{MOST_LEAVES, PLit};
+use crate::{MAX_LEAVES, PLit};
 use arrayvec::ArrayVec;
 use syn_truth::Truth;
 
@@ -16,7 +16,7 @@ use syn_truth::Truth;
 pub(crate) struct Tables<const INDEXES: usize> {
     pub(crate) vars: u8,
     pub(crate) items: ArrayVec<Truth, INDEXES>,
-    ghost few: { vars ≤ MOST_LEAVES },
+    ghost few: { vars ≤ MAX_LEAVES },
     ghost alike: { All (λ t. t.vars ≡ vars) items.items },
 }
 
@@ -24,7 +24,7 @@ impl<const INDEXES: usize> Tables<INDEXES> {
     /// The tables of the constant 0 and of so many leaves.
     #[inline]
     pub(crate) fn of_leaves(vars: u8) -> Self
-        requires few { vars ≤ MOST_LEAVES }
+        requires few { vars ≤ MAX_LEAVES }
         requires room { vars < INDEXES }
         ensures vars { result.vars ≡ vars }
         ensures len { array_vec_len result.items ≡ 1 + vars }

@@ -7,7 +7,7 @@ use Rattle.syn_table.specs.declared.Shared.{Shared}
 use Rattle.syn_table.specs.Seating.{IsOf, known_of, view_of}
 use Rattle.syn_table.specs.Steps.{with_view}
 use Rattle.syn_commit.specs.Giving.{HoldsAlone, IsAtRest}
-use Rattle.syn_pool.specs.declared.working.Worker.{Worker}
+use Rattle.syn_pool.specs.declared.workers.Worker.{Worker}
 use Rattle.syn_pool.specs.Reports.{HasTriedAll, IsSum, Sweep, all_answers, reported}
 
 -- the seat is one of this table, it holds its spare nodes alone, and nothing is pinned

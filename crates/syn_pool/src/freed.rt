@@ -1,15 +1,15 @@
 //! What goes with a root's row.
 
-use crate::cuts::{MOST_INNER, SeenCut, fan_ins, is_among};
+use crate::cuts::{MAX_INNER, TableCut, fan_ins, is_among};
 use arrayvec::ArrayVec;
 use syn_table::Shared;
 
 /// Nodes above a cut's leaves.
-pub(crate) type Nodes = ArrayVec<u32, MOST_INNER>;
+pub(crate) type Nodes = ArrayVec<u32, MAX_INNER>;
 
 // Takes a reference from the nodes above the leaves that are this one, of which so many are left: a node goes with its last
 // one.
-fn release(cut: &SeenCut, node: u32, left: &mut Nodes, going: &mut Nodes) {
+fn release(cut: &TableCut, node: u32, left: &mut Nodes, going: &mut Nodes) {
     for (place, other) in cut.inner.as_slice().iter().enumerate() {
         if *other == node && place < left.len() {
             left[place] = left[place].saturating_sub(1);
@@ -30,7 +30,7 @@ fn count_of(shared: &Shared, node: u32) -> u32 {
 }
 
 // The references of the nodes above the leaves.
-fn counts(shared: &Shared, cut: &SeenCut) -> Nodes {
+fn counts(shared: &Shared, cut: &TableCut) -> Nodes {
     let mut counts = Nodes::new();
     for node in cut.inner.as_slice() {
         if !counts.is_full() {
@@ -41,13 +41,13 @@ fn counts(shared: &Shared, cut: &SeenCut) -> Nodes {
 }
 
 /// The nodes above a cut's leaves that go with the root's row where the leaves stay, the root first.
-pub(crate) fn going(shared: &Shared, cut: &SeenCut) -> Nodes {
+pub(crate) fn going(shared: &Shared, cut: &TableCut) -> Nodes {
     let mut left = counts(shared, cut);
     let mut going = Nodes::new();
     if let Some(root) = cut.inner.as_slice().get(0) {
         going.push(*root);
     }
-    for place in 0..MOST_INNER {
+    for place in 0..MAX_INNER {
         let Some(node) = going.as_slice().get(place) else {
             break;
         };

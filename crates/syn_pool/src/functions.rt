@@ -1,15 +1,15 @@
 //! The function of a root over a cut.
 
-use crate::cuts::{MOST_INNER, MOST_LEAVES, SeenCut, fan_ins};
+use crate::cuts::{MAX_INNER, MAX_LEAVES, TableCut, fan_ins};
 use arrayvec::ArrayVec;
 use syn_rows::Lit;
 use syn_table::Shared;
 
 // The values of each variable at the 16 assignments.
-const VARIABLES: [u16; MOST_LEAVES] = [0xAAAA, 0xCCCC, 0xF0F0, 0xFF00];
+const VARIABLES: [u16; MAX_LEAVES] = [0xAAAA, 0xCCCC, 0xF0F0, 0xFF00];
 
 // The values of the nodes above the leaves, as far as they are known.
-type Values = ArrayVec<Option<u16>, MOST_INNER>;
+type Values = ArrayVec<Option<u16>, MAX_INNER>;
 
 // The place of a node among some.
 fn place_of(nodes: &[u32], node: u32) -> Option<usize> {
@@ -22,7 +22,7 @@ fn place_of(nodes: &[u32], node: u32) -> Option<usize> {
 }
 
 // The values of a leaf or of a node above the leaves.
-fn plain_value(cut: &SeenCut, values: &[Option<u16>], node: u32) -> Option<u16> {
+fn plain_value(cut: &TableCut, values: &[Option<u16>], node: u32) -> Option<u16> {
     if node == 0 {
         return Some(0);
     }
@@ -34,7 +34,7 @@ fn plain_value(cut: &SeenCut, values: &[Option<u16>], node: u32) -> Option<u16> 
 }
 
 // The values of a literal.
-fn value_of(cut: &SeenCut, values: &[Option<u16>], literal: Lit) -> Option<u16> {
+fn value_of(cut: &TableCut, values: &[Option<u16>], literal: Lit) -> Option<u16> {
     let plain = plain_value(cut, values, literal.node())?;
     Some(if literal.complemented() {
         !plain
@@ -44,7 +44,7 @@ fn value_of(cut: &SeenCut, values: &[Option<u16>], literal: Lit) -> Option<u16> 
 }
 
 // The values of a node, from those of its fan-ins.
-fn value_at(shared: &Shared, cut: &SeenCut, values: &[Option<u16>], node: u32) -> Option<u16> {
+fn value_at(shared: &Shared, cut: &TableCut, values: &[Option<u16>], node: u32) -> Option<u16> {
     let (a, b) = fan_ins(shared, node)?;
     let first = value_of(cut, values, a)?;
     let second = value_of(cut, values, b)?;
@@ -52,7 +52,7 @@ fn value_at(shared: &Shared, cut: &SeenCut, values: &[Option<u16>], node: u32) -
 }
 
 // No values of the nodes above the leaves.
-fn unknown(cut: &SeenCut) -> Values {
+fn unknown(cut: &TableCut) -> Values {
     let mut values = Values::new();
     for _ in cut.inner.as_slice() {
         if !values.is_full() {
@@ -63,7 +63,7 @@ fn unknown(cut: &SeenCut) -> Values {
 }
 
 // Finds the values of the nodes above the leaves, the last one first.
-fn sweep(shared: &Shared, cut: &SeenCut, values: &mut Values) {
+fn sweep(shared: &Shared, cut: &TableCut, values: &mut Values) {
     for place in (0..cut.inner.len()).rev() {
         let value = value_at(shared, cut, values.as_slice(), cut.inner[place]);
         if place < values.len() {
@@ -74,8 +74,8 @@ fn sweep(shared: &Shared, cut: &SeenCut, values: &mut Values) {
 
 /// The function of a cut's root over its leaves, bit m at the assignment of the number m, where leaf i is bit i of the
 /// number. None where there are more than four leaves, or rows that change.
-pub(crate) fn function_over(shared: &Shared, cut: &SeenCut) -> Option<u16> {
-    if cut.leaves.len() > MOST_LEAVES {
+pub(crate) fn function_over(shared: &Shared, cut: &TableCut) -> Option<u16> {
+    if cut.leaves.len() > MAX_LEAVES {
         return None;
     }
     let mut values = unknown(cut);

@@ -8,29 +8,29 @@
 //! change while they are read. Nothing rests on them: a commit judges each proposal again.
 #![tactic(auto)]
 
+mod added_rows;
+mod attempts;
 mod candidates;
-mod closing;
+mod closed_table;
 mod cuts;
 mod fan_outs;
-mod following;
 mod freed;
 mod functions;
-mod improving;
-mod keeping;
-mod looking;
+mod improvement;
+mod kept_levels;
 mod neighbourhoods;
-mod opening;
-mod passing;
+mod opened_table;
+mod passes;
+mod previews;
 mod queues;
 mod reports;
+mod revisits;
 mod rounds;
 mod scene;
-mod sharing;
 mod steps;
-mod sweeping;
-mod trying;
-mod weighing;
-mod working;
+mod visits;
+mod worker_threads;
+mod workers;
 
-pub use improving::{PassSettings, improve};
-pub use passing::pass;
+pub use improvement::{PassSettings, improve};
+pub use passes::pass;

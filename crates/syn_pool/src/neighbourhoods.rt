@@ -1,7 +1,7 @@
 //! Which neighbourhoods the rounds of a pass have visited, and which ones its checks found to save nothing. It tells which ANDs
 //! a round leaves out and which ones a check looks at first, and nothing rests on it.
 
-use crate::opening::gates_of;
+use crate::opened_table::gates_of;
 use std::alloc::{AllocError, Global};
 use syn_gain::Proposal;
 use syn_graph::Graph;

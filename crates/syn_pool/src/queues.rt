@@ -14,7 +14,7 @@ pub(crate) type Queue = crossbeam_deque::Worker<u32>;
 pub(crate) type Thief = Stealer<u32>;
 
 // How often a thief tries to take of a queue of which another takes at the same moment.
-const MOST_TRIES: u32 = 64;
+const MAX_TRIES: u32 = 64;
 
 // Adds a node to a queue that has room for it.
 fn add(queue: &mut Queue, node: u32)
@@ -67,7 +67,7 @@ pub(crate) fn thieves_of(alloc: Global, queues: &[Queue]) -> Result<Vec<Thief>, 
 
 // A node of another's queue, whose far end moves to this queue by a batch; none where that is empty or others are at it.
 fn stolen(queue: &mut Queue, thief: &Thief) -> Option<u32> {
-    for _ in 0..MOST_TRIES {
+    for _ in 0..MAX_TRIES {
         match thief.steal_batch_and_pop(queue) {
             Steal::Success(node) => return Some(node),
             Steal::Empty => return None,

@@ -9,13 +9,13 @@ ghost use Rattle.syn_commit.specs.Giving.{IsAtRest};
 ghost use Rattle.syn_pool.specs.Reports.{IsReport};
 ghost use Rattle.syn_pool.specs.Working.{HasSwept};
 
-use crate::closing::close;
+use crate::closed_table::close;
 use crate::fan_outs::FanOuts;
 use crate::neighbourhoods::Neighbourhoods;
-use crate::opening::{Order, SPARE, gates_of, noted, opened};
+use crate::opened_table::{Order, SPARE, gates_of, noted, opened};
 use crate::queues::{queues_of, thieves_of};
 use crate::scene::{Board, Course, Crew, Tour};
-use crate::sharing::{Swept, swept_by_all};
+use crate::worker_threads::{WorkerResult, run_workers};
 use std::alloc::{AllocError, Global};
 use std::thread::Threads;
 use syn_commit::Gate;
@@ -26,7 +26,7 @@ use syn_rows::NODE_LIMIT;
 use syn_table::{Seat, Shared};
 
 // The most workers of a round.
-const MOST_WORKERS: u8 = 16;
+const MAX_WORKERS: u8 = 16;
 
 // Whether a table of the graph can be opened, for so many workers.
 fn has_room(graph: &Graph, workers: u8) -> bool
@@ -55,7 +55,7 @@ fn swept<R: Threads + Sync, P: Proposer, G: Gate>(
     tour: Tour<'_>,
     shared: Shared,
     seat: Seat,
-) -> Result<(Shared, Swept), AllocError>
+) -> Result<(Shared, WorkerResult), AllocError>
     requires lists { tour.looks ≡ false → P.is_lists_of course.now.proposer.now lists.now graph.now.rows }
     requires workers { (1 ≤ tour.workers) × (tour.workers ≤ 16) }
     requires nodes { length graph.now.rows + 512 * tour.workers ≤ nodes_of shared }
@@ -78,7 +78,7 @@ fn swept<R: Threads + Sync, P: Proposer, G: Gate>(
         looks: tour.looks,
     };
     let crew = Crew { seat, queues };
-    let swept = swept_by_all(
+    let swept = run_workers(
         course.rt,
         &board,
         graph,
@@ -133,7 +133,7 @@ pub(crate) fn round_at<R: Threads + Sync, P: Proposer, G: Gate>(
     ensures report { IfOk result (λ made. IfSome made (λ m. IsReport m.report)) }
     ensures none { IfOk result (λ made. IfNone made ((NODE_LIMIT ≤ length graph.now.rows + 512 * min (max tour.entry.workers 1) 16) ⊎ (2 ^ 30 ≤ length graph.now.observed))) }
 {
-    let workers = tour.workers.max(1).min(MOST_WORKERS);
+    let workers = tour.workers.max(1).min(MAX_WORKERS);
     if !has_room(graph, workers) {
         return Ok(None);
     }

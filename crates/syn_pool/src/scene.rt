@@ -1,7 +1,7 @@
 //! What a pass, its rounds and their workers go by.
 
 use crate::fan_outs::FanOuts;
-use crate::opening::Order;
+use crate::opened_table::Order;
 use crate::queues::{Queue, Thief};
 use std::alloc::Global;
 use syn_commit::{Hints, Tools};

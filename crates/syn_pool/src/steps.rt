@@ -12,10 +12,10 @@ ghost use Rattle.syn_proposals.specs.Sound.{IsLeftover, IsSound};
 ghost use Rattle.syn_pool.specs.Reports.{IsReport};
 ghost use Rattle.syn_pool.specs.Steps.{IsFewer, IsStepOf};
 
-use crate::following::has_plans;
 use crate::neighbourhoods::{Marked, Neighbourhoods, Seen};
-use crate::opening::Order;
+use crate::opened_table::Order;
 use crate::reports::{NOTHING, both};
+use crate::revisits::has_plans;
 use crate::rounds::{round, round_at};
 use crate::scene::{Course, Tour};
 use std::alloc::{AllocError, Global};
@@ -47,26 +47,26 @@ fn roots_of(alloc: Global, proposals: &[Proposal]) -> Result<Vec<u32>, AllocErro
 }
 
 // The most leftovers that are committed for; more are applied at once, which takes less for each.
-const MOST_COMMITTED: usize = 1024;
+const MAX_COMMITTED: usize = 1024;
 
 // The most leftovers that are left to one worker: several would meet around so few, and leave more to the next check.
-const MOST_ALONE: usize = 256;
+const MAX_ALONE: usize = 256;
 
 // Gains of 0 are worth another round where the last one took away one in so many of the ANDs.
-const LEAST_SHARE: usize = 1024;
+const MIN_SHARE: usize = 1024;
 
 // One in so many of the nodes are few: what is among these is looked for first.
 const FEW: usize = 4;
 
 // How many workers commit for so many leftovers.
 fn workers_for(leftovers: usize, workers: u8) -> u8 {
-    if leftovers <= MOST_ALONE { 1 } else { workers }
+    if leftovers <= MAX_ALONE { 1 } else { workers }
 }
 
 // A graph with fewer ANDs in place of one with leftovers: workers commit for their roots and around them; where there are
 // many, or nothing is gained so, the leftovers are applied.
 #[tactic(auto, using(crate::proofs::Sums::no_report))]
-fn mended<R: Threads + Sync, P: Proposer, G: Gate>(
+fn commit_or_apply<R: Threads + Sync, P: Proposer, G: Gate>(
     course: &Course<'_, R, P, G>,
     graph: &Graph,
     uses: &Uses,
@@ -81,7 +81,7 @@ fn mended<R: Threads + Sync, P: Proposer, G: Gate>(
     requires sound { All (IsSound graph.now.rows) found.now }
     ensures { IfOk result (λ m. IsFewer graph.now m.report m.graph) }
 {
-    if found.len() <= MOST_COMMITTED {
+    if found.len() <= MAX_COMMITTED {
         let roots = roots_of(course.alloc, found)?;
         let tour = Tour {
             nodes: roots.as_slice(),
@@ -146,7 +146,7 @@ fn check<R: Threads + Sync, P: Proposer, G: Gate>(
         return Ok(None);
     }
     clean.add_but(&others, found.as_slice());
-    let made = mended(course, graph, &uses, lists, found.as_slice())?;
+    let made = commit_or_apply(course, graph, &uses, lists, found.as_slice())?;
     Ok(Some(made))
 }
 
@@ -191,7 +191,7 @@ fn is_worth_another(graph: &Graph, next: &Graph) -> bool
     ensures { result ≡ true → length next.now.rows < length graph.now.rows }
 {
     let (before, after) = (graph.rows.as_slice().len(), next.rows.as_slice().len());
-    after < before && (before - after).saturating_mul(LEAST_SHARE) >= before
+    after < before && (before - after).saturating_mul(MIN_SHARE) >= before
 }
 
 // What comes after a round that made a graph in place of the given one, which has these lists: another round, or the check.

@@ -6,7 +6,7 @@ use Rattle.syn_rows.specs.Rows.{row_at}
 use Rattle.syn_rows.specs.Reach.{is_and}
 use Rattle.syn_gain.specs.Proposals.{replacement}
 use Rattle.syn_gain.specs.Replacements.{Replacement}
-use Rattle.syn_proposals.specs.declared.checking.Part.{Part}
+use Rattle.syn_proposals.specs.declared.remaining.Part.{Part}
 use Rattle.syn_proposals.specs.Closing.{IsFirst, SavesNothing}
 use Rattle.syn_proposals.specs.Sound.{IsSound}
 

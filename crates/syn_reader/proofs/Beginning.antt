@@ -12,7 +12,7 @@ use Rattle.syn_reader.specs.Heard.{statement, Begins}
 use Rattle.syn_reader.specs.LineFaults.{first_found}
 use Rattle.syn_reader.specs.Marking.{Same}
 use Rattle.syn_reader.specs.Statements.{Statement, begins_model, is_model}
-use Rattle.syn_reader.specs.declared.gathering.Gathering.{Gathering}
+use Rattle.syn_reader.specs.declared.model_words.Gathering.{Gathering}
 use Rattle.syn_reader.specs.Computed.{said_of}
 use Rattle.syn_reader.specs.ModelFaults.{model_checks}
 use Rattle.syn_reader.specs.Gathers.{forbids_in, said_in}

@@ -12,7 +12,7 @@ use Rattle.syn_reader.specs.Computed.{said_of}
 use Rattle.syn_reader.specs.LineFaults.{checks, first_fault_of_lines}
 use Rattle.syn_reader.specs.Statements.{Statement}
 use Rattle.syn_reader.proofs.OnceLaws.{once_law}
-use Rattle.syn_reader.specs.declared.gathering.Gathering.{Gathering}
+use Rattle.syn_reader.specs.declared.model_words.Gathering.{Gathering}
 use Rattle.syn_reader.specs.ModelFaults.{model_checks}
 use Rattle.syn_reader.specs.Gathers.{is_held, may_stand, said_in}
 use Rattle.syn_reader.specs.Owned.{HasGathered}

@@ -24,7 +24,7 @@ use Rattle.syn_reader.specs.Computed.{row_part, row_parts}
 use Rattle.syn_reader.specs.Definitions.{names_defined}
 use Rattle.syn_reader.specs.Marking.{Adds, forbidden, with_words}
 use Rattle.syn_reader.proofs.Words.{mapped, then_some}
-use Rattle.syn_reader.specs.declared.gathering.Gathering.{Gathering}
+use Rattle.syn_reader.specs.declared.model_words.Gathering.{Gathering}
 use Rattle.syn_reader.specs.Computed.{said_by}
 use Rattle.syn_reader.specs.Gathers.{Gathers, IsSound, forbids_in, line_total, may_stand, row_total, said_in}
 use Rattle.syn_reader.specs.Saying.{on_line}

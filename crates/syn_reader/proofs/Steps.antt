@@ -20,7 +20,7 @@ use Rattle.syn_reader.specs.Marking.{by_kind, forbidden_by}
 use Rattle.syn_reader.specs.Keywords.{line_fault}
 use Rattle.syn_reader.specs.Rows.{below_rows, rows_fault}
 use Rattle.syn_reader.proofs.LineLaws.{SameOnRows, found_inputs, found_clocks, found_outputs, found_names, found_latch, found_subckt, row_kind, rows_law_by, above_rows, rows_end, rows_definitions, rows_nil, rows_gone, rows_count}
-use Rattle.syn_reader.specs.declared.gathering.Gathering.{Gathering}
+use Rattle.syn_reader.specs.declared.model_words.Gathering.{Gathering}
 use Rattle.syn_reader.specs.Computed.{said_by, said_of}
 use Rattle.syn_reader.specs.ModelFaults.{is_none, model_checks}
 use Rattle.syn_reader.specs.Gathers.{Gathers, forbids_in, line_total, said_in}

@@ -10,7 +10,7 @@ use Rattle.syn_reader.specs.Definitions.{names_defined}
 use Rattle.syn_reader.specs.Faults.{Fault, SubcktShape, PortTwice}
 use Rattle.syn_reader.specs.Marking.{forbidden, Adds}
 use Rattle.syn_reader.specs.Statements.{is_names}
-use Rattle.syn_reader.specs.declared.gathering.Gathering.{Gathering}
+use Rattle.syn_reader.specs.declared.model_words.Gathering.{Gathering}
 use Rattle.syn_reader.specs.Computed.{said_by}
 use Rattle.syn_reader.specs.Saying.{on_line}
 use Rattle.syn_reader.specs.Subcircuits.{bound_twice, subcircuit_of}

@@ -10,7 +10,7 @@ use Rattle.syn_reader.specs.Heard.{Begins, word_count}
 use Rattle.syn_reader.specs.LineFaults.{first_fault_of_lines, table_above}
 use Rattle.syn_reader.specs.Marking.{forbidden_by}
 use Rattle.syn_reader.specs.Statements.{Statement, is_end, is_model}
-use Rattle.syn_reader.specs.declared.gathering.Gathering.{Gathering}
+use Rattle.syn_reader.specs.declared.model_words.Gathering.{Gathering}
 use Rattle.syn_reader.specs.Computed.{said_of}
 use Rattle.syn_reader.specs.ModelFaults.{model_checks}
 use Rattle.syn_reader.specs.Gathers.{forbids_in, said_in}

@@ -18,7 +18,7 @@ ghost use Rattle.syn_reader.specs.Alone.{is_alone, is_plain, latch_in_kind, latc
 
 use crate::signals::copy_word;
 use std::alloc::{AllocError, Global};
-use syn_models::{FlatFault, MOST_WORDS, Model, Models, Statement, StatementKind, flatten};
+use syn_models::{FlatFault, MAX_WORDS, Model, Models, Statement, StatementKind, flatten};
 use syn_netlist::{Frame, Items, Latch, Netlist, Table, Word};
 
 // Whether no statement is a subcircuit.
@@ -199,7 +199,7 @@ fn alone(alloc: Global, models: Models) -> Result<Netlist, FlatFault>
     if let Some(name) = undriven(alloc, &netlist, &reads)? {
         return Err(FlatFault::Undriven(name));
     }
-    if words > MOST_WORDS {
+    if words > MAX_WORDS {
         return Err(FlatFault::TooManyWords(words));
     }
     Ok(netlist)

@@ -7,23 +7,23 @@
 #![tactic(auto)]
 
 mod alone;
-mod checking;
-mod gathering;
+mod checked;
+mod file_reader;
 mod latch_lines;
 mod laws;
+mod model_words;
 mod models;
-mod reading;
 mod rows;
 mod signals;
 mod statements;
 mod subcircuits;
 
-pub use checking::{MOST_COST, MOST_SOURCES};
+pub use checked::{MAX_COST, MAX_SOURCES};
+pub use file_reader::{read, read_checked};
 pub use laws::{
     either_or, faultless_say, few_outputs, not_both, one_fault, one_netlist, say_computed,
     worked_models, worked_parts, worked_prefixes, worked_subcircuits, worked_texts,
 };
-pub use reading::{read, read_checked};
 use std::alloc::{AllocError, AllocFailed};
 use syn_netlist::{Items, Word};
 

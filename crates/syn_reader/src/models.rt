@@ -15,7 +15,7 @@ ghost use Rattle.syn_reader.specs.Owned.{HasGathered, HasRoom, behind, first, ot
 ghost use Rattle.syn_reader.specs.Parted.{by_model, name_in, words_of};
 ghost use Rattle.syn_reader.specs.Saying.{SpellAll, SpellModel, SpellsModels};
 
-use crate::gathering::{Gathering, gather_rest};
+use crate::model_words::{Gathering, gather_rest};
 use crate::signals::{Signals, copy_word};
 use crate::statements::Statements;
 use crate::{Kind, ReadFault};

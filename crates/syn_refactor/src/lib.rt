@@ -1,8 +1,8 @@
 //! Refactoring: each node's function over a cone of at most eight leaves, factored.
 #![tactic(auto)]
 
-mod proposing;
-mod refactoring;
+mod closure;
+mod proposer;
 
-pub use proposing::{Cones, NoLists};
-pub use refactoring::refactor;
+pub use closure::refactor;
+pub use proposer::{Cones, NoLists};

@@ -15,7 +15,7 @@ ghost use Rattle.syn_resub.specs.Laws.{AreDivisors};
 
 use crate::FanOuts;
 use crate::divisors::divisors;
-use crate::nodes::{MOST_DIVISORS, Nodes, place_of};
+use crate::nodes::{MAX_DIVISORS, Nodes, place_of};
 use arrayvec::ArrayVec;
 use std::alloc::{AllocError, Global};
 use syn_cones::function;
@@ -26,7 +26,7 @@ use syn_rows::{Lit, Row};
 use syn_truth::Truth;
 
 /// The tables of divisors.
-pub(crate) type Tables = ArrayVec<Truth, MOST_DIVISORS>;
+pub(crate) type Tables = ArrayVec<Truth, MAX_DIVISORS>;
 
 /// An AND as resubstitution looks at it.
 #[derive(Debug, Drop)]

@@ -5,21 +5,21 @@
 //! plan over the leaves. Divisors are found by a graph's fan-outs (`FanOuts`), which are listed once for a graph.
 #![tactic(auto)]
 
+mod closure;
 mod divided;
 mod divisors;
 mod fan_outs;
-mod finding;
+mod form_search;
 mod forms;
 mod laws;
 mod nodes;
-mod placing;
+mod placed_forms;
 mod plans;
-mod proposing;
-mod resubstituting;
+mod proposer;
 mod sides;
 
+pub use closure::resub;
 pub use fan_outs::FanOuts;
 pub use forms::Form;
 pub use laws::divisors_are_divisors;
-pub use proposing::Divisors;
-pub use resubstituting::resub;
+pub use proposer::Divisors;

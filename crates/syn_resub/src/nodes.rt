@@ -9,7 +9,7 @@ use arrayvec::ArrayVec;
 use syn_cones::gap_for;
 
 /// The most divisors of a node.
-pub(crate) const MOST_DIVISORS: usize = 64;
+pub(crate) const MAX_DIVISORS: usize = 64;
 
 /// Rising nodes, with room for one that is dropped at once.
 pub(crate) type Nodes = ArrayVec<u32, 65>;
@@ -42,6 +42,6 @@ pub(crate) fn put(nodes: &mut Nodes, node: u32)
 {
     if let Some(place) = gap_for(nodes.as_slice(), node) {
         nodes.insert(place, node);
-        nodes.truncate(MOST_DIVISORS);
+        nodes.truncate(MAX_DIVISORS);
     }
 }

@@ -15,7 +15,7 @@ ghost use Rattle.syn_resub.specs.Resubstitution.{gate_of, gates_of, index_in, li
 
 use crate::Form;
 use crate::divided::Divided;
-use crate::nodes::{MOST_DIVISORS, has, place_of};
+use crate::nodes::{MAX_DIVISORS, has, place_of};
 use arrayvec::ArrayVec;
 use syn_gain::node_at;
 use syn_graph::Graph;
@@ -23,7 +23,7 @@ use syn_plan::{PLit, Plan};
 use syn_rows::{Lit, Row};
 
 // The nodes whose rows are gates.
-type Inner = ArrayVec<u32, MOST_DIVISORS>;
+type Inner = ArrayVec<u32, MAX_DIVISORS>;
 
 // Nodes that are wanted: two roots, and two fan-ins of each divisor.
 type Wanted = ArrayVec<u32, 130>;

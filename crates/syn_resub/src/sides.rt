@@ -7,7 +7,7 @@ ghost use Rattle.syn_resub.specs.Divided.{AreDivided, HasValues, IsSide, implies
 ghost use Rattle.syn_resub.specs.Sides.{AreSides, divisor_of, may_stand};
 
 use crate::divided::Divided;
-use crate::nodes::MOST_DIVISORS;
+use crate::nodes::MAX_DIVISORS;
 use arrayvec::ArrayVec;
 use syn_graph::Graph;
 use syn_rows::Lit;
@@ -36,7 +36,7 @@ pub struct Sides {
 }
 
 /// The divisors that may stand in the AND of two.
-pub(crate) type AllSides = ArrayVec<Sides, MOST_DIVISORS>;
+pub(crate) type AllSides = ArrayVec<Sides, MAX_DIVISORS>;
 
 // Whether a table implies another: it is the AND of both.
 fn is_below(table: Truth, other: Truth) -> bool

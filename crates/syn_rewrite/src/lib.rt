@@ -4,12 +4,12 @@
 //! functions. The proposer, `CutPlans`, goes through an AND's cuts (`RootedCut`) and looks at the plans of its function over each.
 #![tactic(auto)]
 
+mod closure;
+mod commit_candidates;
 mod prepared;
-mod promising;
-mod proposing;
-mod rewriting;
+mod proposer;
 mod rooted;
 
+pub use closure::rewrite;
 pub use prepared::Prepared;
-pub use proposing::CutPlans;
-pub use rewriting::rewrite;
+pub use proposer::CutPlans;

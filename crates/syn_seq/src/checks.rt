@@ -13,8 +13,8 @@ ghost use Rattle.syn_seq.specs.Rounds.{AreFates, fate_at};
 ghost use Rattle.syn_seq.specs.Sweeping.{needing_rows, output_lits};
 
 use crate::Fate;
+use crate::kept_graph::{moved_all, moved_rows};
 use crate::keys::key_of;
-use crate::remaking::{moved_all, moved_rows};
 use crate::signals::literals_of;
 use std::alloc::{AllocError, Global};
 use syn_graph::Graph;

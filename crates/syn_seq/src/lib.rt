@@ -13,14 +13,14 @@ mod checks;
 mod fates;
 mod guesses;
 mod kept;
+mod kept_graph;
 mod keys;
+mod latch_sweep;
 mod needs;
 mod orders;
-mod remaking;
 mod signals;
-mod sweeping;
 
-pub use sweeping::sweep;
+pub use latch_sweep::sweep;
 
 /// What becomes of a latch in a round: it is kept, it is merged into an earlier one by its number, or it is dropped.
 #[derive(Clone, Copy, Debug, PartialEq, Eq)]

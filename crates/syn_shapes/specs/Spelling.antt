@@ -63,8 +63,8 @@ gate_tables names (row ∷ rows) [] = []
 gate_tables names (row ∷ rows) (word ∷ words) = gate_table names row word ++ gate_tables names rows words
 
 -- the table of an observed signal: constant 0 without rows, constant 1 with one row, else its node with the one row of the sign
-abbrev pub end_table : List (List ℕ) → List ℕ → Lit → Table
-end_table names word l = if node_of l == 0
+abbrev pub output_table : List (List ℕ) → List ℕ → Lit → Table
+output_table names word l = if node_of l == 0
     then record { inputs = []; output = word; rows = if l.0 == 0 then [] else ([] ∷ []); on = true }
     else record { inputs = lit_name names l ∷ []; output = word; rows = (sign_of l ∷ []) ∷ []; on = true }
 
@@ -72,7 +72,7 @@ end_table names word l = if node_of l == 0
 abbrev pub ends_from : List (List ℕ) → List (List ℕ) → List (List ℕ) → List Lit → List Table
 ends_from known names [] lits = []
 ends_from known names (word ∷ words) [] = []
-ends_from known names (word ∷ words) (l ∷ lits) = if has_word known word then ends_from known names words lits else end_table names word l ∷ ends_from known names words lits
+ends_from known names (word ∷ words) (l ∷ lits) = if has_word known word then ends_from known names words lits else output_table names word l ∷ ends_from known names words lits
 
 -- the netlist of a graph
 abbrev pub network : Frame → List Row → List Lit → Netlist

@@ -8,8 +8,8 @@ use Rattle.syn_aiger_files.specs.declared.fault.AigFault.TheVariants as aiger
 use Rattle.syn_shell.specs.declared.refusal.Refusal.{Refusal}
 use Rattle.syn_shell.specs.declared.refusal.Refusal.TheVariants.{Words, Script, Read, ReadAiger, FileTooLong, LineTooLong, TooManyLines, TooManyGates, LatchType, NoNetwork, GetFailed, PutFailed, LineFailed, SinkFailed, NoMemory}
 use Rattle.syn_shell.specs.Networks.{Network}
-use Rattle.syn_shell.specs.declared.announcing.Announcement.{Announcement}
-use Rattle.syn_shell.specs.declared.announcing.Announcement.TheVariants.{Whole, Cut}
+use Rattle.syn_shell.specs.declared.refusal_lines.Reported.{Reported}
+use Rattle.syn_shell.specs.declared.refusal_lines.Reported.TheVariants.{Whole, Cut}
 use Rattle.syn_shell.specs.declared.line_mode.Turn.{Turn}
 use Rattle.syn_shell.specs.declared.line_mode.Turn.TheVariants as turn
 use Rattle.syn_io.specs.Outside.{Disk, Screen, Input}
@@ -87,24 +87,24 @@ pub none_left : (status taken : ℕ) (st : State) (i i' : Input) → status ≡ 
 none_left status taken st i i' is gave = ([], [], inl (gave, refl, refl), is)
 
 -- no further line is run, and that is told
-pub none_run : (status taken : ℕ) (t : Announcement) (cause : Refusal) (m : Option Network) (d : Disk) (s s' : Screen) (i i' : Input) → status ≡ status_in t → NoFurther taken i i' cause → AnnouncesAs t (nameless cause) s s'
+pub none_run : (status taken : ℕ) (t : Reported) (cause : Refusal) (m : Option Network) (d : Disk) (s s' : Screen) (i i' : Input) → status ≡ status_in t → NoFurther taken i i' cause → AnnouncesAs t (nameless cause) s s'
     → RanLines status taken (state m d s) i (state m d s') i'
 none_run status taken t cause m d s s' i i' is why tells = ([], nameless cause ∷ [], inr (cause, why, refl, (nothing_run t cause m d s s' tells).1), is ∙ nothing_status t cause s s' tells)
 
 pub turned_none : (st : State) (i i' : Input) → GaveNone i i' → Turned (turn.Ends 0) st i st i'
 turned_none st i i' gave = ([], [], λ taken lt. inl (gave, refl, refl), refl)
 
-pub turned_refused : (status : ℕ) (t : Announcement) (cause : Refusal) (m : Option Network) (d : Disk) (s s' : Screen) (i i' : Input) → status ≡ status_in t → LineRefused i i' cause → AnnouncesAs t (nameless cause) s s'
+pub turned_refused : (status : ℕ) (t : Reported) (cause : Refusal) (m : Option Network) (d : Disk) (s s' : Screen) (i i' : Input) → status ≡ status_in t → LineRefused i i' cause → AnnouncesAs t (nameless cause) s s'
     → Turned (turn.Ends status) (state m d s) i (state m d s') i'
 turned_refused status t cause m d s s' i i' is why tells = ([], nameless cause ∷ [], λ taken lt. inr (cause, inl why, refl, (nothing_run t cause m d s s' tells).1), is ∙ nothing_status t cause s s' tells)
 
 -- a turn by what its script left
-abbrev pub turn_of : Option Announcement → Turn
+abbrev pub turn_of : Option Reported → Turn
 turn_of None = turn.GoesOn 0
 turn_of (Some (Whole status)) = turn.GoesOn status
 turn_of (Some (Cut status)) = turn.Ends status
 
-pub turned_by : (left : Option Announcement) (line : List ℕ) (st st' : State) (i j : Input) → GaveLine line i j → Leaves left line st st' → Turned (turn_of left) st i st' j
+pub turned_by : (left : Option Reported) (line : List ℕ) (st st' : State) (i j : Input) → GaveLine line i j → Leaves left line st st' → Turned (turn_of left) st i st' j
 turned_by None line st st' i j gave runs = (line, None, st', gave, runs, refl, refl)
 turned_by (Some (Whole status)) line st st' i j gave (refused, done, runs, told) = (line, Some refused, done, gave, runs, told.1, told.0)
 turned_by (Some (Cut status)) line st st' i j gave (refused, done, runs, told) = (line ∷ [], refused ∷ [], λ taken lt. (j, Some refused, done, lt, gave, runs, inr (told.1, refl, refl, refl)), told.0)

@@ -3,8 +3,8 @@ use Rattle.std.proofs.Common.{◌≡◌, ℕ, List, [], ◌∷◌, refl, sym, ap
 use Rattle.syn_shell.specs.Networks.{Network}
 use Rattle.syn_shell.specs.declared.refusal.Refusal.{Refusal}
 use Rattle.syn_shell.specs.declared.refusal.Refusal.TheVariants.{Words, Script, Read, ReadAiger, FileTooLong, LineTooLong, TooManyLines, TooManyGates, LatchType, NoNetwork, GetFailed, PutFailed, LineFailed, SinkFailed, NoMemory}
-use Rattle.syn_shell.specs.declared.announcing.Announcement.{Announcement}
-use Rattle.syn_shell.specs.declared.announcing.Announcement.TheVariants.{Whole, Cut}
+use Rattle.syn_shell.specs.declared.refusal_lines.Reported.{Reported}
+use Rattle.syn_shell.specs.declared.refusal_lines.Reported.TheVariants.{Whole, Cut}
 use Rattle.syn_io.specs.Outside.{Disk, Screen, Input}
 use Rattle.syn_shell.specs.Outside.{State, state}
 use Rattle.syn_shell.specs.Scripts.{Refused, nameless}
@@ -43,13 +43,13 @@ ran_by words network refusals d d' s s' i i' status runs is = record {
 }
 
 -- words that are refused
-pub ran_nothing : (words : List (List ℕ)) (cause : Refusal) (t : Announcement) (d : Disk) (s s' : Screen) (i : Input) (status : ℕ) → WordsRefused words cause → AnnouncesAs t (nameless cause) s s' → status ≡ status_in t
+pub ran_nothing : (words : List (List ℕ)) (cause : Refusal) (t : Reported) (d : Disk) (s s' : Screen) (i : Input) (status : ℕ) → WordsRefused words cause → AnnouncesAs t (nameless cause) s s' → status ≡ status_in t
     → Ran words d s i d s' i status
 ran_nothing words cause t d s s' i status h tells is =
     ran_by words None (nameless cause ∷ []) d d s s' i i status (words_refused words cause (state None d s) (state None d s') i (nameless cause ∷ []) h (nothing_run t cause None d s s' tells)) (is ∙ nothing_status t cause s s' tells)
 
 -- words with a script
-pub ran_script : (words : List (List ℕ)) (text : List ℕ) (left : Option Announcement) (m : Option Network) (d d' : Disk) (s s' : Screen) (i : Input) (status : ℕ) → usage_of words ≡ OneScript text
+pub ran_script : (words : List (List ℕ)) (text : List ℕ) (left : Option Reported) (m : Option Network) (d d' : Disk) (s s' : Screen) (i : Input) (status : ℕ) → usage_of words ≡ OneScript text
     → Leaves left text (state None d s) (state m d' s') → status ≡ status_left left → Ran words d s i d' s' i status
 ran_script words text None m d d' s s' i status usage runs is =
     ran_by words m [] d d' s s' i i status (inl (subst (λ (u : Usage). RunsUsage u (state None d s) i [] (state m d' s') i) (sym usage) ((None, state m d' s', runs, refl, inl refl), refl))) is
@@ -68,7 +68,7 @@ pub ran_one : (words : List (List ℕ)) (script text : List ℕ) (d d' : Disk) (
 ran_one words script text d d' s s' i status usage text_is (left, m, leaves, is) = ran_script words text left m d d' s s' i status (usage ∙ ap OneScript (sym text_is)) leaves is
 
 -- a script that was run from no network
-pub left_from_none : (result left : Option Announcement) (text : List ℕ) (n m : Option Network) (d d' : Disk) (s s' : Screen) (status : ℕ) → n ≡ None → result ≡ left → status ≡ status_left left
+pub left_from_none : (result left : Option Reported) (text : List ℕ) (n m : Option Network) (d d' : Disk) (s s' : Screen) (status : ℕ) → n ≡ None → result ≡ left → status ≡ status_left left
     → Leaves result text (state n d s) (state m d' s') → RanOne status text d s d' s'
 left_from_none result left text n m d d' s s' status none is status_is leaves =
-    (left, m, subst (λ (o : Option Network). Leaves left text (state o d s) (state m d' s')) none (subst (λ (r : Option Announcement). Leaves r text (state n d s) (state m d' s')) is leaves), status_is)
+    (left, m, subst (λ (o : Option Network). Leaves left text (state o d s) (state m d' s')) none (subst (λ (r : Option Reported). Leaves r text (state n d s) (state m d' s')) is leaves), status_is)

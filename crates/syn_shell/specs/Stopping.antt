@@ -6,8 +6,8 @@ use Rattle.syn_words.specs.Scripts.{IsScript}
 use Rattle.syn_shell.specs.declared.refusal.Refusal.{Refusal}
 use Rattle.syn_shell.specs.declared.refusal.Refusal.TheVariants.{SinkFailed}
 use Rattle.syn_shell.specs.declared.scripts.Stopped.{Stopped}
-use Rattle.syn_shell.specs.declared.announcing.Announcement.{Announcement}
-use Rattle.syn_shell.specs.declared.announcing.Announcement.TheVariants.{Whole, Cut}
+use Rattle.syn_shell.specs.declared.refusal_lines.Reported.{Reported}
+use Rattle.syn_shell.specs.declared.refusal_lines.Reported.TheVariants.{Whole, Cut}
 use Rattle.syn_shell.specs.declared.line_mode.Turn.{Turn}
 use Rattle.syn_shell.specs.declared.line_mode.Turn.TheVariants as turn
 use Rattle.syn_io.specs.Outside.{Disk, Screen, Input}
@@ -29,33 +29,33 @@ Parsed text (Ok commands) = (length text ≤ script_limit) × IsScript text comm
 Parsed text (Err cause) = ScriptRefused text cause
 
 -- the status of a refusal that was announced
-abbrev pub status_in : Announcement → ℕ
+abbrev pub status_in : Reported → ℕ
 status_in (Whole status) = status
 status_in (Cut status) = status
 
 -- What became of the line of a refusal, and the refusal's status.
-abbrev pub AnnouncesAs : Announcement → Refused → Screen → Screen → Type 0
+abbrev pub AnnouncesAs : Reported → Refused → Screen → Screen → Type 0
 AnnouncesAs (Whole status) refused before after = (status ≡ refusal_status refused.cause) × (refused.cause ≢ SinkFailed) × Took (refusal_line refused.cause refused.name) before after
 AnnouncesAs (Cut status) refused before after = (status ≡ refusal_status refused.cause) × TookLess refused before after
 
 -- The same between states.
-abbrev pub IsAnnounced : Announcement → Refused → State → State → Type 0
+abbrev pub IsAnnounced : Reported → Refused → State → State → Type 0
 IsAnnounced (Whole status) refused before after = (status ≡ refusal_status refused.cause) × Announced refused before after
 IsAnnounced (Cut status) refused before after = (status ≡ refusal_status refused.cause) × SinkGaveUp refused before after
 
 -- What a script left: nothing was refused, or what became of the line of its refusal.
-abbrev pub Leaves : Option Announcement → List ℕ → State → State → Type 0
+abbrev pub Leaves : Option Reported → List ℕ → State → State → Type 0
 Leaves None text before after = RunsScript text before None after
 Leaves (Some telling) text before after = (refused : Refused) × (done : State) × RunsScript text before (Some refused) done × IsAnnounced telling refused done after
 
 -- the status that a script left: that of its refusal, 0 where nothing was refused
-abbrev pub status_left : Option Announcement → ℕ
+abbrev pub status_left : Option Reported → ℕ
 status_left None = 0
 status_left (Some announcement) = status_in announcement
 
 -- One script was run from no network, with this status.
 abbrev pub RanOne : ℕ → List ℕ → Disk → Screen → Disk → Screen → Type 0
-RanOne status text d s d' s' = (left : Option Announcement) × (m : Option Network) × Leaves left text (state None d s) (state m d' s') × (status ≡ status_left left)
+RanOne status text d s d' s' = (left : Option Reported) × (m : Option Network) × Leaves left text (state None d s) (state m d' s') × (status ≡ status_left left)
 
 -- What a call for the next line gave.
 abbrev pub Gave : Result (Option (Vec ℕ Global)) Refusal → Input → Input → Type 0

@@ -10,10 +10,10 @@ ghost use Rattle.syn_shell.specs.Networks.{graph_network, IsSmall, network_of};
 ghost use Rattle.syn_shell.specs.Outside.{FileIs, FilesStand, OthersStand};
 ghost use Rattle.syn_shell.specs.Steps.{AigerParseRefused, AigerReadRefused, AigerRefused, AigerWriteRefused, file_limit, IsAigerOf, IsReadAsAiger};
 
+use crate::commands::graph_of;
 use crate::files::{get, put};
 use crate::network::Kept;
 use crate::refusal::Refusal;
-use crate::remaking::graph_of;
 use std::alloc::Global;
 use syn_aiger::{AigWriteFault, read_aig, write_aig};
 use syn_aiger_files::AigFault;

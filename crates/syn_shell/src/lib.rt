@@ -2,15 +2,15 @@
 #![tactic(auto)]
 
 mod aiger;
-mod announcing;
 mod arguments;
+mod commands;
 mod files;
 mod laws;
 mod line_mode;
 mod lines;
 mod network;
 mod refusal;
-mod remaking;
+mod refusal_lines;
 mod scripts;
 mod session;
 mod whole_run;

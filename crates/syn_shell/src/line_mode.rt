@@ -7,8 +7,8 @@ ghost use Rattle.syn_shell.specs.LineMode.{most_lines};
 ghost use Rattle.syn_shell.specs.Outside.{state};
 ghost use Rattle.syn_shell.specs.Stopping.{first_status, Gave, RanLines, Turned};
 
-use crate::announcing::{Announcement, announce};
 use crate::refusal::Refusal;
+use crate::refusal_lines::{Reported, report_refusal};
 use crate::scripts::{SCRIPT_LIMIT, run_script};
 use crate::session::Session;
 use std::alloc::Global;
@@ -17,7 +17,7 @@ use syn_commit::Gate;
 use syn_io::{Files, LineFault, Lines, Sink};
 
 // The most lines that are run.
-const MOST_LINES: u32 = 1_048_576;
+const MAX_LINES: u32 = 1_048_576;
 
 // How a line was taken: the run goes on, or it ends. Each has the status of what was refused, 0 where nothing was.
 #[derive(Clone, Copy, Debug, PartialEq, Eq)]
@@ -61,23 +61,23 @@ fn take_turn<R: Threads + Sync, F: Files, L: Lines, O: Sink, G: Gate>(
     let line = match next_line(alloc, lines) {
         Ok(Some(line)) => line,
         Ok(None) => return Turn::Ends(0),
-        Err(cause) => return Turn::Ends(announce(out, &cause, &[]).status()),
+        Err(cause) => return Turn::Ends(report_refusal(out, &cause, &[]).status()),
     };
     match run_script(rt, alloc, session, line.as_slice(), files, out, gate) {
         None => Turn::GoesOn(0),
-        Some(Announcement::Whole(status)) => Turn::GoesOn(status),
-        Some(Announcement::Cut(status)) => Turn::Ends(status),
+        Some(Reported::Whole(status)) => Turn::GoesOn(status),
+        Some(Reported::Cut(status)) => Turn::Ends(status),
     }
 }
 
 // Behind as many lines as are run a further one is refused.
-fn last_turn<L: Lines, O: Sink>(alloc: Global, lines: &mut L, out: &mut O) -> u8
+fn refuse_one_more_line<L: Lines, O: Sink>(alloc: Global, lines: &mut L, out: &mut O) -> u8
     ensures each { (m : Option Network) (files : Disk) → RanLines result most_lines (state m files (O.screen out.old)) (L.input lines.old) (state m files (O.screen out.new)) (L.input lines.new) }
 {
     match next_line(alloc, lines) {
         Ok(None) => 0,
-        Ok(Some(_)) => announce(out, &Refusal::TooManyLines, &[]).status(),
-        Err(cause) => announce(out, &cause, &[]).status(),
+        Ok(Some(_)) => report_refusal(out, &Refusal::TooManyLines, &[]).status(),
+        Err(cause) => report_refusal(out, &cause, &[]).status(),
     }
 }
 
@@ -97,11 +97,11 @@ pub(crate) fn run_lines<R: Threads + Sync, F: Files, L: Lines, O: Sink, G: Gate>
 {
     let mut session = Session::new(workers);
     let mut status: u8 = 0;
-    for _taken in 0..MOST_LINES {
+    for _taken in 0..MAX_LINES {
         match take_turn(rt, alloc, &mut session, files, lines, out, gate) {
             Turn::GoesOn(next) => status = first_status(status, next),
             Turn::Ends(next) => return first_status(status, next),
         }
     }
-    first_status(status, last_turn(alloc, lines, out))
+    first_status(status, refuse_one_more_line(alloc, lines, out))
 }

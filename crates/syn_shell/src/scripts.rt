@@ -5,8 +5,8 @@ ghost use Rattle.syn_shell.specs.Outside.{state};
 ghost use Rattle.syn_shell.specs.Scripts.{name_in, RunsCommands};
 ghost use Rattle.syn_shell.specs.Stopping.{Leaves, outcome_of, Parsed};
 
-use crate::announcing::{Announcement, announce};
 use crate::refusal::Refusal;
+use crate::refusal_lines::{Reported, report_refusal};
 use crate::session::Session;
 use std::alloc::Global;
 use std::thread::Threads;
@@ -91,16 +91,16 @@ pub(crate) fn run_script<R: Threads + Sync, F: Files, O: Sink, G: Gate>(
     files: &mut F,
     out: &mut O,
     gate: &G,
-) -> Option<Announcement>
+) -> Option<Reported>
     ensures { Leaves result text.now (state session.old (F.disk files.old) (O.screen out.old))
         (state session.new (F.disk files.new) (O.screen out.new)) }
 {
     let commands = match commands_in(alloc, text) {
         Ok(commands) => commands,
-        Err(cause) => return Some(announce(out, &cause, &[])),
+        Err(cause) => return Some(report_refusal(out, &cause, &[])),
     };
     match run_commands(rt, alloc, session, commands.as_slice(), files, out, gate) {
         Ok(()) => None,
-        Err(stopped) => Some(announce(out, &stopped.cause, stopped.name)),
+        Err(stopped) => Some(report_refusal(out, &stopped.cause, stopped.name)),
     }
 }

@@ -14,11 +14,11 @@ ghost use Rattle.syn_shell.specs.Outside.{FileIs, FilesStand, OthersStand, state
 ghost use Rattle.syn_shell.specs.Steps.{file_limit, GeneratingRefused, IsReadAs, kind_of, Making, MakingRefused, ParseRefused, ReadRefused, Remakes, SessionStep, WriteRefused};
 
 use crate::aiger;
+use crate::commands::remake;
 use crate::files::{get, put};
 use crate::lines::print_stats;
 use crate::network::Kept;
 use crate::refusal::Refusal;
-use crate::remaking::remake;
 use std::alloc::{AllocError, Global};
 use std::marker::Model;
 use std::thread::Threads;

@@ -6,9 +6,9 @@ ghost use Rattle.syn_shell.specs.Counts.{SomeFault};
 ghost use Rattle.syn_shell.specs.Readiness.{IsComplete};
 ghost use Rattle.syn_shell.specs.Runs.{Ran, RanAccepted};
 
-use crate::announcing::announce;
 use crate::arguments::arguments_in;
 use crate::line_mode::run_lines;
+use crate::refusal_lines::report_refusal;
 use crate::scripts::run_script;
 use crate::session::Session;
 use std::alloc::Global;
@@ -51,7 +51,7 @@ fn run_words<R: Threads + Sync, F: Files, L: Lines, O: Sink, G: Gate>(
 {
     let asked = match arguments_in(alloc, words) {
         Ok(asked) => asked,
-        Err(cause) => return announce(out, &cause, &[]).status(),
+        Err(cause) => return report_refusal(out, &cause, &[]).status(),
     };
     match asked.script {
         None => run_lines(rt, alloc, asked.workers, files, lines, out, gate),

@@ -12,7 +12,7 @@ ghost use Rattle.syn_netlist.specs.Lists.{observed, sources};
 ghost use Rattle.syn_graph.specs.Graphs.{HasOwnSources};
 
 use crate::compaction::count_sources;
-use crate::finishing::finish;
+use crate::finished_graph::finish;
 use std::alloc::{AllocError, Global};
 use syn_graph::{Graph, copy_frame};
 use syn_hashed::HashedRows;

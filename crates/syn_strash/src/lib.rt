@@ -2,9 +2,9 @@
 #![tactic(auto)]
 
 mod compaction;
-mod finishing;
+mod finished_graph;
 mod framed;
 
 pub use compaction::{compact, compact_graph};
-pub use finishing::finish;
+pub use finished_graph::finish;
 pub use framed::Hashed;

@@ -6,17 +6,17 @@ ghost use Rattle.syn_rows.specs.declared.TheConstants.{NODE_LIMIT};
 ghost use Rattle.syn_table.specs.Openings.{opened_literals};
 ghost use Rattle.syn_table.specs.Rule.{IsActive, IsCore, first_known};
 
-mod closing;
+mod closed;
 mod plays;
 mod seats;
-mod starting;
+mod starts;
 mod steps;
 mod stores;
 mod words;
 
 use arrayvec::ArrayVec;
 use atomic_table::{Table, TableRule};
-pub use closing::Rows;
+pub use closed::Rows;
 use std::alloc::Global;
 use std::collections::LinkedList;
 use std::snapshot::Snapshot;

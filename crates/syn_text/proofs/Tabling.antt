@@ -9,7 +9,7 @@ use Rattle.syn_rows.specs.declared.Row.TheVariants.{Free}
 use Rattle.syn_netlist.specs.Words.{has_word}
 use Rattle.syn_netlist.specs.Lists.{Table}
 use Rattle.syn_netlist.specs.Numbers.{word_at, words_at, all_below}
-use Rattle.syn_shapes.specs.Spelling.{gate_table, gate_tables, end_table, ends_from}
+use Rattle.syn_shapes.specs.Spelling.{gate_table, gate_tables, output_table, ends_from}
 
 -- what was pushed goes from the tables that are left to those that are there
 pub left_next : (before mine rest all after : List Table) → after ≡ before ++ mine → before ++ (mine ++ rest) ≡ all → after ++ rest ≡ all
@@ -24,10 +24,10 @@ no_lit = record { 0 = 0 }
 
 pub ends_next : (known names nodes : List (List ℕ)) (signals : List ℕ) (lits : List Lit) (i : ℕ) (word : List ℕ) → i < length signals → i < length lits → word ≡ word_at names (get_or signals i 0)
     → ends_from known nodes (words_at names (drop i signals)) (drop i lits)
-    ≡ (if has_word known word then [] else end_table nodes (word_at names (get_or signals i 0)) (get_or lits i (record { 0 = 0 })) ∷ []) ++ ends_from known nodes (words_at names (drop (i + 1) signals)) (drop (i + 1) lits)
+    ≡ (if has_word known word then [] else output_table nodes (word_at names (get_or signals i 0)) (get_or lits i (record { 0 = 0 })) ∷ []) ++ ends_from known nodes (words_at names (drop (i + 1) signals)) (drop (i + 1) lits)
 ends_next known names nodes signals lits i word in_signals in_lits e =
     let here : List ℕ = word_at names (get_or signals i 0) in
-    let mine : Table = end_table nodes here (get_or lits i no_lit) in
+    let mine : Table = output_table nodes here (get_or lits i no_lit) in
     let rest : List Table = ends_from known nodes (words_at names (drop (i + 1) signals)) (drop (i + 1) lits) in
     ap₂ (λ (ss : List ℕ) (ls : List Lit). ends_from known nodes (words_at names ss) ls) (drop_more signals i 0 in_signals) (drop_more lits i no_lit in_lits)
     ∙ chosen (has_word known here) mine rest

@@ -8,13 +8,13 @@ mod laws;
 mod words;
 
 ghost use Rattle.std.specs.Prelude.{◌≡◌, ℕ, ◌+◌, ◌-◌, ◌*◌, ◌^◌, ◌<◌, ◌≤◌, min};
-ghost use Rattle.syn_truth.specs.declared.TheConstants.{MOST_VARS};
+ghost use Rattle.syn_truth.specs.declared.TheConstants.{MAX_VARS};
 
 pub use laws::{each_minterm, one_table};
 use words::{WORD_VARS, ones, stride, variable};
 
 /// The most variables of a table.
-pub const MOST_VARS: u8 = 8;
+pub const MAX_VARS: u8 = 8;
 
 /// The table of a function of 0 to 8 variables.
 ///
@@ -25,7 +25,7 @@ pub struct Truth {
     pub vars: u8,
     pub low: u128,
     pub high: u128,
-    ghost few: { vars ≤ MOST_VARS },
+    ghost few: { vars ≤ MAX_VARS },
     ghost low_small: { low < 2 ^ min (2 ^ vars) 128 },
     ghost high_small: { high < 2 ^ (2 ^ vars - 128) },
 }
@@ -57,7 +57,7 @@ impl Truth {
         ensures values { AtEach 8 (λ xs. value_of result xs ≡ value_in (if slice_index_or xs 7 false then high else low) (take 7 xs)) }
     {
         Truth {
-            vars: MOST_VARS,
+            vars: MAX_VARS,
             low,
             high,
         }
@@ -66,7 +66,7 @@ impl Truth {
     /// The table of `vars` variables that has the values of `high` where variable 7 is true, else of `low`.
     #[inline]
     fn of_words(vars: u8, low: u128, high: u128) -> Truth
-        requires { vars ≤ MOST_VARS }
+        requires { vars ≤ MAX_VARS }
         ensures vars { result.vars ≡ vars }
         ensures values { AtEach vars (λ xs. value_of result xs ≡ value_in (if slice_index_or xs 7 false then high else low) (take 7 xs)) }
     {
@@ -80,7 +80,7 @@ impl Truth {
     /// The table of `vars` variables that has one value at each minterm.
     #[inline]
     pub fn constant(vars: u8, value: bool) -> Truth
-        requires { vars ≤ MOST_VARS }
+        requires { vars ≤ MAX_VARS }
         ensures vars { result.vars ≡ vars }
         ensures values { AtEach vars (λ xs. value_of result xs ≡ value) }
     {
@@ -91,7 +91,7 @@ impl Truth {
     /// The table of variable `i` among `vars` variables.
     #[inline]
     pub fn var(vars: u8, i: u8) -> Truth
-        requires few { vars ≤ MOST_VARS }
+        requires few { vars ≤ MAX_VARS }
         requires within { i < vars }
         ensures vars { result.vars ≡ vars }
         ensures values { AtEach vars (λ xs. value_of result xs ≡ slice_index_or xs i false) }
@@ -217,7 +217,7 @@ impl Truth {
 
     /// The table of `vars` variables that does not depend on the new ones.
     pub fn widen(self, vars: u8) -> Truth
-        requires few { vars ≤ MOST_VARS }
+        requires few { vars ≤ MAX_VARS }
         requires not_fewer { self.vars ≤ vars }
         ensures vars { result.vars ≡ vars }
         ensures values { AtEach vars (λ xs. value_of result xs ≡ value_of self (take self.vars xs)) }
@@ -231,7 +231,7 @@ impl Truth {
 
     #[inline]
     fn widen_by_one(self) -> Truth
-        requires { self.vars < MOST_VARS }
+        requires { self.vars < MAX_VARS }
         ensures vars { result.vars ≡ self.vars + 1 }
         ensures values { AtEach (self.vars + 1) (λ xs. value_of result xs ≡ value_of self (take self.vars xs)) }
     {

@@ -21,8 +21,8 @@ use Rattle.syn_gain.specs.Replacements.{Replacement}
 use Rattle.syn_gain.specs.Searching.{Searched, search_gate, state, with_pair}
 use Rattle.syn_gain.proofs.Bounds.{OfSome, below_each, joined_by}
 use Rattle.syn_gain.proofs.Fresh.{pair_refers}
-use Rattle.syn_weighing.specs.Apart.{StandsApart, are_apart, is_in_use, joins, may_be_made, same_literal}
-use Rattle.syn_weighing.specs.Weighing.{IsWeightOf, IsWeightUntil, and_then, weigh_gate, weigh_gates, weigh_until, where_needed}
+use Rattle.syn_weighing.specs.AllNew.{StandsApart, are_apart, is_in_use, joins, may_be_made, same_literal}
+use Rattle.syn_weighing.specs.Weighing.{IsWeightOf, IsWeightUntil, and_then, dry_run_gate, dry_run_gates, weigh_until, where_needed}
 use Rattle.syn_weighing.proofs.Told.{IsTold, begun_told, each_gate, each_long, for_node, for_pushed, is_there, node_at, some_is, step, then_some}
 
 -- ---- rows of pairs
@@ -386,7 +386,7 @@ module _ (rows : List Row) (root : ℕ) (leaves : List ℕ) (named base : ℕ) (
 
   -- each of such gates needs a row
   goes_on : (gates done : List Gate) (s : Searched) → IsTold first base done s → IsSpread done s → AllStand done gates
-      → (t : Searched) × (weigh_gates rows root gates s ≡ Some t) × (length s.extra ≤ length t.extra)
+      → (t : Searched) × (dry_run_gates rows root gates s ≡ Some t) × (length s.extra ≤ length t.extra)
   goes_on [] done s told spread each = (s, refl, omega arith)
   goes_on (gate ∷ gates) done s told spread each =
       let stand = one_stands done gates gate each in
@@ -394,17 +394,17 @@ module _ (rows : List Row) (root : ℕ) (leaves : List ℕ) (named base : ℕ) (
       let next = search_gate rows root s gate in
       let rest = goes_on gates (done ++ gate ∷ []) next (step rows root base done s gate low order told none) (spread_step done s told spread gate stand) (more_stand done gates gate each) in (
         rest.0,
-        ap (λ (o : Option Lit). and_then (where_needed o next) (weigh_gates rows root gates)) none ∙ rest.1,
+        ap (λ (o : Option Lit). and_then (where_needed o next) (dry_run_gates rows root gates)) none ∙ rest.1,
         omega (arith, rest.2, no_fewer done s told spread gate stand),
       )
 
   -- also those behind the ones after which so many new rows stand
   goes_on_from : (most : ℕ) (gates done : List Gate) (s t : Searched) → IsTold first base done s → IsSpread done s → AllStand done gates → weigh_until rows root most gates s ≡ Some t
-      → (u : Searched) × (weigh_gates rows root gates s ≡ Some u) × (length t.extra ≤ length u.extra)
+      → (u : Searched) × (dry_run_gates rows root gates s ≡ Some u) × (length t.extra ≤ length u.extra)
   goes_on_from most [] done s t told spread each h = (s, refl, omega (arith, ap (λ (r : Searched). length r.extra) (some_is s t h)))
   goes_on_from most (gate ∷ gates) done s t told spread each h = elim (cases_Bool (nat_le most (length s.extra))) [
     | inl ends ↦
-        let same = some_is s t (sym (cond-true (nat_le most (length s.extra)) (Some s) (and_then (weigh_gate rows root s gate) (weigh_until rows root most gates)) ends) ∙ h) in
+        let same = some_is s t (sym (cond-true (nat_le most (length s.extra)) (Some s) (and_then (dry_run_gate rows root s gate) (weigh_until rows root most gates)) ends) ∙ h) in
         let rest = goes_on (gate ∷ gates) done s told spread each in
         (rest.0, rest.1, omega (arith, rest.2, ap (λ (r : Searched). length r.extra) same))
     | inr more ↦
@@ -413,27 +413,27 @@ module _ (rows : List Row) (root : ℕ) (leaves : List ℕ) (named base : ℕ) (
         let next = search_gate rows root s gate in
         let rest = goes_on_from most gates (done ++ gate ∷ []) next t (step rows root base done s gate low order told none) (spread_step done s told spread gate stand) (more_stand done gates gate each)
         (sym (ap (λ (o : Option Lit). and_then (where_needed o next) (weigh_until rows root most gates)) none)
-        ∙ sym (cond-false (nat_le most (length s.extra)) (Some s) (and_then (weigh_gate rows root s gate) (weigh_until rows root most gates)) more) ∙ h) in
-        (rest.0, ap (λ (o : Option Lit). and_then (where_needed o next) (weigh_gates rows root gates)) none ∙ rest.1, rest.2)
+        ∙ sym (cond-false (nat_le most (length s.extra)) (Some s) (and_then (dry_run_gate rows root s gate) (weigh_until rows root most gates)) more) ∙ h) in
+        (rest.0, ap (λ (o : Option Lit). and_then (where_needed o next) (dry_run_gates rows root gates)) none ∙ rest.1, rest.2)
   ]
 
 -- where so many new rows stand, no gate is looked at
 pub until_ends : (rows : List Row) (root most : ℕ) (gates : List (PLit × PLit)) (s : Searched) → most ≤ length s.extra → weigh_until rows root most gates s ≡ Some s
 until_ends rows root most [] s le = refl
 until_ends rows root most (gate ∷ gates) s le =
-    cond-true (nat_le most (length s.extra)) (Some s) (and_then (weigh_gate rows root s gate) (weigh_until rows root most gates)) (le-leb most (length s.extra) le)
+    cond-true (nat_le most (length s.extra)) (Some s) (and_then (dry_run_gate rows root s gate) (weigh_until rows root most gates)) (le-leb most (length s.extra) le)
 
 -- fewer than so many new rows: those are all gates
-all_weighed : (rows : List Row) (root most : ℕ) (gates : List (PLit × PLit)) (s t : Searched) → weigh_until rows root most gates s ≡ Some t → length t.extra < most → weigh_gates rows root gates s ≡ Some t
+all_weighed : (rows : List Row) (root most : ℕ) (gates : List (PLit × PLit)) (s t : Searched) → weigh_until rows root most gates s ≡ Some t → length t.extra < most → dry_run_gates rows root gates s ≡ Some t
 all_weighed rows root most [] s t h few = h
 all_weighed rows root most (gate ∷ gates) s t h few = elim (cases_Bool (nat_le most (length s.extra))) [
   | inl ends ↦
-      let same = some_is s t (sym (cond-true (nat_le most (length s.extra)) (Some s) (and_then (weigh_gate rows root s gate) (weigh_until rows root most gates)) ends) ∙ h) in
+      let same = some_is s t (sym (cond-true (nat_le most (length s.extra)) (Some s) (and_then (dry_run_gate rows root s gate) (weigh_until rows root most gates)) ends) ∙ h) in
       absurd (omega (arith, few, leb-true most (length s.extra) ends, ap (λ (r : Searched). length r.extra) same))
   | inr more ↦
-      let parts = then_some (weigh_gate rows root s gate) (weigh_until rows root most gates) t
-      (sym (cond-false (nat_le most (length s.extra)) (Some s) (and_then (weigh_gate rows root s gate) (weigh_until rows root most gates)) more) ∙ h) in
-      ap (λ (o : Option Searched). and_then o (weigh_gates rows root gates)) parts.1 ∙ all_weighed rows root most gates parts.0 t parts.2 few
+      let parts = then_some (dry_run_gate rows root s gate) (weigh_until rows root most gates) t
+      (sym (cond-false (nat_le most (length s.extra)) (Some s) (and_then (dry_run_gate rows root s gate) (weigh_until rows root most gates)) more) ∙ h) in
+      ap (λ (o : Option Searched). and_then o (dry_run_gates rows root gates)) parts.1 ∙ all_weighed rows root most gates parts.0 t parts.2 few
 ]
 
 -- so a whole plan was weighed

@@ -19,7 +19,7 @@ use Rattle.syn_gain.specs.Replacements.{Replacement}
 use Rattle.syn_gain.specs.Searching.{Searched, search_gate, search_gates, searched, state, with_pair}
 use Rattle.syn_gain.proofs.Bounds.{OfSome, begun_in, below_each, each_push, joined_by}
 use Rattle.syn_gain.proofs.Fresh.{pair_refers}
-use Rattle.syn_weighing.specs.Weighing.{IsWeightOf, and_then, weigh_gate, weigh_gates, where_needed}
+use Rattle.syn_weighing.specs.Weighing.{IsWeightOf, and_then, dry_run_gate, dry_run_gates, where_needed}
 
 -- ---- literals and pairs
 
@@ -192,12 +192,12 @@ then_some None next t h = absurd (cc (h))
 then_some (Some s) next t h = (s, refl, h)
 
 gates_told : (rows : List Row) (root base : ℕ) (gates done : List (PLit × PLit)) (s last : Searched) → root ≤ length rows → InOrder rows
-    → IsTold (length rows) base done s → weigh_gates rows root gates s ≡ Some last → (search_gates rows root s gates ≡ last) × IsTold (length rows) base (done ++ gates) last
+    → IsTold (length rows) base done s → dry_run_gates rows root gates s ≡ Some last → (search_gates rows root s gates ≡ last) × IsTold (length rows) base (done ++ gates) last
 gates_told rows root base [] done s last low order told h =
     let same = some_is s last h in
     (same, subst (λ (t : Searched). IsTold (length rows) base (done ++ []) t) same (subst (λ (gs : List (PLit × PLit)). IsTold (length rows) base gs s) (sym (append-nil done)) told))
 gates_told rows root base (gate ∷ gates) done s last low order told h =
-    let parts = then_some (weigh_gate rows root s gate) (weigh_gates rows root gates) last h in
+    let parts = then_some (dry_run_gate rows root s gate) (dry_run_gates rows root gates) last h in
     let need = needed (simple_and (literal_for s.literals gate.0) (literal_for s.literals gate.1)) (search_gate rows root s gate) parts.0 parts.1 in
     let next = subst (λ (t : Searched). IsTold (length rows) base (done ++ gate ∷ []) t) need.1 (step rows root base done s gate low order told need.0) in
     let rest = gates_told rows root base gates (done ++ gate ∷ []) parts.0 last low order next parts.2 in

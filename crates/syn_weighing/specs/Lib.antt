@@ -1,3 +1,3 @@
-pub mod Lean
-pub mod Apart
+pub mod Irredundant
+pub mod AllNew
 pub mod Weighing

@@ -8,14 +8,14 @@ use Rattle.syn_plan.specs.declared.PLit.{PLit}
 use Rattle.syn_gain.specs.Placing.{leaf_literals, literal_for}
 use Rattle.syn_gain.specs.Replacements.{Replacement}
 use Rattle.syn_gain.specs.Searching.{Searched, search_gate, state}
-use Rattle.syn_weighing.specs.declared.weighing.Weighed.{Weighed}
+use Rattle.syn_weighing.specs.declared.dry_runs.DryRun.{DryRun}
 
 -- literals and new rows as one
-abbrev pub weight_of : Weighed → Searched
+abbrev pub weight_of : DryRun → Searched
 weight_of w = state w.literals.items w.extra.items
 
 -- the first literals are those of the constant and of so many leaves
-abbrev pub BeginsWith : ℕ → List ℕ → Weighed → Type 0
+abbrev pub BeginsWith : ℕ → List ℕ → DryRun → Type 0
 BeginsWith count leaves w = take (1 + count) w.literals.items ≡ constant ∷ leaf_literals count leaves
 
 -- something, where a pair needs a row
@@ -24,27 +24,27 @@ where_needed None s = Some s
 where_needed (Some l) s = None
 
 -- One gate of a plan that needs a row, which may be any below a node.
-abbrev pub weigh_gate : List Row → ℕ → Searched → PLit × PLit → Option Searched
-weigh_gate rows node s gate = where_needed (simple_and (literal_for s.literals gate.0) (literal_for s.literals gate.1)) (search_gate rows node s gate)
+abbrev pub dry_run_gate : List Row → ℕ → Searched → PLit × PLit → Option Searched
+dry_run_gate rows node s gate = where_needed (simple_and (literal_for s.literals gate.0) (literal_for s.literals gate.1)) (search_gate rows node s gate)
 
 abbrev pub and_then : Option Searched → (Searched → Option Searched) → Option Searched
 and_then None next = None
 and_then (Some s) next = next s
 
 -- the gates of a plan in order, each of which needs a row
-abbrev pub weigh_gates : List Row → ℕ → List (PLit × PLit) → Searched → Option Searched
-weigh_gates rows node [] s = Some s
-weigh_gates rows node (gate ∷ gates) s = and_then (weigh_gate rows node s gate) (weigh_gates rows node gates)
+abbrev pub dry_run_gates : List Row → ℕ → List (PLit × PLit) → Searched → Option Searched
+dry_run_gates rows node [] s = Some s
+dry_run_gates rows node (gate ∷ gates) s = and_then (dry_run_gate rows node s gate) (dry_run_gates rows node gates)
 
 -- the same until so many new rows stand
 abbrev pub weigh_until : List Row → ℕ → ℕ → List (PLit × PLit) → Searched → Option Searched
 weigh_until rows node most [] s = Some s
 weigh_until rows node most (gate ∷ gates) s =
-    if nat_le most (length s.extra) then Some s else and_then (weigh_gate rows node s gate) (weigh_until rows node most gates)
+    if nat_le most (length s.extra) then Some s else and_then (dry_run_gate rows node s gate) (weigh_until rows node most gates)
 
 -- what the plan of a replacement becomes
 abbrev pub IsWeightOf : List Row → ℕ → Replacement → Searched → Type 0
-IsWeightOf rows node r s = weigh_gates rows node r.gates (state (constant ∷ leaf_literals r.count r.leaves) []) ≡ Some s
+IsWeightOf rows node r s = dry_run_gates rows node r.gates (state (constant ∷ leaf_literals r.count r.leaves) []) ≡ Some s
 
 -- what it becomes until so many new rows stand
 abbrev pub IsWeightUntil : List Row → ℕ → ℕ → Replacement → Searched → Type 0

@@ -1,17 +1,17 @@
 //! What a candidate surely doesn't save, told without filling a list: quick rejects.
 //!
-//! A candidate is weighed: `Weighed` has inline room for the literals that the gates of a small plan become, and for the rows
+//! A candidate is weighed: `DryRun` has inline room for the literals that the gates of a small plan become, and for the rows
 //! that it adds, so far as each gate needs a row. `saves_nothing` compares these with the ANDs that go. A plan without a gate in
-//! vain (`are_lean`) keeps all rows that it adds; and where the leaves stand apart (`are_apart`), each gate of a plan of which
-//! `Apart` tells it adds a row, so that weighing may end early. Both are told of a plan once, of leaves for each cut.
+//! vain (`are_irredundant`) keeps all rows that it adds; and where the leaves stand apart (`are_apart`), each gate of a plan of which
+//! `AllNew` tells it adds a row, so that weighing may end early. Both are told of a plan once, of leaves for each cut.
 #![tactic(auto)]
 
-mod apart;
-mod lean;
-mod telling;
-mod weighing;
+mod all_new;
+mod dry_runs;
+mod irredundant;
+mod quick_reject;
 
-pub use apart::{Apart, are_apart, names_within, told_of_each};
-pub use lean::are_lean;
-pub use telling::saves_nothing;
-pub use weighing::{MOST_INDEXES, Weighed, weigh};
+pub use all_new::{AllNew, all_new_of_each, are_apart, names_within};
+pub use dry_runs::{DryRun, MAX_INDEXES, dry_run};
+pub use irredundant::are_irredundant;
+pub use quick_reject::saves_nothing;

@@ -5,7 +5,7 @@ use Rattle.syn_words.specs.Forms.{and_then, given_by}
 use Rattle.syn_words.specs.declared.forms.Form.{Form}
 use Rattle.syn_words.specs.declared.forms.Operands.{Operands}
 use Rattle.syn_words.specs.declared.forms.Operands.TheVariants as operands
-use Rattle.syn_words.specs.declared.reading.Given.{Given}
+use Rattle.syn_words.specs.declared.word_reader.Given.{Given}
 use Rattle.syn_words.specs.declared.table.Keyword.{Keyword}
 use Rattle.syn_words.specs.declared.table.Keyword.TheVariants as keywords
 use Rattle.syn_words.specs.declared.PassOptions.{PassOptions}

@@ -7,10 +7,10 @@ use Rattle.syn_words.specs.declared.forms.Numbered.{Numbered}
 use Rattle.syn_words.specs.declared.forms.NumberRange.{NumberRange}
 use Rattle.syn_words.specs.declared.forms.Operands.{Operands}
 use Rattle.syn_words.specs.declared.forms.Operands.TheVariants as operands
-use Rattle.syn_words.specs.declared.reading.Given.{Given}
-use Rattle.syn_words.specs.declared.reading.Awaits.{Awaits}
-use Rattle.syn_words.specs.declared.reading.Awaits.TheVariants as awaits
-use Rattle.syn_words.specs.declared.reading.Progress.{Progress}
+use Rattle.syn_words.specs.declared.word_reader.Given.{Given}
+use Rattle.syn_words.specs.declared.word_reader.Awaits.{Awaits}
+use Rattle.syn_words.specs.declared.word_reader.Awaits.TheVariants as awaits
+use Rattle.syn_words.specs.declared.word_reader.Progress.{Progress}
 use Rattle.syn_words.specs.declared.ScriptFault.{ScriptFault}
 use Rattle.syn_words.specs.declared.ScriptFault.TheVariants.{MissingWord, ExtraWord}
 

@@ -9,7 +9,7 @@ use Rattle.syn_words.specs.declared.ScriptFault.{ScriptFault}
 use Rattle.syn_words.specs.declared.ScriptFault.TheVariants.{BadByte, UnknownCommand, MissingWord, ExtraWord, BadNumber, OutOfRange}
 use Rattle.syn_words.specs.declared.forms.Form.{Form}
 use Rattle.syn_words.specs.declared.forms.Operands.TheVariants.{Nothing, TwoNumbers}
-use Rattle.syn_words.specs.declared.reading.Given.{Given}
+use Rattle.syn_words.specs.declared.word_reader.Given.{Given}
 
 -- What a text of words gives by a form, from the offset 0.
 abbrev pub Gives : Form → List ℕ → Result Given ScriptFault → Type 0

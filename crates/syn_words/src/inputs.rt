@@ -9,7 +9,7 @@ use std::marker::Model;
 const FEWEST_INPUTS: u8 = 2;
 
 // So many inputs at most.
-const MOST_INPUTS: u8 = 8;
+const MAX_INPUTS: u8 = 8;
 
 // So many inputs where no number is given.
 const USUAL_INPUTS: u8 = 6;
@@ -36,10 +36,10 @@ fn inputs_of(number: u64) -> u8
 {
     if number < FEWEST_INPUTS as u64 {
         FEWEST_INPUTS
-    } else if number < MOST_INPUTS as u64 {
+    } else if number < MAX_INPUTS as u64 {
         number as u8
     } else {
-        MOST_INPUTS
+        MAX_INPUTS
     }
 }
 

@@ -19,8 +19,8 @@ mod inputs;
 mod laws;
 mod names;
 mod numbers;
-mod reading;
 mod table;
+mod word_reader;
 mod words;
 
 pub use forms::NumberRange;

@@ -7,7 +7,7 @@ ghost use Rattle.syn_words.specs.Scripts.{said_onto};
 use crate::forms::{Form, NumberRange, Numbered, Operands};
 use crate::inputs::LutInputs;
 use crate::names::FileName;
-use crate::reading::{Given, given_by};
+use crate::word_reader::{Given, given_by};
 use crate::words::Phrase;
 use crate::{Command, PassOptions, ScriptFault};
 use std::alloc::{AllocError, Global};
@@ -84,14 +84,14 @@ fn keyword_of(word: &[u8]) -> Option<Keyword>
 }
 
 // So many workers at most.
-const MOST_WORKERS: u8 = 16;
+const MAX_WORKERS: u8 = 16;
 
 // The option with a number of workers.
 const WORKERS: Numbered = Numbered {
     letter: b'w',
     range: NumberRange {
         least: 1,
-        most: MOST_WORKERS as u64,
+        most: MAX_WORKERS as u64,
     },
 };
 
@@ -108,12 +108,12 @@ const SEEDS: NumberRange = NumberRange {
 };
 
 // So many generated tables at most.
-const MOST_TABLES: u16 = 32_768;
+const MAX_TABLES: u16 = 32_768;
 
 // A number of generated tables.
 const SIZES: NumberRange = NumberRange {
     least: 1,
-    most: MOST_TABLES as u64,
+    most: MAX_TABLES as u64,
 };
 
 // No option, and these words.
@@ -189,10 +189,10 @@ fn form_of(keyword: Keyword) -> Form
 fn workers_of(number: u64) -> u8
     ensures { result ≡ workers_of number }
 {
-    if number < MOST_WORKERS as u64 {
+    if number < MAX_WORKERS as u64 {
         number as u8
     } else {
-        MOST_WORKERS
+        MAX_WORKERS
     }
 }
 
@@ -210,10 +210,10 @@ fn given_workers(number: Option<u64>) -> Option<u8>
 fn size_of(number: u64) -> u16
     ensures { result ≡ size_of number }
 {
-    if number < MOST_TABLES as u64 {
+    if number < MAX_TABLES as u64 {
         number as u16
     } else {
-        MOST_TABLES
+        MAX_TABLES
     }
 }
 

@@ -7,7 +7,7 @@
 #[cfg(test)]
 mod commits;
 #[cfg(test)]
-mod contending;
+mod contention;
 #[cfg(test)]
 mod fresh;
 #[cfg(test)]
@@ -15,21 +15,21 @@ mod harness;
 #[cfg(test)]
 mod hints;
 #[cfg(test)]
-mod keying;
+mod key_trials;
 #[cfg(test)]
-mod meeting;
+mod meetings;
+#[cfg(test)]
+mod one_rewrite;
 #[cfg(test)]
 mod passes;
 #[cfg(test)]
-mod pinning;
+mod pins;
 #[cfg(test)]
 mod pools;
 #[cfg(test)]
-mod proposing;
+mod proposers;
 #[cfg(test)]
-mod repeating;
-#[cfg(test)]
-mod rewriting;
+mod repeats;
 #[cfg(test)]
 mod rounds;
 #[cfg(test)]

@@ -4,7 +4,7 @@ ghost use Rattle.std.specs.Prelude.{◌≡◌, ◌<◌, [], ◌∷◌, true, len
 ghost use Rattle.test_threads.specs.Rounds.{HoldsNone, HoldsOne, freed_again, loaded, remade};
 ghost use Rattle.syn_table.specs.Seating.{IsOf, known_of, nodes_of, view_of};
 
-use crate::rewriting::take;
+use crate::one_rewrite::take;
 use crate::tables::{CONE_ROWS, closes_with, opened};
 use std::alloc::{AllocError, Global};
 use std::test::Fail;

@@ -8,7 +8,7 @@ ghost use Rattle.syn_table.specs.Seating.{IsOf, known_of, nodes_of, view_of};
 ghost use Rattle.syn_commit.specs.Giving.{IsAtRest};
 
 use crate::harness::{CONE, graph_of};
-use crate::keying::fits;
+use crate::key_trials::fits;
 use std::alloc::Global;
 use syn_graph::Graph;
 use syn_hashed::compact_rows;

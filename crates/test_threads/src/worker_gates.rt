@@ -15,7 +15,7 @@ use syn_rewrite::CutPlans;
 use syn_rows::{Lit, Row};
 
 // How often a held worker looks at most.
-const MOST_LOOKS: u32 = 1_000_000;
+const MAX_LOOKS: u32 = 1_000_000;
 
 // A gate that holds the worker that first claims until another one has done a commit.
 #[derive(Drop)]
@@ -42,7 +42,7 @@ impl HoldsTheFirst {
 
     // Returns once another worker has done a commit, or after so many looks.
     fn hold(&self) {
-        for _ in 0..MOST_LOOKS {
+        for _ in 0..MAX_LOOKS {
             if self.other_done.load(Ordering::SeqCst) == 1 {
                 return;
             }

@@ -5,13 +5,13 @@
 #![tactic(auto)]
 
 #[cfg(test)]
-mod classes;
+mod class_plans;
 #[cfg(test)]
-mod fitting;
+mod classes;
 #[cfg(test)]
 mod graphs;
 #[cfg(test)]
-mod hashing;
+mod hashed_rows;
 #[cfg(test)]
 mod keys;
 #[cfg(test)]
@@ -25,7 +25,7 @@ mod plans;
 #[cfg(test)]
 mod proposals;
 #[cfg(test)]
-mod refactoring;
+mod refactor_leaves;
 #[cfg(test)]
 mod rows;
 #[cfg(test)]

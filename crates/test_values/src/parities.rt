@@ -9,7 +9,7 @@ use std::alloc::{AllocError, Global};
 use std::test::Fail;
 use syn_build_luts::{BuildFault, build_luts};
 use syn_graph::Graph;
-use syn_lutnet::{Lut, LutNet, MOST_INPUTS};
+use syn_lutnet::{Lut, LutNet, MAX_INPUTS};
 use syn_netlist::Items;
 use syn_rows::Lit;
 use syn_truth::Truth;
@@ -33,7 +33,7 @@ fn text_of(alloc: Global, outputs: u32) -> Result<String, AllocError> {
 }
 
 // The inputs of a LUT.
-fn inputs_of(signals: &[u32]) -> ArrayVec<u32, MOST_INPUTS>
+fn inputs_of(signals: &[u32]) -> ArrayVec<u32, MAX_INPUTS>
     requires { length signals.now ≤ 8 }
     ensures { result.items ≡ signals.now }
 {

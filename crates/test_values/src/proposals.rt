@@ -16,7 +16,7 @@ use std::test::Fail;
 use std::thread::Threads;
 use syn_apply::apply;
 use syn_cuts::{Cut, CutLists, function, listed};
-use syn_gain::{Candidate, Proposal, Room, Uses, lost_but, saved};
+use syn_gain::{Candidate, Proposal, Room, Uses, mffc_size, saved};
 use syn_graph::Graph;
 use syn_plan::{PLit, Plan, factor};
 use syn_rows::{NODE_LIMIT, Row};
@@ -184,7 +184,7 @@ fn bounded(
         return Ok(None);
     }
     let uses = Uses::new(alloc, graph)?;
-    let most = lost_but(
+    let most = mffc_size(
         alloc,
         graph,
         &uses,

@@ -11,7 +11,7 @@ use syn_netlist::CheckedNetlist;
 use syn_reader::{ReadFault, read_checked};
 
 // The most bytes of a text.
-const MOST_BYTES: usize = 1 << 24;
+const MAX_BYTES: usize = 1 << 24;
 
 /// The netlist of a text of at most so many bytes.
 pub fn read_text(alloc: Global, text: &str) -> Result<CheckedNetlist, ReadFault>
@@ -19,7 +19,7 @@ pub fn read_text(alloc: Global, text: &str) -> Result<CheckedNetlist, ReadFault>
     ensures names { IfOk result (λ checked. length checked.netlist.frame.names < 2 ^ 31) }
 {
     let bytes = text.as_bytes();
-    if bytes.len() > MOST_BYTES {
+    if bytes.len() > MAX_BYTES {
         return Err(ReadFault::NoMemory);
     }
     let checked = read_checked(alloc, bytes)?;

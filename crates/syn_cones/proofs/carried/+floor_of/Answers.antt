@@ -2,7 +2,7 @@ use Rattle.std.proofs.Common.{◌≡◌, subst, arith}
 use Rattle.syn_rows.specs.Rows.{row_at}
 use Rattle.syn_rows.specs.declared.Row.TheVariants.{And}
 use Rattle.syn_rows.proofs.Nodes.{has_at}
-use Rattle.syn_cones.specs.Carried.{IsFloor}
+use Rattle.syn_cones.specs.CutTruth.{IsFloor}
 use Rattle.syn_cones.proofs.Carrying.{and_floor, leaf_floor}
 use Rattle.syn_cones.proofs.carried.+floor_of.Goals as goal
 

@@ -4,7 +4,7 @@ use Rattle.syn_rows.specs.declared.Lit.{Lit}
 use Rattle.syn_rows.specs.declared.Row.{Row}
 use Rattle.syn_rows.specs.Rows.{InOrder}
 use Rattle.syn_hashed.proofs.Orders.{hashed_in_order}
-use Rattle.syn_truth.specs.declared.TheConstants.{MOST_VARS}
+use Rattle.syn_truth.specs.declared.TheConstants.{MAX_VARS}
 use Rattle.syn_netlist.specs.Frames.{frame_in}
 use Rattle.syn_netlist.specs.Lists as lists
 use Rattle.syn_lutshapes.specs.Luts.{IsLutNet}
@@ -21,7 +21,7 @@ pub needed-requires-clause-count : goal.needed-requires-clause-count
 needed-requires-clause-count g c = c.requires.count ∙ sym (ap (λ (rs : List Row). length rs) c.as_slice-rows.ensures)
 
 pub needed-requires-clause-cuts : goal.needed-requires-clause-cuts
-needed-requires-clause-cuts g c = subst (λ (rs : List Row). AreLutCuts MOST_VARS rs (g.C.Choice.leaves c.args.choice.now)) (sym c.as_slice-rows.ensures) c.requires.cuts
+needed-requires-clause-cuts g c = subst (λ (rs : List Row). AreLutCuts MAX_VARS rs (g.C.Choice.leaves c.args.choice.now)) (sym c.as_slice-rows.ensures) c.requires.cuts
 
 pub make_luts-requires-clause-order : goal.make_luts-requires-clause-order
 make_luts-requires-clause-order g c =
@@ -36,18 +36,18 @@ pub invariant_of-result : goal.invariant_of-result
 invariant_of-result g c =
     let gr = c.args.graph.now in
     let cut = g.C.Choice.leaves c.args.choice.now in
-    let fit : AreLutCuts MOST_VARS gr.rows cut = c.requires.cuts in
+    let fit : AreLutCuts MAX_VARS gr.rows cut = c.requires.cuts in
     let rows = c.as_slice-rows.result.now in
     let n = c.in_ok-numbering.numbering in
     let luts : List Lut = c.in_ok-luts.luts.items in
     let outs : List Lit = c.in_ok-outs.outs.items in
     let frame = c.in_ok-copy_frame.ensures in
     let mapping : IsMapping cut (length (lists.sources (frame_in gr.frame))) gr.rows gr.observed n.nodes.items (luts_data luts) outs =
-    mapped gr MOST_VARS cut gr.source_count rows c.as_slice-observed.result.now c.in_ok-marks.marks.items c.as_slice.result.now n.nodes.items c.as_slice-2.result.now n.signals.items c.as_slice-signals.result.now (luts_data luts) outs
+    mapped gr MAX_VARS cut gr.source_count rows c.as_slice-observed.result.now c.in_ok-marks.marks.items c.as_slice.result.now n.nodes.items c.as_slice-2.result.now n.signals.items c.as_slice-signals.result.now (luts_data luts) outs
     fit c.as_slice-rows.ensures c.as_slice-observed.ensures refl c.in_ok-marks.ensures c.as_slice.ensures.value c.in_ok-numbering.ensures.nodes c.as_slice-2.ensures.value c.as_slice-signals.ensures.value c.in_ok-numbering.ensures.signals
     c.in_ok-luts.ensures c.in_ok-outs.ensures in
-    let made : IsLutNet (frame_in gr.frame) (luts_data luts) outs = mapped_net MOST_VARS cut gr n.nodes.items (luts_data luts) outs fit mapping in
-    let few = mapped_few MOST_VARS cut gr n.nodes.items (luts_data luts) outs fit mapping in
+    let made : IsLutNet (frame_in gr.frame) (luts_data luts) outs = mapped_net MAX_VARS cut gr n.nodes.items (luts_data luts) outs fit mapping in
+    let few = mapped_few MAX_VARS cut gr n.nodes.items (luts_data luts) outs fit mapping in
     let count = length-map luts lut_data in
     let same = ap (λ (ls : List Lut). length ls) c.of.ensures in
     record {
@@ -63,13 +63,13 @@ unfolding IsMappedBy
 returns-clause-mapping g c =
     let gr = c.args.graph.now in
     let cut = g.C.Choice.leaves c.args.choice.now in
-    let fit : AreLutCuts MOST_VARS gr.rows cut = c.requires.cuts in
+    let fit : AreLutCuts MAX_VARS gr.rows cut = c.requires.cuts in
     let rows = c.as_slice-rows.result.now in
     let n = c.in_ok-numbering.numbering in
     let luts : List Lut = c.in_ok-luts.luts.items in
     let outs : List Lit = c.in_ok-outs.outs.items in
     let mapping : IsMapping cut (length (lists.sources (frame_in gr.frame))) gr.rows gr.observed n.nodes.items (luts_data luts) outs =
-    mapped gr MOST_VARS cut gr.source_count rows c.as_slice-observed.result.now c.in_ok-marks.marks.items c.as_slice.result.now n.nodes.items c.as_slice-2.result.now n.signals.items c.as_slice-signals.result.now (luts_data luts) outs
+    mapped gr MAX_VARS cut gr.source_count rows c.as_slice-observed.result.now c.in_ok-marks.marks.items c.as_slice.result.now n.nodes.items c.as_slice-2.result.now n.signals.items c.as_slice-signals.result.now (luts_data luts) outs
     fit c.as_slice-rows.ensures c.as_slice-observed.ensures refl c.in_ok-marks.ensures c.as_slice.ensures.value c.in_ok-numbering.ensures.nodes c.as_slice-2.ensures.value c.as_slice-signals.ensures.value c.in_ok-numbering.ensures.signals
     c.in_ok-luts.ensures c.in_ok-outs.ensures in (
       n.nodes.items,

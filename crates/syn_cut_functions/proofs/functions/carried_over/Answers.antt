@@ -1,13 +1,13 @@
 use Rattle.std.proofs.Common.{◌≡◌, ◌+◌, get_or, length, sym, ap, ◌∙◌, subst}
 use Rattle.std.proofs.lemmas.List.{length_push}
 use Rattle.syn_rows.specs.Reach.{is_and}
-use Rattle.syn_cones.specs.Carried.{IsCutFunction}
+use Rattle.syn_cones.specs.CutTruth.{IsCutFunction}
 use Rattle.syn_cuts.specs.Leaves.{leaves_of}
 use Rattle.syn_cuts.specs.Lists.{nontrivial}
-use Rattle.syn_cut_functions.specs.Carried.{AreCarried}
+use Rattle.syn_cut_functions.specs.CutTruth.{AreCarried}
 use Rattle.syn_cut_functions.specs.Cuts.{cuts_of}
 use Rattle.syn_cut_functions.proofs.Listed.{leaves_read, within_lists}
-use Rattle.syn_cut_functions.proofs.Carried.{more_carried}
+use Rattle.syn_cut_functions.proofs.CutTruth.{more_carried}
 use Rattle.syn_cut_functions.proofs.Cuts.{leaves_is}
 use Rattle.syn_cut_functions.proofs.functions.carried_over.Goals as goal
 

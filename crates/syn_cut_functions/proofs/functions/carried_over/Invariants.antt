@@ -1,5 +1,5 @@
 use Rattle.std.proofs.Common.{◌≡◌, length}
-use Rattle.syn_cut_functions.specs.Carried.{AreCarried}
+use Rattle.syn_cut_functions.specs.CutTruth.{AreCarried}
 use Rattle.syn_cut_functions.specs.Cuts.{cuts_of}
 use Rattle.syn_cut_functions.proofs.functions.carried_over.Given as goal
 

@@ -1,9 +1,9 @@
 use Rattle.std.proofs.Common.{◌+◌, List, ℕ, take, sym, subst, arith}
 use Rattle.syn_cuts.specs.Leaves.{leaves_of}
 use Rattle.syn_cut_functions.specs.Functions.{AreFunctionsOver, IsFunctionOver}
-use Rattle.syn_cut_functions.specs.Carried.{AreCarried}
+use Rattle.syn_cut_functions.specs.CutTruth.{AreCarried}
 use Rattle.syn_cut_functions.proofs.Listed.{leaves_read}
-use Rattle.syn_cut_functions.proofs.Carried.{from_cut}
+use Rattle.syn_cut_functions.proofs.CutTruth.{from_cut}
 use Rattle.syn_cut_functions.proofs.Cuts.{more_functions}
 use Rattle.syn_cut_functions.proofs.functions.numbers_over.Goals as goal
 

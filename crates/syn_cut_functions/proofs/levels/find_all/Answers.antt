@@ -1,7 +1,7 @@
 use Rattle.std.proofs.Common.{All, sym, subst}
 use Rattle.std.proofs.lemmas.List.Elements.{All-push}
 use Rattle.std.specs.Global.{Vec}
-use Rattle.syn_cut_functions.specs.Carried.{IsFoundIn}
+use Rattle.syn_cut_functions.specs.CutTruth.{IsFoundIn}
 use Rattle.syn_cut_functions.specs.declared.levels.Found.{Found}
 use Rattle.syn_cut_functions.proofs.levels.find_all.Goals as goal
 use Rattle.syn_cut_functions.proofs.levels.find_all.Goals.{then-node-lists+in_ok-find+in_ok-push, else-node-lists}

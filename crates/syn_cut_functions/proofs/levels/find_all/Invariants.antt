@@ -1,5 +1,5 @@
 use Rattle.std.proofs.Common.{All}
-use Rattle.syn_cut_functions.specs.Carried.{IsFoundIn}
+use Rattle.syn_cut_functions.specs.CutTruth.{IsFoundIn}
 use Rattle.syn_cut_functions.proofs.levels.find_all.Given as goal
 
 abbrev pub invariant-loop-node : goal.invariant-loop-node

@@ -1,4 +1,4 @@
-use Rattle.syn_cut_functions.proofs.Carried.{set_lists}
+use Rattle.syn_cut_functions.proofs.CutTruth.{set_lists}
 use Rattle.syn_cut_functions.proofs.levels.set.Goals as goal
 
 pub returns : goal.returns

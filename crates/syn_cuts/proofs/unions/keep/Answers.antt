@@ -8,10 +8,10 @@ returns-in_default-clause-kept c =
     put_there c.args.kept.now.items c.args.cut.items c.requires.few
     (rw (c.as_slice-3.ensures.value, c.as_slice-4.ensures.value) at c.in_default.ensures.none)
 
-pub returns-then-i-ge-KEPT-clause-kept : goal.returns-then-i-ge-KEPT-clause-kept
-returns-then-i-ge-KEPT-clause-kept c =
+pub returns-then-i-ge-CUTS_PER_NODE-clause-kept : goal.returns-then-i-ge-CUTS_PER_NODE-clause-kept
+returns-then-i-ge-CUTS_PER_NODE-clause-kept c =
     let at = rw (c.as_slice-3.ensures.value, c.as_slice-4.ensures.value) at c.in-Some.ensures.some in
-    put_past c.args.kept.now.items c.in-Some.i c.args.cut.items c.requires.few c.if-i-ge-KEPT.true at.0 at.1
+    put_past c.args.kept.now.items c.in-Some.i c.args.cut.items c.requires.few c.if-i-ge-CUTS_PER_NODE.true at.0 at.1
 
 pub returns-clause-kept : goal.returns-clause-kept
 returns-clause-kept c =

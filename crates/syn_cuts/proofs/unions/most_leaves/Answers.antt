@@ -8,7 +8,7 @@ use Rattle.syn_cuts.proofs.unions.most_leaves.Goals as goal
 pub returns-then-last-k-clause-longer : goal.returns-then-last-k-clause-longer
 returns-then-last-k-clause-longer c = λ cut more small.
     let cuts = c.args.cuts.now in
-    let full = c.if-cuts-lt-KEPT.false in
+    let full = c.if-cuts-lt-CUTS_PER_NODE.false in
     let size = leaves_length cuts in
     let last = get_or-map leaves cuts 30 c.index-cuts.result [] (omega (arith, full)) ∙ ap leaves (sym c.index-cuts.is) in
     let len = ap length last in

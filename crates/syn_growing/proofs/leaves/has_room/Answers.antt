@@ -1,20 +1,20 @@
 use Rattle.std.proofs.Common.{nat_lt, length, sym, ◌∙◌, arith}
 use Rattle.std.proofs.lemmas.Bool.{both_ways, lt-ltb}
 use Rattle.syn_growing.proofs.Inner.{room_below, room_by_first, room_by_second}
-use Rattle.syn_growing.proofs.leaves.has_room.Goals.{then-inner-lt-MOST_INNER, else-inner-lt-MOST_INNER}
+use Rattle.syn_growing.proofs.leaves.has_room.Goals.{then-inner-lt-MAX_INNER, else-inner-lt-MAX_INNER}
 use Rattle.syn_growing.proofs.leaves.has_room.Goals as goal
 
 pub returns-then-has : goal.returns-then-has
 returns-then-has c =
-    c.if-has.true ∙ sym (elim c.if-inner-lt-MOST_INNER.branch [
-      | then-inner-lt-MOST_INNER w ↦ room_below c.args.inner.now c.args.leaf c.args.a c.args.b w.if-inner-lt-MOST_INNER.true
-      | else-inner-lt-MOST_INNER w ↦ room_by_first c.args.inner.now c.args.leaf c.args.a c.args.b c.requires (sym w.has.ensures ∙ sym w.value-is ∙ c.if-has.true)
+    c.if-has.true ∙ sym (elim c.if-inner-lt-MAX_INNER.branch [
+      | then-inner-lt-MAX_INNER w ↦ room_below c.args.inner.now c.args.leaf c.args.a c.args.b w.if-inner-lt-MAX_INNER.true
+      | else-inner-lt-MAX_INNER w ↦ room_by_first c.args.inner.now c.args.leaf c.args.a c.args.b c.requires (sym w.has.ensures ∙ sym w.value-is ∙ c.if-has.true)
     ])
 
 pub returns-else-has : goal.returns-else-has
-returns-else-has c = elim c.if-inner-lt-MOST_INNER.branch [
-  | then-inner-lt-MOST_INNER w ↦ absurd (both_ways (nat_lt (length c.args.inner.now) 48) (sym w.value-is ∙ c.if-has.false) (lt-ltb (length c.args.inner.now) 48 w.if-inner-lt-MOST_INNER.true))
-  | else-inner-lt-MOST_INNER w ↦
+returns-else-has c = elim c.if-inner-lt-MAX_INNER.branch [
+  | then-inner-lt-MAX_INNER w ↦ absurd (both_ways (nat_lt (length c.args.inner.now) 48) (sym w.value-is ∙ c.if-has.false) (lt-ltb (length c.args.inner.now) 48 w.if-inner-lt-MAX_INNER.true))
+  | else-inner-lt-MAX_INNER w ↦
       c.has-else-has.ensures
-      ∙ room_by_second c.args.inner.now c.args.leaf c.args.a c.args.b c.requires (let full = w.if-inner-lt-MOST_INNER.false in omega arith) (sym w.has.ensures ∙ sym w.value-is ∙ c.if-has.false)
+      ∙ room_by_second c.args.inner.now c.args.leaf c.args.a c.args.b c.requires (let full = w.if-inner-lt-MAX_INNER.false in omega arith) (sym w.has.ensures ∙ sym w.value-is ∙ c.if-has.false)
 ]

@@ -1,7 +1,7 @@
 use Rattle.std.proofs.Common.{rules, ◌≡◌, ℕ, ◌<◌, List, true, None, length, refl, ap₂, ◌∙◌, ap, sym, subst, arith}
 use Rattle.syn_netlist.specs.declared.netlists.Netlist.{Netlist}
-use Rattle.syn_netlist.specs.declared.ordering.Walked.{Walked}
-use Rattle.syn_netlist.specs.declared.ordering.Walked.TheVariants.{Order, Circle}
+use Rattle.syn_netlist.specs.declared.order_walk.Walked.{Walked}
+use Rattle.syn_netlist.specs.declared.order_walk.Walked.TheVariants.{Order, Circle}
 use Rattle.syn_netlist.specs.declared.tables.Table.{Table}
 use Rattle.syn_netlist.specs.Faults.{AnswersCircle, IsTableOrder, first_undriven}
 use Rattle.syn_netlist.specs.Numbers.{all_below}
@@ -20,11 +20,11 @@ walks_at count ts us v w e f h = subst (λ (x : Walked). Walks us count x) f (su
 
 -- the path is there
 path_below : (count : ℕ) (ts : List Table) (path : Vec ℕ) (back : ℕ) → Walks ts count (Circle path back) → all_below (length ts) path.items ≡ true
-path_below count ts path back (makers, len, are, (stages, seen, order, meets)) = meets.walk.path_below
+path_below count ts path back (drivers, len, are, (stages, seen, order, meets)) = meets.walk.path_below
 
 circle_answers : (n : Netlist) (count : ℕ) (path : Vec ℕ) (back : ℕ) → distinct n.frame.names ≡ true → count ≡ length n.frame.names → Walks n.tables count (Circle path back)
     → AnswersCircle (netlist_in n).tables (output_words n.frame.names n.tables (from_number back path.items))
-circle_answers n count path back d e (makers, len, are, (stages, seen, order, meets)) = answers_words n makers d (len ∙ e) are stages seen path.items order back meets
+circle_answers n count path back d e (drivers, len, are, (stages, seen, order, meets)) = answers_words n drivers d (len ∙ e) are stages seen path.items order back meets
 
 pub walk-requires-clause-few : goal.walk-requires-clause-few
 walk-requires-clause-few c =
@@ -43,7 +43,7 @@ output_names-requires-clause-numbers c =
 
 -- what the walk's order is in words
 order_words : (n : Netlist) (count : ℕ) (order : Vec ℕ) → distinct n.frame.names ≡ true → count ≡ length n.frame.names → first_undriven (netlist_in n) ≡ None → Walks n.tables count (Order order) → IsTableOrder (netlist_in n) order.items
-order_words n count order d e driven (makers, len, are, is) = order_is n makers d (len ∙ e) are driven order.items is
+order_words n count order d e driven (drivers, len, are, is) = order_is n drivers d (len ∙ e) are driven order.items is
 
 pub returns-in-Order-clause-order : goal.returns-in-Order-clause-order
 returns-in-Order-clause-order c =

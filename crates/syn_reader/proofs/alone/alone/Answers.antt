@@ -24,8 +24,8 @@ returns-in-Some-clause-fault c =
     let fault = alone_fault ms m (netlist_in moved.field-0.netlist) moved.field-0.netlist.frame.names moved.field-0.reads.items c.in_ok-name.field-0 one.0 one.1 moved.ensures.netlist moved.ensures.names moved.ensures.reads found in
     inl (fault ∙ ap (option_map Undriven) c.in-Some.is)
 
-pub returns-then-words-gt-MOST_WORDS-clause-fault : goal.returns-then-words-gt-MOST_WORDS-clause-fault
-returns-then-words-gt-MOST_WORDS-clause-fault c =
+pub returns-then-words-gt-MAX_WORDS-clause-fault : goal.returns-then-words-gt-MAX_WORDS-clause-fault
+returns-then-words-gt-MAX_WORDS-clause-fault c =
     let ms = c.args.models.models in
     let m = c.remove-main.result in
     let one = one_is ms m c.requires (c.remove-main.ensures.value ∙ ap (λ (l : List Model). slice_index_or l 0 m) c.into_vec-all.ensures) in

@@ -32,12 +32,12 @@ pub returns : goal.returns
 returns g c =
     let start : State = state None (g.F.Files.disk c.args.files.now) (g.O.Sink.screen c.args.out.now) in
     let now : State = state c.loop-taken.session (g.F.Files.disk c.loop-taken.files) (g.O.Sink.screen c.loop-taken.out) in
-    let after : State = state c.loop-taken.session (g.F.Files.disk c.loop-taken.files) (g.O.Sink.screen c.last_turn.new.out) in
+    let after : State = state c.loop-taken.session (g.F.Files.disk c.loop-taken.files) (g.O.Sink.screen c.refuse_one_more_line.new.out) in
     let i0 : Input = g.L.Lines.input c.args.lines.now in
     let i : Input = g.L.Lines.input c.loop-taken.lines in
-    let i' : Input = g.L.Lines.input c.last_turn.new.lines in
+    let i' : Input = g.L.Lines.input c.refuse_one_more_line.new.lines in
     let all_taken : c.loop-taken._taken ≡ most_lines = omega arith in (
       c.loop-taken.session,
-      ends_last c.loop-taken._taken c.loop-taken.status c.last_turn.result c.first_status-2.result now start after i i0 i' all_taken
-          (c.last_turn.ensures.each c.loop-taken.session (g.F.Files.disk c.loop-taken.files)) c.first_status-2.ensures (λ ls all runs. c.loop-taken.invariant ls all after i' runs),
+      ends_last c.loop-taken._taken c.loop-taken.status c.refuse_one_more_line.result c.first_status-2.result now start after i i0 i' all_taken
+          (c.refuse_one_more_line.ensures.each c.loop-taken.session (g.F.Files.disk c.loop-taken.files)) c.first_status-2.ensures (λ ls all runs. c.loop-taken.invariant ls all after i' runs),
     )

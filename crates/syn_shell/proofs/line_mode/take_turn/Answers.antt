@@ -1,6 +1,6 @@
 use Rattle.std.proofs.Common.{ℕ, List, ap, ◌∙◌, subst, Option, Some, Ok}
-use Rattle.syn_shell.specs.declared.announcing.Announcement.{Announcement}
-use Rattle.syn_shell.specs.declared.announcing.Announcement.TheVariants.{Cut}
+use Rattle.syn_shell.specs.declared.refusal_lines.Reported.{Reported}
+use Rattle.syn_shell.specs.declared.refusal_lines.Reported.TheVariants.{Cut}
 use Rattle.syn_io.specs.Outside.{Input}
 use Rattle.syn_shell.specs.Outside.{State, state}
 use Rattle.syn_shell.specs.Stopping.{Leaves}
@@ -19,8 +19,8 @@ pub returns-in-Err : goal.returns-in-Err
 returns-in-Err g c =
     let i : Input = g.L.Lines.input c.args.lines.now in
     let j : Input = g.L.Lines.input c.next_line.new.lines in
-    turned_refused c.status.result c.announce.result c.in-Err.cause c.args.session.now (g.F.Files.disk c.args.files.now)
-    (g.O.Sink.screen c.args.out.now) (g.O.Sink.screen c.announce.new.out) i j c.status.ensures c.in-Err.ensures c.announce.ensures
+    turned_refused c.status.result c.report_refusal.result c.in-Err.cause c.args.session.now (g.F.Files.disk c.args.files.now)
+    (g.O.Sink.screen c.args.out.now) (g.O.Sink.screen c.report_refusal.new.out) i j c.status.ensures c.in-Err.ensures c.report_refusal.ensures
 
 pub returns : goal.returns
 returns g c =
@@ -32,4 +32,4 @@ returns g c =
     turned_by (Some (Cut c.in-Some-Cut.status)) line before after i j
     (gave_line c.next_line.result c.in-Ok-Some.line i j (c.in-Ok-Some.is ∙ ap (λ x. Ok x) c.in-Ok-Some.field-0-is) c.next_line.ensures)
     (subst (λ (l : List ℕ). Leaves (Some (Cut c.in-Some-Cut.status)) l before after) c.as_slice.ensures.value
-    (subst (λ (r : Option Announcement). Leaves r c.as_slice.result.now before after) (c.in-Some-Cut.is ∙ ap (λ x. Some x) c.in-Some-Cut.field-0-is) c.run_script.ensures))
+    (subst (λ (r : Option Reported). Leaves r c.as_slice.result.now before after) (c.in-Some-Cut.is ∙ ap (λ x. Some x) c.in-Some-Cut.field-0-is) c.run_script.ensures))

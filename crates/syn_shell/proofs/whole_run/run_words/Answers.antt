@@ -5,9 +5,9 @@ use Rattle.syn_shell.proofs.whole_run.run_words.Goals as goal
 pub returns-in-Err : goal.returns-in-Err
 returns-in-Err g c = record {
   ran =
-      ran_nothing (map string_bytes c.args.words.now) c.in-Err.cause c.announce.result (g.F.Files.disk c.args.files.now)
-      (g.O.Sink.screen c.args.out.now) (g.O.Sink.screen c.announce.new.out)
-      (g.L.Lines.input c.args.lines.now) c.status.result c.in-Err.ensures.refused c.announce.ensures c.status.ensures;
+      ran_nothing (map string_bytes c.args.words.now) c.in-Err.cause c.report_refusal.result (g.F.Files.disk c.args.files.now)
+      (g.O.Sink.screen c.args.out.now) (g.O.Sink.screen c.report_refusal.new.out)
+      (g.L.Lines.input c.args.lines.now) c.status.result c.in-Err.ensures.refused c.report_refusal.ensures c.status.ensures;
 }
 
 pub returns-in-None : goal.returns-in-None

@@ -16,5 +16,5 @@ returns c = λ rows leaves few order row inner left right.
       word = short_word rows leaves n _ c.short.result few c.short.ensures
           (and_word rows leaves n a b c.from.result c.from-2.result c.lit_word.result c.lit_word-2.result (omega (arith, few)) (is_and rows leaves n a b some row inner)
           (rw c.from.ensures left.word) (rw c.from-2.ensures right.word) c.lit_word.ensures c.lit_word-2.ensures);
-      floor = and_floor rows leaves n c.args.left.floor c.args.right.floor c.min-2.result a b row left.floor right.floor (omega (arith, c.min.ensures, c.min-2.ensures)) (omega (arith, c.min.ensures, c.min-2.ensures)) (omega (arith, c.min-2.ensures));
+      min_inner = and_floor rows leaves n c.args.left.min_inner c.args.right.min_inner c.min-2.result a b row left.min_inner right.min_inner (omega (arith, c.min.ensures, c.min-2.ensures)) (omega (arith, c.min.ensures, c.min-2.ensures)) (omega (arith, c.min-2.ensures));
     }

@@ -12,5 +12,5 @@ returns c =
     let is : IsTruthOver c.args.rows.now c.args.leaves.now c.args.root c.in_ok-table.table = c.in_ok-table.ensures in
     record {
       word = λ xs len v fits at. is.values xs len v fits at ∙ sym (c.word_of_table.ensures xs (len ∙ sym is.vars));
-      floor = c.floor_of.ensures;
+      min_inner = c.floor_of.ensures;
     }

@@ -13,5 +13,5 @@ returns c = λ rows.
     record {
       word = short_word rows leaves n c.variable.result c.short.result c.requires.few c.short.ensures
           (leaf_word rows leaves n i c.variable.result at.0 (omega (arith, c.requires.few)) at.1 c.variable.ensures);
-      floor = leaf_floor rows leaves n 4294967295 (has_at leaves i n at.0 at.1);
+      min_inner = leaf_floor rows leaves n 4294967295 (has_at leaves i n at.0 at.1);
     }

@@ -1,4 +1,4 @@
-use Rattle.syn_cones.specs.Carried.{IsPutTogether}
+use Rattle.syn_cones.specs.CutTruth.{IsPutTogether}
 use Rattle.syn_cones.proofs.carried.CutFunction.word_over.Given as goal
 
 abbrev pub invariant-loop-i : goal.invariant-loop-i

@@ -1,6 +1,0 @@
-use Rattle.std.proofs.Common.{◌≡◌, drop}
-use Rattle.syn_aiger.specs.WrittenLists.{typed_output}
-use Rattle.syn_aiger.proofs.writing.typed_output.Given as goal
-
-abbrev pub invariant-loop-latch : goal.invariant-loop-latch
-invariant-loop-latch l = typed_output (drop l.latch-index l.latches) ≡ typed_output l.latches

@@ -1,0 +1,6 @@
+use Rattle.std.proofs.Common.{◌≡◌, ◌++◌, flat_map, drop}
+use Rattle.syn_aiger_files.specs.Printed.{ascii_latch}
+use Rattle.syn_aiger_files.proofs.printer.push_ascii_latches.Given as goal
+
+abbrev pub invariant-loop-latch : goal.invariant-loop-latch
+invariant-loop-latch l = l.out.items ++ flat_map ascii_latch (drop l.latch-index l.latches) ≡ l.initial.out.items ++ flat_map ascii_latch l.latches

@@ -1,0 +1,20 @@
+use Rattle.std.proofs.Common.{◌≡◌}
+use Rattle.syn_table.specs.Seating.{known_of, nodes_of, view_of}
+use Rattle.syn_table.specs.Steps.{with_view}
+use Rattle.syn_commit.specs.Counts.{CountsAreLoaded}
+use Rattle.syn_commit.specs.Stages.{IsPastKeys}
+use Rattle.syn_commit.specs.Trials.{IsUnderWay}
+use Rattle.syn_commit.proofs.Loads.{counts_left}
+use Rattle.syn_commit.proofs.loaded.counts.Given as goal
+
+abbrev pub invariant-loop-node : goal.invariant-loop-node
+invariant-loop-node l = record {
+  known : known_of l.seat ≡ with_view (known_of l.fn.seat) (view_of l.seat);
+  misses : (view_of l.seat).misses ≡ (view_of l.fn.seat).misses;
+  way : IsUnderWay l.trial l.seat l.pins.items l.deciding;
+  past : IsPastKeys l.deciding.stage;
+  loaded : CountsAreLoaded (nodes_of l.trial.shared.now) (view_of l.seat) l.deciding;
+}
+
+abbrev pub decreases-loop-node : goal.decreases-loop-node
+decreases-loop-node l = counts_left l.deciding

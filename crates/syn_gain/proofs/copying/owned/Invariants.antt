@@ -1,5 +1,0 @@
-use Rattle.std.proofs.Common.{◌≡◌, ◌++◌, drop}
-use Rattle.syn_gain.proofs.copying.owned.Given as goal
-
-abbrev pub invariant-loop-leaf : goal.invariant-loop-leaf
-invariant-loop-leaf l = l.leaves.items ++ drop l.leaf-index l.candidate.leaves.now ≡ l.candidate.leaves.now

@@ -1,0 +1,131 @@
+//! Whether a proposal saves, where a bound is asked first.
+
+ghost use Rattle.std.specs.Prelude.{◌≡◌, ◌≤◌, true, false, length, nat_lt, IfOk};
+ghost use Rattle.syn_rows.specs.Rows.{row_at};
+ghost use Rattle.syn_rows.specs.Reach.{is_and};
+ghost use Rattle.syn_fanout_free.specs.Bounding.{IsMffcSize, IsMostLost};
+ghost use Rattle.syn_fanout_free.specs.Saved.{count_in};
+ghost use Rattle.syn_gain.specs.Leaves.{rise_above};
+ghost use Rattle.syn_gain.specs.Proposals.{replacement_of};
+ghost use Rattle.syn_gain.specs.Replacements.{SavesNothing, SavesSome};
+ghost use Rattle.syn_gain.specs.Searching.{new_rows_anywhere};
+ghost use Rattle.syn_gain.specs.Uses.{IsUsesOf};
+
+use crate::placed::{INLINE_LITERALS, INLINE_ROWS, adds_fewer_anywhere, place_into};
+use crate::{Candidate, Uses};
+use smallvec::SmallVec;
+use std::alloc::{AllocError, Global};
+use syn_fanout_free::{Change, KeptRows};
+use syn_graph::Graph;
+use syn_rows::{Lit, Row};
+
+/// Room for what a plan becomes. One value serves for many plans, one after the other.
+#[derive(Drop)]
+pub struct Room {
+    literals: SmallVec<Lit, INLINE_LITERALS>,
+    extra: SmallVec<Row, INLINE_ROWS>,
+    kept: KeptRows,
+}
+
+impl Room {
+    /// Room that takes no memory yet.
+    pub fn new(alloc: Global) -> Room {
+        Room {
+            literals: SmallVec::new(alloc),
+            extra: SmallVec::new(alloc),
+            kept: KeptRows::new(alloc),
+        }
+    }
+}
+
+/// How many ANDs go with the row of an AND where these leaves stay: its own, and those that are freed then. All plans over
+/// the leaves share the number. Above `limit` the cone that goes isn't followed further, and the answer is a greater number;
+/// with `u32::MAX` it is always the number. The only error is want of memory, which a small cone doesn't take.
+pub fn mffc_size(
+    alloc: Global,
+    graph: &Graph,
+    uses: &Uses,
+    root: u32,
+    leaves: &[u32],
+    limit: u32,
+) -> Result<u32, AllocError>
+    requires uses { IsUsesOf uses.now graph.now }
+    requires root { is_and (row_at graph.now.rows root) ≡ true }
+    requires rise { rise_above 0 leaves.now ≡ true }
+    ensures most { IfOk result (λ k. IsMostLost graph.now.rows (count_in uses.now.counts.items) root leaves.now k) }
+    ensures exact { IfOk result (λ k. k ≤ limit → IsMffcSize graph.now.rows (count_in uses.now.counts.items) root leaves.now k) }
+{
+    syn_fanout_free::mffc_size(
+        alloc,
+        graph.rows.as_slice(),
+        uses.counts.as_slice(),
+        root,
+        leaves,
+        limit,
+    )
+}
+
+/// Whether a proposal for an AND saves, where no more than `most` ANDs go with the root's row if its leaves stay. Where the plan holds
+/// the leaves and adds as many, it saves nothing, and the cone that goes isn't followed. The only error is want of memory,
+/// which a small plan doesn't take.
+pub fn saves(
+    alloc: Global,
+    graph: &Graph,
+    uses: &Uses,
+    candidate: Candidate,
+    most: u32,
+    room: &mut Room,
+) -> Result<bool, AllocError>
+    requires uses { IsUsesOf uses.now graph.now }
+    requires root { is_and (row_at graph.now.rows candidate.root) ≡ true }
+    requires most { IsMostLost graph.now.rows (count_in uses.now.counts.items) candidate.root candidate.leaves.now most }
+    ensures some { IfOk result (λ some. some ≡ true → SavesSome graph.now.rows graph.now.observed (replacement_of candidate.entry)) }
+    ensures none { IfOk result (λ some. some ≡ false → SavesNothing graph.now.rows graph.now.observed (replacement_of candidate.entry)) }
+{
+    let rows = graph.rows.as_slice();
+    let row = place_into(
+        rows,
+        &uses.pairs,
+        candidate,
+        &mut room.literals,
+        &mut room.extra,
+    )?;
+    syn_fanout_free::gain_is_positive(
+        alloc,
+        rows,
+        uses.counts.as_slice(),
+        Change {
+            node: candidate.root,
+            row,
+            extra: room.extra.as_slice(),
+        },
+        candidate.leaves,
+        most,
+        &mut room.kept,
+    )
+}
+
+/// Whether a proposal for an AND adds fewer than so many new rows where its gates may be those of any row, also of one behind
+/// the root. Its plan is placed no further once as many rows are new. The only error is want of memory, which a small plan
+/// doesn't take.
+pub fn adds_fewer(
+    graph: &Graph,
+    uses: &Uses,
+    candidate: Candidate,
+    limit: u32,
+    room: &mut Room,
+) -> Result<bool, AllocError>
+    requires uses { IsUsesOf uses.now graph.now }
+    requires root { is_and (row_at graph.now.rows candidate.root) ≡ true }
+    ensures { IfOk result (λ fewer. fewer ≡ nat_lt (length (new_rows_anywhere graph.now.rows (replacement_of candidate.entry))) limit) }
+{
+    let rows = graph.rows.as_slice();
+    adds_fewer_anywhere(
+        rows,
+        &uses.pairs,
+        candidate,
+        limit,
+        &mut room.literals,
+        &mut room.extra,
+    )
+}

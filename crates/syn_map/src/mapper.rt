@@ -1,0 +1,45 @@
+//! From a graph to a LUT net.
+
+ghost use Rattle.std.specs.Prelude.{◌≡◌, ◌+◌, ◌<◌, ◌≤◌, Bool, true, List, IfOk, length, map};
+ghost use Rattle.syn_rows.specs.Rows.{node_of};
+ghost use Rattle.syn_rows.specs.Values.{rows_function};
+ghost use Rattle.syn_netlist.specs.Frames.{frame_in};
+ghost use Rattle.syn_netlist.specs.Lists.{sources};
+ghost use Rattle.syn_truth.specs.declared.TheConstants.{MAX_VARS};
+ghost use Rattle.syn_lutshapes.specs.Luts.{greatest, luts_function, net_depth, none_exceeds};
+ghost use Rattle.syn_lutnet.specs.Data.{luts_data};
+ghost use Rattle.syn_map.specs.Labels.{label_of};
+ghost use Rattle.syn_map.specs.Mappings.{IsMapped};
+
+use crate::labelled::Labelled;
+use std::alloc::{AllocError, Global};
+use std::thread::Threads;
+use syn_covering::net_of;
+use syn_graph::Graph;
+use syn_lutnet::LutNet;
+
+/// The LUTs, of at most `k` inputs, of a graph: of the observed ANDs, and again and again of the ANDs among the leaves of
+/// chosen cuts, in node order. The label of a source is 0, that of an AND one more than the least, over its listed cuts of
+/// at most `k` leaves but the last, of the greatest label of a leaf; the chosen cut is the first that gives the least. So
+/// the net has the least depth that the listed cuts allow.
+///
+/// The cuts are listed by so many workers; the net is the same for every number of them. The only error is want of memory.
+pub fn map<R: Threads + Sync>(
+    rt: &R,
+    alloc: Global,
+    graph: &Graph,
+    k: u8,
+    workers: u8,
+) -> Result<LutNet, AllocError>
+    requires many { 2 ≤ k }
+    requires few { k ≤ MAX_VARS }
+    ensures frame { IfOk result (λ net. frame_in net.frame ≡ frame_in graph.now.frame) }
+    ensures mapping { IfOk result (IsMapped k graph.now) }
+    ensures function { IfOk result (λ net. (bits : List Bool) → length bits ≡ length (sources (frame_in graph.now.frame)) → luts_function (luts_data net.luts) net.observed bits ≡ rows_function graph.now.rows graph.now.observed bits) }
+    ensures depth { IfOk result (λ net. net_depth (length (sources (frame_in graph.now.frame))) (luts_data net.luts) ≡ greatest (label_of k graph.now.rows) (map node_of graph.now.observed)) }
+    ensures inputs { IfOk result (λ net. none_exceeds k (luts_data net.luts) ≡ true) }
+    ensures count { IfOk result (λ net. length net.luts + (length (sources (frame_in graph.now.frame)) + 1) ≤ length graph.now.rows) }
+{
+    let labelled = Labelled::of(rt, alloc, graph, k, workers)?;
+    net_of(alloc, graph, &labelled)
+}

@@ -1,9 +1,0 @@
-use Rattle.std.proofs.Common.{List, [], Bool, sym, subst}
-use Rattle.syn_models.specs.Files.{all_in}
-use Rattle.syn_models.specs.Marked.{Marked, defined_before}
-use Rattle.syn_models.specs.Views.{model_in}
-use Rattle.syn_models.proofs.marking.model_fault.Goals as goal
-
-pub statements_fault-requires-clause-marked : goal.statements_fault-requires-clause-marked
-statements_fault-requires-clause-marked c =
-    subst (λ (slots : List Bool). Marked c.args.m.now.names (defined_before (all_in c.args.file.now) (model_in c.args.m.now) []) slots) (sym c.as_mut_slice.ensures.value) (c.in_ok-marks.ensures (all_in c.args.file.now))

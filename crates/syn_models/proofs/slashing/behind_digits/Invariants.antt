@@ -1,6 +1,0 @@
-use Rattle.std.proofs.Common.{◌≡◌, drop}
-use Rattle.syn_models.specs.ReadBack.{behind}
-use Rattle.syn_models.proofs.slashing.behind_digits.Given as goal
-
-abbrev pub invariant-loop-i : goal.invariant-loop-i
-invariant-loop-i l = behind (drop l.i l.word) ≡ behind l.word

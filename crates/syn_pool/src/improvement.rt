@@ -1,0 +1,64 @@
+//! The one way in which a proposer is run over a graph.
+
+ghost use Rattle.std.specs.Prelude.{◌≡◌, IfErr, IfOk};
+ghost use Rattle.syn_pool.specs.Improving.{IsImproved};
+
+use crate::kept_levels::kept_closed;
+use crate::passes::pass;
+use crate::scene::Course;
+use std::alloc::{AllocError, Global};
+use std::thread::Threads;
+use syn_commit::Gate;
+use syn_graph::Graph;
+use syn_proposals::{Keeping, Proposer};
+
+/// How a pass goes over a graph.
+#[derive(Clone, Copy, Debug)]
+pub struct PassSettings {
+    /// The most worker threads, 1 to 16.
+    pub workers: u8,
+    /// Whether commits of gain 0 are let through before the graph is checked.
+    pub zero_gain: bool,
+    /// Whether levels are kept: only proposals that keep their root's level are made, and no observed signal becomes deeper.
+    pub levels: bool,
+}
+
+/// The graph that a pass of a proposer leaves, without its report: the same frame, the same values of the observed signals, no more
+/// ANDs, and no proposal saves; where levels are kept, no observed signal is deeper, and no proposal saves that keeps its root's
+/// level. With one worker it is the same each time; with several it may depend on which commits first. The gate is told of each
+/// commit. Where memory is refused, the same graph comes back.
+pub fn improve<R: Threads + Sync, P: Proposer + Drop, G: Gate>(
+    rt: &R,
+    alloc: Global,
+    graph: Graph,
+    proposer: P,
+    settings: PassSettings,
+    gate: &G,
+) -> Result<Graph, (Graph, AllocError)>
+    ensures improved { IfOk result (IsImproved (P.proposals proposer) settings.levels graph) }
+    ensures refused { IfErr result (λ e. e.0 ≡ graph) }
+{
+    let PassSettings {
+        workers,
+        zero_gain,
+        levels,
+    } = settings;
+    if !levels {
+        let (made, _report) = pass(rt, alloc, graph, &proposer, workers, zero_gain, gate)?;
+        return Ok(made);
+    }
+    let keeping = Keeping { proposer };
+    let course = Course {
+        rt,
+        alloc,
+        proposer: &keeping,
+        gate,
+        workers,
+        zero_gain,
+    };
+    match kept_closed(&course, &graph) {
+        Ok(Some(made)) => Ok(made),
+        Ok(None) => Ok(graph),
+        Err(error) => Err((graph, error)),
+    }
+}

@@ -1,0 +1,20 @@
+use Rattle.syn_gain.specs.Proposals.{replacement}
+use Rattle.syn_proposals.specs.Closing.{SavesSome}
+use Rattle.syn_proposals.specs.Sound.{IsSound}
+use Rattle.syn_proposals.proofs.Maps.{All-read}
+use Rattle.syn_proposals.proofs.applied.smaller.Goals as goal
+
+pub returns-then-better : goal.returns-then-better
+returns-then-better g c = record {
+  frame = c.in_ok-next.ensures.frame;
+  names = c.in_ok-next.ensures.names;
+  values = c.in_ok-next.ensures.values;
+  count = c.in_ok-better.ensures c.if-better.true;
+}
+
+pub first_applied-requires-clause-sound : goal.first_applied-requires-clause-sound
+first_applied-requires-clause-sound g c = All-read (IsSound c.args.graph.now.rows) c.args.found.now 0 c.index-found-0.result c.requires.some c.index-found-0.is c.requires.sound
+
+pub first_applied-requires-clause-saves : goal.first_applied-requires-clause-saves
+first_applied-requires-clause-saves g c =
+    All-read (λ p. SavesSome c.args.graph.now.rows c.args.graph.now.observed (replacement p)) c.args.found.now 0 c.index-found-0.result c.requires.some c.index-found-0.is c.requires.saves

@@ -1,5 +1,0 @@
-use Rattle.syn_proposals.specs.Leftovers.{AreFirst}
-use Rattle.syn_proposals.proofs.checking.first_nodes.Given as goal
-
-abbrev pub invariant-loop-node : goal.invariant-loop-node
-invariant-loop-node l = AreFirst l.node l.nodes.items

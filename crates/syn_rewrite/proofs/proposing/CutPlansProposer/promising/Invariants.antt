@@ -1,5 +1,0 @@
-use Rattle.std.proofs.Common.{◌≡◌, All}
-use Rattle.syn_rewrite.proofs.proposing.CutPlansProposer.promising.Given as goal
-
-abbrev pub invariant-loop-i : goal.invariant-loop-i
-invariant-loop-i l = All (λ p. p.root ≡ l.node) l.proposals.items

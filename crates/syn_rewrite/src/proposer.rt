@@ -1,0 +1,352 @@
+//! The proposer.
+
+ghost use Rattle.std.specs.Prelude.{◌≡◌, ℕ, ◌<◌, ◌≤◌, ◌++◌, [], true, false, All, List, OnOk, IfNone, IfOk, IfSome, length, map};
+ghost use Rattle.syn_rows.specs.declared.Row.{Row};
+ghost use Rattle.syn_rows.specs.Rows.{row_at};
+ghost use Rattle.syn_rows.specs.Reach.{is_and};
+ghost use Rattle.syn_plan.specs.Naming.{built_of};
+ghost use Rattle.syn_library.specs.Library.{NamesOwn};
+ghost use Rattle.syn_fanout_free.specs.Bounding.{IsMostLost};
+ghost use Rattle.syn_fanout_free.specs.Saved.{count_in};
+ghost use Rattle.syn_gain.specs.Proposals.{replacement, replacement_of};
+ghost use Rattle.syn_gain.specs.Uses.{IsUsesOf};
+ghost use Rattle.syn_proposals.specs.Closing.{IsFirst, SavesNothing};
+ghost use Rattle.syn_proposals.specs.Sound.{IsSound};
+ghost use Rattle.syn_weighing.specs.AllNew.{are_apart};
+ghost use Rattle.syn_function_plans.specs.PlansOf.{ArePlansOf};
+ghost use Rattle.syn_rewrite.specs.Prepared.{IsPreparedFor, IsRooted};
+ghost use Rattle.syn_rewrite.specs.Rewriting.{cut_proposals, over, rewritings};
+
+use crate::commit_candidates::{push_promising, worth_over};
+use crate::prepared::{MAX_LEAVES, Prepared, prepare};
+use crate::rooted::{RootedCut, rooted_at};
+use std::alloc::{AllocError, Global};
+use std::thread::Threads;
+use syn_function_plans::{FunctionPlans, PlanCache, PlanSource, plans_of};
+use syn_gain::{Candidate, Proposal, Room, Uses, mffc_size, owned, saves};
+use syn_graph::Graph;
+use syn_library::Prepared as Classes;
+use syn_plan::Plan;
+use syn_proposals::Proposer;
+use syn_weighing::{DryRun, are_apart, names_within, saves_nothing};
+
+/// How many ANDs that go with a row are counted before its plans are looked at; hardly a plan of four leaves adds as many.
+pub(crate) const MAX_COUNTED: u32 = 16;
+
+/// Proposes for each AND, cut by cut, the plans of its function over the cut.
+#[derive(Drop)]
+pub struct CutPlans {
+    classes: Classes,
+}
+
+impl CutPlans {
+    /// The proposer, with the plans of all classes. The only error is want of memory.
+    pub fn new(alloc: Global) -> Result<CutPlans, AllocError> {
+        Ok(CutPlans {
+            classes: Classes::new(alloc)?,
+        })
+    }
+
+    // The plans of functions, by the lists of a graph.
+    fn source<'a>(&'a self, lists: &'a Prepared) -> PlanSource<'a> {
+        PlanSource {
+            known: &lists.known,
+            classes: &self.classes,
+        }
+    }
+}
+
+/// A plan of an AND's function over a cut, in place of the AND.
+pub(crate) fn candidate<'a>(graph: &Graph, cut: RootedCut<'a>, plan: &'a Plan) -> Candidate<'a>
+    requires rooted { IsRooted graph.now.rows cut.root cut.leaves.now cut.function }
+    requires count { plan.now.leaves ≡ 4 }
+    requires names { NamesOwn plan.now cut.function }
+    ensures root { result.root ≡ cut.entry.root }
+    ensures leaves { result.leaves.now ≡ cut.entry.leaves.now }
+    ensures plan { result.plan.now ≡ plan.now }
+    ensures few { length result.leaves.now ≤ 4 }
+    ensures is { replacement_of result ≡ over cut.entry.root cut.entry.leaves.now (built_of plan.now) }
+{
+    Candidate {
+        root: cut.root,
+        leaves: cut.leaves,
+        plan,
+    }
+}
+
+// Adds the plans of an AND's function over a cut, in order.
+fn push_plans(
+    graph: &Graph,
+    cut: RootedCut,
+    plans: &[Plan],
+    proposals: &mut Vec<Proposal>,
+) -> Result<(), AllocError>
+    requires rooted { IsRooted graph.now.rows cut.root cut.leaves.now cut.function }
+    requires plans { ArePlansOf cut.function plans.now }
+    ensures proposals { OnOk result (map replacement proposals.new.items ≡ map replacement proposals.old.items ++ cut_proposals graph.now.rows cut.entry.root cut.entry.leaves.now) }
+    ensures roots { OnOk result (All (λ p. p.root ≡ cut.entry.root) proposals.old.items → All (λ p. p.root ≡ cut.entry.root) proposals.new.items) }
+    ensures sound { OnOk result (All (IsSound graph.now.rows) proposals.old.items → All (IsSound graph.now.rows) proposals.new.items) }
+{
+    for plan in plans {
+        let candidate = candidate(graph, cut, plan);
+        proposals.push(owned(candidate))?;
+    }
+    Ok(())
+}
+
+// No fewer ANDs than go with an AND's row where a cut's leaves stay, counted where they weren't before.
+fn bound_over(
+    alloc: Global,
+    graph: &Graph,
+    uses: &Uses,
+    cut: RootedCut,
+    counted: Option<u32>,
+) -> Result<u32, AllocError>
+    requires uses { IsUsesOf uses.now graph.now }
+    requires rooted { IsRooted graph.now.rows cut.root cut.leaves.now cut.function }
+    requires counted { IfSome counted (IsMostLost graph.now.rows (count_in uses.now.counts.items) cut.root cut.leaves.now) }
+    ensures { IfOk result (IsMostLost graph.now.rows (count_in uses.now.counts.items) cut.entry.root cut.entry.leaves.now) }
+{
+    match counted {
+        Some(bound) => Ok(bound),
+        None => mffc_size(alloc, graph, uses, cut.root, cut.leaves, MAX_COUNTED),
+    }
+}
+
+// Whether none of a cut's leaves is made of others.
+fn leaves_apart(graph: &Graph, cut: RootedCut) -> bool
+    requires rooted { IsRooted graph.now.rows cut.root cut.leaves.now cut.function }
+    ensures { result ≡ true → (levels : ℕ) × (are_apart levels graph.now.rows cut.entry.leaves.now ≡ true) }
+{
+    are_apart(graph.rows.as_slice(), cut.leaves)
+}
+
+// Whether one of the plans of an AND's function over a cut saves, where no more than `most` ANDs go with the AND's row.
+// Most plans add so many new rows that they aren't placed. An answer without a proposal is small: most cuts have none.
+fn some_saves(
+    alloc: Global,
+    graph: &Graph,
+    uses: &Uses,
+    cut: RootedCut,
+    plans: &FunctionPlans,
+    most: u32,
+    room: &mut Room,
+) -> Result<bool, AllocError>
+    requires uses { IsUsesOf uses.now graph.now }
+    requires rooted { IsRooted graph.now.rows cut.root cut.leaves.now cut.function }
+    requires function { plans.now.function ≡ cut.function }
+    requires most { IsMostLost graph.now.rows (count_in uses.now.counts.items) cut.root [] most }
+    ensures none { IfOk result (λ some. some ≡ false → All (SavesNothing graph.now.rows graph.now.observed) (cut_proposals graph.now.rows cut.entry.root cut.entry.leaves.now)) }
+{
+    let all = plans.as_slice();
+    let told = plans.apart.as_slice();
+    let leaves_apart = leaves_apart(graph, cut);
+    let mut counted = None;
+    let mut weighed = DryRun::over(MAX_LEAVES, cut.leaves);
+    for (i, plan) in all.iter().enumerate() {
+        let apart = leaves_apart && names_within(told, i, cut.leaves);
+        let candidate = candidate(graph, cut, plan);
+        if plans.irredundant
+            && saves_nothing(alloc, graph, uses, candidate, most, apart, &mut weighed)?
+        {
+            continue;
+        }
+        let bound = bound_over(alloc, graph, uses, cut, counted)?;
+        if saves(alloc, graph, uses, candidate, bound, room)? {
+            return Ok(true);
+        }
+        counted = Some(bound);
+    }
+    Ok(false)
+}
+
+// The same of plans that are made here. They are large, and a function fills its locals as it begins: so this one is called
+// only where the plans weren't made before.
+fn some_fitted_saves(
+    alloc: Global,
+    graph: &Graph,
+    uses: &Uses,
+    classes: &Classes,
+    cut: RootedCut,
+    most: u32,
+    room: &mut Room,
+) -> Result<bool, AllocError>
+    requires uses { IsUsesOf uses.now graph.now }
+    requires rooted { IsRooted graph.now.rows cut.root cut.leaves.now cut.function }
+    requires most { IsMostLost graph.now.rows (count_in uses.now.counts.items) cut.root [] most }
+    ensures none { IfOk result (λ some. some ≡ false → All (SavesNothing graph.now.rows graph.now.observed) (cut_proposals graph.now.rows cut.entry.root cut.entry.leaves.now)) }
+{
+    let plans = FunctionPlans::fitted(classes, cut.function);
+    some_saves(alloc, graph, uses, cut, &plans, most, room)
+}
+
+// The same of the plans that were made before, or else are made here.
+fn some_of_function_saves(
+    alloc: Global,
+    graph: &Graph,
+    uses: &Uses,
+    source: PlanSource,
+    cut: RootedCut,
+    most: u32,
+    room: &mut Room,
+) -> Result<bool, AllocError>
+    requires uses { IsUsesOf uses.now graph.now }
+    requires rooted { IsRooted graph.now.rows cut.root cut.leaves.now cut.function }
+    requires most { IsMostLost graph.now.rows (count_in uses.now.counts.items) cut.root [] most }
+    ensures none { IfOk result (λ some. some ≡ false → All (SavesNothing graph.now.rows graph.now.observed) (cut_proposals graph.now.rows cut.entry.root cut.entry.leaves.now)) }
+{
+    match source.known.plans(cut.function) {
+        Some(plans) => some_saves(alloc, graph, uses, cut, plans, most, room),
+        None => some_fitted_saves(alloc, graph, uses, source.classes, cut, most, room),
+    }
+}
+
+// The first of the plans of an AND's function over a cut that saves.
+fn first_over(
+    alloc: Global,
+    graph: &Graph,
+    uses: &Uses,
+    cut: RootedCut,
+    plans: &[Plan],
+    room: &mut Room,
+) -> Result<Option<Proposal>, AllocError>
+    requires uses { IsUsesOf uses.now graph.now }
+    requires rooted { IsRooted graph.now.rows cut.root cut.leaves.now cut.function }
+    requires plans { ArePlansOf cut.function plans.now }
+    ensures first { IfOk result (λ found. IfSome found (λ p. IsFirst graph.now.rows graph.now.observed (cut_proposals graph.now.rows cut.entry.root cut.entry.leaves.now) (replacement p))) }
+    ensures root { IfOk result (λ found. IfSome found (λ p. p.root ≡ cut.entry.root)) }
+    ensures sound { IfOk result (λ found. IfSome found (IsSound graph.now.rows)) }
+    ensures none { IfOk result (λ found. IfNone found (All (SavesNothing graph.now.rows graph.now.observed) (cut_proposals graph.now.rows cut.entry.root cut.entry.leaves.now))) }
+{
+    let most = mffc_size(alloc, graph, uses, cut.root, cut.leaves, MAX_COUNTED)?;
+    for plan in plans {
+        let candidate = candidate(graph, cut, plan);
+        if saves(alloc, graph, uses, candidate, most, room)? {
+            return Ok(Some(owned(candidate)));
+        }
+    }
+    Ok(None)
+}
+
+// The first of the plans of an AND's function over a cut that saves: those that were made before, or else made here.
+fn first_of_function(
+    alloc: Global,
+    graph: &Graph,
+    uses: &Uses,
+    source: PlanSource,
+    cut: RootedCut,
+    room: &mut Room,
+) -> Result<Option<Proposal>, AllocError>
+    requires uses { IsUsesOf uses.now graph.now }
+    requires rooted { IsRooted graph.now.rows cut.root cut.leaves.now cut.function }
+    ensures first { IfOk result (λ found. IfSome found (λ p. IsFirst graph.now.rows graph.now.observed (cut_proposals graph.now.rows cut.entry.root cut.entry.leaves.now) (replacement p))) }
+    ensures root { IfOk result (λ found. IfSome found (λ p. p.root ≡ cut.entry.root)) }
+    ensures sound { IfOk result (λ found. IfSome found (IsSound graph.now.rows)) }
+    ensures none { IfOk result (λ found. IfNone found (All (SavesNothing graph.now.rows graph.now.observed) (cut_proposals graph.now.rows cut.entry.root cut.entry.leaves.now))) }
+{
+    if let Some(found) = source.known.plans(cut.function) {
+        return first_over(alloc, graph, uses, cut, found.as_slice(), room);
+    }
+    let plans = FunctionPlans::fitted(source.classes, cut.function);
+    first_over(alloc, graph, uses, cut, plans.as_slice(), room)
+}
+
+impl Proposer for CutPlans {
+    type Lists = Prepared;
+
+    ghost proposals = { λ _ rows node. rewritings rows node };
+
+    ghost is_lists_of = { λ _ lists rows. IsPreparedFor lists rows };
+
+    fn prepare<R: Threads + Sync>(
+        &self,
+        rt: &R,
+        alloc: Global,
+        graph: &Graph,
+        workers: u8,
+    ) -> Result<Prepared, AllocError> {
+        let known = PlanCache::new(alloc)?;
+        prepare(rt, alloc, &self.classes, graph, known, workers)
+    }
+
+    fn prepare_again<R: Threads + Sync>(
+        &self,
+        rt: &R,
+        alloc: Global,
+        graph: &Graph,
+        lists: Prepared,
+        workers: u8,
+    ) -> Result<Prepared, AllocError> {
+        let Prepared { known, .. } = lists;
+        prepare(rt, alloc, &self.classes, graph, known, workers)
+    }
+
+    fn propose(
+        &self,
+        alloc: Global,
+        graph: &Graph,
+        lists: &Prepared,
+        node: u32,
+    ) -> Result<Vec<Proposal>, AllocError> {
+        let cuts = lists.cuts.nontrivial(node);
+        let mut proposals = Vec::new(alloc);
+        for i in 0..cuts.len() {
+            let cut = rooted_at(graph, lists, node, cuts, i);
+            let plans = plans_of(&self.classes, cut.function);
+            push_plans(graph, cut, plans.as_slice(), &mut proposals)?;
+        }
+        Ok(proposals)
+    }
+
+    fn first_saving(
+        &self,
+        alloc: Global,
+        graph: &Graph,
+        uses: &Uses,
+        lists: &Prepared,
+        node: u32,
+    ) -> Result<Option<Proposal>, AllocError> {
+        let cuts = lists.cuts.nontrivial(node);
+        let most = mffc_size(alloc, graph, uses, node, &[], MAX_COUNTED)?;
+        let source = self.source(lists);
+        let mut room = Room::new(alloc);
+        for i in 0..cuts.len() {
+            let cut = rooted_at(graph, lists, node, cuts, i);
+            if !some_of_function_saves(alloc, graph, uses, source, cut, most, &mut room)? {
+                continue;
+            }
+            if let Some(found) = first_of_function(alloc, graph, uses, source, cut, &mut room)? {
+                return Ok(Some(found));
+            }
+        }
+        Ok(None)
+    }
+
+    fn promising(
+        &self,
+        alloc: Global,
+        graph: &Graph,
+        uses: &Uses,
+        lists: &Prepared,
+        node: u32,
+        zero_gain: bool,
+    ) -> Result<Vec<Proposal>, AllocError> {
+        let cuts = lists.cuts.nontrivial(node);
+        let source = self.source(lists);
+        let mut room = Room::new(alloc);
+        let mut proposals = Vec::new(alloc);
+        for i in 0..cuts.len() {
+            let cut = rooted_at(graph, lists, node, cuts, i);
+            let worth = worth_over(alloc, graph, uses, cut, zero_gain)?;
+            push_promising(graph, uses, source, cut, worth, &mut room, &mut proposals)?;
+        }
+        Ok(proposals)
+    }
+
+    fn plans_over<'a>(&'a self, lists: &'a Prepared, function: u16) -> &'a [Plan] {
+        match lists.known.plans(function) {
+            Some(found) => found.as_slice(),
+            None => &[],
+        }
+    }
+}

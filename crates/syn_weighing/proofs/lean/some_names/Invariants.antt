@@ -1,7 +1,0 @@
-use Rattle.std.proofs.Common.{◌≡◌, drop}
-use Rattle.std.specs.List.{list_any}
-use Rattle.syn_weighing.specs.Lean.{gate_names}
-use Rattle.syn_weighing.proofs.lean.some_names.Given as goal
-
-abbrev pub invariant-loop-gate : goal.invariant-loop-gate
-invariant-loop-gate l = list_any (gate_names l.index) (drop l.gate-index l.gates) ≡ list_any (gate_names l.index) l.gates
