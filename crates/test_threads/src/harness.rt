@@ -72,6 +72,13 @@ pub fn cones(alloc: Global, count: u32) -> Result<String, AllocError> {
 /// complements of both; f is the complement of node 6.
 pub const CONE: &str = ".model m\n.inputs a b c\n.outputs f\n.names a b c f\n11- 1\n1-1 1\n.end\n";
 
+/// The AND of three inputs in its three forms: (ab)c, a(bc) and (ac)b. Each has two ANDs.
+pub const AND3: [&str; 3] = [
+    ".model m\n.inputs a b c\n.outputs f\n.names a b n\n11 1\n.names n c f\n11 1\n.end\n",
+    ".model m\n.inputs a b c\n.outputs f\n.names b c n\n11 1\n.names a n f\n11 1\n.end\n",
+    ".model m\n.inputs a b c\n.outputs f\n.names a c n\n11 1\n.names n b f\n11 1\n.end\n",
+];
+
 /// The NAND of two inputs.
 pub const NAND: &str = ".model m\n.inputs a b\n.outputs y\n.names a b y\n11 0\n.end\n";
 

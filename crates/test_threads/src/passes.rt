@@ -1,7 +1,7 @@
 //! Passes of one and of several workers.
 
 use crate::harness::{
-    Counting, NAND, OBSERVED, ONE, SEVERAL, Told, WORKERS, cones, graph_of, report,
+    AND3, Counting, NAND, OBSERVED, ONE, SEVERAL, Told, WORKERS, cones, graph_of, report,
 };
 use std::alloc::Global;
 use std::test::Fail;
@@ -53,6 +53,26 @@ fn workers_gain_what_each_cone_saves(rt: HostRuntime) -> Result<(), Fail> {
         assert!(rt; leaves(found, 200));
     }
     Ok(())
+}
+
+// Whether commits of gain 0 alone were done for an AND of three.
+fn is_another_form(found: Told) -> bool {
+    match found {
+        Some((report, left, told)) => {
+            left == 2 && report.done > 0 && report.gained == 0 && report.done == told
+        }
+        None => false,
+    }
+}
+
+// The plan of an AND of three has one of its forms: where gains of 0 go, an AND in another one is made again.
+#[test]
+fn other_forms_are_committed_with_gains_of_0(rt: HostRuntime) {
+    let [first, second, third] = AND3;
+    let one = is_another_form(passed(&rt, rt.alloc(), first.as_bytes(), 1, true));
+    let two = is_another_form(passed(&rt, rt.alloc(), second.as_bytes(), 1, true));
+    let three = is_another_form(passed(&rt, rt.alloc(), third.as_bytes(), 1, true));
+    assert!(rt; one && two || one && three || two && three);
 }
 
 #[test]
