@@ -8,10 +8,10 @@ use std::thread::Threads;
 use syn_rows::{Row, levels};
 
 // How many nodes are worth a thread.
-const LEAST: usize = 64;
+const MIN_CHUNK: usize = 64;
 
 // How many nodes are looked at at most before what is found of them is set.
-const MOST: usize = 16_384;
+const NODES_AT_ONCE: usize = 16_384;
 
 /// Finds something of nodes from what is known of those below them.
 pub trait Finder: Sync {
@@ -54,7 +54,7 @@ fn chunk_size(nodes: usize, workers: u8) -> usize
     } else {
         nodes.div_ceil(workers as usize)
     };
-    if share < LEAST { LEAST } else { share }
+    if share < MIN_CHUNK { MIN_CHUNK } else { share }
 }
 
 // What is found of these nodes, in chunks, one after the other or at the same time.
@@ -134,7 +134,7 @@ fn set_level<R: Threads + Sync, F: Finder>(
     requires { F.is_known finder.now known.old }
     ensures { OnOk result (F.is_known finder.now known.new) }
 {
-    for some in nodes.chunks(MOST) {
+    for some in nodes.chunks(NODES_AT_ONCE) {
         set_some(rt, alloc, finder, known, some, workers)?;
     }
     Ok(())

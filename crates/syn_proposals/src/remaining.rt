@@ -16,7 +16,7 @@ use syn_graph::Graph;
 use syn_rows::Row;
 
 // How many nodes are worth a thread.
-const LEAST: usize = 256;
+const MIN_CHUNK: usize = 256;
 
 // What was found among the nodes at the places from one on, before another: of each AND the first proposal that saves, if one
 // does.
@@ -29,7 +29,7 @@ struct Part {
 
 // How many threads are worth so many nodes, at most one a worker.
 fn threads_for(nodes: usize, workers: u8) -> usize {
-    nodes.div_ceil(LEAST).min(workers as usize).max(1)
+    nodes.div_ceil(MIN_CHUNK).min(workers as usize).max(1)
 }
 
 // The first proposal of a node that saves, if it is an AND of the graph and has one.

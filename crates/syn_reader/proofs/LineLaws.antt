@@ -6,7 +6,7 @@ use Rattle.std.proofs.lemmas.Bool.{both_ways, cond-true}
 use Rattle.syn_lex.specs.Lines.{is_nil}
 use Rattle.syn_reader.specs.declared.Kind.{Kind}
 use Rattle.syn_reader.specs.declared.Kind.TheVariants as kinds
-use Rattle.syn_reader.specs.Faults.{Fault, AfterEnd, UnknownKeyword, SecondModel, StrayRow, RowShape, MixedRows, LatchShape, LatchType, LatchInit, DefinedTwice}
+use Rattle.syn_reader.specs.Faults.{Fault, AfterEnd, StrayRow, RowShape, MixedRows, LatchShape, LatchType, LatchInit, DefinedTwice}
 use Rattle.syn_reader.specs.Statements.{Statement, is_row, is_end}
 use Rattle.syn_reader.specs.Shapes.{last_word, all_but_last, is_row_of, output_word}
 use Rattle.syn_reader.specs.Definitions.{Definition, definitions, names_defined, first_forbidden, forbids}
@@ -73,19 +73,6 @@ found_end above line words e = skip (list_any (λ t. is_end t.kind) above) (Afte
 
 pub found_subckt : (above : List Statement) (line : ℕ) (words : List (List ℕ)) → list_any (λ t. is_end t.kind) above ≡ false → first_found checks above (statement line kinds.Subckt words) ≡ None
 found_subckt above line words e = skip (list_any (λ t. is_end t.kind) above) (AfterEnd line) _ e
-
-pub found_unknown : (above : List Statement) (line : ℕ) (words : List (List ℕ)) → list_any (λ t. is_end t.kind) above ≡ false → first_found checks above (statement line kinds.Unknown words) ≡ Some (UnknownKeyword line)
-found_unknown above line words e = skip (list_any (λ t. is_end t.kind) above) (AfterEnd line) _ e
-
-found : (b : Bool) (f : Fault) (rest : Option Fault) → b ≡ true → option_or (if b then Some f else None) rest ≡ Some f
-found true f rest e = refl
-found false f rest e = absurd (both_ways false refl e)
-
-pub found_model : (above : List Statement) (line : ℕ) (words : List (List ℕ)) → list_any (λ t. is_end t.kind) above ≡ false → is_nil above ≡ false → first_found checks above (statement line kinds.Model words) ≡ Some (SecondModel line)
-found_model above line words e n = skip (list_any (λ t. is_end t.kind) above) (AfterEnd line) _ e ∙ found (not (is_nil above)) (SecondModel line) _ (ap not n)
-
-pub found_stray : (above : List Statement) (line : ℕ) (words : List (List ℕ)) → list_any (λ t. is_end t.kind) above ≡ false → table_above above ≡ None → first_found checks above (statement line kinds.Row words) ≡ Some (StrayRow line)
-found_stray above line words e t = skip (list_any (λ t. is_end t.kind) above) (AfterEnd line) _ e ∙ found (is_stray (table_above above)) (StrayRow line) _ (ap is_stray t)
 
 -- The rows above have this output, where there are some.
 abbrev pub RowsAbove : Option Bool → List Statement → Type 0
