@@ -1,3 +1,5 @@
+mod SimpleUsage
+mod RefusedWords
 mod Numbers
 mod Taking
 mod Putting

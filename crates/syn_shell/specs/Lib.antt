@@ -2,6 +2,8 @@ pub mod Networks
 pub mod Outside
 pub mod Lines
 pub mod Steps
+pub mod CommandLine
+pub mod WorkedCommandLines
 pub mod Usage
 pub mod Scripts
 pub mod LineMode

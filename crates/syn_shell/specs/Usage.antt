@@ -1,6 +1,6 @@
 -- What is run by what the words of a call ask for.
 use Rattle.std.specs.Prelude.{◌≡◌, ℕ, List, Option, Some, None, ⊤}
-use Rattle.syn_arguments.specs.Asked.{Asked, asked}
+use Rattle.syn_shell.specs.CommandLine.{Asked, asked}
 use Rattle.syn_shell.specs.declared.refusal.Refusal.{Refusal}
 use Rattle.syn_shell.specs.declared.refusal.Refusal.TheVariants.{Words, NoMemory}
 

@@ -15,6 +15,7 @@ mod scripts;
 mod session;
 mod whole_run;
 
+pub use arguments::worked_words;
 pub use laws::{each_write_keeps, few_lines};
 pub use refusal::Refusal;
 pub use session::Session;

@@ -1,10 +1,11 @@
 use Rattle.std.proofs.Common.{rules, ◌≡◌, ℕ, List, [], map, string_bytes, codes, sym, ap, ap₂, ◌∙◌, subst, inl, inr}
 use Rattle.clap.specs.Words.{App, Kinds, HasKind, app_of, fault_of, first_of, found_of, is_simple, is_simple_and_free, matches_of, rule_of, rows_of, with_rule}
 use Rattle.clap.proofs.WalkLemmas.{first_value-rows}
-use Rattle.syn_arguments.specs.Asked.{script_in, script_option, workers_in, workers_of, workers_option, usage}
-use Rattle.syn_arguments.proofs.Refusing.{asks_nothing}
-use Rattle.syn_arguments.proofs.Simple.{usage_is_simple, usage_is_free}
-use Rattle.syn_arguments.proofs.texts_of.Goals as goal
+use Rattle.syn_shell.specs.CommandLine.{script_in, script_option, workers_in, workers_of, workers_option, usage}
+use Rattle.syn_shell.specs.Usage.{usage_by}
+use Rattle.syn_shell.proofs.RefusedWords.{asks_nothing}
+use Rattle.syn_shell.proofs.SimpleUsage.{usage_is_simple, usage_is_free}
+use Rattle.syn_shell.proofs.arguments.texts_of.Goals as goal
 
 pub returns-in-Ok-clause-accepted : goal.returns-in-Ok-clause-accepted
 returns-in-Ok-clause-accepted c =
@@ -46,7 +47,7 @@ returns c =
       accepted = tt;
       script = tt;
       workers = tt;
-      refused = λ _. asks_nothing (fault_of usage words) (script_in words) (workers_of (workers_in words)) (λ none.
+      refused = ap usage_by (asks_nothing (fault_of usage words) (script_in words) (workers_of (workers_in words)) (λ none.
           let kinds : HasKind [] c.in-Err.error = subst (λ (ks : Kinds). HasKind ks c.in-Err.error) (ap (λ (a : App). fault_of a words) command_is ∙ none) (c.in-Err.ensures.kinds (ap is_simple_and_free command_is ∙ usage_is_free)) in
-          elim kinds [ inl memory ↦ c.in_default.not-OutOfMemory (c.kind.ensures ∙ memory) | inr other ↦ other ]);
+          elim kinds [ inl memory ↦ c.in_default.not-OutOfMemory (c.kind.ensures ∙ memory) | inr other ↦ other ]));
     }

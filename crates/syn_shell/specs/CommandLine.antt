@@ -1,8 +1,8 @@
--- What the program's words ask for: those of a simple command of `clap`.
+-- The command line: what the program's words ask for, those of a simple command of `clap`.
 use Rattle.std.specs.Prelude.{ℕ, List, [], ◌∷◌, Option, Some, None, codes, option_map}
 use Rattle.clap.specs.Words.{App, Kinds, fault_of, first_of, matches_of, new_app, new_rule, with_rule, Rule}
 use Rattle.syn_words.specs.Numbers.{number_in}
-use Rattle.syn_arguments.specs.declared.Arguments.{Arguments}
+use Rattle.syn_shell.specs.declared.arguments.Arguments.{Arguments}
 
 -- The option `-c` with its value, a script. 99 is the code of `c`.
 abbrev pub script_option : Rule
@@ -48,6 +48,6 @@ asked_by (cause ∷ causes) script workers = None
 abbrev pub asked : List (List ℕ) → Option Asked
 asked words = asked_by (refusals words) (script_in words) (workers_of (workers_in words))
 
--- What arguments say.
-abbrev pub arguments_in : Arguments → Asked
-arguments_in arguments = record { script = option_map (λ text. text.now) arguments.script; workers = arguments.workers }
+-- What arguments ask for.
+abbrev pub asked_in : Arguments → Asked
+asked_in arguments = record { script = option_map (λ text. text.now) arguments.script; workers = arguments.workers }

@@ -2,7 +2,7 @@
 use Rattle.std.proofs.Common.{◌≡◌, true, refl}
 use Rattle.clap.specs.Words.{is_simple, is_simple_and_free}
 use Rattle.clap.proofs.OnLiterals.{clap_on_literals}
-use Rattle.syn_arguments.specs.Asked.{usage}
+use Rattle.syn_shell.specs.CommandLine.{usage}
 
 pub usage_is_simple : is_simple usage ≡ true
 unfolding clap_on_literals

@@ -1,6 +1,6 @@
 use Rattle.std.proofs.Common.{refl}
 use Rattle.clap.proofs.OnLiterals.{clap_on_literals}
-use Rattle.syn_arguments.proofs.worked_words.Goals as goal
+use Rattle.syn_shell.proofs.arguments.worked_words.Goals as goal
 
 pub returns : goal.returns
 unfolding clap_on_literals

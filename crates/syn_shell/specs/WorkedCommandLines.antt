@@ -1,6 +1,6 @@
 -- Worked words with what they ask for, and words that are refused.
 use Rattle.std.specs.Prelude.{ℕ, ◌≡◌, List, [], ◌∷◌, Option, Some, None, codes}
-use Rattle.syn_arguments.specs.Asked.{asked}
+use Rattle.syn_shell.specs.CommandLine.{asked}
 
 -- The program's name, and the words behind it, ask for this script or none, and for so many workers.
 abbrev pub Asks : List (List ℕ) → Option (List ℕ) → ℕ → Type 0
@@ -10,7 +10,7 @@ Asks words script workers = asked (codes "synth" ∷ words) ≡ Some (record { s
 abbrev pub IsRefused : List (List ℕ) → Type 0
 IsRefused words = asked (codes "synth" ∷ words) ≡ None
 
-pub record Worked : Type 0 where
+pub record WorkedCommandLines : Type 0 where
   pub nothing_at_all : asked [] ≡ Some (record { script = None; workers = 1 })
   pub none : Asks [] None 1
   pub script : Asks (codes "-c" ∷ codes "ps; b" ∷ []) (Some (codes "ps; b")) 1
