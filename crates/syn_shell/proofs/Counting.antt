@@ -149,8 +149,8 @@ script_counted : (text : List ℕ) (before after : State) (outcome : Option Refu
 script_counted text before after outcome (inl (cause, why, (is, same))) = subst (λ (o : Option Refused). CountedIn (listed o) before after) (sym is) (unrun_counted text cause before after why same)
 script_counted text before after outcome (inr (cs, short, script, runs)) = commands_counted cs before after outcome runs
 
-told_counted : (refused : Refused) (before after : State) → Announced refused before after → CountedIn [] before after
-told_counted refused before after h = record { files = disk_same before.files after.files h.only.files; sink = covers_none before.sink.faults after.sink.faults h.line.later; lines = refl }
+announced_counted : (refused : Refused) (before after : State) → Announced refused before after → CountedIn [] before after
+announced_counted refused before after h = record { files = disk_same before.files after.files h.only.files; sink = covers_none before.sink.faults after.sink.faults h.line.later; lines = refl }
 
 gave_up_counted : (refused : Refused) (before after : State) → SinkGaveUp refused before after → CountedIn [] before after
 gave_up_counted refused before after h = record {
@@ -160,20 +160,20 @@ gave_up_counted refused before after h = record {
 }
 
 telling_counted : (refused : Refused) (before after : State) → Announced refused before after ⊎ SinkGaveUp refused before after → CountedIn [] before after
-telling_counted refused before after (inl told) = told_counted refused before after told
+telling_counted refused before after (inl told) = announced_counted refused before after told
 telling_counted refused before after (inr gave_up) = gave_up_counted refused before after gave_up
 
 goes_on_counted : (outcome : Option Refused) (before after : State) → GoesOn outcome before after → CountedIn [] before after
 goes_on_counted None before after e = state_counted before after e
-goes_on_counted (Some refused) before after told = told_counted refused before after told
+goes_on_counted (Some refused) before after told = announced_counted refused before after told
 
 ends_counted : (outcome : Option Refused) (before after : State) → EndsBySink outcome before after → CountedIn [] before after
 ends_counted None before after h = absurd h
 ends_counted (Some refused) before after gave_up = gave_up_counted refused before after gave_up
 
 -- a refusal counted, and then its line told
-then_told : (xs : List Refused) (before between after : State) → CountedIn xs before between → CountedIn [] between after → CountedIn xs before after
-then_told xs before between after g h = record {
+counted_then_none : (xs : List Refused) (before between after : State) → CountedIn xs before between → CountedIn [] between after → CountedIn xs before after
+counted_then_none xs before between after g h = record {
   files = covers_as before.files.faults after.files.faults _ _ (omega arith) (covers_both before.files.faults between.files.faults after.files.faults (how_many is_of_files xs) 0 g.files h.files);
   sink = covers_as before.sink.faults after.sink.faults _ _ (omega arith) (covers_both before.sink.faults between.sink.faults after.sink.faults (how_many is_of_sink xs) 0 g.sink h.sink);
   lines = g.lines;
@@ -226,11 +226,11 @@ lines_counted [] taken before after refusals i i' (inr (cause, why, is, telling)
 lines_counted (line ∷ lines) taken before after refusals i i' (j, outcome, done, lt, gave, runs, inl (told, more, on, is, rest)) =
     subst (λ (rs : List Refused). CoverIn rs before i after i') (sym is)
     (cover_both (listed outcome) more before told after i j i'
-    (beside (listed outcome) before told i j (then_told (listed outcome) before done told (script_counted line before done outcome runs) (goes_on_counted outcome done told on)) gave.later)
+    (beside (listed outcome) before told i j (counted_then_none (listed outcome) before done told (script_counted line before done outcome runs) (goes_on_counted outcome done told on)) gave.later)
     (lines_counted lines (taken + 1) told after more j i' rest))
 lines_counted (line ∷ lines) taken before after refusals i i' (j, outcome, done, lt, gave, runs, inr (ends, is, none, same)) =
     subst (λ (rs : List Refused). CoverIn rs before i after i') (sym is)
-    (beside (listed outcome) before after i i' (then_told (listed outcome) before done after (script_counted line before done outcome runs) (ends_counted outcome done after ends))
+    (beside (listed outcome) before after i i' (counted_then_none (listed outcome) before done after (script_counted line before done outcome runs) (ends_counted outcome done after ends))
     (omega (arith, gave.later, ap (λ (x : Input). x.faults) same)))
 
 -- a whole run
@@ -245,7 +245,7 @@ ends_one outcome done after (inr ends) = ends_counted outcome done after ends
 usage_counted : (usage : Usage) (before after : State) (refusals : List Refused) (i i' : Input) → RunsUsage usage before i refusals after i' → CoverIn refusals before i after i'
 usage_counted (OneScript text) before after refusals i i' ((outcome, done, runs, is, ends), same) =
     subst (λ (rs : List Refused). CoverIn rs before i after i') (sym is)
-    (beside (listed outcome) before after i i' (then_told (listed outcome) before done after (script_counted text before done outcome runs) (ends_one outcome done after ends)) (same_input i i' same))
+    (beside (listed outcome) before after i i' (counted_then_none (listed outcome) before done after (script_counted text before done outcome runs) (ends_one outcome done after ends)) (same_input i i' same))
 usage_counted EachLine before after refusals i i' (lines, runs) = lines_counted lines 0 before after refusals i i' runs
 usage_counted Faulty before after refusals i i' ((is, telling), same) =
     subst (λ (rs : List Refused). CoverIn rs before i after i') (sym is)

@@ -77,38 +77,38 @@ abbrev pub chain_text : List ℕ → List (List ℕ) → List ℕ
 chain_text called names = called ++ flat_map (λ name. codes " " ++ name) names
 
 -- the line, the name in it, if any, and what is wrong there, where a fault of a file tells a line
-abbrev pub told_in_line : ReadFault → Option (ℕ × List ℕ × List ℕ)
-told_in_line (read.AfterEnd line) = Some (line, [], codes "after end")
-told_in_line (read.UnknownKeyword line) = Some (line, [], codes "unknown keyword")
-told_in_line (read.SecondModel line) = Some (line, [], codes "second model")
-told_in_line (read.NoName line) = Some (line, [], codes "no name")
-told_in_line (read.ExtraWord line) = Some (line, [], codes "extra word")
-told_in_line (read.StrayRow line) = Some (line, [], codes "stray row")
-told_in_line (read.RowShape line) = Some (line, [], codes "row shape")
-told_in_line (read.MixedRows line) = Some (line, [], codes "mixed rows")
-told_in_line (read.LatchShape line) = Some (line, [], codes "latch shape")
-told_in_line (read.LatchType line) = Some (line, [], codes "latch type")
-told_in_line (read.LatchInit line) = Some (line, [], codes "latch init")
-told_in_line (read.DefinedTwice line name) = Some (line, name, codes " defined twice")
-told_in_line (read.ModelTwice line) = Some (line, [], codes "model defined twice")
-told_in_line (read.SubcktShape line) = Some (line, [], codes "subckt shape")
-told_in_line (read.PortTwice line formal) = Some (line, formal, codes " bound twice")
-told_in_line (read.UnknownModel line) = Some (line, [], codes "unknown model")
-told_in_line (read.UnknownPort line formal) = Some (line, formal, codes " unknown port")
-told_in_line (read.PortMissing line port) = Some (line, port, codes " unbound")
-told_in_line fault = None
+abbrev pub fault_at_line : ReadFault → Option (ℕ × List ℕ × List ℕ)
+fault_at_line (read.AfterEnd line) = Some (line, [], codes "after end")
+fault_at_line (read.UnknownKeyword line) = Some (line, [], codes "unknown keyword")
+fault_at_line (read.SecondModel line) = Some (line, [], codes "second model")
+fault_at_line (read.NoName line) = Some (line, [], codes "no name")
+fault_at_line (read.ExtraWord line) = Some (line, [], codes "extra word")
+fault_at_line (read.StrayRow line) = Some (line, [], codes "stray row")
+fault_at_line (read.RowShape line) = Some (line, [], codes "row shape")
+fault_at_line (read.MixedRows line) = Some (line, [], codes "mixed rows")
+fault_at_line (read.LatchShape line) = Some (line, [], codes "latch shape")
+fault_at_line (read.LatchType line) = Some (line, [], codes "latch type")
+fault_at_line (read.LatchInit line) = Some (line, [], codes "latch init")
+fault_at_line (read.DefinedTwice line name) = Some (line, name, codes " defined twice")
+fault_at_line (read.ModelTwice line) = Some (line, [], codes "model defined twice")
+fault_at_line (read.SubcktShape line) = Some (line, [], codes "subckt shape")
+fault_at_line (read.PortTwice line formal) = Some (line, formal, codes " bound twice")
+fault_at_line (read.UnknownModel line) = Some (line, [], codes "unknown model")
+fault_at_line (read.UnknownPort line formal) = Some (line, formal, codes " unknown port")
+fault_at_line (read.PortMissing line port) = Some (line, port, codes " unbound")
+fault_at_line fault = None
 
 -- what any other fault of a file says
-abbrev pub told_of_file : ReadFault → List ℕ
-told_of_file (read.BadByte at) = joined (codes "byte " ∷ decimal at ∷ codes ": bad byte" ∷ [])
-told_of_file (read.Undriven name) = joined (name ∷ codes " undriven" ∷ [])
-told_of_file (read.Recursion names) = chain_text (codes "recursion") names
-told_of_file (read.TooManyWords count) = joined (decimal count ∷ codes " words" ∷ [])
-told_of_file (read.Cycle names) = chain_text (codes "cycle") names
-told_of_file (read.TooManySources count) = joined (decimal count ∷ codes " sources" ∷ [])
-told_of_file (read.TooLarge cost) = joined (codes "cost " ∷ decimal cost ∷ [])
-told_of_file read.NoMemory = codes "out of memory"
-told_of_file fault = []
+abbrev pub file_fault_text : ReadFault → List ℕ
+file_fault_text (read.BadByte at) = joined (codes "byte " ∷ decimal at ∷ codes ": bad byte" ∷ [])
+file_fault_text (read.Undriven name) = joined (name ∷ codes " undriven" ∷ [])
+file_fault_text (read.Recursion names) = chain_text (codes "recursion") names
+file_fault_text (read.TooManyWords count) = joined (decimal count ∷ codes " words" ∷ [])
+file_fault_text (read.Cycle names) = chain_text (codes "cycle") names
+file_fault_text (read.TooManySources count) = joined (decimal count ∷ codes " sources" ∷ [])
+file_fault_text (read.TooLarge cost) = joined (codes "cost " ∷ decimal cost ∷ [])
+file_fault_text read.NoMemory = codes "out of memory"
+file_fault_text fault = []
 
 -- a line of a file, the name in it, if any, and what is wrong there; or else what is told of the file
 abbrev pub in_line_or : Option (ℕ × List ℕ × List ℕ) → List ℕ → List ℕ
@@ -117,7 +117,7 @@ in_line_or None text = text
 
 -- what a fault of a file says
 abbrev pub read_text : ReadFault → List ℕ
-read_text fault = in_line_or (told_in_line fault) (told_of_file fault)
+read_text fault = in_line_or (fault_at_line fault) (file_fault_text fault)
 
 -- what a fault of an AIGER file says; its places are offsets of bytes
 abbrev pub aiger_text : AigFault → List ℕ

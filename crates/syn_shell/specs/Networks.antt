@@ -7,8 +7,8 @@ use Rattle.syn_build_luts.specs.Refusals.{most_gates}
 use Rattle.syn_graph.specs.Graphs as graphs
 use Rattle.syn_lutshapes.specs.LutShape.{gates_of}
 use Rattle.syn_lutnet.specs.Nets as nets
-use Rattle.syn_shell.specs.declared.network.Kept.{Kept}
-use Rattle.syn_shell.specs.declared.network.Kept.TheVariants.{Graph, Luts}
+use Rattle.syn_shell.specs.declared.network.HeldNetwork.{HeldNetwork}
+use Rattle.syn_shell.specs.declared.network.HeldNetwork.TheVariants.{Graph, Luts}
 
 -- A network. A net of LUTs with two inputs each is written as a graph may be, so the netlist alone doesn't tell which of both it is: the mark does.
 pub record Network : Type 0 where
@@ -23,14 +23,14 @@ graph_network netlist = record { netlist = netlist; mapped = false }
 abbrev pub mapped_network : Netlist → Network
 mapped_network netlist = record { netlist = netlist; mapped = true }
 
--- What a session keeps, as a network.
-abbrev pub network_of : Kept → Network
+-- What a session holds, as a network.
+abbrev pub network_of : HeldNetwork → Network
 network_of (Graph graph) = graph_network (graphs.network_of graph)
 network_of (Luts net) = mapped_network (nets.network_of net)
 
--- A session's network: none, or what it keeps.
-abbrev pub network_in : Option Kept → Option Network
-network_in kept = option_map network_of kept
+-- A session's network: none, or what it holds.
+abbrev pub network_in : Option HeldNetwork → Option Network
+network_in held = option_map network_of held
 
 -- The gates of a netlist by the mark: none of a graph, those of factoring its LUTs of a net of them.
 abbrev pub gates_by : Bool → Netlist → ℕ

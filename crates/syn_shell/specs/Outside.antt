@@ -14,7 +14,7 @@ abbrev pub state : Option Network → Disk → Screen → State
 state network files sink = record { network = network; files = files; sink = sink }
 
 -- No file changed.
-pub record FilesStand (before after : Disk) : Type 0 where
+pub record FilesUnchanged (before after : Disk) : Type 0 where
   pub told : after.told ≡ before.told
   pub later : before.faults ≤ after.faults
 
@@ -23,7 +23,7 @@ abbrev pub FileIs : List ℕ → Disk → List ℕ → Type 0
 FileIs name files bytes = IfSome files.told (λ list. file_at name list ≡ Some bytes)
 
 -- No file but the one of that name changed.
-pub record OthersStand (name : List ℕ) (before after : Disk) : Type 0 where
+pub record OthersUnchanged (name : List ℕ) (before after : Disk) : Type 0 where
   pub told : IfSome before.told (λ was. IsSomeAnd after.told (λ now. without_file name now ≡ without_file name was))
   pub later : before.faults ≤ after.faults
 

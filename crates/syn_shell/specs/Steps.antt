@@ -40,7 +40,7 @@ use Rattle.syn_reader.specs.Reading.{Reads}
 use Rattle.syn_build.specs.Building.{IsGraphOf}
 use Rattle.syn_shell.specs.declared.refusal.Refusal.{Refusal}
 use Rattle.syn_shell.specs.declared.refusal.Refusal.TheVariants.{Read, ReadAiger, FileTooLong, TooManyGates, LatchType, NoNetwork, GetFailed, PutFailed, SinkFailed, NoMemory}
-use Rattle.syn_shell.specs.Outside.{State, FilesStand, FileIs, OthersStand, Took, TookPart}
+use Rattle.syn_shell.specs.Outside.{State, FilesUnchanged, FileIs, OthersUnchanged, Took, TookPart}
 use Rattle.syn_shell.specs.Networks.{Network, gates_in, graph_network}
 use Rattle.syn_shell.specs.Lines.{IsStatsLine}
 
@@ -121,8 +121,8 @@ PrintRefused m before after other = ⊥
 -- Why a write is refused, and what became of the files.
 abbrev pub WriteRefused : Option Network → List ℕ → Disk → Disk → Refusal → Type 0
 WriteRefused m name before after NoNetwork = (m ≡ None) × (after ≡ before)
-WriteRefused m name before after PutFailed = IsSome m × Rose before.faults after.faults × OthersStand name before after
-WriteRefused m name before after NoMemory = OthersStand name before after
+WriteRefused m name before after PutFailed = IsSome m × Rose before.faults after.faults × OthersUnchanged name before after
+WriteRefused m name before after NoMemory = OthersUnchanged name before after
 WriteRefused m name before after other = ⊥
 
 -- A netlist has no more ANDs than a network before it has, by the mark of that one: ANDs, or gates of factoring its LUTs.
@@ -283,25 +283,25 @@ kind_of other = Making
 -- A command that is accepted, by its kind. What is written reads back as what the network is.
 abbrev pub Accepted : Kind → Command → State → State → Type 0
 Accepted (Reading name) command before after =
-    (net : Netlist) × (after.network ≡ Some (graph_network net)) × IsReadAs name before.files net × FilesStand before.files after.files × (after.sink ≡ before.sink)
+    (net : Netlist) × (after.network ≡ Some (graph_network net)) × IsReadAs name before.files net × FilesUnchanged before.files after.files × (after.sink ≡ before.sink)
 Accepted (ReadingAiger name) command before after =
-    (net : Netlist) × (after.network ≡ Some (graph_network net)) × IsReadAsAiger name before.files net × FilesStand before.files after.files × (after.sink ≡ before.sink)
+    (net : Netlist) × (after.network ≡ Some (graph_network net)) × IsReadAsAiger name before.files net × FilesUnchanged before.files after.files × (after.sink ≡ before.sink)
 Accepted (Generating seed size) command before after =
     (net : Netlist) × (after.network ≡ Some (graph_network net)) × IsGraphOf (generated seed size) net × (after.files ≡ before.files) × (after.sink ≡ before.sink)
 Accepted Printing command before after =
     (net : Network) × (line : List ℕ) × (before.network ≡ Some net) × NetworkStays before after × (after.files ≡ before.files) × IsStatsLine net line × Took line before.sink after.sink
 Accepted (Writing name) command before after =
     (net : Network) × (before.network ≡ Some net) × NetworkStays before after × FileIs name after.files (printed net.netlist) × Reads (printed net.netlist) net.netlist
-    × OthersStand name before.files after.files × (after.sink ≡ before.sink)
+    × OthersUnchanged name before.files after.files × (after.sink ≡ before.sink)
 Accepted (WritingAiger ascii name) command before after =
     (net : Network) × (bytes : List ℕ) × (before.network ≡ Some net) × NetworkStays before after × FileIs name after.files bytes × IsAigerOf ascii net bytes
-    × OthersStand name before.files after.files × (after.sink ≡ before.sink)
+    × OthersUnchanged name before.files after.files × (after.sink ≡ before.sink)
 Accepted Making command before after = Remakes command before.network after.network × (after.files ≡ before.files) × (after.sink ≡ before.sink)
 
 -- A command that is refused, by its kind. It leaves the network.
 abbrev pub Denied : Kind → State → Refusal → State → Type 0
-Denied (Reading name) before cause after = NetworkStays before after × ReadRefused name before.files after.files cause × FilesStand before.files after.files × (after.sink ≡ before.sink)
-Denied (ReadingAiger name) before cause after = NetworkStays before after × AigerReadRefused name before.files after.files cause × FilesStand before.files after.files × (after.sink ≡ before.sink)
+Denied (Reading name) before cause after = NetworkStays before after × ReadRefused name before.files after.files cause × FilesUnchanged before.files after.files × (after.sink ≡ before.sink)
+Denied (ReadingAiger name) before cause after = NetworkStays before after × AigerReadRefused name before.files after.files cause × FilesUnchanged before.files after.files × (after.sink ≡ before.sink)
 Denied (Generating seed size) before cause after = NetworkStays before after × GeneratingRefused cause × (after.files ≡ before.files) × (after.sink ≡ before.sink)
 Denied Printing before cause after = NetworkStays before after × PrintRefused before.network before.sink after.sink cause × (after.files ≡ before.files)
 Denied (Writing name) before cause after = NetworkStays before after × WriteRefused before.network name before.files after.files cause × (after.sink ≡ before.sink)

@@ -7,12 +7,12 @@ ghost use Rattle.syn_aiger.specs.Faults.{Spells};
 ghost use Rattle.syn_aiger.specs.Faults as aiger;
 ghost use Rattle.syn_aiger.specs.Networks.{IsGraphOfAig};
 ghost use Rattle.syn_shell.specs.Networks.{graph_network, IsSmall, network_of};
-ghost use Rattle.syn_shell.specs.Outside.{FileIs, FilesStand, OthersStand};
+ghost use Rattle.syn_shell.specs.Outside.{FileIs, FilesUnchanged, OthersUnchanged};
 ghost use Rattle.syn_shell.specs.Steps.{AigerParseRefused, AigerReadRefused, AigerRefused, AigerWriteRefused, file_limit, IsAigerOf, IsReadAsAiger};
 
 use crate::commands::graph_of;
 use crate::files::{get, put};
-use crate::network::Kept;
+use crate::network::HeldNetwork;
 use crate::refusal::Refusal;
 use std::alloc::Global;
 use syn_aiger::{AigWriteFault, read_aig, write_aig};
@@ -39,7 +39,7 @@ pub(crate) fn read<F: Files>(alloc: Global, name: &str, files: &mut F) -> Result
     ensures read { IfOk result (λ graph. IsReadAsAiger name.now (F.disk files.old) (graphs.network_of graph)) }
     ensures small { IfOk result (λ graph. IsSmall (graph_network (graphs.network_of graph))) }
     ensures refused { IfErr result (AigerReadRefused name.now (F.disk files.old) (F.disk files.new)) }
-    ensures stand { FilesStand (F.disk files.old) (F.disk files.new) }
+    ensures unchanged { FilesUnchanged (F.disk files.old) (F.disk files.new) }
 {
     let bytes = get(alloc, name, files)?;
     let graph = parse(alloc, bytes.as_slice())?;
@@ -61,14 +61,14 @@ fn bytes_of(alloc: Global, graph: &Graph, ascii: bool) -> Result<Vec<u8>, Refusa
 }
 
 // The bytes of a network's AIGER file: those of its graph.
-fn written(alloc: Global, network: &Kept, ascii: bool) -> Result<Vec<u8>, Refusal>
+fn written(alloc: Global, network: &HeldNetwork, ascii: bool) -> Result<Vec<u8>, Refusal>
     requires { IsSmall (network_of network.now) }
     ensures bytes { IfOk result (λ bytes. IsAigerOf ascii (network_of network.now) bytes.items) }
     ensures refused { IfErr result (AigerRefused (network_of network.now)) }
 {
     match network {
-        Kept::Graph(graph) => bytes_of(alloc, graph, ascii),
-        Kept::Luts(net) => {
+        HeldNetwork::Graph(graph) => bytes_of(alloc, graph, ascii),
+        HeldNetwork::Luts(net) => {
             let graph = graph_of(alloc, net)?;
             bytes_of(alloc, &graph, ascii)
         }
@@ -78,7 +78,7 @@ fn written(alloc: Global, network: &Kept, ascii: bool) -> Result<Vec<u8>, Refusa
 /// Writes a network's graph to an AIGER file, in the ASCII format or in the binary one.
 pub(crate) fn write<F: Files>(
     alloc: Global,
-    network: &Kept,
+    network: &HeldNetwork,
     ascii: bool,
     name: &str,
     files: &mut F,
@@ -86,7 +86,7 @@ pub(crate) fn write<F: Files>(
     requires { IsSmall (network_of network.now) }
     ensures file { OnOk result ((bytes : List ℕ) × FileIs name.now (F.disk files.new) bytes × IsAigerOf ascii (network_of network.now) bytes) }
     ensures refused { IfErr result (AigerWriteRefused (Some (network_of network.now)) name.now (F.disk files.old) (F.disk files.new)) }
-    ensures others { OthersStand name.now (F.disk files.old) (F.disk files.new) }
+    ensures others { OthersUnchanged name.now (F.disk files.old) (F.disk files.new) }
 {
     let bytes = written(alloc, network, ascii)?;
     put(alloc, name, bytes.as_slice(), files)

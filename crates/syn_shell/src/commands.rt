@@ -11,7 +11,7 @@ ghost use Rattle.syn_pool.specs.Improving.{IsImproved};
 ghost use Rattle.syn_shell.specs.Networks.{gates_in, graph_network, IsSmall, mapped_network, network_of};
 ghost use Rattle.syn_shell.specs.Steps.{IsBalanced, IsLeastMappedTo, IsMappedForArea, IsMappedTo, IsPassed, IsRemade, IsSweptTo, kind_of, Makes, Making, MakingRefused};
 
-use crate::network::Kept;
+use crate::network::HeldNetwork;
 use crate::refusal::Refusal;
 use std::alloc::{AllocError, Global};
 use std::thread::Threads;
@@ -26,17 +26,17 @@ use syn_rewrite::rewrite;
 use syn_words::{Command, LutInputs, PassOptions};
 
 // A graph, hashed and compacted: it is so already, and stays.
-fn hashed(graph: Graph) -> Kept
+fn hashed(graph: Graph) -> HeldNetwork
     ensures { IsRemade (graph_network (graphs.network_of graph)) (network_of result) }
 {
     syn_shapes::network_of_graph();
     syn_shapes::graph_has_function();
     syn_netlist::same_from_function();
-    Kept::Graph(graph)
+    HeldNetwork::Graph(graph)
 }
 
 // A graph, balanced; refused, the graph as it was.
-fn balanced(alloc: Global, graph: Graph) -> Result<Kept, (Graph, Refusal)>
+fn balanced(alloc: Global, graph: Graph) -> Result<HeldNetwork, (Graph, Refusal)>
     ensures balanced { IfOk result (λ new. IsBalanced (graph_network (graphs.network_of graph)) (network_of new)) }
     ensures refused { IfErr result (λ back. (graphs.network_of back.0 ≡ graphs.network_of graph) × (back.1 ≡ Refusal.NoMemory)) }
 {
@@ -44,7 +44,7 @@ fn balanced(alloc: Global, graph: Graph) -> Result<Kept, (Graph, Refusal)>
     syn_shapes::graph_has_function();
     syn_netlist::same_from_function();
     match syn_balance::balance(alloc, graph) {
-        Ok(new) => Ok(Kept::Graph(new)),
+        Ok(new) => Ok(HeldNetwork::Graph(new)),
         Err((graph, _)) => Err((graph, Refusal::NoMemory)),
     }
 }
@@ -61,7 +61,7 @@ fn settings_of(options: &PassOptions, workers: u8) -> PassSettings
 }
 
 // What a pass left of a graph, as the network; refused, the graph as it was.
-fn passed(left: Result<Graph, (Graph, AllocError)>) -> Result<Kept, (Graph, Refusal)>
+fn passed(left: Result<Graph, (Graph, AllocError)>) -> Result<HeldNetwork, (Graph, Refusal)>
     ensures passed { (proposals : List Row → ℕ → List Replacement) (levels : Bool) (graph : Graph) → IfOk left (IsImproved proposals levels graph) → IfOk result (λ new. IsPassed levels proposals (graph_network (graphs.network_of graph)) (network_of new)) }
     ensures refused { (graph : Graph) → IfErr left (λ e. e.0 ≡ graph) → IfErr result (λ back. (graphs.network_of back.0 ≡ graphs.network_of graph) × (back.1 ≡ Refusal.NoMemory)) }
 {
@@ -69,7 +69,7 @@ fn passed(left: Result<Graph, (Graph, AllocError)>) -> Result<Kept, (Graph, Refu
     syn_shapes::graph_has_function();
     syn_netlist::same_from_function();
     match left {
-        Ok(new) => Ok(Kept::Graph(new)),
+        Ok(new) => Ok(HeldNetwork::Graph(new)),
         Err((graph, _)) => Err((graph, Refusal::NoMemory)),
     }
 }
@@ -81,7 +81,7 @@ fn mapped<R: Threads + Sync>(
     graph: Graph,
     inputs: &LutInputs,
     workers: u8,
-) -> Result<Kept, (Graph, Refusal)>
+) -> Result<HeldNetwork, (Graph, Refusal)>
     ensures mapped { IfOk result (λ new. IsMappedTo inputs.now (graph_network (graphs.network_of graph)) (network_of new)) }
     ensures refused { IfErr result (λ back. (graphs.network_of back.0 ≡ graphs.network_of graph) × (back.1 ≡ Refusal.NoMemory)) }
 {
@@ -91,18 +91,18 @@ fn mapped<R: Threads + Sync>(
     syn_lutshapes::luts_have_function();
     syn_netlist::same_from_function();
     match syn_map::map(rt, alloc, &graph, inputs.number(), workers) {
-        Ok(net) => Ok(Kept::Luts(net)),
+        Ok(net) => Ok(HeldNetwork::Luts(net)),
         Err(_) => Err((graph, Refusal::NoMemory)),
     }
 }
 
 // A graph without the latches that no output needs, and with one for those that load alike; refused, the graph as it was.
-fn swept(alloc: Global, graph: Graph) -> Result<Kept, (Graph, Refusal)>
+fn swept(alloc: Global, graph: Graph) -> Result<HeldNetwork, (Graph, Refusal)>
     ensures swept { IfOk result (λ new. IsSweptTo (graph_network (graphs.network_of graph)) (network_of new)) }
     ensures refused { IfErr result (λ back. (graphs.network_of back.0 ≡ graphs.network_of graph) × (back.1 ≡ Refusal.NoMemory)) }
 {
     match syn_seq::sweep(alloc, graph) {
-        Ok(new) => Ok(Kept::Graph(new)),
+        Ok(new) => Ok(HeldNetwork::Graph(new)),
         Err((graph, _)) => Err((graph, Refusal::NoMemory)),
     }
 }
@@ -114,7 +114,7 @@ fn mapped_for_area<R: Threads + Sync>(
     graph: Graph,
     inputs: &LutInputs,
     workers: u8,
-) -> Result<Kept, (Graph, Refusal)>
+) -> Result<HeldNetwork, (Graph, Refusal)>
     ensures mapped { IfOk result (λ new. IsMappedForArea inputs.now (graph_network (graphs.network_of graph)) (network_of new)) }
     ensures refused { IfErr result (λ back. (graphs.network_of back.0 ≡ graphs.network_of graph) × (back.1 ≡ Refusal.NoMemory)) }
 {
@@ -124,13 +124,17 @@ fn mapped_for_area<R: Threads + Sync>(
     syn_lutshapes::luts_have_function();
     syn_netlist::same_from_function();
     match syn_area::map_for_area(rt, alloc, &graph, inputs.number(), workers) {
-        Ok(net) => Ok(Kept::Luts(net)),
+        Ok(net) => Ok(HeldNetwork::Luts(net)),
         Err(_) => Err((graph, Refusal::NoMemory)),
     }
 }
 
 // A graph, mapped to LUTs of so many inputs at the least depth that there is; refused, the graph as it was.
-fn mapped_by_flow(alloc: Global, graph: Graph, inputs: &LutInputs) -> Result<Kept, (Graph, Refusal)>
+fn mapped_by_flow(
+    alloc: Global,
+    graph: Graph,
+    inputs: &LutInputs,
+) -> Result<HeldNetwork, (Graph, Refusal)>
     ensures mapped { IfOk result (λ new. IsLeastMappedTo inputs.now (graph_network (graphs.network_of graph)) (network_of new)) }
     ensures refused { IfErr result (λ back. (graphs.network_of back.0 ≡ graphs.network_of graph) × (back.1 ≡ Refusal.NoMemory)) }
 {
@@ -140,7 +144,7 @@ fn mapped_by_flow(alloc: Global, graph: Graph, inputs: &LutInputs) -> Result<Kep
     syn_lutshapes::luts_have_function();
     syn_netlist::same_from_function();
     match syn_flow::flow(alloc, &graph, inputs.number()) {
-        Ok((net, _proof)) => Ok(Kept::Luts(net)),
+        Ok((net, _proof)) => Ok(HeldNetwork::Luts(net)),
         Err(_) => Err((graph, Refusal::NoMemory)),
     }
 }
@@ -153,7 +157,7 @@ fn remake_graph<R: Threads + Sync, G: Gate>(
     graph: Graph,
     workers: u8,
     gate: &G,
-) -> Result<Kept, (Graph, Refusal)>
+) -> Result<HeldNetwork, (Graph, Refusal)>
     ensures made { IfOk result (λ new. Makes command.now (graph_network (graphs.network_of graph)) (network_of new)) }
     ensures refused { IfErr result (λ back. (graphs.network_of back.0 ≡ graphs.network_of graph) × (back.1 ≡ Refusal.NoMemory)) }
 {
@@ -184,7 +188,7 @@ fn remake_graph<R: Threads + Sync, G: Gate>(
         | Command::Generate { .. }
         | Command::Stats
         | Command::Write(_)
-        | Command::WriteAiger { .. } => Ok(Kept::Graph(graph)),
+        | Command::WriteAiger { .. } => Ok(HeldNetwork::Graph(graph)),
     }
 }
 
@@ -212,7 +216,7 @@ fn remake_luts<R: Threads + Sync, G: Gate>(
     net: &LutNet,
     workers: u8,
     gate: &G,
-) -> Result<Kept, Refusal>
+) -> Result<HeldNetwork, Refusal>
     requires making { kind_of command.now ≡ Making }
     requires small { IsSmall (mapped_network (nets.network_of net.now)) }
     ensures made { IfOk result (λ new. Makes command.now (mapped_network (nets.network_of net.now)) (network_of new)) }
@@ -233,10 +237,10 @@ pub(crate) fn remake<R: Threads + Sync, G: Gate>(
     rt: &R,
     alloc: Global,
     command: &Command,
-    network: Kept,
+    network: HeldNetwork,
     workers: u8,
     gate: &G,
-) -> Result<Kept, (Kept, Refusal)>
+) -> Result<HeldNetwork, (HeldNetwork, Refusal)>
     requires making { kind_of command.now ≡ Making }
     requires small { IsSmall (network_of network) }
     ensures made { IfOk result (λ new. Makes command.now (network_of network) (network_of new)) }
@@ -245,13 +249,13 @@ pub(crate) fn remake<R: Threads + Sync, G: Gate>(
     ensures refused { IfErr result (λ back. (network_of back.0 ≡ network_of network) × MakingRefused (Some (network_of network)) back.1) }
 {
     match network {
-        Kept::Graph(graph) => match remake_graph(rt, alloc, command, graph, workers, gate) {
+        HeldNetwork::Graph(graph) => match remake_graph(rt, alloc, command, graph, workers, gate) {
             Ok(new) => Ok(new),
-            Err((graph, cause)) => Err((Kept::Graph(graph), cause)),
+            Err((graph, cause)) => Err((HeldNetwork::Graph(graph), cause)),
         },
-        Kept::Luts(net) => match remake_luts(rt, alloc, command, &net, workers, gate) {
+        HeldNetwork::Luts(net) => match remake_luts(rt, alloc, command, &net, workers, gate) {
             Ok(new) => Ok(new),
-            Err(cause) => Err((Kept::Luts(net), cause)),
+            Err(cause) => Err((HeldNetwork::Luts(net), cause)),
         },
     }
 }

@@ -2,7 +2,7 @@
 
 ghost use Rattle.std.specs.Prelude.{◌≡◌, ◌⊎◌, ◌≤◌, length, IfOk, IfErr, OnOk};
 ghost use Rattle.syn_io.specs.Outside.{Rose};
-ghost use Rattle.syn_shell.specs.Outside.{FileIs, FilesStand, OthersStand};
+ghost use Rattle.syn_shell.specs.Outside.{FileIs, FilesUnchanged, OthersUnchanged};
 ghost use Rattle.syn_shell.specs.Steps.{file_limit, GetRefused};
 
 use crate::refusal::Refusal;
@@ -16,7 +16,7 @@ pub(crate) fn get<F: Files>(alloc: Global, name: &str, files: &mut F) -> Result<
     ensures file { IfOk result (λ bytes. FileIs name.now (F.disk files.old) bytes.items) }
     ensures short { IfOk result (λ bytes. length bytes.items ≤ file_limit) }
     ensures refused { IfErr result (GetRefused name.now (F.disk files.old) (F.disk files.new)) }
-    ensures stand { FilesStand (F.disk files.old) (F.disk files.new) }
+    ensures unchanged { FilesUnchanged (F.disk files.old) (F.disk files.new) }
 {
     match files.get(alloc, name, FILE_LIMIT) {
         Ok(bytes) => Ok(bytes),
@@ -35,7 +35,7 @@ pub(crate) fn put<F: Files>(
 ) -> Result<(), Refusal>
     ensures file { OnOk result (FileIs name.now (F.disk files.new) bytes.now) }
     ensures refused { IfErr result (λ refusal. (refusal ≡ Refusal.NoMemory) ⊎ ((refusal ≡ Refusal.PutFailed) × Rose (F.disk files.old).faults (F.disk files.new).faults)) }
-    ensures others { OthersStand name.now (F.disk files.old) (F.disk files.new) }
+    ensures others { OthersUnchanged name.now (F.disk files.old) (F.disk files.new) }
 {
     match files.put(alloc, name, bytes) {
         Ok(()) => Ok(()),

@@ -13,7 +13,7 @@ ghost use Rattle.syn_shell.specs.Outside.{Took};
 ghost use Rattle.syn_shell.specs.Networks.{network_of};
 ghost use Rattle.syn_shell.specs.Steps.{PrintRefused};
 
-use crate::network::Kept;
+use crate::network::HeldNetwork;
 use crate::refusal::Refusal;
 use itoa::Buffer;
 use std::alloc::{AllocError, Global};
@@ -118,19 +118,19 @@ fn luts_line(alloc: Global, net: &LutNet) -> Result<Vec<u8>, AllocError>
 }
 
 // The network's line.
-fn network_line(alloc: Global, network: &Kept) -> Result<Vec<u8>, AllocError>
+fn network_line(alloc: Global, network: &HeldNetwork) -> Result<Vec<u8>, AllocError>
     ensures { IfOk result (λ line. IsStatsLine (network_of network.now) line.items) }
 {
     match network {
-        Kept::Graph(graph) => graph_line(alloc, graph),
-        Kept::Luts(net) => luts_line(alloc, net),
+        HeldNetwork::Graph(graph) => graph_line(alloc, graph),
+        HeldNetwork::Luts(net) => luts_line(alloc, net),
     }
 }
 
 /// Prints the network's line.
 pub(crate) fn print_stats<O: Sink>(
     alloc: Global,
-    network: &Kept,
+    network: &HeldNetwork,
     out: &mut O,
 ) -> Result<(), Refusal>
     ensures printed { OnOk result ((line : List ℕ) × IsStatsLine (network_of network.now) line × Took line (O.screen out.old) (O.screen out.new)) }

@@ -1,7 +1,7 @@
 //! The lines of refusals, put in pieces that take no memory, and their statuses.
 
 ghost use Rattle.std.specs.Prelude.{◌≡◌, ◌++◌, ◌∷◌, [], codes, decimal, flat_map, map, IfNone, IfSome, None, Some};
-ghost use Rattle.syn_shell.specs.Lines.{aiger_status, aiger_text, at_place, chain_text, joined, name_at_line, read_status, read_text, refusal_line, refusal_status, refusal_text, script_text, told_in_line, told_of_file};
+ghost use Rattle.syn_shell.specs.Lines.{aiger_status, aiger_text, at_place, chain_text, joined, name_at_line, read_status, read_text, refusal_line, refusal_status, refusal_text, script_text, fault_at_line, file_fault_text};
 ghost use Rattle.syn_shell.specs.Outside.{Puts};
 ghost use Rattle.syn_shell.specs.Scripts.{Refused};
 ghost use Rattle.syn_shell.specs.Stopping.{status_in, AnnouncesAs};
@@ -147,9 +147,9 @@ fn put_script_fault<O: Sink>(out: &mut O, fault: &ScriptFault) -> Result<(), Sin
 }
 
 // The line, the name in it, if any, and what is wrong there, where a fault of a file tells a line.
-fn told_in_line<'a>(fault: &'a ReadFault) -> Option<(u32, &'a [u8], &'static [u8])>
-    ensures none { IfNone result (told_in_line fault.now ≡ None) }
-    ensures some { IfSome result (λ r. told_in_line fault.now ≡ Some (r.0, r.1.now, r.2.now)) }
+fn fault_at_line<'a>(fault: &'a ReadFault) -> Option<(u32, &'a [u8], &'static [u8])>
+    ensures none { IfNone result (fault_at_line fault.now ≡ None) }
+    ensures some { IfSome result (λ r. fault_at_line fault.now ≡ Some (r.0, r.1.now, r.2.now)) }
 {
     match fault {
         ReadFault::AfterEnd(line) => Some((*line, b"", b"after end")),
@@ -183,7 +183,7 @@ fn told_in_line<'a>(fault: &'a ReadFault) -> Option<(u32, &'a [u8], &'static [u8
 
 // Puts what a fault of a file says that tells no line.
 fn put_file_fault<O: Sink>(out: &mut O, fault: &ReadFault) -> Result<(), SinkFailed>
-    ensures { Puts result (told_of_file fault.now) (O.screen out.old) (O.screen out.new) }
+    ensures { Puts result (file_fault_text fault.now) (O.screen out.old) (O.screen out.new) }
 {
     match fault {
         ReadFault::BadByte(at) => put_number(out, b"byte ", *at as u64, b": bad byte"),
@@ -219,7 +219,7 @@ fn put_file_fault<O: Sink>(out: &mut O, fault: &ReadFault) -> Result<(), SinkFai
 fn put_read_fault<O: Sink>(out: &mut O, fault: &ReadFault) -> Result<(), SinkFailed>
     ensures { Puts result (read_text fault.now) (O.screen out.old) (O.screen out.new) }
 {
-    match told_in_line(fault) {
+    match fault_at_line(fault) {
         Some((line, name, what)) => put_name_at_line(out, line, name, what),
         None => put_file_fault(out, fault),
     }

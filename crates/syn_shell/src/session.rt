@@ -10,14 +10,14 @@ ghost use Rattle.syn_graph.specs.Graphs as graphs;
 ghost use Rattle.syn_build.specs.Building.{IsGraphOf};
 ghost use Rattle.syn_gen.specs.Generated.{generated};
 ghost use Rattle.syn_shell.specs.Networks.{graph_network, IsSmall, network_of};
-ghost use Rattle.syn_shell.specs.Outside.{FileIs, FilesStand, OthersStand, state};
+ghost use Rattle.syn_shell.specs.Outside.{FileIs, FilesUnchanged, OthersUnchanged, state};
 ghost use Rattle.syn_shell.specs.Steps.{file_limit, GeneratingRefused, IsReadAs, kind_of, Making, MakingRefused, ParseRefused, ReadRefused, Remakes, SessionStep, WriteRefused};
 
 use crate::aiger;
 use crate::commands::remake;
 use crate::files::{get, put};
 use crate::lines::print_stats;
-use crate::network::Kept;
+use crate::network::HeldNetwork;
 use crate::refusal::Refusal;
 use std::alloc::{AllocError, Global};
 use std::marker::Model;
@@ -34,7 +34,7 @@ use syn_words::Command;
 /// written as, with the mark whether it is a net of LUTs. The number of workers changes nothing that they see.
 #[derive(Debug, Drop)]
 pub struct Session {
-    network: Option<Kept>,
+    network: Option<HeldNetwork>,
     workers: u8,
 }
 
@@ -69,7 +69,7 @@ fn read<F: Files>(alloc: Global, name: &str, files: &mut F) -> Result<Graph, Ref
     ensures read { IfOk result (λ graph. IsReadAs name.now (F.disk files.old) (graphs.network_of graph)) }
     ensures small { IfOk result (λ graph. IsSmall (graph_network (graphs.network_of graph))) }
     ensures refused { IfErr result (ReadRefused name.now (F.disk files.old) (F.disk files.new)) }
-    ensures stand { FilesStand (F.disk files.old) (F.disk files.new) }
+    ensures unchanged { FilesUnchanged (F.disk files.old) (F.disk files.new) }
 {
     syn_reader::few_outputs();
     let bytes = get(alloc, name, files)?;
@@ -93,7 +93,7 @@ fn generated(alloc: Global, seed: u64, size: u16) -> Result<Graph, Refusal>
 }
 
 // The bytes of a network's netlist.
-fn printed(alloc: Global, network: &Kept) -> Result<Vec<u8>, AllocError>
+fn printed(alloc: Global, network: &HeldNetwork) -> Result<Vec<u8>, AllocError>
     ensures printed { IfOk result (λ bytes. bytes.items ≡ printed (network_of network.now).netlist) }
     ensures reads { IfOk result (λ bytes. Reads bytes.items (network_of network.now).netlist) }
 {
@@ -103,11 +103,16 @@ fn printed(alloc: Global, network: &Kept) -> Result<Vec<u8>, AllocError>
 }
 
 // Writes the netlist of a network to a file.
-fn write<F: Files>(alloc: Global, network: &Kept, name: &str, files: &mut F) -> Result<(), Refusal>
+fn write<F: Files>(
+    alloc: Global,
+    network: &HeldNetwork,
+    name: &str,
+    files: &mut F,
+) -> Result<(), Refusal>
     ensures file { OnOk result (FileIs name.now (F.disk files.new) (printed (network_of network.now).netlist)) }
     ensures reads { OnOk result (Reads (printed (network_of network.now).netlist) (network_of network.now).netlist) }
     ensures refused { IfErr result (WriteRefused (Some (network_of network.now)) name.now (F.disk files.old) (F.disk files.new)) }
-    ensures others { OthersStand name.now (F.disk files.old) (F.disk files.new) }
+    ensures others { OthersUnchanged name.now (F.disk files.old) (F.disk files.new) }
 {
     let bytes = printed(alloc, network)?;
     put(alloc, name, bytes.as_slice(), files)
@@ -168,17 +173,17 @@ impl Session {
         match command {
             Command::Read(name) => {
                 let graph = read(alloc, name.as_str(), files)?;
-                self.network = Some(Kept::Graph(graph));
+                self.network = Some(HeldNetwork::Graph(graph));
                 Ok(())
             }
             Command::ReadAiger(name) => {
                 let graph = aiger::read(alloc, name.as_str(), files)?;
-                self.network = Some(Kept::Graph(graph));
+                self.network = Some(HeldNetwork::Graph(graph));
                 Ok(())
             }
             Command::Generate { seed, size } => {
                 let graph = generated(alloc, *seed, *size)?;
-                self.network = Some(Kept::Graph(graph));
+                self.network = Some(HeldNetwork::Graph(graph));
                 Ok(())
             }
             Command::Stats => match &self.network {
