@@ -15,7 +15,7 @@ ghost use Rattle.syn_decide.specs.Told.{as_met};
 use crate::{MetPair, NodeRow};
 use arrayvec::ArrayVec;
 use std::marker::Model;
-use syn_gain::{literal_for, node_at};
+use syn_gain::{literal_for, node_at, root_row};
 use syn_plan::{MAX_GATES, MAX_LEAVES, PLit, Plan};
 use syn_rows::{FALSE, Lit, NODE_LIMIT, Row, ordered_and, simple_and};
 
@@ -287,11 +287,7 @@ impl Placing {
         ensures { result ≡ placing.root_row spec.first_new self.now.extra (placing.literal_for self.now.literals out) }
     {
         let literal = literal_for(self.literals.as_slice(), out);
-        let count = self.extra.len();
-        if u64::from(literal.0) + 2 != 2 * (u64::from(FIRST_NEW) + count as u64) {
-            return Row::Alias(literal);
-        }
-        last_or(self.extra.as_slice(), Row::Alias(literal))
+        root_row(FIRST_NEW, self.extra.as_slice(), literal)
     }
 
     /// How many new gates need a row of their own, where the plan's output is this.
@@ -313,17 +309,6 @@ impl Placing {
     {
         rows.clear();
         let _ = rows.try_extend_from_slice(self.extra.as_slice());
-    }
-}
-
-// The last of the rows, or another row where there is none.
-fn last_or(rows: &[Row], other: Row) -> Row
-    ensures { result ≡ slice_index_or rows.now (length rows.now - 1) other }
-{
-    if rows.is_empty() {
-        other
-    } else {
-        rows[rows.len() - 1]
     }
 }
 

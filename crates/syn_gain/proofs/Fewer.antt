@@ -1,6 +1,6 @@
 -- Placing from the code's lists, whose new rows only grow in number with the gates.
-use Rattle.std.proofs.Common.{◌≡◌, ℕ, ◌<◌, ◌≤◌, nat_lt, false, List, [], ◌∷◌, length, get_or, Option, Some, None, sym, ap, ap₂, ◌∙◌, subst, arith}
-use Rattle.std.proofs.lemmas.Bool.{le-ltb}
+use Rattle.std.proofs.Common.{◌≡◌, ℕ, ◌+◌, ◌<◌, ◌≤◌, nat_lt, false, true, List, [], ◌∷◌, length, get_or, Option, Some, None, sym, ap, ap₂, ◌∙◌, subst, arith}
+use Rattle.std.proofs.lemmas.Bool.{le-ltb, lt-ltb}
 use Rattle.std.proofs.lemmas.List.{length_push}
 use Rattle.syn_rows.specs.declared.Lit.{Lit}
 use Rattle.syn_rows.specs.declared.Row.{Row}
@@ -39,3 +39,19 @@ pub not_fewer : (rows : List Row) (root limit : ℕ) (left all : List (PLit × P
     → false ≡ nat_lt (length (search_gates rows root (state begun []) all).extra) limit
 not_fewer rows root limit left all begun literals extra rest enough =
     sym (le-ltb (length (search_gates rows root (state begun []) all).extra) limit (omega (arith, enough, gates_grow rows root left (state literals extra), ap (λ (s : Searched). length s.extra) rest)))
+
+pair_adds : (first : ℕ) (extra : List Row) (x y : Lit) (o : Option Lit) → length (or_new first extra x y o).extra ≤ length extra + 1
+pair_adds first extra x y (Some l) = omega arith
+pair_adds first extra x y None = omega (arith, length_push extra (ordered_and x y))
+
+-- each gate adds one row at most
+pub gates_are_few : (rows : List Row) (root : ℕ) (gates : List (PLit × PLit)) (s : Searched) → length (search_gates rows root s gates).extra ≤ length s.extra + length gates
+gates_are_few rows root [] s = omega arith
+gates_are_few rows root (gate ∷ gates) s =
+    let x = literal_for s.literals gate.0 in
+    let y = literal_for s.literals gate.1 in
+    omega (arith, pair_adds (length rows) s.extra x y (or_else (simple_and x y) (literal_there rows root s.extra x y)), gates_are_few rows root gates (search_gate rows root s gate))
+
+-- so they are fewer than any number above that of the gates
+pub all_fewer : (rows : List Row) (root limit : ℕ) (gates : List (PLit × PLit)) (begun : List Lit) → length gates < limit → true ≡ nat_lt (length (search_gates rows root (state begun []) gates).extra) limit
+all_fewer rows root limit gates begun few = sym (lt-ltb (length (search_gates rows root (state begun []) gates).extra) limit (omega (arith, few, gates_are_few rows root gates (state begun []))))

@@ -11,19 +11,16 @@ ghost use Rattle.syn_gain.specs.Replacements.{SavesNothing, SavesSome};
 ghost use Rattle.syn_gain.specs.Searching.{new_rows_anywhere};
 ghost use Rattle.syn_gain.specs.Uses.{IsUsesOf};
 
-use crate::placed::{INLINE_LITERALS, INLINE_ROWS, adds_fewer_anywhere, place_into};
+use crate::placed::{PlacedPlan, adds_fewer_anywhere, place_into};
 use crate::{Candidate, Uses};
-use smallvec::SmallVec;
 use std::alloc::{AllocError, Global};
 use syn_fanout_free::{Change, KeptRows};
 use syn_graph::Graph;
-use syn_rows::{Lit, Row};
 
 /// Room for what a plan becomes. One value serves for many plans, one after the other.
 #[derive(Drop)]
 pub struct Room {
-    literals: SmallVec<Lit, INLINE_LITERALS>,
-    extra: SmallVec<Row, INLINE_ROWS>,
+    placed: PlacedPlan,
     kept: KeptRows,
 }
 
@@ -31,8 +28,7 @@ impl Room {
     /// Room that takes no memory yet.
     pub fn new(alloc: Global) -> Room {
         Room {
-            literals: SmallVec::new(alloc),
-            extra: SmallVec::new(alloc),
+            placed: PlacedPlan::new(alloc),
             kept: KeptRows::new(alloc),
         }
     }
@@ -83,13 +79,7 @@ pub fn saves(
     ensures none { IfOk result (λ some. some ≡ false → SavesNothing graph.now.rows graph.now.observed (replacement_of candidate.entry)) }
 {
     let rows = graph.rows.as_slice();
-    let row = place_into(
-        rows,
-        &uses.pairs,
-        candidate,
-        &mut room.literals,
-        &mut room.extra,
-    )?;
+    let row = place_into(rows, &uses.pairs, candidate, &mut room.placed)?;
     syn_fanout_free::gain_is_positive(
         alloc,
         rows,
@@ -97,7 +87,7 @@ pub fn saves(
         Change {
             node: candidate.root,
             row,
-            extra: room.extra.as_slice(),
+            extra: room.placed.extra.as_slice(),
         },
         candidate.leaves,
         most,
@@ -120,12 +110,5 @@ pub fn adds_fewer(
     ensures { IfOk result (λ fewer. fewer ≡ nat_lt (length (new_rows_anywhere graph.now.rows (replacement_of candidate.entry))) limit) }
 {
     let rows = graph.rows.as_slice();
-    adds_fewer_anywhere(
-        rows,
-        &uses.pairs,
-        candidate,
-        limit,
-        &mut room.literals,
-        &mut room.extra,
-    )
+    adds_fewer_anywhere(rows, &uses.pairs, candidate, limit, &mut room.placed)
 }

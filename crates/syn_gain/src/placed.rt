@@ -23,9 +23,47 @@ use syn_plan::PLit;
 use syn_rows::{FALSE, Lit, Row, is_and_of, ordered_and, simple_and};
 
 // How many literals and new rows of a plan stand inline; a plan of more takes memory.
-pub(crate) const INLINE_LITERALS: usize = 32;
+const INLINE_LITERALS: usize = 32;
 
-pub(crate) const INLINE_ROWS: usize = 16;
+const INLINE_ROWS: usize = 16;
+
+/// What a plan becomes: lists that serve for many plans, one after the other. Literals of nodes from the number of rows on
+/// are of new rows.
+#[derive(Debug, Drop)]
+pub struct PlacedPlan {
+    /// The literals that the constant, the leaves and the gates become.
+    pub literals: SmallVec<Lit, INLINE_LITERALS>,
+    /// The new rows.
+    pub extra: SmallVec<Row, INLINE_ROWS>,
+}
+
+impl PlacedPlan {
+    /// Nothing placed, and no memory taken yet.
+    pub fn new(alloc: Global) -> PlacedPlan
+        ensures none { result.extra.items ≡ [] }
+    {
+        PlacedPlan {
+            literals: SmallVec::new(alloc),
+            extra: SmallVec::new(alloc),
+        }
+    }
+
+    /// Places the constant and a plan's leaves, of which there are so many. The only error is want of memory.
+    pub fn begin(&mut self, count: u8, leaves: &[u32]) -> Result<(), AllocError>
+        requires low { (i : ℕ) → slice_index_or leaves.now i 0 < 2 ^ 31 }
+        ensures literals { OnOk result (self.new.literals.items ≡ joining.constant ∷ spec.leaf_literals count leaves.now) }
+        ensures none { OnOk result (self.new.extra.items ≡ []) }
+    {
+        self.literals.clear();
+        self.extra.clear();
+        self.literals.push(FALSE)?;
+        for i in 0..count {
+            let leaf = node_at(leaves, i as usize);
+            self.literals.push(Lit::of(leaf, false))?;
+        }
+        Ok(())
+    }
+}
 
 /// What a proposal becomes.
 #[derive(Debug, Drop)]
@@ -193,32 +231,14 @@ pub fn node_at(nodes: &[u32], place: usize) -> u32
     if place < nodes.len() { nodes[place] } else { 0 }
 }
 
-// Makes them the literals of the constant and of a plan's leaves, of which there are so many.
-fn begin(
-    count: u8,
-    leaves: &[u32],
-    literals: &mut SmallVec<Lit, INLINE_LITERALS>,
-) -> Result<(), AllocError>
-    requires low { (i : ℕ) → slice_index_or leaves.now i 0 < 2 ^ 31 }
-    ensures { OnOk result (literals.new.items ≡ joining.constant ∷ spec.leaf_literals count leaves.now) }
-{
-    literals.clear();
-    literals.push(FALSE)?;
-    for i in 0..count {
-        let leaf = node_at(leaves, i as usize);
-        literals.push(Lit::of(leaf, false))?;
-    }
-    Ok(())
-}
-
-// One gate of a plan.
-fn place_gate(
+/// Places one gate of a plan, whose pair is looked up among the rows below the root and the new rows. The only error is want
+/// of memory.
+pub fn place_gate(
     rows: &[Row],
     index: &PairIndex,
     root: u32,
     gate: (PLit, PLit),
-    literals: &mut SmallVec<Lit, INLINE_LITERALS>,
-    extra: &mut SmallVec<Row, INLINE_ROWS>,
+    placed: &mut PlacedPlan,
 ) -> Result<(), AllocError>
     requires index { IsIndexOf rows.now index.now }
     requires pairs { PairsOnce rows.now }
@@ -226,55 +246,27 @@ fn place_gate(
     requires few { length rows.now < NODE_LIMIT }
     requires low { root ≤ length rows.now }
     requires positive { 0 < root }
-    requires room { length extra.old.items < MAX_GATES }
-    requires placing { IsPlacing root (length rows.now) literals.old.items extra.old.items }
-    ensures placed { OnOk result (search.state literals.new.items extra.new.items ≡ search.search_gate rows.now root (search.state literals.old.items extra.old.items) gate) }
-    ensures placing { OnOk result (IsPlacing root (length rows.now) literals.new.items extra.new.items) }
-    ensures more { OnOk result (length extra.new.items ≤ length extra.old.items + 1) }
+    requires room { length placed.old.extra.items < MAX_GATES }
+    requires placing { IsPlacing root (length rows.now) placed.old.literals.items placed.old.extra.items }
+    ensures placed { OnOk result (search.state placed.new.literals.items placed.new.extra.items ≡ search.search_gate rows.now root (search.state placed.old.literals.items placed.old.extra.items) gate) }
+    ensures placing { OnOk result (IsPlacing root (length rows.now) placed.new.literals.items placed.new.extra.items) }
+    ensures more { OnOk result (length placed.new.extra.items ≤ length placed.old.extra.items + 1) }
 {
-    let x = literal_for(literals.as_slice(), gate.0);
-    let y = literal_for(literals.as_slice(), gate.1);
-    let literal = join(rows, index, root, extra, x, y)?;
-    literals.push(literal)?;
+    let x = literal_for(placed.literals.as_slice(), gate.0);
+    let y = literal_for(placed.literals.as_slice(), gate.1);
+    let literal = join(rows, index, root, &mut placed.extra, x, y)?;
+    placed.literals.push(literal)?;
     Ok(())
 }
 
-// The gates of a plan in order.
+// Places the gates of a plan in order: whether they become fewer than so many new rows. None is placed once as many are new.
 fn place_gates(
     rows: &[Row],
     index: &PairIndex,
     root: u32,
     gates: &[(PLit, PLit)],
-    literals: &mut SmallVec<Lit, INLINE_LITERALS>,
-    extra: &mut SmallVec<Row, INLINE_ROWS>,
-) -> Result<(), AllocError>
-    requires index { IsIndexOf rows.now index.now }
-    requires pairs { PairsOnce rows.now }
-    requires order { InOrder rows.now }
-    requires few { length rows.now < NODE_LIMIT }
-    requires low { root ≤ length rows.now }
-    requires positive { 0 < root }
-    requires gates { length gates.now ≤ MAX_GATES }
-    requires none { extra.old.items ≡ [] }
-    requires placing { IsPlacing root (length rows.now) literals.old.items [] }
-    ensures placed { OnOk result (search.state literals.new.items extra.new.items ≡ search.search_gates rows.now root (search.state literals.old.items []) gates.now) }
-    ensures few { OnOk result (length extra.new.items ≤ MAX_GATES) }
-{
-    for gate in gates {
-        place_gate(rows, index, root, *gate, literals, extra)?;
-    }
-    Ok(())
-}
-
-// Whether the gates of a plan become fewer than so many new rows. None is placed once as many rows are new.
-fn become_fewer(
-    rows: &[Row],
-    index: &PairIndex,
-    root: u32,
-    gates: &[(PLit, PLit)],
     limit: u32,
-    literals: &mut SmallVec<Lit, INLINE_LITERALS>,
-    extra: &mut SmallVec<Row, INLINE_ROWS>,
+    placed: &mut PlacedPlan,
 ) -> Result<bool, AllocError>
     requires index { IsIndexOf rows.now index.now }
     requires pairs { PairsOnce rows.now }
@@ -283,17 +275,19 @@ fn become_fewer(
     requires low { root ≤ length rows.now }
     requires positive { 0 < root }
     requires gates { length gates.now ≤ MAX_GATES }
-    requires none { extra.old.items ≡ [] }
-    requires placing { IsPlacing root (length rows.now) literals.old.items [] }
-    ensures { IfOk result (λ fewer. fewer ≡ nat_lt (length (search.search_gates rows.now root (search.state literals.old.items []) gates.now).extra) limit) }
+    requires none { placed.old.extra.items ≡ [] }
+    requires placing { IsPlacing root (length rows.now) placed.old.literals.items [] }
+    ensures fewer { IfOk result (λ fewer. fewer ≡ nat_lt (length (search.search_gates rows.now root (search.state placed.old.literals.items []) gates.now).extra) limit) }
+    ensures placed { IfOk result (λ fewer. fewer ≡ true → search.state placed.new.literals.items placed.new.extra.items ≡ search.search_gates rows.now root (search.state placed.old.literals.items []) gates.now) }
+    ensures few { OnOk result (length placed.new.extra.items ≤ MAX_GATES) }
 {
     for gate in gates {
-        if extra.as_slice().len() >= limit as usize {
+        if placed.extra.as_slice().len() >= limit as usize {
             return Ok(false);
         }
-        place_gate(rows, index, root, *gate, literals, extra)?;
+        place_gate(rows, index, root, *gate, placed)?;
     }
-    Ok(extra.as_slice().len() < limit as usize)
+    Ok(placed.extra.as_slice().len() < limit as usize)
 }
 
 // The last row of a list, or another where it is empty.
@@ -307,8 +301,8 @@ fn last_or(rows: &[Row], row: Row) -> Row
     }
 }
 
-// The new row of the root, where the output is this literal.
-fn root_row(first: u32, extra: &[Row], out: Lit) -> Row
+/// The new row of the root, where the output is this literal and the first new row is node `first`.
+pub fn root_row(first: u32, extra: &[Row], out: Lit) -> Row
     ensures { result ≡ spec.root_row first extra.now out }
 {
     if out.0 as u64 + 2 == 2 * (first as u64 + extra.len() as u64) {
@@ -319,14 +313,13 @@ fn root_row(first: u32, extra: &[Row], out: Lit) -> Row
 }
 
 /// Whether a plan over rows, with their index, becomes fewer than so many new rows where its gates may be those of any row.
-/// It is placed no further once as many are new. The two lists are room that is used again. Only a large plan takes memory.
+/// It is placed no further once as many are new. Only a large plan takes memory.
 pub(crate) fn adds_fewer_anywhere(
     rows: &[Row],
     index: &PairIndex,
     candidate: Candidate,
     limit: u32,
-    literals: &mut SmallVec<Lit, INLINE_LITERALS>,
-    extra: &mut SmallVec<Row, INLINE_ROWS>,
+    placed: &mut PlacedPlan,
 ) -> Result<bool, AllocError>
     requires index { IsIndexOf rows.now index.now }
     requires pairs { PairsOnce rows.now }
@@ -336,21 +329,18 @@ pub(crate) fn adds_fewer_anywhere(
     ensures { IfOk result (λ fewer. fewer ≡ nat_lt (length (search.new_rows_anywhere rows.now (replacement_of candidate.entry))) limit) }
 {
     let plan = candidate.plan;
-    begin(plan.leaves, candidate.leaves, literals)?;
-    extra.clear();
-    let gates = plan.gates.as_slice();
+    placed.begin(plan.leaves, candidate.leaves)?;
     let end = rows.len() as u32;
-    become_fewer(rows, index, end, gates, limit, literals, extra)
+    place_gates(rows, index, end, plan.gates.as_slice(), limit, placed)
 }
 
-/// What a proposal becomes over rows, with their index: the new row of the root, and the new rows behind the last row. The
-/// two lists are room that is used again. Only a large plan takes memory.
+/// What a proposal becomes over rows, with their index: the new row of the root, and the new rows behind the last row. Only a
+/// large plan takes memory.
 pub(crate) fn place_into(
     rows: &[Row],
     index: &PairIndex,
     candidate: Candidate,
-    literals: &mut SmallVec<Lit, INLINE_LITERALS>,
-    extra: &mut SmallVec<Row, INLINE_ROWS>,
+    placed: &mut PlacedPlan,
 ) -> Result<Row, AllocError>
     requires index { IsIndexOf rows.now index.now }
     requires pairs { PairsOnce rows.now }
@@ -358,16 +348,15 @@ pub(crate) fn place_into(
     requires few { length rows.now < NODE_LIMIT }
     requires root { candidate.root < length rows.now }
     ensures root { IfOk result (λ row. row ≡ new_root_by rows.now (replacement_of candidate.entry)) }
-    ensures extra { OnOk result (extra.new.items ≡ new_rows_by rows.now (replacement_of candidate.entry)) }
-    ensures few { OnOk result (length extra.new.items ≤ MAX_GATES) }
+    ensures extra { OnOk result (placed.new.extra.items ≡ new_rows_by rows.now (replacement_of candidate.entry)) }
+    ensures few { OnOk result (length placed.new.extra.items ≤ MAX_GATES) }
 {
     let plan = candidate.plan;
-    begin(plan.leaves, candidate.leaves, literals)?;
-    extra.clear();
+    placed.begin(plan.leaves, candidate.leaves)?;
     let gates = plan.gates.as_slice();
-    place_gates(rows, index, candidate.root, gates, literals, extra)?;
-    let out = literal_for(literals.as_slice(), plan.out);
-    Ok(root_row(rows.len() as u32, extra.as_slice(), out))
+    let _ = place_gates(rows, index, candidate.root, gates, u32::MAX, placed)?;
+    let out = literal_for(placed.literals.as_slice(), plan.out);
+    Ok(root_row(rows.len() as u32, placed.extra.as_slice(), out))
 }
 
 /// The same, in lists of its own.
@@ -386,8 +375,10 @@ pub(crate) fn place_rows(
     ensures extra { IfOk result (λ new. new.extra.items ≡ new_rows_by rows.now (replacement_of candidate.entry)) }
     ensures few { IfOk result (λ new. length new.extra.items ≤ MAX_GATES) }
 {
-    let mut literals = SmallVec::new(alloc);
-    let mut extra = SmallVec::new(alloc);
-    let root = place_into(rows, index, candidate, &mut literals, &mut extra)?;
-    Ok(NewRows { root, extra })
+    let mut placed = PlacedPlan::new(alloc);
+    let root = place_into(rows, index, candidate, &mut placed)?;
+    Ok(NewRows {
+        root,
+        extra: placed.extra,
+    })
 }

@@ -13,11 +13,13 @@ use crate::proposer::{MAX_COUNTED, candidate};
 use crate::rooted::RootedCut;
 use std::alloc::{AllocError, Global};
 use syn_function_plans::{FunctionPlans, PlanSource};
-use syn_gain::{Candidate, Proposal, Room, Uses, adds_fewer, literal_for, mffc_size, owned};
+use syn_gain::{
+    Candidate, PlacedPlan, Proposal, Room, Uses, adds_fewer, literal_for, mffc_size, owned,
+};
 use syn_graph::Graph;
 use syn_library::Prepared as Classes;
 use syn_plan::Plan;
-use syn_weighing::{DryRun, dry_run};
+use syn_weighing::dry_run;
 
 /// Which proposals are worth a commit.
 #[derive(Clone, Copy, Debug)]
@@ -28,9 +30,9 @@ pub(crate) struct Worth {
     own_row: bool,
 }
 
-// Whether a weighed plan becomes the root itself.
-fn is_root(candidate: Candidate, weighed: &DryRun) -> bool {
-    literal_for(weighed.literals.as_slice(), candidate.plan.out).node() == candidate.root
+// Whether a placed plan becomes the root itself.
+fn is_root(candidate: Candidate, placed: &PlacedPlan) -> bool {
+    literal_for(placed.literals.as_slice(), candidate.plan.out).node() == candidate.root
 }
 
 // Whether a proposal for an AND is worth a commit, where its gates may be those of any row. The only error is want of memory,
@@ -40,27 +42,30 @@ fn is_worth(
     uses: &Uses,
     candidate: Candidate,
     worth: Worth,
-    weighed: &mut DryRun,
+    placed: &mut PlacedPlan,
     room: &mut Room,
 ) -> Result<bool, AllocError>
     requires uses { IsUsesOf uses.now graph.now }
     requires root { is_and (row_at graph.now.rows candidate.root) ≡ true }
-    requires begins { BeginsWith candidate.plan.now.leaves candidate.leaves.now weighed.old }
-    ensures begins { OnOk result (BeginsWith candidate.entry.plan.now.leaves candidate.entry.leaves.now weighed.new) }
+    requires begins { BeginsWith candidate.plan.now.leaves candidate.leaves.now placed.old }
+    ensures begins { OnOk result (BeginsWith candidate.entry.plan.now.leaves candidate.entry.leaves.now placed.new) }
 {
     let limit = worth.limit as usize;
     if candidate.plan.gates.len() < limit {
         return Ok(true);
     }
     let any = graph.rows.as_slice().len() as u32;
-    if dry_run(graph, uses, candidate, any, limit, weighed) {
-        return Ok(weighed.extra.len() < limit && (worth.own_row || !is_root(candidate, weighed)));
+    if dry_run(graph, uses, candidate, any, limit, placed)? {
+        return Ok(
+            placed.extra.as_slice().len() < limit && (worth.own_row || !is_root(candidate, placed)),
+        );
     }
     adds_fewer(graph, uses, candidate, worth.limit, room)
 }
 
 // Adds those of the plans of an AND's function over a cut that are worth a commit, in order.
 fn push_worth(
+    alloc: Global,
     graph: &Graph,
     uses: &Uses,
     cut: RootedCut,
@@ -74,10 +79,11 @@ fn push_worth(
     requires plans { ArePlansOf cut.function plans.now }
     ensures { OnOk result (All (λ p. p.root ≡ cut.entry.root) proposals.old.items → All (λ p. p.root ≡ cut.entry.root) proposals.new.items) }
 {
-    let mut weighed = DryRun::over(MAX_LEAVES, cut.leaves);
+    let mut placed = PlacedPlan::new(alloc);
+    placed.begin(MAX_LEAVES, cut.leaves)?;
     for plan in plans {
         let candidate = candidate(graph, cut, plan);
-        if !is_worth(graph, uses, candidate, worth, &mut weighed, room)? {
+        if !is_worth(graph, uses, candidate, worth, &mut placed, room)? {
             continue;
         }
         proposals.push(owned(candidate))?;
@@ -88,6 +94,7 @@ fn push_worth(
 // The same of plans that are made here. They are large, and a function fills its locals as it begins: so this one is called
 // only where the plans weren't made before.
 fn push_fitted(
+    alloc: Global,
     graph: &Graph,
     uses: &Uses,
     classes: &Classes,
@@ -101,7 +108,16 @@ fn push_fitted(
     ensures { OnOk result (All (λ p. p.root ≡ cut.entry.root) proposals.old.items → All (λ p. p.root ≡ cut.entry.root) proposals.new.items) }
 {
     let plans = FunctionPlans::fitted(classes, cut.function);
-    push_worth(graph, uses, cut, plans.as_slice(), worth, room, proposals)
+    push_worth(
+        alloc,
+        graph,
+        uses,
+        cut,
+        plans.as_slice(),
+        worth,
+        room,
+        proposals,
+    )
 }
 
 /// Which proposals over a cut are worth a commit on a shared table of the graph: those that may save, and with `zero_gain`
@@ -126,6 +142,7 @@ pub(crate) fn worth_over(
 
 /// Adds those of the plans of an AND's function over a cut that are worth a commit, in order.
 pub(crate) fn push_promising(
+    alloc: Global,
     graph: &Graph,
     uses: &Uses,
     source: PlanSource,
@@ -139,7 +156,25 @@ pub(crate) fn push_promising(
     ensures { OnOk result (All (λ p. p.root ≡ cut.entry.root) proposals.old.items → All (λ p. p.root ≡ cut.entry.root) proposals.new.items) }
 {
     match source.known.plans(cut.function) {
-        Some(found) => push_worth(graph, uses, cut, found.as_slice(), worth, room, proposals),
-        None => push_fitted(graph, uses, source.classes, cut, worth, room, proposals),
+        Some(found) => push_worth(
+            alloc,
+            graph,
+            uses,
+            cut,
+            found.as_slice(),
+            worth,
+            room,
+            proposals,
+        ),
+        None => push_fitted(
+            alloc,
+            graph,
+            uses,
+            source.classes,
+            cut,
+            worth,
+            room,
+            proposals,
+        ),
     }
 }

@@ -11,7 +11,7 @@ pub returns-clause-placing : goal.returns-clause-placing
 returns-clause-placing c =
     let rows = c.args.rows.now in
     let root = c.args.root in
-    let s = state c.args.literals.now.items c.args.extra.now.items in
+    let s = state c.args.placed.now.literals.items c.args.placed.now.extra.items in
     let x_is : c.literal_for-x.result ≡ literal_for s.literals c.args.gate.0 = search rules in
     let y_is : c.literal_for-y.result ≡ literal_for s.literals c.args.gate.1 = search rules in
     let extra : c.join.new.extra.items ≡ (search_gate rows root s c.args.gate).extra =
