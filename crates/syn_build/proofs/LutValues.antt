@@ -1,23 +1,22 @@
--- The literals of signals and of a plan's indexes have the values that the LUTs give.
-use Rattle.std.proofs.Common.{◌≡◌, ℕ, zero, suc, ◌+◌, ◌-◌, ◌*◌, ◌/◌, ◌%◌, ◌^◌, ◌<◌, ◌≤◌, ◌&&◌, nat_eq, nat_le, nat_lt, not, if◌then◌else◌, Bool, true, false, All, List, [], ◌∷◌, ◌++◌, length, map, get_or, drop, refl, sym, ap, ap₂, ◌∙◌, subst, inl, inr, arith, append_assoc}
+-- The literals of signals have the values that the LUTs give.
+use Rattle.std.proofs.Common.{◌≡◌, ℕ, zero, suc, ◌+◌, ◌-◌, ◌*◌, ◌/◌, ◌%◌, ◌<◌, ◌≤◌, nat_eq, nat_le, nat_lt, not, if◌then◌else◌, Bool, true, false, All, List, [], ◌∷◌, ◌++◌, length, map, get_or, drop, refl, sym, ap, ap₂, ◌∙◌, subst, inl, inr, arith, append_assoc}
 use Rattle.std.specs.List.{list_all}
-use Rattle.std.proofs.lemmas.Bool.{and_parts, and_from, both_ways, cases_Bool, le-leb, cond-true, cond-false, eqb-true, ltb-true}
-use Rattle.std.proofs.lemmas.List.{drop_more, length-drop, length-map, get_or-map, map-append}
-use Rattle.std.proofs.lemmas.List.Elements.{All-cons, All-head, All-tail, All-push}
+use Rattle.std.proofs.lemmas.Bool.{and_parts, and_from, both_ways, cases_Bool, le-leb, cond-true, cond-false, ltb-true}
+use Rattle.std.proofs.lemmas.List.{length-drop, length-map, get_or-map, map-append}
+use Rattle.std.proofs.lemmas.List.Elements.{All-cons, All-head, All-tail}
 use Rattle.syn_rows.specs.declared.Lit.{Lit}
 use Rattle.syn_rows.specs.declared.Row.{Row}
+use Rattle.syn_rows.specs.Joining.{complement}
 use Rattle.syn_rows.specs.Rows.{node_of}
 use Rattle.syn_rows.specs.Values.{given_by, lit_value, value_in, values_of, rows_function}
+use Rattle.syn_rows.proofs.JoinLaws.{complement_node, complement_value}
 use Rattle.syn_netlist.specs.Words.{distinct}
 use Rattle.syn_netlist.specs.Meaning.{SameFromFunction}
 use Rattle.syn_netlist.specs.Lists.{Frame, Netlist, sources, observed}
 use Rattle.syn_netlist.specs.Numbers.{word_at}
 use Rattle.syn_netlist.specs.Values.{HasFunction}
-use Rattle.syn_plan.specs.declared.PLit.{PLit}
-use Rattle.syn_plan.specs.Gates.{index_of, in_order, literal_value, values_after}
-use Rattle.syn_plan.specs.Factoring.{factored, falling}
-use Rattle.syn_plan.proofs.Factored.{is_factored}
-use Rattle.syn_plan.proofs.Orders.{falling_is, order_parts, order_covers}
+use Rattle.syn_plan.specs.declared.plan.Plan.{Plan}
+use Rattle.syn_plan.specs.Plans.{plan_truth}
 use Rattle.syn_truth.specs.declared.Truth.{Truth}
 use Rattle.syn_truth.specs.Truth.{AtEach, value_of}
 use Rattle.syn_shapes.specs.GraphShape.{place, GraphHasFunction}
@@ -26,7 +25,7 @@ use Rattle.syn_shapes.proofs.Spelled.{place_lt}
 use Rattle.syn_shapes.specs.Graphs.{IsGraph, IsHashed, lit_at, source_lit}
 use Rattle.syn_shapes.specs.Spelling.{numbers_from, network, NetworkOfGraph, NetworkSpells}
 use Rattle.syn_hashed.specs.Growing.{Extends, value_by}
-use Rattle.syn_hashed.proofs.Rising.{literal_kept, source_value}
+use Rattle.syn_hashed.proofs.Rising.{source_value}
 use Rattle.syn_graph.specs.Graphs.{HasOwnSources}
 use Rattle.syn_lutshapes.specs.Luts as spelled
 use Rattle.syn_lutshapes.specs.Luts.{fold_luts, lut_at, lut_value, luts_function, net_gates, ones_of, ones_value, signal_values, is_input, IsLutNet, none_exceeds}
@@ -39,46 +38,8 @@ use Rattle.syn_lutnet.specs.Data.{lut_data, luts_data}
 use Rattle.syn_lutnet.proofs.LutDepths.{luts_next}
 use Rattle.syn_build.specs.GraphOfLuts.{IsGraphOfLuts}
 use Rattle.syn_build.specs.Covering.{AllThere}
-use Rattle.syn_build.proofs.Matching.{there_kept}
-use Rattle.syn_build.specs.LutLiterals.{reads_below, ReadEarlier, plain_literal, plain_literals, opposite, signed_by, stand_for}
-
--- rows that grow keep literals and their values
-
-pub values_kept : (given : ℕ → Bool) (old new : List Row) → Extends old new → (lits : List Lit) → AllThere old lits → map (value_by given new) lits ≡ map (value_by given old) lits
-values_kept given old new e [] h = refl
-values_kept given old new e (l ∷ ls) h =
-    ap₂ (λ (b : Bool) (bs : List Bool). b ∷ bs) (literal_kept given old new e l (All-head (λ m. node_of m < length old) l ls h))
-    (values_kept given old new e ls (All-tail (λ m. node_of m < length old) l ls h))
-
-pub zero_value : (count : ℕ) (rows : List Row) → IsHashed count rows → (given : ℕ → Bool) → given 0 ≡ false → value_by given rows (record { 0 = 0 }) ≡ false
-zero_value count rows h given at_0 = source_value count rows h given 0 (omega arith) ∙ at_0
-
--- opposite literals
-
-odd_is : (r : ℕ) → r < 2 → nat_eq r 0 ≡ false → r ≡ 1
-odd_is zero lt e = absurd (both_ways true e refl)
-odd_is (suc zero) lt e = refl
-odd_is (suc (suc r)) lt e = absurd (omega (arith, lt))
-
-not_twice : (v : ℕ → Bool) (l : Lit) → lit_value v (opposite l) ≡ not (lit_value v l)
-not_twice v l = elim (cases_Bool (nat_eq (l.0 % 2) 0)) [
-  | inl e ↦
-      let even = eqb-true (l.0 % 2) 0 e in
-      let up : (if nat_eq (l.0 % 2) 0 then l.0 + 1 else l.0 - 1) ≡ l.0 + 1 = cond-true (nat_eq (l.0 % 2) 0) (l.0 + 1) (l.0 - 1) e in
-      ap (λ k. lit_value v (record { 0 = k })) up
-      ∙ ap₂ (λ (r m : ℕ). if nat_eq r 0 then v m else not (v m)) (let s : (l.0 + 1) % 2 ≡ 1 = omega (arith, even) in s) (let s : (l.0 + 1) / 2 ≡ l.0 / 2 = omega (arith, even) in s)
-      ∙ ap not (sym (cond-true (nat_eq (l.0 % 2) 0) (v (l.0 / 2)) (not (v (l.0 / 2))) e))
-  | inr e ↦
-      let down : (if nat_eq (l.0 % 2) 0 then l.0 + 1 else l.0 - 1) ≡ l.0 - 1 = cond-false (nat_eq (l.0 % 2) 0) (l.0 + 1) (l.0 - 1) e in
-      let odd : l.0 % 2 ≡ 1 = odd_is (l.0 % 2) (omega arith) e in
-      ap (λ k. lit_value v (record { 0 = k })) down
-      ∙ ap₂ (λ (r m : ℕ). if nat_eq r 0 then v m else not (v m)) (let s : (l.0 - 1) % 2 ≡ 0 = omega (arith, odd) in s) (let s : (l.0 - 1) / 2 ≡ l.0 / 2 = omega (arith, odd) in s)
-      ∙ twice (v (l.0 / 2)) ∙ ap not (sym (cond-false (nat_eq (l.0 % 2) 0) (v (l.0 / 2)) (not (v (l.0 / 2))) e))
-]
-  where
-    twice : (b : Bool) → b ≡ not (not b)
-    twice true = refl
-    twice false = refl
+use Rattle.syn_placing.proofs.Placed.{values_kept}
+use Rattle.syn_build.specs.LutLiterals.{reads_below, ReadEarlier, plain_literal, plain_literals, signed_by}
 
 pub choose_sign : (r : ℕ) (b : Bool) (x y : Lit) → r < 2 → (b ≡ true → r ≡ 1) → (r ≡ 1 → b ≡ true) → (if not b then x else y) ≡ (if nat_eq r 0 then x else y)
 choose_sign zero true x y lt f g = absurd (omega (arith, f refl))
@@ -87,48 +48,11 @@ choose_sign (suc zero) true x y lt f g = refl
 choose_sign (suc zero) false x y lt f g = absurd (both_ways false refl (g refl))
 choose_sign (suc (suc r)) b x y lt f g = absurd (omega (arith, lt))
 
-pub other_node : (l : Lit) → node_of (opposite l) ≡ node_of l
-other_node l = elim (cases_Bool (nat_eq (l.0 % 2) 0)) [
-  | inl e ↦
-      let even = eqb-true (l.0 % 2) 0 e in
-      ap (λ k. k / 2) (cond-true (nat_eq (l.0 % 2) 0) (l.0 + 1) (l.0 - 1) e) ∙ (let s : (l.0 + 1) / 2 ≡ l.0 / 2 = omega (arith, even) in s)
-  | inr e ↦
-      let odd : l.0 % 2 ≡ 1 = odd_is (l.0 % 2) (omega arith) e in
-      ap (λ k. k / 2) (cond-false (nat_eq (l.0 % 2) 0) (l.0 + 1) (l.0 - 1) e) ∙ (let s : (l.0 - 1) / 2 ≡ l.0 / 2 = omega (arith, odd) in s)
-]
-
-pub sign_node : (r : ℕ) (l : Lit) → node_of (if nat_eq r 0 then l else opposite l) ≡ node_of l
+pub sign_node : (r : ℕ) (l : Lit) → node_of (if nat_eq r 0 then l else complement l) ≡ node_of l
 sign_node r l = elim (cases_Bool (nat_eq r 0)) [
-  | inl e ↦ ap node_of (cond-true (nat_eq r 0) l (opposite l) e)
-  | inr e ↦ ap node_of (cond-false (nat_eq r 0) l (opposite l) e) ∙ other_node l
+  | inl e ↦ ap node_of (cond-true (nat_eq r 0) l (complement l) e)
+  | inr e ↦ ap node_of (cond-false (nat_eq r 0) l (complement l) e) ∙ complement_node l
 ]
-
--- what a plan's literal stands for
-
-pub stand_value : (v : ℕ → Bool) (indexes : List Lit) (l : PLit) → index_of l < length indexes → lit_value v (stand_for indexes l) ≡ literal_value (map (lit_value v) indexes) l
-stand_value v indexes l lt =
-    let at : lit_value v (lit_at indexes (index_of l)) ≡ get_or (map (lit_value v) indexes) (index_of l) false = sym (get_or-map (lit_value v) indexes (index_of l) (record { 0 = 0 }) false lt) in
-    elim (cases_Bool (nat_eq (l.0 % 2) 0)) [
-      | inl e ↦ ap (lit_value v) (cond-true (nat_eq (l.0 % 2) 0) (lit_at indexes (index_of l)) (opposite (lit_at indexes (index_of l))) e) ∙ at
-          ∙ sym (cond-true (nat_eq (l.0 % 2) 0) (get_or (map (lit_value v) indexes) (index_of l) false) (not (get_or (map (lit_value v) indexes) (index_of l) false)) e)
-      | inr e ↦ ap (lit_value v) (cond-false (nat_eq (l.0 % 2) 0) (lit_at indexes (index_of l)) (opposite (lit_at indexes (index_of l))) e) ∙ not_twice v (lit_at indexes (index_of l)) ∙ ap not at
-          ∙ sym (cond-false (nat_eq (l.0 % 2) 0) (get_or (map (lit_value v) indexes) (index_of l) false) (not (get_or (map (lit_value v) indexes) (index_of l) false)) e)
-    ]
-
-pub stand_there : (rows : List Row) (indexes : List Lit) (l : PLit) → index_of l < length indexes → AllThere rows indexes → node_of (stand_for indexes l) < length rows
-stand_there rows indexes l lt there = omega (arith, sign_node (l.0 % 2) (lit_at indexes (index_of l)), there (index_of l) (record { 0 = 0 }) lt)
-
--- one gate more
-
-pub gate_values : (given : ℕ → Bool) (old new : List Row) (indexes after : List Lit) (gate a b : Lit) (x y : Bool) → Extends old new → AllThere old indexes → after ≡ indexes ++ gate ∷ []
-    → value_by given new gate ≡ (value_by given old a && value_by given old b) → value_by given old a ≡ x → value_by given old b ≡ y
-    → map (value_by given new) after ≡ map (value_by given old) indexes ++ (x && y) ∷ []
-gate_values given old new indexes after gate a b x y grown there e is first second =
-    ap (map (value_by given new)) e ∙ map-append (value_by given new) indexes (gate ∷ [])
-    ∙ ap₂ (λ (xs ys : List Bool). xs ++ ys) (values_kept given old new grown indexes there) (ap (λ (z : Bool). z ∷ []) (is ∙ ap₂ (λ (p q : Bool). p && q) first second))
-
-pub there_pushed : (old new : List Row) (lits after : List Lit) (l : Lit) → Extends old new → AllThere old lits → node_of l < length new → after ≡ lits ++ l ∷ [] → AllThere new after
-there_pushed old new lits after l grown there here e = subst (AllThere new) (sym e) (All-push (λ m. node_of m < length new) lits l (there_kept old new lits grown there) here)
 
 -- the signals before a LUT, and those that it reads
 
@@ -165,20 +89,6 @@ signals_next given old new signals after literal luts i l all grown there e read
     ap (λ (bs : List Bool). fold_luts lut_value false bs (luts_data (drop (i + 1) luts)))
     (ap (map (value_by given new)) e ∙ map-append (value_by given new) signals (literal ∷ []) ∙ ap₂ (λ (xs ys : List Bool). xs ++ ys) (values_kept given old new grown signals there) (ap (λ (b : Bool). b ∷ []) here))
     ∙ sym (ap (fold_luts lut_value false done) (luts_next luts i l lt is)) ∙ h
-
-pub gates_values : (given : ℕ → Bool) (old new : List Row) (indexes after : List Lit) (gates : List (PLit × PLit)) (i : ℕ) (d : PLit × PLit) (all : List Bool) → i < length gates
-    → map (value_by given new) after ≡ map (value_by given old) indexes ++ (literal_value (map (value_by given old) indexes) (get_or gates i d).0 && literal_value (map (value_by given old) indexes) (get_or gates i d).1) ∷ []
-    → values_after (map (value_by given old) indexes) (drop i gates) ≡ all → values_after (map (value_by given new) after) (drop (i + 1) gates) ≡ all
-gates_values given old new indexes after gates i d all lt e h =
-    ap (λ (bs : List Bool). values_after bs (drop (i + 1) gates)) e ∙ sym (ap (values_after (map (value_by given old) indexes)) (drop_more gates i d lt)) ∙ h
-
-pub order_here : (n : ℕ) (gates : List (PLit × PLit)) (i : ℕ) (d : PLit × PLit) → i < length gates → in_order n (drop i gates) ≡ true
-    → (index_of (get_or gates i d).0 < n) × (index_of (get_or gates i d).1 < n) × (in_order (n + 1) (drop (i + 1) gates) ≡ true)
-order_here n gates i d lt h =
-    let gate : PLit × PLit = get_or gates i d in
-    let all = and_parts (nat_lt (index_of gate.0) n && nat_lt (index_of gate.1) n) (in_order (n + 1) (drop (i + 1) gates)) (ap (in_order n) (sym (drop_more gates i d lt)) ∙ h) in
-    let both = and_parts (nat_lt (index_of gate.0) n) (nat_lt (index_of gate.1) n) all.0 in
-    (ltb-true (index_of gate.0) n both.0, ltb-true (index_of gate.1) n both.1, all.1)
 
 -- the sources' literals have the given values
 
@@ -242,9 +152,9 @@ signed_value : (v : ℕ → Bool) (signals : List Lit) (l : Lit) → node_of l <
 signed_value v signals l lt =
     let at : lit_value v (lit_at signals (node_of l)) ≡ get_or (map (lit_value v) signals) (node_of l) false = sym (get_or-map (lit_value v) signals (node_of l) (record { 0 = 0 }) false lt) in
     elim (cases_Bool (nat_eq (l.0 % 2) 0)) [
-      | inl e ↦ ap (lit_value v) (cond-true (nat_eq (l.0 % 2) 0) (lit_at signals (node_of l)) (opposite (lit_at signals (node_of l))) e) ∙ at
+      | inl e ↦ ap (lit_value v) (cond-true (nat_eq (l.0 % 2) 0) (lit_at signals (node_of l)) (complement (lit_at signals (node_of l))) e) ∙ at
           ∙ sym (cond-true (nat_eq (l.0 % 2) 0) (get_or (map (lit_value v) signals) (node_of l) false) (not (get_or (map (lit_value v) signals) (node_of l) false)) e)
-      | inr e ↦ ap (lit_value v) (cond-false (nat_eq (l.0 % 2) 0) (lit_at signals (node_of l)) (opposite (lit_at signals (node_of l))) e) ∙ not_twice v (lit_at signals (node_of l)) ∙ ap not at
+      | inr e ↦ ap (lit_value v) (cond-false (nat_eq (l.0 % 2) 0) (lit_at signals (node_of l)) (complement (lit_at signals (node_of l))) e) ∙ complement_value v (lit_at signals (node_of l)) ∙ ap not at
           ∙ sym (cond-false (nat_eq (l.0 % 2) 0) (get_or (map (lit_value v) signals) (node_of l) false) (not (get_or (map (lit_value v) signals) (node_of l) false)) e)
     ]
 
@@ -286,7 +196,7 @@ signed_own frame luts lits signals outs net own outs_are i lt s =
     back p lt =
         let even : 2 * (p + 1) % 2 ≡ 0 = omega arith in
         let half : 2 * (p + 1) / 2 ≡ p + 1 = omega arith in
-        ap₂ (λ (r m : ℕ). if nat_eq r 0 then lit_at signals m else opposite (lit_at signals m)) even half ∙ own (p + 1) (omega (arith, lt))
+        ap₂ (λ (r m : ℕ). if nat_eq r 0 then lit_at signals m else complement (lit_at signals m)) even half ∙ own (p + 1) (omega (arith, lt))
 
 -- the function of the rows is that of the LUTs
 pub net_function : (bits : List Bool) (count : ℕ) (old new : List Row) (luts : List spelled.Lut) (lits signals after outs : List Lit) → IsHashed count old → length bits ≡ count → signals ≡ plain_literals (count + 1)
@@ -298,22 +208,12 @@ net_function bits count old new luts lits signals after outs hashed long signals
     ap (map (value_by (given_by bits) new)) outs_are ∙ signed_values (value_in (values_of (given_by bits) new)) after lits within
     ∙ ap (λ (vs : List Bool). map (lit_value (value_in vs)) lits) whole
 
--- a factored function has its table's value
-factored_value : (t : Truth) → AtEach t.vars (λ xs. literal_value (values_after (false ∷ xs) (factored t.vars (falling t.vars) (value_of t)).gates) (factored t.vars (falling t.vars) (value_of t)).out ≡ value_of t xs)
-factored_value t xs long =
-    let once = (falling_is t.vars t.few).1 in
-    (is_factored t.vars (falling t.vars) (value_of t) [] (order_parts t.vars (falling t.vars) once).1 (order_covers t.vars (falling t.vars) (value_of t) once)).value xs long
-
--- the literal of what a factored function gives has the LUT's value
-pub lut_value_is : (given : ℕ → Bool) (old new : List Row) (t : Truth) (leaves indexes : List Lit) (gates : List (PLit × PLit)) (out : PLit) → length leaves ≡ t.vars
-    → gates ≡ (factored t.vars (falling t.vars) (value_of t)).gates → out ≡ (factored t.vars (falling t.vars) (value_of t)).out → value_by given old (record { 0 = 0 }) ≡ false
-    → map (value_by given new) indexes ≡ values_after (map (value_by given old) (record { 0 = 0 } ∷ leaves)) gates → index_of out < length indexes → value_by given new (stand_for indexes out) ≡ ones_value (ones_of t) (map (value_by given old) leaves)
-lut_value_is given old new t leaves indexes gates out long gates_are out_is at_zero values inside =
-    stand_value (value_in (values_of given new)) indexes out inside
-    ∙ ap (λ (vs : List Bool). literal_value vs out) (values ∙ ap₂ (λ (b : Bool) (gs : List (PLit × PLit)). values_after (b ∷ map (value_by given old) leaves) gs) at_zero gates_are)
-    ∙ ap (literal_value (values_after (false ∷ map (value_by given old) leaves) (factored t.vars (falling t.vars) (value_of t)).gates)) out_is
-    ∙ factored_value t (map (value_by given old) leaves) (length-map leaves (value_by given old) ∙ long)
-    ∙ sym ((ones_give t).values (map (value_by given old) leaves) (length-map leaves (value_by given old) ∙ long))
+-- the literal of a plan that computes a LUT's table has the LUT's value
+pub lut_value_is : (given : ℕ → Bool) (old new : List Row) (t : Truth) (plan : Plan) (leaves : List Lit) (l : Lit) → AtEach t.vars (λ xs. plan_truth plan xs ≡ value_of t xs) → length leaves ≡ t.vars
+    → value_by given new l ≡ plan_truth plan (map (value_by given old) leaves) → value_by given new l ≡ ones_value (ones_of t) (map (value_by given old) leaves)
+lut_value_is given old new t plan leaves l computes long is =
+    let many = length-map leaves (value_by given old) ∙ long in
+    is ∙ computes (map (value_by given old) leaves) many ∙ sym ((ones_give t).values (map (value_by given old) leaves) many)
 
 -- the netlist of the graph is the graph of the LUT net's
 pub graph_of_luts : NetworkOfLuts → LutsHaveFunction → NetworkOfGraph → GraphHasFunction → SameFromFunction → (frame : Frame) (luts : List spelled.Lut) (lits : List Lit) (rows : List Row) (outs : List Lit) → distinct frame.clocks ≡ true → distinct (sources frame) ≡ true

@@ -1,10 +1,9 @@
 -- Literals of signals while the LUTs of a net are made rows.
-use Rattle.std.specs.Prelude.{◌≡◌, ℕ, ◌+◌, ◌-◌, ◌*◌, ◌%◌, ◌<◌, ◌==◌, if◌then◌else◌, nat_lt, Bool, true, List, length, map}
+use Rattle.std.specs.Prelude.{◌≡◌, ℕ, ◌+◌, ◌*◌, ◌%◌, ◌<◌, ◌==◌, if◌then◌else◌, nat_lt, Bool, true, List, length, map}
 use Rattle.std.specs.List.{list_all}
 use Rattle.syn_rows.specs.declared.Lit.{Lit}
+use Rattle.syn_rows.specs.Joining.{complement}
 use Rattle.syn_rows.specs.Rows.{node_of}
-use Rattle.syn_plan.specs.declared.PLit.{PLit}
-use Rattle.syn_plan.specs.Gates.{index_of}
 use Rattle.syn_shapes.specs.Graphs.{lit_at}
 use Rattle.syn_shapes.specs.Spelling.{numbers_from}
 use Rattle.syn_lutshapes.specs.Luts.{Lut, lut_at}
@@ -25,14 +24,6 @@ plain_literal n = record { 0 = 2 * n }
 abbrev pub plain_literals : ℕ → List Lit
 plain_literals count = map plain_literal (numbers_from 0 count)
 
--- the literal of the same node with the other sign
-abbrev pub opposite : Lit → Lit
-opposite l = record { 0 = if l.0 % 2 == 0 then l.0 + 1 else l.0 - 1 }
-
 -- the literal that a literal of a signal stands for, by those of the signals
 abbrev pub signed_by : List Lit → Lit → Lit
-signed_by signals l = if l.0 % 2 == 0 then lit_at signals (node_of l) else opposite (lit_at signals (node_of l))
-
--- the literal that a plan's literal stands for, by those of its indexes
-abbrev pub stand_for : List Lit → PLit → Lit
-stand_for indexes l = if l.0 % 2 == 0 then lit_at indexes (index_of l) else opposite (lit_at indexes (index_of l))
+signed_by signals l = if l.0 % 2 == 0 then lit_at signals (node_of l) else complement (lit_at signals (node_of l))

@@ -1,24 +1,24 @@
 //! From a LUT net to its graph.
 
-ghost use Rattle.std.specs.Prelude.{◌≡◌, ℕ, ◌+◌, ◌<◌, ◌≤◌, ◌&&◌, [], ◌∷◌, ◌++◌, All, Bool, List, false, true, length, map, if◌then◌else◌, IfErr, IfOk, OnOk};
+ghost use Rattle.std.specs.Prelude.{◌≡◌, ℕ, ◌+◌, ◌<◌, ◌≤◌, All, Bool, List, false, true, length, map, if◌then◌else◌, IfErr, IfOk, OnOk};
 ghost use Rattle.std.specs.List.{list_all};
 ghost use Rattle.syn_rows.specs.declared.TheConstants.{NODE_LIMIT};
+ghost use Rattle.syn_rows.specs.Joining.{complement};
 ghost use Rattle.syn_rows.specs.Rows.{node_of};
-ghost use Rattle.syn_rows.specs.Values.{lit_value, rows_function};
+ghost use Rattle.syn_rows.specs.Values.{rows_function};
 ghost use Rattle.syn_netlist.specs.Frames.{frame_in};
 ghost use Rattle.syn_netlist.specs.Lists.{observed, sources};
-ghost use Rattle.syn_plan.specs.Gates.{in_order, index_of, literal_value, values_after};
 ghost use Rattle.syn_shapes.specs.Graphs.{lit_at};
 ghost use Rattle.syn_hashed.specs.Growing.{Extends, value_by};
 ghost use Rattle.syn_graph.specs.Graphs.{HasOwnSources};
 ghost use Rattle.syn_graph.specs.Graphs as graphs;
 ghost use Rattle.syn_lutshapes.specs.Luts.{fold_luts, lut_gates, lut_value, luts_function, net_gates, ones_of, ones_value};
+ghost use Rattle.syn_lutnet.specs.declared.luts.TheConstants.{MAX_INPUTS};
 ghost use Rattle.syn_lutnet.specs.Data.{lut_data, luts_data};
 ghost use Rattle.syn_lutnet.specs.Nets.{network_of};
-ghost use Rattle.syn_build.specs.declared.luts.TheConstants.{MAX_INDEXES};
 ghost use Rattle.syn_build.specs.GraphOfLuts.{IsGraphOfLuts};
 ghost use Rattle.syn_build.specs.Covering.{AllThere};
-ghost use Rattle.syn_build.specs.LutLiterals.{opposite, plain_literals, ReadEarlier, reads_below, signed_by, stand_for};
+ghost use Rattle.syn_build.specs.LutLiterals.{plain_literals, ReadEarlier, reads_below, signed_by};
 ghost use Rattle.syn_build.specs.BuildFaults.{TellsFault, most_gates};
 
 use crate::tables::Built;
@@ -26,16 +26,13 @@ use arrayvec::ArrayVec;
 use std::alloc::{AllocError, AllocFailed, Global};
 use syn_graph::{Graph, copy_frame};
 use syn_hashed::HashedRows;
-use syn_lutnet::{Lut, LutNet};
-use syn_plan::{MAX_LEAVES, PLit};
-use syn_rows::{FALSE, Lit};
+use syn_lutnet::{Lut, LutNet, MAX_INPUTS};
+use syn_placing::place_plan;
+use syn_rows::Lit;
 use thiserror::Error;
 
 /// The most gates of a LUT net that is made a graph.
 pub const MAX_GATES: u64 = 4_194_304;
-
-// The most indexes of a plan: the constant 0, the leaves and the gates.
-const MAX_INDEXES: usize = 1 + MAX_LEAVES as usize + syn_plan::MAX_GATES;
 
 /// Why a LUT net is not made a graph.
 #[derive(Clone, Copy, Debug, PartialEq, Eq, Error)]
@@ -71,84 +68,31 @@ impl<T: Drop> From<AllocFailed<T>> for BuildFault {
 // A literal, or its opposite.
 #[inline]
 fn signed(literal: Lit, plain: bool) -> Lit
-    ensures { result ≡ (if plain then literal else opposite literal) }
+    ensures { result ≡ (if plain then literal else complement literal) }
 {
     if plain { literal } else { literal.not() }
 }
 
-// The literal that a plan's literal stands for, by those of its indexes.
-#[inline]
-fn stand_for(indexes: &[Lit], literal: PLit) -> Lit
-    requires { index_of literal < length indexes.now }
-    ensures { result ≡ stand_for indexes.now literal }
-{
-    signed(indexes[literal.index() as usize], !literal.complemented())
-}
-
-// Makes the AND of one gate of a plan.
-fn place_gate(
-    hashed: &mut HashedRows,
-    indexes: &mut ArrayVec<Lit, MAX_INDEXES>,
-    gate: &(PLit, PLit),
-) -> Result<(), AllocError>
-    requires first { index_of gate.now.0 < length indexes.old.items }
-    requires second { index_of gate.now.1 < length indexes.old.items }
-    requires few { length indexes.old.items < MAX_INDEXES }
-    requires there { AllThere hashed.old.rows.items indexes.old.items }
-    requires room { length hashed.old.rows.items + 1 < NODE_LIMIT }
-    ensures sources { hashed.new.source_count ≡ hashed.old.source_count }
-    ensures grows { Extends hashed.old.rows.items hashed.new.rows.items }
-    ensures few { length hashed.new.rows.items ≤ length hashed.old.rows.items + 1 }
-    ensures len { OnOk result (length indexes.new.items ≡ length indexes.old.items + 1) }
-    ensures there { OnOk result (AllThere hashed.new.rows.items indexes.new.items) }
-    ensures values { OnOk result ((given : ℕ → Bool) → given 0 ≡ false → map (value_by given hashed.new.rows.items) indexes.new.items ≡ map (value_by given hashed.old.rows.items) indexes.old.items ++ (literal_value (map (value_by given hashed.old.rows.items) indexes.old.items) gate.now.0 && literal_value (map (value_by given hashed.old.rows.items) indexes.old.items) gate.now.1) ∷ []) }
-{
-    let first = stand_for(indexes.as_slice(), gate.0);
-    let second = stand_for(indexes.as_slice(), gate.1);
-    let literal = hashed.and(first, second)?;
-    indexes.push(literal);
-    Ok(())
-}
-
-// Makes the ANDs of a plan's gates, in order.
-fn place_gates(
-    hashed: &mut HashedRows,
-    indexes: &mut ArrayVec<Lit, MAX_INDEXES>,
-    gates: &[(PLit, PLit)],
-) -> Result<(), AllocError>
-    requires order { in_order (length indexes.old.items) gates.now ≡ true }
-    requires few { length indexes.old.items + length gates.now ≤ MAX_INDEXES }
-    requires there { AllThere hashed.old.rows.items indexes.old.items }
-    requires room { length hashed.old.rows.items + length gates.now < NODE_LIMIT }
-    ensures sources { hashed.new.source_count ≡ hashed.old.source_count }
-    ensures grows { Extends hashed.old.rows.items hashed.new.rows.items }
-    ensures few { length hashed.new.rows.items ≤ length hashed.old.rows.items + length gates.now }
-    ensures len { OnOk result (length indexes.new.items ≡ length indexes.old.items + length gates.now) }
-    ensures there { OnOk result (AllThere hashed.new.rows.items indexes.new.items) }
-    ensures values { OnOk result ((given : ℕ → Bool) → given 0 ≡ false → map (value_by given hashed.new.rows.items) indexes.new.items ≡ values_after (map (value_by given hashed.old.rows.items) indexes.old.items) gates.now) }
-{
-    for gate in gates {
-        place_gate(hashed, indexes, gate)?;
-    }
-    Ok(())
-}
-
-// The constant 0 and the literals of inputs.
-fn leaf_literals(signals: &[Lit], inputs: &[u32]) -> ArrayVec<Lit, MAX_INDEXES>
-    requires few { length inputs.now ≤ 8 }
+// The literals of the signals that a LUT reads.
+fn input_literals(signals: &[Lit], inputs: &[u32]) -> ArrayVec<Lit, MAX_INPUTS>
+    requires few { length inputs.now ≤ MAX_INPUTS }
     requires below { list_all (reads_below (length signals.now)) inputs.now ≡ true }
-    ensures { result.items ≡ FALSE ∷ map (lit_at signals.now) inputs.now }
+    ensures { result.items ≡ map (lit_at signals.now) inputs.now }
 {
-    let mut indexes = ArrayVec::new();
-    indexes.push(FALSE);
+    let mut literals = ArrayVec::new();
     for input in inputs {
-        indexes.push(signals[*input as usize]);
+        literals.push(signals[*input as usize]);
     }
-    indexes
+    literals
 }
 
 // The literal of a LUT, from those of the signals before it: the gates of factoring its function, in order.
-fn lut_literal(hashed: &mut HashedRows, signals: &[Lit], lut: &Lut) -> Result<Lit, AllocError>
+fn lut_literal(
+    alloc: Global,
+    hashed: &mut HashedRows,
+    signals: &[Lit],
+    lut: &Lut,
+) -> Result<Lit, AllocError>
     requires inputs { list_all (reads_below (length signals.now)) lut.now.inputs.items ≡ true }
     requires there { AllThere hashed.old.rows.items signals.now }
     requires room { length hashed.old.rows.items + lut_gates (lut_data lut.now) < NODE_LIMIT }
@@ -159,13 +103,13 @@ fn lut_literal(hashed: &mut HashedRows, signals: &[Lit], lut: &Lut) -> Result<Li
     ensures value { IfOk result (λ l. (given : ℕ → Bool) → given 0 ≡ false → value_by given hashed.new.rows.items l ≡ ones_value (ones_of lut.now.truth) (map (value_by given hashed.old.rows.items) (map (lit_at signals.now) lut.now.inputs.items))) }
 {
     let plan = syn_plan::factor(lut.truth);
-    let mut indexes = leaf_literals(signals, lut.inputs.as_slice());
-    place_gates(hashed, &mut indexes, plan.gates.as_slice())?;
-    Ok(stand_for(indexes.as_slice(), plan.out))
+    let leaves = input_literals(signals, lut.inputs.as_slice());
+    place_plan(alloc, hashed, leaves.as_slice(), &plan)
 }
 
 // Gives each LUT its literal, behind those of the constant and of the sources.
 fn name_luts(
+    alloc: Global,
     hashed: &mut HashedRows,
     luts: &[Lut],
     signals: &mut Vec<Lit>,
@@ -181,7 +125,7 @@ fn name_luts(
     ensures begins { OnOk result ((i : ℕ) → i < length signals.old.items → lit_at signals.new.items i ≡ lit_at signals.old.items i) }
 {
     for lut in luts {
-        let literal = lut_literal(hashed, signals.as_slice(), lut)?;
+        let literal = lut_literal(alloc, hashed, signals.as_slice(), lut)?;
         signals.push(literal)?;
     }
     Ok(())
@@ -232,7 +176,7 @@ fn build_net(alloc: Global, net: &LutNet) -> Result<Built, AllocError>
 {
     let mut hashed = HashedRows::new(alloc, net.source_count as usize)?;
     let mut signals = source_literals(alloc, net.source_count)?;
-    name_luts(&mut hashed, net.luts.as_slice(), &mut signals)?;
+    name_luts(alloc, &mut hashed, net.luts.as_slice(), &mut signals)?;
     let observed = signed_literals(alloc, signals.as_slice(), net.observed.as_slice())?;
     Ok(Built { hashed, observed })
 }

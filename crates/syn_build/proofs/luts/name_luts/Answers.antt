@@ -1,4 +1,4 @@
-use Rattle.std.proofs.Common.{◌≡◌, ◌+◌, ◌∷◌, [], ℕ, List, true, false, length, map, ap, sym, ◌∙◌, subst, arith}
+use Rattle.std.proofs.Common.{◌≡◌, ◌∷◌, [], ℕ, List, true, false, length, map, ap, sym, ◌∙◌, subst, arith}
 use Rattle.std.specs.List.{list_all}
 use Rattle.std.proofs.lemmas.List.{length_push, get_or_append_left}
 use Rattle.syn_rows.specs.declared.Lit.{Lit}
@@ -8,7 +8,8 @@ use Rattle.syn_lutshapes.specs.Luts.{fold_luts, lut_value, ones_of, ones_value}
 use Rattle.syn_lutnet.specs.Data.{luts_data}
 use Rattle.syn_lutnet.proofs.LutDepths.{gates_next}
 use Rattle.syn_build.specs.LutLiterals.{reads_below}
-use Rattle.syn_build.proofs.LutValues.{signals_next, there_pushed, reads_here}
+use Rattle.syn_placing.proofs.Placed.{there_pushed}
+use Rattle.syn_build.proofs.LutValues.{signals_next, reads_here}
 use Rattle.syn_build.proofs.luts.name_luts.Goals as goal
 
 pub lut_literal-requires-clause-inputs : goal.lut_literal-requires-clause-inputs
