@@ -1,8 +1,8 @@
 -- Rows made again: literals that stand for old nodes, and plans over them, have the old values.
-use Rattle.std.proofs.Common.{◌≡◌, Result, Ok, Err, IfOk, OnOk, ℕ, zero, suc, ◌+◌, ◌%◌, ◌/◌, ◌<◌, ◌≤◌, ◌&&◌, nat_eq, not, Bool, true, false, All, List, [], ◌∷◌, ◌++◌, length, get_or, map, refl, sym, ap, ap₂, ◌∙◌, subst, arith, inl, inr}
+use Rattle.std.proofs.Common.{◌≡◌, Result, Ok, Err, IfOk, OnOk, ℕ, zero, suc, ◌+◌, ◌%◌, ◌<◌, ◌&&◌, nat_eq, not, Bool, true, false, All, List, [], ◌∷◌, ◌++◌, length, get_or, map, refl, sym, ap, ap₂, ◌∙◌, subst, arith, inl, inr}
 use Rattle.std.proofs.lemmas.Bool.{cases_Bool, cases_lt, cond-true, cond-false, cond_both, eq-eqb}
-use Rattle.std.proofs.lemmas.List.{get_or_append_left, get_or_push, get_or_past, get_or-map, length_push, length-map, length-append}
-use Rattle.std.proofs.lemmas.List.Elements.{All-head, All-tail}
+use Rattle.std.proofs.lemmas.List.{get_or_append_left, get_or_push, get_or_past, get_or-map, length_push, length-map, length-append, map-append}
+use Rattle.std.proofs.lemmas.List.Elements.{All-head, All-push, All-tail}
 use Rattle.syn_rows.specs.declared.Lit.{Lit}
 use Rattle.syn_rows.specs.declared.Row.{Row}
 use Rattle.syn_rows.specs.declared.TheConstants.{NODE_LIMIT}
@@ -22,14 +22,14 @@ use Rattle.syn_hashed.specs.Hashed.{IsHashed, is_gate}
 use Rattle.syn_hashed.specs.Growing.{Extends, IsAnd, KeepsValues, value_by}
 use Rattle.syn_hashed.proofs.Orders.{hashed_in_order}
 use Rattle.syn_graph.specs.Graphs.{HasOwnSources}
-use Rattle.syn_plan.specs.declared.PLit.{PLit}
 use Rattle.syn_plan.specs.Gates.{literal_value, values_after}
+use Rattle.syn_plan.specs.Plans.{plan_truth}
 use Rattle.syn_gain.specs.Leaves.{are_below}
-use Rattle.syn_gain.specs.Placing.{each_below, literal_for}
-use Rattle.syn_gain.specs.Replacements.{Replacement, leaf_values}
-use Rattle.syn_gain.proofs.Bounds.{below_each, each_below_in, each_push, leaf_in, literal_in}
-use Rattle.syn_gain.proofs.Values.{Matches, begun_match, each_matches, matches_more, pick_value}
-use Rattle.syn_apply.specs.Remaking.{AllStand, HaveValues, IsGrown, SourcesStay, Stands, moved}
+use Rattle.syn_gain.specs.declared.proposals.Proposal.{Proposal}
+use Rattle.syn_gain.specs.Placing.{each_below}
+use Rattle.syn_gain.specs.Proposals.{replacement}
+use Rattle.syn_gain.proofs.Bounds.{below_each, leaf_in}
+use Rattle.syn_apply.specs.Remaking.{AllStand, IsGrown, SourcesStay, Stands, moved}
 use Rattle.syn_apply.specs.Sound.{IsSoundBy}
 use Rattle.syn_apply.proofs.Keeping.{plan_is_root}
 
@@ -48,13 +48,6 @@ both_ok (Ok x) f p q = f x p q
 both_ok (Err e) f p q = p
 
 -- rows that grow
-
-pub grown_on : (a b c : List Row) → IsGrown a b → IsGrown b c → IsGrown a c
-grown_on a b c first second = record {
-  longer = omega (arith, first.longer, second.longer);
-  kept = λ given l lt. second.kept given l (omega (arith, first.longer)) ∙ first.kept given l lt;
-  few = λ room. second.few (first.few room);
-}
 
 pub grown_extends : (old new : List Row) → Extends old new → KeepsValues old new → length new < NODE_LIMIT → IsGrown old new
 grown_extends old new e kept few = record {
@@ -177,46 +170,6 @@ open_stands count rows new n l h k inside closed is = subst (Stands rows new n) 
 
 -- plans
 
-matching : (new : List Row) (literals : List Lit) (values : (ℕ → Bool) → List Bool) → HaveValues new literals values → (given : ℕ → Bool) → given 0 ≡ false → Matches (value_in (values_of given new)) literals (values given)
-matching new literals values h given at_0 = record { count = h.count given at_0; each = h.each given at_0 }
-
-later : (old new : List Row) (literals : List Lit) (values : (ℕ → Bool) → List Bool) → IsGrown old new → HaveValues old literals values → (given : ℕ → Bool) → given 0 ≡ false → Matches (value_in (values_of given new)) literals (values given)
-later old new literals values g h given at_0 = record { count = h.count given at_0; each = λ i. g.kept given (get_or literals i constant) (h.there i) ∙ h.each given at_0 i }
-
-pub there_more : (old new : List Row) (literals : List Lit) (l : Lit) → IsGrown old new → ((i : ℕ) → node_of (get_or literals i constant) < length old) → node_of l < length new
-    → (i : ℕ) → node_of (get_or (literals ++ l ∷ []) i constant) < length new
-there_more old new literals l g there here = each_push (λ _ x. node_of x < length new) literals l constant (λ i. omega (arith, there i, g.longer)) here
-
--- one gate more
-pub gate_values : (old new : List Row) (literals : List Lit) (gate : PLit × PLit) (l : Lit) (values : (ℕ → Bool) → List Bool) → IsGrown old new → node_of l < length new
-    → IsAnd old (literal_for literals gate.0) (literal_for literals gate.1) new l → HaveValues old literals values
-    → HaveValues new (literals ++ l ∷ []) (λ given. values given ++ (literal_value (values given) gate.0 && literal_value (values given) gate.1) ∷ [])
-gate_values old new literals gate l values g here is h = record {
-  there = there_more old new literals l g h.there here;
-  zero = at_zero;
-  count = λ given at_0. (more given at_0).count;
-  each = λ given at_0. (more given at_0).each;
-}
-  where
-    at_zero : (given : ℕ → Bool) → given 0 ≡ false → value_in (values_of given new) 0 ≡ false
-    at_zero given at_0 = g.kept given constant (let some = h.there 0 in omega arith) ∙ h.zero given at_0
-
-    more : (given : ℕ → Bool) → given 0 ≡ false → Matches (value_in (values_of given new)) (literals ++ l ∷ []) (values given ++ (literal_value (values given) gate.0 && literal_value (values given) gate.1) ∷ [])
-    more given at_0 =
-        matches_more (value_in (values_of given new)) literals (values given) l (literal_value (values given) gate.0 && literal_value (values given) gate.1) (at_zero given at_0)
-        (later old new literals values g h given at_0)
-        (is given at_0 ∙ ap₂ (λ x y. x && y)
-        (pick_value (value_in (values_of given old)) literals (values given) gate.0 (matching old literals values h given at_0))
-        (pick_value (value_in (values_of given old)) literals (values given) gate.1 (matching old literals values h given at_0)))
-
--- the values of a plan's leaves, by the old rows
-abbrev pub leaves_by : List Row → ℕ → List ℕ → (ℕ → Bool) → List Bool
-leaves_by rows count leaves given = false ∷ leaf_values count (map (value_in (values_of given rows)) leaves)
-
--- the constant and the leaves, before any gate
-abbrev pub begun_by : List Lit → ℕ → List ℕ → List Lit
-begun_by literals count leaves = constant ∷ each_below count (λ i. get_or literals (get_or leaves i 0) constant)
-
 leaf_value_is : (rows new : List Row) (literals : List Lit) (leaves : List ℕ) → AllStand rows new literals → (count : ℕ) → IsHashed count rows → 0 < length literals
     → ((i : ℕ) → i < length leaves → get_or leaves i 0 < length literals) → (given : ℕ → Bool) → given 0 ≡ false
     → (i : ℕ) → value_by given new (get_or literals (get_or leaves i 0) constant) ≡ get_or (map (value_in (values_of given rows)) leaves) i false
@@ -228,39 +181,47 @@ leaf_value_is rows new literals leaves all count h some below given at_0 i = eli
       ∙ sym (get_or_past (map (value_in (values_of given rows)) leaves) i false (let long = length-map leaves (value_in (values_of given rows)) in omega arith))
 ]
 
-pub begun_values : (count : ℕ) (rows new : List Row) (literals : List Lit) (leaf_count : ℕ) (leaves : List ℕ) → IsHashed count rows → IsHashed count new → AllStand rows new literals
-    → 0 < length literals → are_below (length literals) leaves ≡ true → HaveValues new (begun_by literals leaf_count leaves) (leaves_by rows leaf_count leaves)
-begun_values count rows new literals leaf_count leaves h k all some low = record {
+-- the literals of a plan's leaves
+abbrev pub leaves_by : List Lit → ℕ → List ℕ → List Lit
+leaves_by literals count leaves = each_below count (λ i. get_or literals (get_or leaves i 0) constant)
+
+pub length_each : (n : ℕ) (f : ℕ → Lit) → length (each_below n f) ≡ n
+length_each zero f = refl
+length_each (suc n) f = let rest = length_each n f in omega (arith, rest, length_push (each_below n f) (f n))
+
+each_there : (new : List Row) (f : ℕ → Lit) (n : ℕ) → ((i : ℕ) → node_of (f i) < length new) → All (λ l. node_of l < length new) (each_below n f)
+each_there new f zero there = λ i d lt. absurd (omega (arith, lt))
+each_there new f (suc n) there = All-push (λ l. node_of l < length new) (each_below n f) (f n) (each_there new f n there) (there n)
+
+each_values : (g : Lit → Bool) (f : ℕ → Lit) (bits : ℕ → Bool) (n : ℕ) → ((i : ℕ) → g (f i) ≡ bits i) → map g (each_below n f) ≡ each_below n bits
+each_values g f bits zero same = refl
+each_values g f bits (suc n) same =
+    map-append g (each_below n f) (f n ∷ []) ∙ ap₂ (λ (xs ys : List Bool). xs ++ ys) (each_values g f bits n same) (ap (λ (b : Bool). b ∷ []) (same n))
+
+-- the leaves of a proposal for the next node have literals
+leaves_below : (literals : List Lit) (p : Proposal) → p.root ≡ length literals → (i : ℕ) → i < length p.leaves.items → get_or p.leaves.items i 0 < length literals
+leaves_below literals p at = below_each (length literals) p.leaves.items (subst (λ (k : ℕ). are_below k p.leaves.items ≡ true) at p.below_root)
+
+some_before : (literals : List Lit) (p : Proposal) → p.root ≡ length literals → 0 < length literals
+some_before literals p at = omega (arith, p.root_is_no_constant, at)
+
+pub leaves_there : (rows new : List Row) (literals : List Lit) (p : Proposal) → AllStand rows new literals → p.root ≡ length literals → All (λ l. node_of l < length new) (leaves_by literals p.plan.leaves p.leaves.items)
+leaves_there rows new literals p all at =
+    each_there new (λ i. get_or literals (get_or p.leaves.items i 0) constant) p.plan.leaves
+    (λ i. (all (get_or p.leaves.items i 0) (leaf_in (length literals) p.leaves.items (some_before literals p at) (leaves_below literals p at) i)).there)
+
+-- the literal of a sound proposal's plan stands for its root
+pub planned_stands : (count : ℕ) (rows old new : List Row) (literals : List Lit) (p : Proposal) (l : Lit) → IsHashed count rows → AllStand rows old literals → p.root ≡ length literals → IsSoundBy rows (replacement p)
+    → node_of l < length new → ((given : ℕ → Bool) → given 0 ≡ false → value_by given new l ≡ plan_truth p.plan (map (value_by given old) (leaves_by literals p.plan.leaves p.leaves.items))) → Stands rows new p.root l
+unfolding plan_truth
+planned_stands count rows old new literals p l h all at sound there value = record {
   there = there;
-  zero = λ given at_0. front_value count new 0 k (omega arith) given ∙ at_0;
-  count = λ given at_0. (match given at_0).count;
-  each = λ given at_0. (match given at_0).each;
-}
-  where
-    below : (i : ℕ) → i < length leaves → get_or leaves i 0 < length literals
-    below = below_each (length literals) leaves low
-
-    there : (i : ℕ) → node_of (get_or (begun_by literals leaf_count leaves) i constant) < length new
-    there zero = omega (arith, k.there)
-    there (suc i) = each_below_in (λ l. node_of l < length new) (λ j. get_or literals (get_or leaves j 0) constant) leaf_count (omega (arith, k.there))
-        (λ j. (all (get_or leaves j 0) (leaf_in (length literals) leaves some below j)).there) i
-
-    match : (given : ℕ → Bool) → given 0 ≡ false → Matches (value_in (values_of given new)) (begun_by literals leaf_count leaves) (leaves_by rows leaf_count leaves given)
-    match given at_0 =
-        let zero = front_value count new 0 k (omega arith) given ∙ at_0 in
-        begun_match (value_in (values_of given new)) (each_below leaf_count (λ i. get_or literals (get_or leaves i 0) constant)) (leaf_values leaf_count (map (value_in (values_of given rows)) leaves)) zero
-        (each_matches (value_in (values_of given new)) (λ i. get_or literals (get_or leaves i 0) constant) (λ i. get_or (map (value_in (values_of given rows)) leaves) i false) leaf_count zero
-        (leaf_value_is rows new literals leaves all count h some below given at_0))
-
--- the output of a sound proposal's plan stands for its root
-pub planned_stands : (count : ℕ) (rows new : List Row) (r : Replacement) (placed : List Lit) → IsHashed count rows → IsSoundBy rows r
-    → HaveValues new placed (λ given. values_after (leaves_by rows r.count r.leaves given) r.gates) → Stands rows new r.root (literal_for placed r.out)
-planned_stands count rows new r placed h sound values = record {
-  there = literal_in (λ m. m < length new) placed r.out values.there;
   value = λ given at_0.
-      pick_value (value_in (values_of given new)) placed (values_after (leaves_by rows r.count r.leaves given) r.gates) r.out
-      (matching new placed (λ g. values_after (leaves_by rows r.count r.leaves g) r.gates) values given at_0)
-      ∙ plan_is_root rows r (value_in (values_of given rows)) sound (one_valuation_is rows given (hashed_in_order count rows h) at_0).0;
+      value given at_0
+      ∙ ap (λ (xs : List Bool). literal_value (values_after (false ∷ xs) p.plan.gates.items) p.plan.out)
+      (each_values (value_by given old) (λ i. get_or literals (get_or p.leaves.items i 0) constant) (λ i. get_or (map (value_in (values_of given rows)) p.leaves.items) i false) p.plan.leaves
+      (leaf_value_is rows old literals p.leaves.items all count h (some_before literals p at) (leaves_below literals p at) given at_0))
+      ∙ plan_is_root rows (replacement p) (value_in (values_of given rows)) sound (one_valuation_is rows given (hashed_in_order count rows h) at_0).0;
 }
 
 -- all together

@@ -1,35 +1,30 @@
 //! Many proposals applied together: the rows are made again from the sources up, with plans in place of the roots.
 
-ghost use Rattle.std.specs.Prelude.{◌≡◌, ℕ, ◌+◌, ◌&&◌, ◌++◌, ◌<◌, ◌≤◌, ◌∷◌, [], All, Bool, List, false, true, length, map, slice_index_or, IfNone, IfOk, IfSome, OnOk};
+ghost use Rattle.std.specs.Prelude.{◌≡◌, ◌+◌, ◌&&◌, ◌<◌, ◌≤◌, All, Bool, List, false, true, length, map, slice_index_or, IfNone, IfOk, IfSome, OnOk};
 ghost use Rattle.syn_rows.specs.declared.Lit.{Lit};
 ghost use Rattle.syn_rows.specs.declared.Row.{Row};
 ghost use Rattle.syn_rows.specs.declared.TheConstants.{NODE_LIMIT};
 ghost use Rattle.syn_rows.specs.Joining.{constant, lit_of};
 ghost use Rattle.syn_rows.specs.Reach.{is_and};
 ghost use Rattle.syn_rows.specs.Rows.{node_of, row_at};
-ghost use Rattle.syn_rows.specs.Values.{rows_function, value_in, values_of};
+ghost use Rattle.syn_rows.specs.Values.{rows_function};
 ghost use Rattle.syn_hashed.specs.Growing.{IsAnd};
 ghost use Rattle.syn_hashed.specs.Hashed.{IsHashed};
 ghost use Rattle.syn_netlist.specs.Frames.{frame_in};
-ghost use Rattle.syn_plan.specs.Gates.{literal_value, values_after};
 ghost use Rattle.syn_gain.specs.declared.proposals.Proposal.{Proposal};
 ghost use Rattle.syn_gain.specs.Placing.{each_below};
 ghost use Rattle.syn_gain.specs.Proposals.{replacement};
-ghost use Rattle.syn_gain.specs.Replacements.{leaf_values};
-ghost use Rattle.syn_apply.specs.Remaking.{AllStand, HaveValues, IsGrown, SourcesStay, Stands, moved};
+ghost use Rattle.syn_apply.specs.Remaking.{AllStand, IsGrown, SourcesStay, Stands, moved};
 ghost use Rattle.syn_apply.specs.Sound.{IsSoundBy};
 
-use smallvec::SmallVec;
+use arrayvec::ArrayVec;
 use std::alloc::{AllocError, Global};
-use syn_gain::{Proposal, literal_at, literal_for, node_at};
+use syn_gain::{Proposal, literal_at, node_at};
 use syn_graph::{Graph, copy_frame};
 use syn_hashed::HashedRows;
-use syn_plan::PLit;
-use syn_rows::{FALSE, Lit, NODE_LIMIT, Row};
+use syn_placing::place_plan;
+use syn_rows::{Lit, NODE_LIMIT, Row};
 use syn_strash::finish;
-
-// How many literals of a plan stand inline.
-const INLINE_LITERALS: usize = 32;
 
 // The AND of two literals, where there is room for a row more.
 fn and(hashed: &mut HashedRows, a: Lit, b: Lit) -> Result<Lit, AllocError>
@@ -81,62 +76,21 @@ fn joined(
     and(hashed, first, second)
 }
 
-// The literals of the constant and of a plan's leaves, of which there are so many.
-fn begin(
-    alloc: Global,
-    literals: &[Lit],
-    count: u8,
-    leaves: &[u32],
-) -> Result<SmallVec<Lit, INLINE_LITERALS>, AllocError>
-    ensures { IfOk result (λ v. v.items ≡ constant ∷ each_below count (λ i. slice_index_or literals.now (slice_index_or leaves.now i 0) constant)) }
+// The literals that stand for a plan's leaves, of which there are so many.
+fn leaf_literals(literals: &[Lit], count: u8, leaves: &[u32]) -> ArrayVec<Lit, 8>
+    requires { count ≤ 8 }
+    ensures { result.items ≡ each_below count (λ i. slice_index_or literals.now (slice_index_or leaves.now i 0) constant) }
 {
-    let mut begun = SmallVec::new(alloc);
-    begun.push(FALSE)?;
+    let mut found = ArrayVec::new();
     for i in 0..count {
         let leaf = node_at(leaves, i as usize);
-        begun.push(literal_at(literals, leaf as usize))?;
+        found.push(literal_at(literals, leaf as usize));
     }
-    Ok(begun)
+    found
 }
 
-// One gate of a plan.
-fn join_gate(
-    hashed: &mut HashedRows,
-    gate: (PLit, PLit),
-    literals: &mut SmallVec<Lit, INLINE_LITERALS>,
-) -> Result<(), AllocError>
-    requires there { (i : ℕ) → node_of (slice_index_or literals.old.items i constant) < length hashed.old.rows.items }
-    ensures sources { hashed.new.source_count ≡ hashed.old.source_count }
-    ensures grown { OnOk result (IsGrown hashed.old.rows.items hashed.new.rows.items) }
-    ensures there { OnOk result ((i : ℕ) → node_of (slice_index_or literals.new.items i constant) < length hashed.new.rows.items) }
-    ensures values { OnOk result ((values : (ℕ → Bool) → List Bool) → HaveValues hashed.old.rows.items literals.old.items values → HaveValues hashed.new.rows.items literals.new.items (λ given. values given ++ (literal_value (values given) gate.0 && literal_value (values given) gate.1) ∷ [])) }
-{
-    let x = literal_for(literals.as_slice(), gate.0);
-    let y = literal_for(literals.as_slice(), gate.1);
-    let literal = and(hashed, x, y)?;
-    literals.push(literal)?;
-    Ok(())
-}
-
-// The gates of a plan in order.
-fn join_gates(
-    hashed: &mut HashedRows,
-    gates: &[(PLit, PLit)],
-    literals: &mut SmallVec<Lit, INLINE_LITERALS>,
-) -> Result<(), AllocError>
-    requires there { (i : ℕ) → node_of (slice_index_or literals.old.items i constant) < length hashed.old.rows.items }
-    ensures sources { hashed.new.source_count ≡ hashed.old.source_count }
-    ensures grown { OnOk result (IsGrown hashed.old.rows.items hashed.new.rows.items) }
-    ensures values { OnOk result ((values : (ℕ → Bool) → List Bool) → HaveValues hashed.old.rows.items literals.old.items values → HaveValues hashed.new.rows.items literals.new.items (λ given. values_after (values given) gates.now)) }
-{
-    let Some((gate, rest)) = gates.split_first() else {
-        return Ok(());
-    };
-    join_gate(hashed, *gate, literals)?;
-    join_gates(hashed, rest, literals)
-}
-
-// The literal of a plan in place of an old node, over the literals of the nodes before it.
+// The literal of a plan in place of an old node, over the literals of the nodes before it, where there is room for
+// a row for each of its gates.
 fn planned(
     alloc: Global,
     hashed: &mut HashedRows,
@@ -153,9 +107,12 @@ fn planned(
     ensures stands { IfOk result (Stands rows.now hashed.new.rows.items proposal.now.root) }
 {
     let plan = &proposal.plan;
-    let mut placed = begin(alloc, literals, plan.leaves, proposal.leaves.as_slice())?;
-    join_gates(hashed, plan.gates.as_slice(), &mut placed)?;
-    Ok(literal_for(placed.as_slice(), plan.out))
+    if hashed.rows.len() + plan.gates.len() < NODE_LIMIT {
+        let leaves = leaf_literals(literals, plan.leaves, proposal.leaves.as_slice());
+        place_plan(alloc, hashed, leaves.as_slice(), plan)
+    } else {
+        Err(AllocError)
+    }
 }
 
 // Whether the proposal at a place is taken and is one for this node.

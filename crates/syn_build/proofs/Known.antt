@@ -31,7 +31,7 @@ use Rattle.syn_graph.specs.Graphs.{HasOwnSources}
 use Rattle.syn_build.specs.Naming.{in_order, IsNamed}
 use Rattle.syn_hashed.proofs.Rising.{literal_kept, source_value}
 use Rattle.syn_hashed.proofs.Joining.{plain_value}
-use Rattle.syn_build.proofs.Matching.{there_kept}
+use Rattle.syn_placing.proofs.Placed.{there_kept}
 
 -- places of words
 

@@ -1,3 +1,4 @@
 mod Graphing
 mod Known
 mod Matching
+mod LutValues

@@ -2,7 +2,7 @@
 use Rattle.std.proofs.Common.{◌≡◌, ℕ, ◌+◌, ◌<◌, ◌≤◌, Bool, true, false, not, ◌&&◌, ◌||◌, List, [], ◌∷◌, map, length, get_or, drop, count_by, if◌then◌else◌, refl, sym, ap, ap₂, ◌∙◌, arith}
 use Rattle.std.proofs.lemmas.List.{drop_more, drop_all}
 use Rattle.std.specs.List.{list_any}
-use Rattle.std.proofs.lemmas.List.Elements.{All-get_or, All-tail, All-head, All-weaker}
+use Rattle.std.proofs.lemmas.List.Elements.{All-get_or}
 use Rattle.std.proofs.lemmas.List.Sums.{sum_by-drop_more}
 use Rattle.syn_rows.specs.declared.Lit.{Lit}
 use Rattle.syn_rows.specs.declared.Row.{Row}
@@ -12,8 +12,9 @@ use Rattle.syn_netlist.specs.Covers.{fits_bit, matches}
 use Rattle.syn_netlist.specs.Costs.{is_sign}
 use Rattle.syn_shapes.specs.Graphs.{IsHashed}
 use Rattle.syn_hashed.specs.Growing.{Extends, value_by, IsOr}
+use Rattle.syn_placing.proofs.Placed.{values_kept}
 use Rattle.syn_build.specs.Covering.{AllThere, IsFit, IsMatch, IsOrMatch, IsCover}
-use Rattle.syn_hashed.proofs.Rising.{extends_longer, literal_kept, source_value}
+use Rattle.syn_hashed.proofs.Rising.{literal_kept, source_value}
 
 pub zero_value : (count : ℕ) (rows : List Row) → IsHashed count rows → (given : ℕ → Bool) → given 0 ≡ false → value_by given rows (record { 0 = 0 }) ≡ false
 zero_value count rows h given at_0 = source_value count rows h given 0 (omega arith) ∙ at_0
@@ -69,15 +70,6 @@ pub signs_more : (row : List ℕ) (i : ℕ) → i < length row → count_by is_s
 signs_more row i lt = sum_by-drop_more (λ c. if is_sign c then 1 else 0) row i 0 lt
 
 -- covers
-
-pub there_kept : (old new : List Row) (lits : List Lit) → Extends old new → AllThere old lits → AllThere new lits
-there_kept old new lits e h = All-weaker (λ l. node_of l < length old) (λ l. node_of l < length new) (λ l lt. let longer = extends_longer old new e in omega arith) lits h
-
-pub values_kept : (given : ℕ → Bool) (old new : List Row) → Extends old new → (lits : List Lit) → AllThere old lits → map (value_by given new) lits ≡ map (value_by given old) lits
-values_kept given old new e [] h = refl
-values_kept given old new e (l ∷ ls) h =
-    ap₂ (λ (b : Bool) (bs : List Bool). b ∷ bs) (literal_kept given old new e l (All-head (λ m. node_of m < length old) l ls h))
-    (values_kept given old new e ls (All-tail (λ m. node_of m < length old) l ls h))
 
 pub or_match_from : (old mid new : List Row) (any literal next : Lit) (row : List ℕ) (inputs : List Lit) → Extends old mid → node_of any < length old → IsMatch old row inputs mid literal → IsOr mid any literal new next → IsOrMatch old any row inputs new next
 or_match_from old mid new any literal next row inputs grown there matched joined given at_0 =

@@ -25,7 +25,7 @@ use Rattle.syn_rewrite.specs.Rewriting.{rewritings}
 use Rattle.syn_words.specs.declared.Command.{Command}
 use Rattle.syn_words.specs.declared.Command.TheVariants as commands
 use Rattle.syn_seq.proofs.Fewer.{fewer_sources}
-use Rattle.syn_build_luts.specs.Refusals.{most_gates}
+use Rattle.syn_build.specs.BuildFaults.{most_gates}
 use Rattle.syn_shell.specs.Networks.{Network, ands_by, gates_by, gates_in, graph_network, mapped_network, IsSmall}
 use Rattle.syn_shell.specs.Steps.{IsInLuts, IsLeastMappedTo, IsMappedForArea, IsMappedTo, IsPassed, IsRemade, IsSweptTo, Makes, Making, NoMoreBy, OnGraph, kind_of}
 use Rattle.syn_shell.proofs.Staying.{passed_remade}

@@ -3,7 +3,7 @@ use Rattle.std.specs.Prelude.{ℕ, ◌≤◌, ◌<◌, ◌^◌, Bool, true, fals
 use Rattle.syn_netlist.specs.Lists.{Netlist, sources}
 use Rattle.syn_reader.specs.Limits.{most_sources}
 use Rattle.syn_shapes.specs.GraphShape.{and_tables}
-use Rattle.syn_build_luts.specs.Refusals.{most_gates}
+use Rattle.syn_build.specs.BuildFaults.{most_gates}
 use Rattle.syn_graph.specs.Graphs as graphs
 use Rattle.syn_lutshapes.specs.LutShape.{gates_of}
 use Rattle.syn_lutnet.specs.Nets as nets

@@ -5,7 +5,7 @@ use Rattle.syn_io.specs.Outside.{Disk, Input, Screen, file_at, next_line}
 use Rattle.syn_netlist.specs.Lists.{Netlist}
 use Rattle.syn_reader.specs.Limits.{Within}
 use Rattle.syn_reader.specs.Reading.{Reads}
-use Rattle.syn_build_luts.specs.Refusals.{most_gates}
+use Rattle.syn_build.specs.BuildFaults.{most_gates}
 use Rattle.syn_aiger_files.specs.declared.files.Aig.{Aig}
 use Rattle.syn_aiger.specs.Faults.{Spells}
 use Rattle.syn_aiger.specs.Faults as aiger

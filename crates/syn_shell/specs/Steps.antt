@@ -14,7 +14,7 @@ use Rattle.syn_lutshapes.specs.Luts.{greatest}
 use Rattle.syn_lutshapes.specs.LutShape.{LutShape, count_of, depth_of, gates_of}
 use Rattle.syn_map.specs.Labels.{label_of}
 use Rattle.syn_area.specs.Plain.{AreNeeded}
-use Rattle.syn_build_luts.specs.Refusals.{most_gates}
+use Rattle.syn_build.specs.BuildFaults.{most_gates}
 use Rattle.syn_levels.specs.Levels.{keeping}
 use Rattle.syn_proposals.specs.Closing.{Closed}
 use Rattle.syn_gain.specs.Replacements.{Replacement}

@@ -7,7 +7,7 @@ use crate::texts::graph_of;
 use arrayvec::ArrayVec;
 use std::alloc::{AllocError, Global};
 use std::test::Fail;
-use syn_build_luts::{BuildFault, build_luts};
+use syn_build::{BuildFault, build_luts};
 use syn_graph::Graph;
 use syn_lutnet::{Lut, LutNet, MAX_INPUTS};
 use syn_netlist::Items;

@@ -3,7 +3,8 @@ use Rattle.std.proofs.lemmas.List.{get_or_read}
 use Rattle.std.proofs.lemmas.List.Sums.{sum_by-drop_more}
 use Rattle.syn_netlist.specs.Costs.{row_cost}
 use Rattle.syn_hashed.proofs.Rising.{extends_itself, extends_through}
-use Rattle.syn_build.proofs.Matching.{some_none, some_more, some_all, there_kept}
+use Rattle.syn_placing.proofs.Placed.{there_kept}
+use Rattle.syn_build.proofs.Matching.{some_none, some_more, some_all}
 use Rattle.syn_build.proofs.tables.table_literal.Goals as goal
 
 pub loop-row-init : goal.loop-row-init

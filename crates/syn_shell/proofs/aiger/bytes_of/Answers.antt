@@ -5,7 +5,7 @@ use Rattle.syn_netlist.specs.Lists.{sources}
 use Rattle.syn_reader.specs.Limits.{most_sources}
 use Rattle.syn_shapes.specs.GraphShape.{and_tables}
 use Rattle.syn_shapes.specs.Spelling.{NetworkSpells, network}
-use Rattle.syn_build_luts.specs.Refusals.{most_gates}
+use Rattle.syn_build.specs.BuildFaults.{most_gates}
 use Rattle.syn_shell.proofs.aiger.bytes_of.Goals as goal
 
 pub write_aig-requires-clause-rows : goal.write_aig-requires-clause-rows

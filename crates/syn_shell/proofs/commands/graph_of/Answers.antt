@@ -3,8 +3,8 @@ use Rattle.syn_netlist.specs.Frames.{frame_in}
 use Rattle.syn_lutshapes.specs.Luts.{net_gates}
 use Rattle.syn_lutshapes.specs.LutSpelling.{NetworkSpellsLuts}
 use Rattle.syn_lutnet.specs.Data.{luts_data}
-use Rattle.syn_build_luts.specs.declared.luts.BuildFault.TheVariants.{TooManyGates}
-use Rattle.syn_build_luts.specs.Refusals.{TellsFault}
+use Rattle.syn_build.specs.declared.luts.BuildFault.TheVariants.{TooManyGates}
+use Rattle.syn_build.specs.BuildFaults.{TellsFault}
 use Rattle.syn_graph.specs.Graphs as graphs
 use Rattle.syn_lutnet.specs.Nets as nets
 use Rattle.syn_shell.specs.Networks.{graph_network, mapped_network}

@@ -1,7 +1,0 @@
-use Rattle.std.proofs.Common.{◌≡◌, ◌∷◌, slice_index_or}
-use Rattle.syn_rows.specs.Joining.{constant}
-use Rattle.syn_gain.specs.Placing.{each_below}
-use Rattle.syn_apply.proofs.batch.begin.Given as goal
-
-abbrev pub invariant-loop-i : goal.invariant-loop-i
-invariant-loop-i l = l.begun.items ≡ constant ∷ each_below l.i (λ i. slice_index_or l.literals (slice_index_or l.leaves i 0) constant)

@@ -1,0 +1,211 @@
+//! From a LUT net to its graph.
+
+ghost use Rattle.std.specs.Prelude.{◌≡◌, ℕ, ◌+◌, ◌<◌, ◌≤◌, All, Bool, List, false, true, length, map, if◌then◌else◌, IfErr, IfOk, OnOk};
+ghost use Rattle.std.specs.List.{list_all};
+ghost use Rattle.syn_rows.specs.declared.TheConstants.{NODE_LIMIT};
+ghost use Rattle.syn_rows.specs.Joining.{complement};
+ghost use Rattle.syn_rows.specs.Rows.{node_of};
+ghost use Rattle.syn_rows.specs.Values.{rows_function};
+ghost use Rattle.syn_netlist.specs.Frames.{frame_in};
+ghost use Rattle.syn_netlist.specs.Lists.{observed, sources};
+ghost use Rattle.syn_shapes.specs.Graphs.{lit_at};
+ghost use Rattle.syn_hashed.specs.Growing.{Extends, value_by};
+ghost use Rattle.syn_graph.specs.Graphs.{HasOwnSources};
+ghost use Rattle.syn_graph.specs.Graphs as graphs;
+ghost use Rattle.syn_lutshapes.specs.Luts.{fold_luts, lut_gates, lut_value, luts_function, net_gates, ones_of, ones_value};
+ghost use Rattle.syn_lutnet.specs.declared.luts.TheConstants.{MAX_INPUTS};
+ghost use Rattle.syn_lutnet.specs.Data.{lut_data, luts_data};
+ghost use Rattle.syn_lutnet.specs.Nets.{network_of};
+ghost use Rattle.syn_build.specs.GraphOfLuts.{IsGraphOfLuts};
+ghost use Rattle.syn_build.specs.Covering.{AllThere};
+ghost use Rattle.syn_build.specs.LutLiterals.{plain_literals, ReadEarlier, reads_below, signed_by};
+ghost use Rattle.syn_build.specs.BuildFaults.{TellsFault, most_gates};
+
+use crate::tables::Built;
+use arrayvec::ArrayVec;
+use std::alloc::{AllocError, AllocFailed, Global};
+use syn_graph::{Graph, copy_frame};
+use syn_hashed::HashedRows;
+use syn_lutnet::{Lut, LutNet, MAX_INPUTS};
+use syn_placing::place_plan;
+use syn_rows::Lit;
+use thiserror::Error;
+
+/// The most gates of a LUT net that is made a graph.
+pub const MAX_GATES: u64 = 4_194_304;
+
+/// Why a LUT net is not made a graph.
+#[derive(Clone, Copy, Debug, PartialEq, Eq, Error)]
+pub enum BuildFault {
+    /// Factoring its LUTs takes so many gates, more than `MAX_GATES`.
+    #[error("too many gates: {0}")]
+    TooManyGates(u64),
+    /// Memory was refused.
+    #[error("out of memory")]
+    NoMemory,
+}
+
+impl From<AllocError> for BuildFault {
+    ghost use Rattle.syn_build.specs.declared.luts.BuildFault.TheVariants.{NoMemory};
+
+    ghost from_gives = { λ _ e. e ≡ NoMemory };
+
+    fn from(_: AllocError) -> BuildFault {
+        BuildFault::NoMemory
+    }
+}
+
+impl<T: Drop> From<AllocFailed<T>> for BuildFault {
+    ghost use Rattle.syn_build.specs.declared.luts.BuildFault.TheVariants.{NoMemory};
+
+    ghost from_gives = { λ _ e. e ≡ NoMemory };
+
+    fn from(_: AllocFailed<T>) -> BuildFault {
+        BuildFault::NoMemory
+    }
+}
+
+// A literal, or its opposite.
+#[inline]
+fn signed(literal: Lit, plain: bool) -> Lit
+    ensures { result ≡ (if plain then literal else complement literal) }
+{
+    if plain { literal } else { literal.not() }
+}
+
+// The literals of the signals that a LUT reads.
+fn input_literals(signals: &[Lit], inputs: &[u32]) -> ArrayVec<Lit, MAX_INPUTS>
+    requires few { length inputs.now ≤ MAX_INPUTS }
+    requires below { list_all (reads_below (length signals.now)) inputs.now ≡ true }
+    ensures { result.items ≡ map (lit_at signals.now) inputs.now }
+{
+    let mut literals = ArrayVec::new();
+    for input in inputs {
+        literals.push(signals[*input as usize]);
+    }
+    literals
+}
+
+// The literal of a LUT, from those of the signals before it: the gates of factoring its function, in order.
+fn lut_literal(
+    alloc: Global,
+    hashed: &mut HashedRows,
+    signals: &[Lit],
+    lut: &Lut,
+) -> Result<Lit, AllocError>
+    requires inputs { list_all (reads_below (length signals.now)) lut.now.inputs.items ≡ true }
+    requires there { AllThere hashed.old.rows.items signals.now }
+    requires room { length hashed.old.rows.items + lut_gates (lut_data lut.now) < NODE_LIMIT }
+    ensures sources { hashed.new.source_count ≡ hashed.old.source_count }
+    ensures grows { Extends hashed.old.rows.items hashed.new.rows.items }
+    ensures few { length hashed.new.rows.items ≤ length hashed.old.rows.items + lut_gates (lut_data lut.now) }
+    ensures there { IfOk result (λ l. node_of l < length hashed.new.rows.items) }
+    ensures value { IfOk result (λ l. (given : ℕ → Bool) → given 0 ≡ false → value_by given hashed.new.rows.items l ≡ ones_value (ones_of lut.now.truth) (map (value_by given hashed.old.rows.items) (map (lit_at signals.now) lut.now.inputs.items))) }
+{
+    let plan = syn_plan::factor(lut.truth);
+    let leaves = input_literals(signals, lut.inputs.as_slice());
+    place_plan(alloc, hashed, leaves.as_slice(), &plan)
+}
+
+// Gives each LUT its literal, behind those of the constant and of the sources.
+fn name_luts(
+    alloc: Global,
+    hashed: &mut HashedRows,
+    luts: &[Lut],
+    signals: &mut Vec<Lit>,
+) -> Result<(), AllocError>
+    requires inputs { ReadEarlier (length signals.old.items) (luts_data luts.now) }
+    requires there { AllThere hashed.old.rows.items signals.old.items }
+    requires room { length hashed.old.rows.items + net_gates (luts_data luts.now) < NODE_LIMIT }
+    ensures sources { hashed.new.source_count ≡ hashed.old.source_count }
+    ensures few { length hashed.new.rows.items ≤ length hashed.old.rows.items + net_gates (luts_data luts.now) }
+    ensures len { OnOk result (length signals.new.items ≡ length signals.old.items + length luts.now) }
+    ensures there { OnOk result (AllThere hashed.new.rows.items signals.new.items) }
+    ensures values { OnOk result ((given : ℕ → Bool) → given 0 ≡ false → map (value_by given hashed.new.rows.items) signals.new.items ≡ fold_luts lut_value false (map (value_by given hashed.old.rows.items) signals.old.items) (luts_data luts.now)) }
+    ensures begins { OnOk result ((i : ℕ) → i < length signals.old.items → lit_at signals.new.items i ≡ lit_at signals.old.items i) }
+{
+    for lut in luts {
+        let literal = lut_literal(alloc, hashed, signals.as_slice(), lut)?;
+        signals.push(literal)?;
+    }
+    Ok(())
+}
+
+// The literals of the constant and of so many sources.
+fn source_literals(alloc: Global, count: u32) -> Result<Vec<Lit>, AllocError>
+    requires { count + 1 < NODE_LIMIT }
+    ensures { IfOk result (λ v. v.items ≡ plain_literals (count + 1)) }
+{
+    let mut literals = Vec::new(alloc);
+    for node in 0..count + 1 {
+        literals.push(Lit::of(node, false))?;
+    }
+    Ok(literals)
+}
+
+// The literal that a literal of a signal stands for, by those of the signals.
+#[inline]
+fn signed_by(signals: &[Lit], literal: Lit) -> Lit
+    requires { node_of literal < length signals.now }
+    ensures { result ≡ signed_by signals.now literal }
+{
+    signed(signals[literal.node() as usize], !literal.complemented())
+}
+
+// The literals that literals of signals stand for.
+fn signed_literals(alloc: Global, signals: &[Lit], literals: &[Lit]) -> Result<Vec<Lit>, AllocError>
+    requires { All (λ l. node_of l < length signals.now) literals.now }
+    ensures { IfOk result (λ v. v.items ≡ map (signed_by signals.now) literals.now) }
+{
+    let mut found = Vec::new(alloc);
+    for literal in literals {
+        found.push(signed_by(signals, *literal))?;
+    }
+    Ok(found)
+}
+
+// The rows of a LUT net, with a literal for each observed signal.
+fn build_net(alloc: Global, net: &LutNet) -> Result<Built, AllocError>
+    requires { length (sources (frame_in net.now.frame)) + 1 + net_gates (luts_data net.now.luts) < NODE_LIMIT }
+    ensures sources { IfOk result (λ b. b.hashed.source_count ≡ length (sources (frame_in net.now.frame))) }
+    ensures few { IfOk result (λ b. length b.hashed.rows.items ≤ length (sources (frame_in net.now.frame)) + 1 + net_gates (luts_data net.now.luts)) }
+    ensures count { IfOk result (λ b. length b.observed.items ≡ length (observed (frame_in net.now.frame))) }
+    ensures within { IfOk result (λ b. AllThere b.hashed.rows.items b.observed.items) }
+    ensures own { IfOk result (λ b. HasOwnSources (frame_in net.now.frame) b.observed.items) }
+    ensures function { IfOk result (λ b. (bits : List Bool) → length bits ≡ length (sources (frame_in net.now.frame)) → rows_function b.hashed.rows.items b.observed.items bits ≡ luts_function (luts_data net.now.luts) net.now.observed bits) }
+{
+    let mut hashed = HashedRows::new(alloc, net.source_count as usize)?;
+    let mut signals = source_literals(alloc, net.source_count)?;
+    name_luts(alloc, &mut hashed, net.luts.as_slice(), &mut signals)?;
+    let observed = signed_literals(alloc, signals.as_slice(), net.observed.as_slice())?;
+    Ok(Built { hashed, observed })
+}
+
+/// The graph of a LUT net: the LUTs in order, each by the gates of factoring its function, with rows that stand once; what
+/// no observed signal reaches is dropped. The frame is copied.
+///
+/// A net that takes more than `MAX_GATES` gates is refused; the only other error is want of memory.
+pub fn build_luts(alloc: Global, net: &LutNet) -> Result<Graph, BuildFault>
+    requires room { length (sources (frame_in net.now.frame)) + 1 + most_gates < NODE_LIMIT }
+    ensures frame { IfOk result (λ graph. frame_in graph.frame ≡ frame_in net.now.frame) }
+    ensures function { IfOk result (λ graph. (bits : List Bool) → length bits ≡ length (sources (frame_in net.now.frame)) → rows_function graph.rows graph.observed bits ≡ luts_function (luts_data net.now.luts) net.now.observed bits) }
+    ensures network { IfOk result (λ graph. IsGraphOfLuts (network_of net.now) (graphs.network_of graph)) }
+    ensures few { IfOk result (λ graph. length graph.rows ≤ length (sources (frame_in net.now.frame)) + 1 + net_gates (luts_data net.now.luts)) }
+    ensures within { IfOk result (λ graph. net_gates (luts_data net.now.luts) ≤ most_gates) }
+    ensures fault { IfErr result (TellsFault (net_gates (luts_data net.now.luts))) }
+{
+    syn_lutshapes::network_of_luts();
+    syn_lutshapes::luts_have_function();
+    syn_shapes::network_of_graph();
+    syn_shapes::graph_has_function();
+    syn_netlist::same_from_function();
+    let gates = net.gates();
+    if gates > MAX_GATES {
+        return Err(BuildFault::TooManyGates(gates));
+    }
+    let built = build_net(alloc, net)?;
+    let frame = copy_frame(alloc, &net.frame)?;
+    let Built { hashed, observed } = built;
+    let graph = syn_strash::finish(alloc, frame, hashed, observed.as_slice())?;
+    Ok(graph)
+}
