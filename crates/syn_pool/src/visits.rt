@@ -61,7 +61,7 @@ fn visit_for_gain<P: Proposer, G: Gate>(
         lists,
         tools,
     } = scene;
-    let saving = proposer.promising(board.alloc, graph, &board.uses, lists, node, false)?;
+    let saving = proposer.commit_candidates(board.alloc, graph, &board.uses, lists, node, false)?;
     let done = try_each(graph, tools, worker, saving.as_slice(), false, true);
     if done && !board.fan_outs.is_empty() {
         revisit_fanouts(scene, worker, cuts, node);
@@ -94,7 +94,7 @@ fn visit_for_any<P: Proposer, G: Gate>(
         lists,
         tools,
     } = scene;
-    let proposals = proposer.promising(board.alloc, graph, &board.uses, lists, node, true)?;
+    let proposals = proposer.commit_candidates(board.alloc, graph, &board.uses, lists, node, true)?;
     try_from_some_place(graph, tools, worker, node, proposals.as_slice(), true);
     Ok(())
 }

@@ -204,7 +204,7 @@ impl<P: Proposer> Proposer for Keeping<P> {
 
     // Those that workers commit are told by their plans alone, whatever rows are there: a commit of such a one on the shared
     // table raises no level.
-    fn promising(
+    fn commit_candidates(
         &self,
         alloc: Global,
         graph: &Graph,
@@ -215,7 +215,7 @@ impl<P: Proposer> Proposer for Keeping<P> {
     ) -> Result<Vec<Proposal>, AllocError> {
         let all = self
             .proposer
-            .promising(alloc, graph, uses, &lists.lists, node, zero_gain)?;
+            .commit_candidates(alloc, graph, uses, &lists.lists, node, zero_gain)?;
         low(alloc, lists.levels.as_slice(), node, all)
     }
 

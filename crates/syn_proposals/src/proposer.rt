@@ -95,7 +95,7 @@ pub trait Proposer: Sync {
     /// Those of them that are worth a commit, in order: with `zero_gain` also those that save nothing. Which are left out is
     /// free, and nothing rests on it: a commit judges each one again. A proposer that tells it without a list of all may give
     /// a body of its own.
-    fn promising(
+    fn commit_candidates(
         &self,
         alloc: Global,
         graph: &Graph,

@@ -82,7 +82,7 @@ impl Proposer for Cones {
         }
     }
 
-    fn promising(
+    fn commit_candidates(
         &self,
         alloc: Global,
         graph: &Graph,

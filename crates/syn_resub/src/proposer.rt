@@ -79,7 +79,7 @@ fn may_save(graph: &Graph, uses: &Uses, node: u32, form: Form, row_pays: bool) -
 }
 
 // Adds a form's proposal, where it may save.
-fn push_promising(
+fn push_candidates(
     graph: &Graph,
     uses: &Uses,
     node: u32,
@@ -156,7 +156,7 @@ impl Proposer for Divisors {
         }
     }
 
-    fn promising(
+    fn commit_candidates(
         &self,
         alloc: Global,
         graph: &Graph,
@@ -173,7 +173,7 @@ impl Proposer for Divisors {
         let mut proposals = Vec::new(alloc);
         for place in 0..forms.len() {
             let form = form_at(forms.as_slice(), place);
-            push_promising(graph, uses, node, &divided, form, row_pays, &mut proposals)?;
+            push_candidates(graph, uses, node, &divided, form, row_pays, &mut proposals)?;
         }
         Ok(proposals)
     }

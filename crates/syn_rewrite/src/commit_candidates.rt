@@ -141,7 +141,7 @@ pub(crate) fn worth_over(
 }
 
 /// Adds those of the plans of an AND's function over a cut that are worth a commit, in order.
-pub(crate) fn push_promising(
+pub(crate) fn push_candidates(
     alloc: Global,
     graph: &Graph,
     uses: &Uses,

@@ -17,7 +17,7 @@ ghost use Rattle.syn_function_plans.specs.PlansOf.{ArePlansOf};
 ghost use Rattle.syn_rewrite.specs.Prepared.{IsPreparedFor, IsRooted};
 ghost use Rattle.syn_rewrite.specs.Rewriting.{cut_proposals, over, rewritings};
 
-use crate::commit_candidates::{push_promising, worth_over};
+use crate::commit_candidates::{push_candidates, worth_over};
 use crate::prepared::{MAX_LEAVES, Prepared, prepare};
 use crate::rooted::{RootedCut, rooted_at};
 use std::alloc::{AllocError, Global};
@@ -323,7 +323,7 @@ impl Proposer for CutPlans {
         Ok(None)
     }
 
-    fn promising(
+    fn commit_candidates(
         &self,
         alloc: Global,
         graph: &Graph,
@@ -339,7 +339,7 @@ impl Proposer for CutPlans {
         for i in 0..cuts.len() {
             let cut = rooted_at(graph, lists, node, cuts, i);
             let worth = worth_over(alloc, graph, uses, cut, zero_gain)?;
-            push_promising(
+            push_candidates(
                 alloc,
                 graph,
                 uses,
