@@ -6,7 +6,7 @@ use Rattle.std.proofs.lemmas.List.{length-drop, length-map, get_or-map, map-appe
 use Rattle.std.proofs.lemmas.List.Elements.{All-cons, All-head, All-tail}
 use Rattle.syn_rows.specs.declared.Lit.{Lit}
 use Rattle.syn_rows.specs.declared.Row.{Row}
-use Rattle.syn_rows.specs.Joining.{complement}
+use Rattle.syn_rows.specs.Joining.{complement, lit_of}
 use Rattle.syn_rows.specs.Rows.{node_of}
 use Rattle.syn_rows.specs.Values.{given_by, lit_value, value_in, values_of, rows_function}
 use Rattle.syn_rows.proofs.JoinLaws.{complement_node, complement_value}
@@ -39,7 +39,7 @@ use Rattle.syn_lutnet.proofs.LutDepths.{luts_next}
 use Rattle.syn_build.specs.GraphOfLuts.{IsGraphOfLuts}
 use Rattle.syn_build.specs.Covering.{AllThere}
 use Rattle.syn_placing.proofs.Placed.{values_kept}
-use Rattle.syn_build.specs.LutLiterals.{reads_below, ReadEarlier, plain_literal, plain_literals, signed_by}
+use Rattle.syn_build.specs.LutLiterals.{reads_below, ReadEarlier, plain_literals, signed_by}
 
 pub choose_sign : (r : ℕ) (b : Bool) (x y : Lit) → r < 2 → (b ≡ true → r ≡ 1) → (r ≡ 1 → b ≡ true) → (if not b then x else y) ≡ (if nat_eq r 0 then x else y)
 choose_sign zero true x y lt f g = absurd (omega (arith, f refl))
@@ -92,12 +92,12 @@ signals_next given old new signals after literal luts i l all grown there e read
 
 -- the sources' literals have the given values
 
-source_values : (given : ℕ → Bool) (count : ℕ) (rows : List Row) → IsHashed count rows → (n k : ℕ) → n + k ≤ count + 1 → map (value_by given rows) (map plain_literal (numbers_from n k)) ≡ map given (numbers_from n k)
+source_values : (given : ℕ → Bool) (count : ℕ) (rows : List Row) → IsHashed count rows → (n k : ℕ) → n + k ≤ count + 1 → map (value_by given rows) (map lit_of (numbers_from n k)) ≡ map given (numbers_from n k)
 source_values given count rows h n zero le = refl
 source_values given count rows h n (suc k) le =
     ap₂ (λ (b : Bool) (bs : List Bool). b ∷ bs) (plain_value n ∙ source_value count rows h given n (omega (arith, le))) (source_values given count rows h (n + 1) k (omega (arith, le)))
   where
-    plain_value : (n : ℕ) → value_by given rows (plain_literal n) ≡ value_in (values_of given rows) n
+    plain_value : (n : ℕ) → value_by given rows (lit_of n) ≡ value_in (values_of given rows) n
     plain_value n =
         let even : 2 * n % 2 ≡ 0 = omega arith in
         let half : 2 * n / 2 ≡ n = omega arith in
@@ -115,32 +115,32 @@ first_values bits count rows h long =
     ∙ ap (λ k. map (given_by bits) (numbers_from 0 k)) (let s : count + 1 ≡ length (false ∷ bits) = omega (arith, long) in s)
     ∙ each_value (false ∷ bits) 0 (false ∷ bits) (λ i. ap (λ m. get_or (false ∷ bits) m false) (let s : i ≡ 0 + i = omega arith in s))
 
-pub plain_at : (n k i : ℕ) → i < k → lit_at (map plain_literal (numbers_from n k)) i ≡ plain_literal (n + i)
+pub plain_at : (n k i : ℕ) → i < k → lit_at (map lit_of (numbers_from n k)) i ≡ lit_of (n + i)
 plain_at n zero i lt = absurd (omega (arith, lt))
-plain_at n (suc k) zero lt = ap plain_literal (let s : n ≡ n + 0 = omega arith in s)
-plain_at n (suc k) (suc i) lt = plain_at (n + 1) k i (omega (arith, lt)) ∙ ap plain_literal (let s : n + 1 + i ≡ n + suc i = omega arith in s)
+plain_at n (suc k) zero lt = ap lit_of (let s : n ≡ n + 0 = omega arith in s)
+plain_at n (suc k) (suc i) lt = plain_at (n + 1) k i (omega (arith, lt)) ∙ ap lit_of (let s : n + 1 + i ≡ n + suc i = omega arith in s)
 
-pub plain_there : (rows : List Row) (n k : ℕ) → n + k ≤ length rows → AllThere rows (map plain_literal (numbers_from n k))
+pub plain_there : (rows : List Row) (n k : ℕ) → n + k ≤ length rows → AllThere rows (map lit_of (numbers_from n k))
 plain_there rows n zero le = λ i d lt. absurd (omega (arith, lt))
 plain_there rows n (suc k) le =
     let half : 2 * n / 2 ≡ n = omega arith in
-    All-cons (λ l. node_of l < length rows) (plain_literal n) (map plain_literal (numbers_from (n + 1) k)) (omega (arith, half, le)) (plain_there rows (n + 1) k (omega (arith, le)))
+    All-cons (λ l. node_of l < length rows) (lit_of n) (map lit_of (numbers_from (n + 1) k)) (omega (arith, half, le)) (plain_there rows (n + 1) k (omega (arith, le)))
 
 -- one source more
 abbrev literal_with : ℕ → Lit
 literal_with k = record { 0 = k }
 
 pub plain_next : (done after : List Lit) (l : Lit) (n count : ℕ) (all : List Lit) → n < count → after ≡ done ++ l ∷ [] → l.0 ≡ 2 * n
-    → done ++ map plain_literal (numbers_from n (count - n)) ≡ all → after ++ map plain_literal (numbers_from (n + 1) (count - (n + 1))) ≡ all
+    → done ++ map lit_of (numbers_from n (count - n)) ≡ all → after ++ map lit_of (numbers_from (n + 1) (count - (n + 1))) ≡ all
 plain_next done after l n count all lt e is h =
     let left : count - n ≡ suc (count - (n + 1)) = omega (arith, lt) in
-    let rest : List Lit = map plain_literal (numbers_from (n + 1) (count - (n + 1))) in
-    let plain : l ≡ plain_literal n = ap literal_with is in
+    let rest : List Lit = map lit_of (numbers_from (n + 1) (count - (n + 1))) in
+    let plain : l ≡ lit_of n = ap literal_with is in
     ap (λ (ls : List Lit). ls ++ rest) e ∙ append_assoc done (l ∷ []) rest ∙ ap (λ (x : Lit). done ++ x ∷ rest) plain
-    ∙ ap (λ (k : ℕ). done ++ map plain_literal (numbers_from n k)) (sym left) ∙ h
+    ∙ ap (λ (k : ℕ). done ++ map lit_of (numbers_from n k)) (sym left) ∙ h
 
 pub length-plain : (count : ℕ) → length (plain_literals count) ≡ count
-length-plain count = length-map (numbers_from 0 count) plain_literal ∙ go 0 count
+length-plain count = length-map (numbers_from 0 count) lit_of ∙ go 0 count
   where
     go : (n k : ℕ) → length (numbers_from n k) ≡ k
     go n zero = refl
@@ -185,7 +185,7 @@ signed_there rows signals literals there within i d lt =
     (omega (arith, plain, sign_node ((get_or literals i (record { 0 = 0 })).0 % 2) (lit_at signals (node_of (get_or literals i (record { 0 = 0 }))))))
 
 -- observed sources keep their own literals
-pub signed_own : (frame : Frame) (luts : List spelled.Lut) (lits signals outs : List Lit) → IsLutNet frame luts lits → ((i : ℕ) → i < length (sources frame) + 1 → lit_at signals i ≡ plain_literal i) → outs ≡ map (signed_by signals) lits → HasOwnSources frame outs
+pub signed_own : (frame : Frame) (luts : List spelled.Lut) (lits signals outs : List Lit) → IsLutNet frame luts lits → ((i : ℕ) → i < length (sources frame) + 1 → lit_at signals i ≡ lit_of i) → outs ≡ map (signed_by signals) lits → HasOwnSources frame outs
 signed_own frame luts lits signals outs net own outs_are i lt s =
     let inside : i < length lits = omega (arith, lt, ap (λ (ls : List Lit). length ls) outs_are, length-map lits (signed_by signals)) in
     let low = place_lt (sources frame) (word_at (observed frame) i) s in

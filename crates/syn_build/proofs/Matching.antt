@@ -33,10 +33,6 @@ and_regrouped : (x y z : Bool) → ((x && y) && z) ≡ (x && (y && z))
 and_regrouped true y z = refl
 and_regrouped false y z = refl
 
-and_true : (x : Bool) → (x && true) ≡ x
-and_true true = refl
-and_true false = refl
-
 and_false : (x : Bool) → (x && false) ≡ false
 and_false true = refl
 and_false false = refl

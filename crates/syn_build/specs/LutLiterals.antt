@@ -2,7 +2,7 @@
 use Rattle.std.specs.Prelude.{◌≡◌, ℕ, ◌+◌, ◌*◌, ◌%◌, ◌<◌, ◌==◌, if◌then◌else◌, nat_lt, Bool, true, List, length, map}
 use Rattle.std.specs.List.{list_all}
 use Rattle.syn_rows.specs.declared.Lit.{Lit}
-use Rattle.syn_rows.specs.Joining.{complement}
+use Rattle.syn_rows.specs.Joining.{complement, lit_of}
 use Rattle.syn_rows.specs.Rows.{node_of}
 use Rattle.syn_shapes.specs.Graphs.{lit_at}
 use Rattle.syn_shapes.specs.Spelling.{numbers_from}
@@ -16,13 +16,9 @@ reads_below count i = nat_lt i count
 abbrev pub ReadEarlier : ℕ → List Lut → Type 0
 ReadEarlier count luts = (j : ℕ) → j < length luts → list_all (reads_below (count + j)) (lut_at luts j).inputs ≡ true
 
--- the plain literal of a node
-abbrev pub plain_literal : ℕ → Lit
-plain_literal n = record { 0 = 2 * n }
-
 -- the plain literals of the first so many nodes
 abbrev pub plain_literals : ℕ → List Lit
-plain_literals count = map plain_literal (numbers_from 0 count)
+plain_literals count = map lit_of (numbers_from 0 count)
 
 -- the literal that a literal of a signal stands for, by those of the signals
 abbrev pub signed_by : List Lit → Lit → Lit

@@ -1,9 +1,8 @@
 //! From a LUT net to its graph.
 
-ghost use Rattle.std.specs.Prelude.{◌≡◌, ℕ, ◌+◌, ◌<◌, ◌≤◌, All, Bool, List, false, true, length, map, if◌then◌else◌, IfErr, IfOk, OnOk};
+ghost use Rattle.std.specs.Prelude.{◌≡◌, ℕ, ◌+◌, ◌<◌, ◌≤◌, All, Bool, List, false, true, length, map, IfErr, IfOk, OnOk};
 ghost use Rattle.std.specs.List.{list_all};
 ghost use Rattle.syn_rows.specs.declared.TheConstants.{NODE_LIMIT};
-ghost use Rattle.syn_rows.specs.Joining.{complement};
 ghost use Rattle.syn_rows.specs.Rows.{node_of};
 ghost use Rattle.syn_rows.specs.Values.{rows_function};
 ghost use Rattle.syn_netlist.specs.Frames.{frame_in};
@@ -21,7 +20,7 @@ ghost use Rattle.syn_build.specs.Covering.{AllThere};
 ghost use Rattle.syn_build.specs.LutLiterals.{plain_literals, ReadEarlier, reads_below, signed_by};
 ghost use Rattle.syn_build.specs.BuildFaults.{TellsFault, most_gates};
 
-use crate::tables::Built;
+use crate::tables::{Built, signed};
 use arrayvec::ArrayVec;
 use std::alloc::{AllocError, AllocFailed, Global};
 use syn_graph::{Graph, copy_frame};
@@ -63,14 +62,6 @@ impl<T: Drop> From<AllocFailed<T>> for BuildFault {
     fn from(_: AllocFailed<T>) -> BuildFault {
         BuildFault::NoMemory
     }
-}
-
-// A literal, or its opposite.
-#[inline]
-fn signed(literal: Lit, plain: bool) -> Lit
-    ensures { result ≡ (if plain then literal else complement literal) }
-{
-    if plain { literal } else { literal.not() }
 }
 
 // The literals of the signals that a LUT reads.

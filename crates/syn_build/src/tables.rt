@@ -3,6 +3,7 @@
 ghost use Rattle.std.specs.Prelude.{◌≡◌, ◌≢◌, ℕ, ◌+◌, ◌^◌, ◌<◌, ◌≤◌, ◌&&◌, not, All, Bool, false, true, length, map, count_by, if◌then◌else◌, slice_index, IfOk, OnOk};
 ghost use Rattle.std.specs.List.{sum_by};
 ghost use Rattle.syn_rows.specs.declared.TheConstants.{NODE_LIMIT};
+ghost use Rattle.syn_rows.specs.Joining.{complement};
 ghost use Rattle.syn_rows.specs.Rows.{node_of};
 ghost use Rattle.syn_rows.specs.Values.{lit_value, rows_function};
 ghost use Rattle.syn_netlist.specs.Covers.{fits_bit};
@@ -264,8 +265,10 @@ fn table_literal(
     Ok(signed(any, on))
 }
 
-// A literal, or its complement.
-fn signed(literal: Lit, plain: bool) -> Lit
+/// A literal, or its complement.
+#[inline]
+pub(crate) fn signed(literal: Lit, plain: bool) -> Lit
+    ensures literal { result ≡ (if plain then literal else complement literal) }
     ensures value { (v : ℕ → Bool) → lit_value v result ≡ (if plain then lit_value v literal else not (lit_value v literal)) }
     ensures node { node_of result ≡ node_of literal }
 {

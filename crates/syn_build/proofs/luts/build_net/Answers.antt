@@ -1,5 +1,6 @@
 use Rattle.std.proofs.Common.{◌≡◌, ℕ, ◌+◌, ◌<◌, All, false, List, length, map, refl, sym, ap, ap₂, ◌∙◌, subst, arith}
 use Rattle.std.proofs.lemmas.List.{length-map}
+use Rattle.syn_rows.specs.Joining.{lit_of}
 use Rattle.syn_rows.specs.declared.Lit.{Lit}
 use Rattle.syn_rows.specs.Rows.{node_of}
 use Rattle.syn_netlist.specs.Frames.{frame_in}
@@ -12,7 +13,7 @@ use Rattle.syn_shapes.specs.Graphs.{lit_at}
 use Rattle.syn_lutnet.specs.declared.luts.Lut.{Lut}
 use Rattle.syn_lutnet.specs.Data.{lut_data, luts_data}
 use Rattle.syn_build.specs.Covering.{AllThere}
-use Rattle.syn_build.specs.LutLiterals.{ReadEarlier, plain_literal, plain_literals, signed_by}
+use Rattle.syn_build.specs.LutLiterals.{ReadEarlier, plain_literals, signed_by}
 use Rattle.syn_build.proofs.LutValues.{length-plain, net_reads_earlier, net_function, signed_own, signed_there, plain_at, plain_there}
 use Rattle.syn_build.proofs.luts.build_net.Goals as goal
 
@@ -80,7 +81,7 @@ returns-clause-own c =
     let plain = ap (λ (ls : List Lit). length ls) c.in_ok-signals.ensures in
     signed_own (frame_in net.frame) (luts_data net.luts) net.observed after c.in_ok-observed.observed.items net.net
     (λ i lt. let low : i < net.source_count + 1 = omega (arith, lt, net.source_count_is) in
-    c.in_ok-name_luts.ensures.begins i (omega (arith, low, plain, length-plain (net.source_count + 1))) ∙ ap (λ (ls : List Lit). lit_at ls i) c.in_ok-signals.ensures ∙ plain_at 0 (net.source_count + 1) i low ∙ ap plain_literal (let s : 0 + i ≡ i = omega arith in s))
+    c.in_ok-name_luts.ensures.begins i (omega (arith, low, plain, length-plain (net.source_count + 1))) ∙ ap (λ (ls : List Lit). lit_at ls i) c.in_ok-signals.ensures ∙ plain_at 0 (net.source_count + 1) i low ∙ ap lit_of (let s : 0 + i ≡ i = omega arith in s))
     outs
 
 pub returns-clause-function : goal.returns-clause-function

@@ -8,5 +8,5 @@ use Rattle.syn_build.proofs.luts.signed_by.Goals as goal
 pub returns : goal.returns
 returns c =
     let plain = lit_at c.args.signals.now (node_of c.args.literal) in
-    c.signed.ensures ∙ ap (λ (i : ℕ). if not c.complemented.result then lit_at c.args.signals.now i else complement (lit_at c.args.signals.now i)) c.node.ensures
+    c.signed.ensures.literal ∙ ap (λ (i : ℕ). if not c.complemented.result then lit_at c.args.signals.now i else complement (lit_at c.args.signals.now i)) c.node.ensures
     ∙ choose_sign (c.args.literal.0 % 2) c.complemented.result plain (complement plain) (omega arith) c.complemented.ensures.0 c.complemented.ensures.1
