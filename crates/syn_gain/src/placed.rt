@@ -30,16 +30,16 @@ const INLINE_ROWS: usize = 16;
 /// What a plan becomes: lists that serve for many plans, one after the other. Literals of nodes from the number of rows on
 /// are of new rows.
 #[derive(Debug, Drop)]
-pub struct PlacedPlan {
+pub(crate) struct PlacedPlan {
     /// The literals that the constant, the leaves and the gates become.
-    pub literals: SmallVec<Lit, INLINE_LITERALS>,
+    pub(crate) literals: SmallVec<Lit, INLINE_LITERALS>,
     /// The new rows.
-    pub extra: SmallVec<Row, INLINE_ROWS>,
+    pub(crate) extra: SmallVec<Row, INLINE_ROWS>,
 }
 
 impl PlacedPlan {
     /// Nothing placed, and no memory taken yet.
-    pub fn new(alloc: Global) -> PlacedPlan
+    pub(crate) fn new(alloc: Global) -> PlacedPlan
         ensures none { result.extra.items ≡ [] }
     {
         PlacedPlan {
@@ -48,8 +48,8 @@ impl PlacedPlan {
         }
     }
 
-    /// Places the constant and a plan's leaves, of which there are so many. The only error is want of memory.
-    pub fn begin(&mut self, count: u8, leaves: &[u32]) -> Result<(), AllocError>
+    // Places the constant and a plan's leaves, of which there are so many.
+    fn begin(&mut self, count: u8, leaves: &[u32]) -> Result<(), AllocError>
         requires low { (i : ℕ) → slice_index_or leaves.now i 0 < 2 ^ 31 }
         ensures literals { OnOk result (self.new.literals.items ≡ joining.constant ∷ spec.leaf_literals count leaves.now) }
         ensures none { OnOk result (self.new.extra.items ≡ []) }
@@ -231,9 +231,8 @@ pub fn node_at(nodes: &[u32], place: usize) -> u32
     if place < nodes.len() { nodes[place] } else { 0 }
 }
 
-/// Places one gate of a plan, whose pair is looked up among the rows below the root and the new rows. The only error is want
-/// of memory.
-pub fn place_gate(
+// Places one gate of a plan, whose pair is looked up among the rows below the root and the new rows.
+fn place_gate(
     rows: &[Row],
     index: &PairIndex,
     root: u32,

@@ -13,13 +13,11 @@ use crate::proposer::{MAX_COUNTED, candidate};
 use crate::rooted::RootedCut;
 use std::alloc::{AllocError, Global};
 use syn_function_plans::{FunctionPlans, PlanSource};
-use syn_gain::{
-    Candidate, PlacedPlan, Proposal, Room, Uses, adds_fewer, literal_for, mffc_size, owned,
-};
+use syn_gain::{Candidate, Proposal, Room, Uses, adds_fewer, literal_for, mffc_size, owned};
 use syn_graph::Graph;
 use syn_library::Prepared as Classes;
 use syn_plan::Plan;
-use syn_weighing::dry_run;
+use syn_weighing::{DryRun, dry_run};
 
 /// Which proposals are worth a commit.
 #[derive(Clone, Copy, Debug)]
@@ -30,9 +28,9 @@ pub(crate) struct Worth {
     own_row: bool,
 }
 
-// Whether a placed plan becomes the root itself.
-fn is_root(candidate: Candidate, placed: &PlacedPlan) -> bool {
-    literal_for(placed.literals.as_slice(), candidate.plan.out).node() == candidate.root
+// Whether a weighed plan becomes the root itself.
+fn is_root(candidate: Candidate, weighed: &DryRun) -> bool {
+    literal_for(weighed.literals.as_slice(), candidate.plan.out).node() == candidate.root
 }
 
 // Whether a proposal for an AND is worth a commit, where its gates may be those of any row. The only error is want of memory,
@@ -42,30 +40,27 @@ fn is_worth(
     uses: &Uses,
     candidate: Candidate,
     worth: Worth,
-    placed: &mut PlacedPlan,
+    weighed: &mut DryRun,
     room: &mut Room,
 ) -> Result<bool, AllocError>
     requires uses { IsUsesOf uses.now graph.now }
     requires root { is_and (row_at graph.now.rows candidate.root) ≡ true }
-    requires begins { BeginsWith candidate.plan.now.leaves candidate.leaves.now placed.old }
-    ensures begins { OnOk result (BeginsWith candidate.entry.plan.now.leaves candidate.entry.leaves.now placed.new) }
+    requires begins { BeginsWith candidate.plan.now.leaves candidate.leaves.now weighed.old }
+    ensures begins { OnOk result (BeginsWith candidate.entry.plan.now.leaves candidate.entry.leaves.now weighed.new) }
 {
     let limit = worth.limit as usize;
     if candidate.plan.gates.len() < limit {
         return Ok(true);
     }
     let any = graph.rows.as_slice().len() as u32;
-    if dry_run(graph, uses, candidate, any, limit, placed)? {
-        return Ok(
-            placed.extra.as_slice().len() < limit && (worth.own_row || !is_root(candidate, placed)),
-        );
+    if dry_run(graph, uses, candidate, any, limit, weighed) {
+        return Ok(weighed.extra.len() < limit && (worth.own_row || !is_root(candidate, weighed)));
     }
     adds_fewer(graph, uses, candidate, worth.limit, room)
 }
 
 // Adds those of the plans of an AND's function over a cut that are worth a commit, in order.
 fn push_worth(
-    alloc: Global,
     graph: &Graph,
     uses: &Uses,
     cut: RootedCut,
@@ -79,11 +74,10 @@ fn push_worth(
     requires plans { ArePlansOf cut.function plans.now }
     ensures { OnOk result (All (λ p. p.root ≡ cut.entry.root) proposals.old.items → All (λ p. p.root ≡ cut.entry.root) proposals.new.items) }
 {
-    let mut placed = PlacedPlan::new(alloc);
-    placed.begin(MAX_LEAVES, cut.leaves)?;
+    let mut weighed = DryRun::over(MAX_LEAVES, cut.leaves);
     for plan in plans {
         let candidate = candidate(graph, cut, plan);
-        if !is_worth(graph, uses, candidate, worth, &mut placed, room)? {
+        if !is_worth(graph, uses, candidate, worth, &mut weighed, room)? {
             continue;
         }
         proposals.push(owned(candidate))?;
@@ -94,7 +88,6 @@ fn push_worth(
 // The same of plans that are made here. They are large, and a function fills its locals as it begins: so this one is called
 // only where the plans weren't made before.
 fn push_fitted(
-    alloc: Global,
     graph: &Graph,
     uses: &Uses,
     classes: &Classes,
@@ -108,16 +101,7 @@ fn push_fitted(
     ensures { OnOk result (All (λ p. p.root ≡ cut.entry.root) proposals.old.items → All (λ p. p.root ≡ cut.entry.root) proposals.new.items) }
 {
     let plans = FunctionPlans::fitted(classes, cut.function);
-    push_worth(
-        alloc,
-        graph,
-        uses,
-        cut,
-        plans.as_slice(),
-        worth,
-        room,
-        proposals,
-    )
+    push_worth(graph, uses, cut, plans.as_slice(), worth, room, proposals)
 }
 
 /// Which proposals over a cut are worth a commit on a shared table of the graph: those that may save, and with `zero_gain`
@@ -142,7 +126,6 @@ pub(crate) fn worth_over(
 
 /// Adds those of the plans of an AND's function over a cut that are worth a commit, in order.
 pub(crate) fn push_candidates(
-    alloc: Global,
     graph: &Graph,
     uses: &Uses,
     source: PlanSource,
@@ -156,25 +139,7 @@ pub(crate) fn push_candidates(
     ensures { OnOk result (All (λ p. p.root ≡ cut.entry.root) proposals.old.items → All (λ p. p.root ≡ cut.entry.root) proposals.new.items) }
 {
     match source.known.plans(cut.function) {
-        Some(found) => push_worth(
-            alloc,
-            graph,
-            uses,
-            cut,
-            found.as_slice(),
-            worth,
-            room,
-            proposals,
-        ),
-        None => push_fitted(
-            alloc,
-            graph,
-            uses,
-            source.classes,
-            cut,
-            worth,
-            room,
-            proposals,
-        ),
+        Some(found) => push_worth(graph, uses, cut, found.as_slice(), worth, room, proposals),
+        None => push_fitted(graph, uses, source.classes, cut, worth, room, proposals),
     }
 }

@@ -23,12 +23,12 @@ use crate::rooted::{RootedCut, rooted_at};
 use std::alloc::{AllocError, Global};
 use std::thread::Threads;
 use syn_function_plans::{FunctionPlans, PlanCache, PlanSource, plans_of};
-use syn_gain::{Candidate, PlacedPlan, Proposal, Room, Uses, mffc_size, owned, saves};
+use syn_gain::{Candidate, Proposal, Room, Uses, mffc_size, owned, saves};
 use syn_graph::Graph;
 use syn_library::Prepared as Classes;
 use syn_plan::Plan;
 use syn_proposals::Proposer;
-use syn_weighing::{are_apart, names_within, saves_nothing};
+use syn_weighing::{DryRun, are_apart, names_within, saves_nothing};
 
 /// How many ANDs that go with a row are counted before its plans are looked at; hardly a plan of four leaves adds as many.
 pub(crate) const MAX_COUNTED: u32 = 16;
@@ -142,13 +142,12 @@ fn some_saves(
     let told = plans.apart.as_slice();
     let leaves_apart = leaves_apart(graph, cut);
     let mut counted = None;
-    let mut placed = PlacedPlan::new(alloc);
-    placed.begin(MAX_LEAVES, cut.leaves)?;
+    let mut weighed = DryRun::over(MAX_LEAVES, cut.leaves);
     for (i, plan) in all.iter().enumerate() {
         let apart = leaves_apart && names_within(told, i, cut.leaves);
         let candidate = candidate(graph, cut, plan);
         if plans.irredundant
-            && saves_nothing(alloc, graph, uses, candidate, most, apart, &mut placed)?
+            && saves_nothing(alloc, graph, uses, candidate, most, apart, &mut weighed)?
         {
             continue;
         }
@@ -339,16 +338,7 @@ impl Proposer for CutPlans {
         for i in 0..cuts.len() {
             let cut = rooted_at(graph, lists, node, cuts, i);
             let worth = worth_over(alloc, graph, uses, cut, zero_gain)?;
-            push_candidates(
-                alloc,
-                graph,
-                uses,
-                source,
-                cut,
-                worth,
-                &mut room,
-                &mut proposals,
-            )?;
+            push_candidates(graph, uses, source, cut, worth, &mut room, &mut proposals)?;
         }
         Ok(proposals)
     }

@@ -69,10 +69,10 @@ loop-i-preserved c =
       begins = elim c.else-plans.branch [
         | else-plans-via-then-plans+in_ok-saves_nothing+else-branch w ↦
             let four : c.candidate-candidate.result.plan.now.leaves ≡ 4 = ap (λ (r : Replacement). r.count) c.candidate-candidate.ensures.is in
-            subst (BeginsWith 4 c.args.cut.leaves.now) (sym w.placed-is)
-            (subst (λ (ls : List ℕ). BeginsWith 4 ls w.saves_nothing.new.placed) c.candidate-candidate.ensures.leaves
-            (subst (λ (n : ℕ). BeginsWith n c.candidate-candidate.result.leaves.now w.saves_nothing.new.placed) four w.in_ok-saves_nothing.ensures.begins))
-        | else-plans-via-else-plans w ↦ subst (BeginsWith 4 c.args.cut.leaves.now) (sym w.placed-is) c.loop-i.invariant.begins
+            subst (BeginsWith 4 c.args.cut.leaves.now) (sym w.weighed-is)
+            (subst (λ (ls : List ℕ). BeginsWith 4 ls w.saves_nothing.new.weighed) c.candidate-candidate.ensures.leaves
+            (subst (λ (n : ℕ). BeginsWith n c.candidate-candidate.result.leaves.now w.saves_nothing.new.weighed) four w.in_ok-saves_nothing.ensures.begins))
+        | else-plans-via-else-plans w ↦ subst (BeginsWith 4 c.args.cut.leaves.now) (sym w.weighed-is) c.loop-i.invariant.begins
       ];
       counted = search rules;
     }

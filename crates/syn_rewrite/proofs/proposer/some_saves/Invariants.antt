@@ -11,6 +11,6 @@ use Rattle.syn_rewrite.proofs.proposer.some_saves.Given as goal
 abbrev pub invariant-loop-i : goal.invariant-loop-i
 invariant-loop-i l = record {
   none : AllWithin (λ p. SavesNothing l.graph.rows l.graph.observed (over l.cut.root l.cut.leaves.now (built_of p))) l.all 0 l.i;
-  begins : BeginsWith 4 l.cut.leaves.now l.placed;
+  begins : BeginsWith 4 l.cut.leaves.now l.weighed;
   counted : IfSome l.counted (IsMostLost l.graph.rows (count_in l.uses.counts.items) l.cut.root l.cut.leaves.now);
 }

@@ -16,7 +16,7 @@ dry_run_gates-requires-clause-placing c =
     let n = length c.as_slice-rows.result.now in
     let begun = begun_in n node r.plan.now.leaves r.leaves.now (omega (arith, r.root_is_no_constant, c.requires.leaves)) (λ i lt. omega (arith, below_each r.root r.leaves.now r.below_root i lt, c.requires.leaves)) in
     subst (λ (ls : List Lit). IsPlacing node n ls c.clear.new.self.items) (sym (c.truncate.ensures.items ∙ c.requires.begins))
-    (subst (λ (es : List Row). IsPlacing node n (constant ∷ leaf_literals r.plan.now.leaves r.leaves.now) es) (sym c.clear.ensures.items) begun)
+    (subst (λ (es : List Row). IsPlacing node n (constant ∷ leaf_literals r.plan.now.leaves r.leaves.now) es) (sym c.clear.ensures) begun)
 
 pub returns-clause-begins : goal.returns-clause-begins
 returns-clause-begins c =
@@ -24,4 +24,4 @@ returns-clause-begins c =
     let count = r.plan.now.leaves in
     let is = c.truncate.ensures.items ∙ c.requires.begins in
     let long : length c.truncate.new.self.items ≡ 1 + count = omega (arith, ap (λ (ls : List Lit). length ls) is, each_long count (λ i. lit_of (get_or r.leaves.now i 0))) in
-    c.in_ok-told.ensures.first (1 + count) (omega (arith, long)) ∙ take_all (1 + count) c.truncate.new.self.items (omega (arith, long)) ∙ is
+    c.dry_run_gates.ensures.first (1 + count) (omega (arith, long)) ∙ take_all (1 + count) c.truncate.new.self.items (omega (arith, long)) ∙ is

@@ -5,9 +5,9 @@ use Rattle.syn_weighing.proofs.dry_runs.dry_run_gates.Given as goal
 
 abbrev pub invariant-loop-gate : goal.invariant-loop-gate
 invariant-loop-gate l = record {
-  rest : weigh_until l.rows l.node l.most (drop l.gate-index l.gates) (weight_of l.placed) ≡ weigh_until l.rows l.node l.most l.gates (weight_of l.initial.placed);
-  first : (n : ℕ) → n ≤ length l.initial.placed.literals.items → take n l.placed.literals.items ≡ take n l.initial.placed.literals.items;
-  count : length l.placed.literals.items ≡ length l.initial.placed.literals.items + l.gate-index;
-  small : length l.placed.extra.items < length l.placed.literals.items;
-  placing : IsPlacing l.node (length l.rows) l.placed.literals.items l.placed.extra.items;
+  rest : weigh_until l.rows l.node l.most (drop l.gate-index l.gates) (weight_of l.weighed) ≡ weigh_until l.rows l.node l.most l.gates (weight_of l.initial.weighed);
+  first : (n : ℕ) → n ≤ length l.initial.weighed.literals.items → take n l.weighed.literals.items ≡ take n l.initial.weighed.literals.items;
+  count : length l.weighed.literals.items ≡ length l.initial.weighed.literals.items + l.gate-index;
+  small : length l.weighed.extra.items < length l.weighed.literals.items;
+  placing : IsPlacing l.node (length l.rows) l.weighed.literals.items l.weighed.extra.items;
 }
