@@ -11,7 +11,6 @@ use std::alloc::{AllocError, Global};
 use std::thread::Threads;
 use syn_cuts::{CutLists, Finder, set_levels};
 use syn_graph::Graph;
-use syn_workers::Workers;
 
 /// A node with its functions.
 #[derive(Drop)]
@@ -121,7 +120,7 @@ pub(crate) fn set_functions<R: Threads + Sync>(
     graph: &Graph,
     cuts: &CutLists,
     lists: &mut Vec<Functions>,
-    workers: Workers,
+    workers: u8,
 ) -> Result<(), AllocError>
     requires cuts { cuts.now ≡ listed_cuts 4 graph.now.rows }
     requires few { length graph.now.rows < NODE_LIMIT }

@@ -6,7 +6,6 @@ use std::alloc::{AllocError, Global};
 use std::thread;
 use std::thread::Threads;
 use syn_rows::{Row, levels};
-use syn_workers::Workers;
 
 // How many nodes are worth a thread.
 const MIN_CHUNK: usize = 64;
@@ -47,10 +46,14 @@ pub trait Finder: Sync {
 
 // How many nodes a chunk has, of so many nodes for so many workers, so that there are no more chunks than workers; few
 // nodes are one chunk.
-fn chunk_size(nodes: usize, workers: Workers) -> usize
+fn chunk_size(nodes: usize, workers: u8) -> usize
     ensures { 0 < result }
 {
-    let share = nodes.div_ceil(workers.number() as usize);
+    let share = if workers == 0 {
+        nodes
+    } else {
+        nodes.div_ceil(workers as usize)
+    };
     if share < MIN_CHUNK { MIN_CHUNK } else { share }
 }
 
@@ -61,7 +64,7 @@ fn find_parts<R: Threads + Sync, F: Finder>(
     finder: &F,
     known: &F::Known,
     nodes: &[u32],
-    workers: Workers,
+    workers: u8,
 ) -> Result<Vec<Result<F::Found, AllocError>>, AllocError>
     requires { F.is_known finder.now known.now }
     ensures { IfOk result (λ parts. All (λ part. IfOk part (F.is_found finder.now)) parts.items) }
@@ -80,7 +83,7 @@ fn set_some<R: Threads + Sync, F: Finder>(
     finder: &F,
     known: &mut F::Known,
     nodes: &[u32],
-    workers: Workers,
+    workers: u8,
 ) -> Result<(), AllocError>
     requires { F.is_known finder.now known.old }
     ensures { OnOk result (F.is_known finder.now known.new) }
@@ -126,7 +129,7 @@ fn set_level<R: Threads + Sync, F: Finder>(
     finder: &F,
     known: &mut F::Known,
     nodes: &[u32],
-    workers: Workers,
+    workers: u8,
 ) -> Result<(), AllocError>
     requires { F.is_known finder.now known.old }
     ensures { OnOk result (F.is_known finder.now known.new) }
@@ -146,7 +149,7 @@ pub fn set_levels<R: Threads + Sync, F: Finder>(
     rows: &[Row],
     finder: &F,
     known: &mut F::Known,
-    workers: Workers,
+    workers: u8,
 ) -> Result<(), AllocError>
     requires few { length rows.now + 1 < 2 ^ 32 }
     requires known { F.is_known finder.now known.old }

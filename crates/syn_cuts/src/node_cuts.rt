@@ -16,7 +16,6 @@ use arrayvec::ArrayVec;
 use std::alloc::{AllocError, Global};
 use std::thread::Threads;
 use syn_rows::Row;
-use syn_workers::Workers;
 
 // The first unions of the listed cuts of the nodes that a row refers to.
 fn row_unions(lists: &CutLists, row: Row, k: usize) -> ArrayVec<Cut, CUTS_PER_NODE>
@@ -169,7 +168,7 @@ pub(crate) fn listed_rows<R: Threads + Sync>(
     alloc: Global,
     rows: &[Row],
     k: usize,
-    workers: Workers,
+    workers: u8,
 ) -> Result<CutLists, AllocError>
     requires small { k ≤ MAX_VARS }
     requires few { length rows.now + 1 < 2 ^ 32 }
@@ -177,7 +176,7 @@ pub(crate) fn listed_rows<R: Threads + Sync>(
     ensures { IfOk result (λ lists. lists ≡ listed_cuts k rows.now) }
 {
     let mut lists = CutLists::empty(alloc, rows.len())?;
-    if workers.number() > 1 {
+    if workers > 1 {
         let listing = Listing { rows, k };
         set_levels(rt, alloc, rows, &listing, &mut lists, workers)?;
     }

@@ -13,4 +13,3 @@ pub mod Steps
 pub mod Sweeping
 pub mod Fitting
 pub mod Enough
-mod HitLookups

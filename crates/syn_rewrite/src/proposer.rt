@@ -28,8 +28,7 @@ use syn_graph::Graph;
 use syn_library::Prepared as Classes;
 use syn_plan::Plan;
 use syn_proposals::Proposer;
-use syn_weighing::{are_apart, dry_run_over, names_within, saves_nothing};
-use syn_workers::Workers;
+use syn_weighing::{DryRun, are_apart, names_within, saves_nothing};
 
 /// How many ANDs that go with a row are counted before its plans are looked at; hardly a plan of four leaves adds as many.
 pub(crate) const MAX_COUNTED: u32 = 16;
@@ -143,7 +142,7 @@ fn some_saves(
     let told = plans.apart.as_slice();
     let leaves_apart = leaves_apart(graph, cut);
     let mut counted = None;
-    let mut weighed = dry_run_over(MAX_LEAVES, cut.leaves);
+    let mut weighed = DryRun::over(MAX_LEAVES, cut.leaves);
     for (i, plan) in all.iter().enumerate() {
         let apart = leaves_apart && names_within(told, i, cut.leaves);
         let candidate = candidate(graph, cut, plan);
@@ -264,7 +263,7 @@ impl Proposer for CutPlans {
         rt: &R,
         alloc: Global,
         graph: &Graph,
-        workers: Workers,
+        workers: u8,
     ) -> Result<Prepared, AllocError> {
         let known = PlanCache::new(alloc)?;
         prepare(rt, alloc, &self.classes, graph, known, workers)
@@ -276,7 +275,7 @@ impl Proposer for CutPlans {
         alloc: Global,
         graph: &Graph,
         lists: Prepared,
-        workers: Workers,
+        workers: u8,
     ) -> Result<Prepared, AllocError> {
         let Prepared { known, .. } = lists;
         prepare(rt, alloc, &self.classes, graph, known, workers)
