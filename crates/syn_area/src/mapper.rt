@@ -17,6 +17,7 @@ use std::thread::Threads;
 use syn_covering::net_of;
 use syn_graph::Graph;
 use syn_lutnet::LutNet;
+use syn_workers::Workers;
 
 /// LUTs of at most `k` inputs of a graph, few of them: never more than `map` makes of it, and never deeper.
 ///
@@ -27,7 +28,7 @@ pub fn map_for_area<R: Threads + Sync>(
     alloc: Global,
     graph: &Graph,
     k: u8,
-    workers: u8,
+    workers: Workers,
 ) -> Result<LutNet, AllocError>
     requires many { 2 ≤ k }
     requires few { k ≤ MAX_VARS }

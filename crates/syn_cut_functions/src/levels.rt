@@ -11,6 +11,7 @@ use std::alloc::{AllocError, Global};
 use std::thread::Threads;
 use syn_cuts::{CutLists, Finder, set_levels};
 use syn_graph::Graph;
+use syn_workers::Workers;
 
 /// A node with its functions.
 #[derive(Drop)]
@@ -120,7 +121,7 @@ pub(crate) fn set_functions<R: Threads + Sync>(
     graph: &Graph,
     cuts: &CutLists,
     lists: &mut Vec<Functions>,
-    workers: u8,
+    workers: Workers,
 ) -> Result<(), AllocError>
     requires cuts { cuts.now ≡ listed_cuts 4 graph.now.rows }
     requires few { length graph.now.rows < NODE_LIMIT }

@@ -17,6 +17,7 @@ use std::alloc::{AllocError, Global};
 use std::thread::Threads;
 use syn_cuts::CutLists;
 use syn_graph::Graph;
+use syn_workers::Workers;
 
 // No functions of so many nodes.
 fn none_found(alloc: Global, count: usize) -> Result<Vec<Functions>, AllocError>
@@ -85,7 +86,7 @@ pub fn cut_truths<R: Threads + Sync>(
     alloc: Global,
     graph: &Graph,
     cuts: &CutLists,
-    workers: u8,
+    workers: Workers,
 ) -> Result<Vec<Vec<u16>>, AllocError>
     requires { cuts.now ≡ listed_cuts 4 graph.now.rows }
     ensures count { IfOk result (λ v. length v.items ≡ length graph.now.rows) }
@@ -93,7 +94,7 @@ pub fn cut_truths<R: Threads + Sync>(
 {
     let _count = graph.count();
     let mut lists = none_found(alloc, graph.rows.as_slice().len())?;
-    if workers > 1 {
+    if workers.number() > 1 {
         set_functions(rt, alloc, graph, cuts, &mut lists, workers)?;
     }
     all_numbers(alloc, graph, cuts, lists)

@@ -13,6 +13,7 @@ use std::alloc::{AllocError, Global};
 use std::thread::Threads;
 use syn_graph::Graph;
 use syn_truth::Truth;
+use syn_workers::Workers;
 
 /// The listed cuts of each node of a graph: of an AND the first 31 unions, by size and then by
 /// leaves, of a listed cut of each fan-in, with at most `k` leaves, and then the node alone; of a
@@ -25,7 +26,7 @@ pub fn listed<R: Threads + Sync>(
     alloc: Global,
     graph: &Graph,
     k: u8,
-    workers: u8,
+    workers: Workers,
 ) -> Result<CutLists, AllocError>
     requires { k ≤ MAX_VARS }
     ensures lists { IfOk result (λ lists. lists ≡ listed_cuts k graph.now.rows) }

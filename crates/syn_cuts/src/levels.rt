@@ -6,6 +6,7 @@ use std::alloc::{AllocError, Global};
 use std::thread;
 use std::thread::Threads;
 use syn_rows::{Row, levels};
+use syn_workers::Workers;
 
 // How many nodes are worth a thread.
 const MIN_CHUNK: usize = 64;
@@ -46,14 +47,10 @@ pub trait Finder: Sync {
 
 // How many nodes a chunk has, of so many nodes for so many workers, so that there are no more chunks than workers; few
 // nodes are one chunk.
-fn chunk_size(nodes: usize, workers: u8) -> usize
+fn chunk_size(nodes: usize, workers: Workers) -> usize
     ensures { 0 < result }
 {
-    let share = if workers == 0 {
-        nodes
-    } else {
-        nodes.div_ceil(workers as usize)
-    };
+    let share = nodes.div_ceil(workers.number() as usize);
     if share < MIN_CHUNK { MIN_CHUNK } else { share }
 }
 
@@ -64,7 +61,7 @@ fn find_parts<R: Threads + Sync, F: Finder>(
     finder: &F,
     known: &F::Known,
     nodes: &[u32],
-    workers: u8,
+    workers: Workers,
 ) -> Result<Vec<Result<F::Found, AllocError>>, AllocError>
     requires { F.is_known finder.now known.now }
     ensures { IfOk result (λ parts. All (λ part. IfOk part (F.is_found finder.now)) parts.items) }
@@ -83,7 +80,7 @@ fn set_some<R: Threads + Sync, F: Finder>(
     finder: &F,
     known: &mut F::Known,
     nodes: &[u32],
-    workers: u8,
+    workers: Workers,
 ) -> Result<(), AllocError>
     requires { F.is_known finder.now known.old }
     ensures { OnOk result (F.is_known finder.now known.new) }
@@ -129,7 +126,7 @@ fn set_level<R: Threads + Sync, F: Finder>(
     finder: &F,
     known: &mut F::Known,
     nodes: &[u32],
-    workers: u8,
+    workers: Workers,
 ) -> Result<(), AllocError>
     requires { F.is_known finder.now known.old }
     ensures { OnOk result (F.is_known finder.now known.new) }
@@ -149,7 +146,7 @@ pub fn set_levels<R: Threads + Sync, F: Finder>(
     rows: &[Row],
     finder: &F,
     known: &mut F::Known,
-    workers: u8,
+    workers: Workers,
 ) -> Result<(), AllocError>
     requires few { length rows.now + 1 < 2 ^ 32 }
     requires known { F.is_known finder.now known.old }

@@ -16,6 +16,7 @@ use arrayvec::ArrayVec;
 use std::alloc::{AllocError, Global};
 use std::thread::Threads;
 use syn_rows::Row;
+use syn_workers::Workers;
 
 // The first unions of the listed cuts of the nodes that a row refers to.
 fn row_unions(lists: &CutLists, row: Row, k: usize) -> ArrayVec<Cut, CUTS_PER_NODE>
@@ -168,7 +169,7 @@ pub(crate) fn listed_rows<R: Threads + Sync>(
     alloc: Global,
     rows: &[Row],
     k: usize,
-    workers: u8,
+    workers: Workers,
 ) -> Result<CutLists, AllocError>
     requires small { k ≤ MAX_VARS }
     requires few { length rows.now + 1 < 2 ^ 32 }
@@ -176,7 +177,7 @@ pub(crate) fn listed_rows<R: Threads + Sync>(
     ensures { IfOk result (λ lists. lists ≡ listed_cuts k rows.now) }
 {
     let mut lists = CutLists::empty(alloc, rows.len())?;
-    if workers > 1 {
+    if workers.number() > 1 {
         let listing = Listing { rows, k };
         set_levels(rt, alloc, rows, &listing, &mut lists, workers)?;
     }

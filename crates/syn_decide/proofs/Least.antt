@@ -36,9 +36,15 @@ has_more : (n : ℕ) (dying : List Counted) (r : Counted) → has_node (counted_
 has_more n [] r = or_false (r.node == n)
 has_more n (g ∷ dying) r = ap (λ b. (g.node == n) || b) (has_more n dying r) ∙ or_assoc (g.node == n) (has_node (counted_nodes dying) n) (r.node == n)
 
-refs_more : (dying : List Counted) (r : Counted) (m : ℕ) → refs_by_counted (dying ++ r ∷ []) m ≡ refs_by_counted dying m + refs m r.row
+pub refs_more : (dying : List Counted) (r : Counted) (m : ℕ) → refs_by_counted (dying ++ r ∷ []) m ≡ refs_by_counted dying m + refs m r.row
 refs_more [] r m = omega arith
 refs_more (g ∷ dying) r m = let rest = refs_more dying r m in omega (arith, rest)
+
+-- one step of the steps that are left
+pub one_step : (hits : List ℕ) (rows dying next all : List Counted) (r : Counted) (k steps : ℕ) → steps ≡ suc k → first_dying hits dying rows ≡ Some r → next ≡ dying ++ r ∷ []
+    → dying_after steps hits rows dying ≡ all → dying_after k hits rows next ≡ all
+one_step hits rows dying next all r k steps e first pushed rest =
+    ap (dying_after k hits rows) pushed ∙ sym (ap (and_more dying (dying_after k hits rows)) first) ∙ ap (λ s. dying_after s hits rows dying) (sym e) ∙ rest
 
 pub has_of : (r : Counted) (rows : List Counted) → IsOf r rows → has_node (counted_nodes rows) r.node ≡ true
 has_of r [] h = absurd h

@@ -13,3 +13,4 @@ pub mod Steps
 pub mod Sweeping
 pub mod Fitting
 pub mod Enough
+mod HitLookups

@@ -1,5 +1,5 @@
 -- Which rows die with the root's old row. A counted row is an inner row with the references to its node that are not the seat's own pins.
-use Rattle.std.specs.Prelude.{◌≡◌, ℕ, zero, suc, ◌+◌, ◌≤◌, ◌&&◌, not, nat_le, if◌then◌else◌, Bool, true, false, All, List, [], ◌∷◌, ◌++◌, map, length, Option, Some, None}
+use Rattle.std.specs.Prelude.{◌≡◌, ℕ, zero, suc, ◌+◌, ◌-◌, ◌<◌, ◌≤◌, ◌&&◌, not, nat_le, if◌then◌else◌, Bool, true, false, All, List, [], ◌∷◌, ◌++◌, map, length, slice_index_or, Option, Some, None}
 use Rattle.syn_rows.specs.References.{refs, and_count}
 use Rattle.syn_rows.specs.Nodes.{has_node}
 use Rattle.syn_decide.specs.declared.decisions.Counted.{Counted}
@@ -23,6 +23,11 @@ refs_by_counted (r ∷ rows) m = refs m r.row + refs_by_counted rows m
 -- A row dies where it is no hit, and all references to it that are not the seat's own pins are from rows that die.
 abbrev pub dies : List ℕ → List Counted → Counted → Bool
 dies hits dying r = (not (has_node (counted_nodes dying) r.node) && not (has_node hits r.node)) && nat_le r.others (refs_by_counted dying r.node)
+
+-- What is left of the references to each row, without those from rows that die.
+pub record AreLeft (rows dying : List Counted) (left : List ℕ) : Type 0 where
+  pub len : length left ≡ length rows
+  pub each : (i : ℕ) (d : Counted) → i < length rows → slice_index_or left i 0 ≡ (slice_index_or rows i d).others - refs_by_counted dying (slice_index_or rows i d).node
 
 -- the first of the rows that dies, beside those that are known to
 abbrev pub first_dying : List ℕ → List Counted → List Counted → Option Counted

@@ -14,9 +14,9 @@ ghost use Rattle.syn_decide.specs.Phases.{most_at, stage_of, state_at};
 
 use crate::found::{Desk, Found};
 use crate::mffc::freed_by;
-use crate::place::Placing;
+use crate::place::{Placed, place, rows_needed};
 use crate::worklist::Waiting;
-use crate::{Attempt, MAX_INNER, NodeRow, Outcome, Phase};
+use crate::{Attempt, MAX_INNER, NodeRow, Outcome, Phase, place};
 use syn_core_laws::Seen;
 use syn_plan::MAX_GATES;
 use syn_rows::{NODE_LIMIT, Row};
@@ -64,21 +64,13 @@ fn may_hit(leaves: &[u32], high: u64, n: u32, key: u64) -> bool
     n < NODE_LIMIT as u32 && n != 0 && !leaves.contains(&n) && key < high
 }
 
-/// What the gates of a proposal become with these hits.
-pub(crate) fn place(attempt: &Attempt<'_>, hits: &[NodeRow], placing: &mut Placing)
-    requires { All (λ h. h.node < NODE_LIMIT) hits.now }
-    ensures { placing.new ≡ hints.placed_by_hits (task_of attempt.now) hits.now }
-{
-    placing.fill(attempt.candidate.plan, attempt.candidate.leaves, hits);
-}
-
 // Whether a hint is asked for the pair of a row.
-fn is_asked(attempt: &Attempt<'_>, hits: &[NodeRow], placing: &mut Placing, row: Row) -> bool
+fn is_asked(attempt: &Attempt<'_>, hits: &[NodeRow], placed: &mut Placed, row: Row) -> bool
     requires { All (λ h. h.node < NODE_LIMIT) hits.now }
     ensures { result ≡ hints.is_asked (hints.placed_by_hits (task_of attempt.now) hits.now).extra row }
 {
-    place(attempt, hits, placing);
-    placing.asks(row)
+    place(attempt, hits, placed);
+    place::is_asked(placed.extra.as_slice(), row)
 }
 
 // Whether the node is that of the row load, and there is room for a hit.
@@ -93,7 +85,7 @@ fn is_behind(hits: &[NodeRow], last: NodeRow, node: u32) -> bool
 fn is_hint(
     attempt: &Attempt<'_>,
     hits: &[NodeRow],
-    placing: &mut Placing,
+    placed: &mut Placed,
     last: NodeRow,
     node: u32,
 ) -> bool
@@ -101,7 +93,7 @@ fn is_hint(
     ensures room { result ≡ true → length hits.now < MAX_GATES }
     ensures hint { result ≡ ((node == last.node && nat_lt (length hits.now) hints.most_hits) && hints.is_asked (hints.placed_by_hits (task_of attempt.now) hits.now).extra last.row) }
 {
-    is_behind(hits, last, node) && is_asked(attempt, hits, placing, last.row)
+    is_behind(hits, last, node) && is_asked(attempt, hits, placed, last.row)
 }
 
 // The node, whose row was asked for, is a hit where it may be one.
@@ -123,7 +115,7 @@ fn hinted(attempt: &Attempt<'_>, found: &mut Found, last: NodeRow, key: u64) -> 
 fn hint_key(
     attempt: &Attempt<'_>,
     found: &mut Found,
-    placing: &mut Placing,
+    placed: &mut Placed,
     last: Option<NodeRow>,
     node: u32,
     key: u64,
@@ -136,7 +128,7 @@ fn hint_key(
     let Some(last) = last else {
         return Phase::Failed;
     };
-    if is_hint(attempt, found.hits.as_slice(), placing, last, node) {
+    if is_hint(attempt, found.hits.as_slice(), placed, last, node) {
         hinted(attempt, found, last, key)
     } else {
         Phase::Failed
@@ -183,12 +175,12 @@ fn conclude(attempt: &Attempt<'_>, inner: &[NodeRow], found: &Found, desk: &mut 
 {
     let hits = found.hits.as_slice();
     let freed = freed_by(inner, hits, found.counts.as_slice(), &mut desk.room);
-    place(attempt, hits, &mut desk.placing);
-    let added = desk.placing.added();
+    place(attempt, hits, &mut desk.placed);
+    let added = desk.placed.extra.len() as u32;
     if freed < added + least_gain(attempt.zero_gain) {
         return Outcome::NoGain { freed, added };
     }
-    let need = desk.placing.needed(attempt.candidate.plan.out);
+    let need = rows_needed(&desk.placed, attempt.candidate.plan.out);
     by_gap(attempt, found, freed - added, need)
 }
 
@@ -261,7 +253,7 @@ pub(crate) fn read_hinting(
 {
     match read {
         Seen::Row(node, row) => Phase::Hinting(Some(NodeRow { node, row })),
-        Seen::Key(node, key) => hint_key(attempt, found, &mut desk.placing, last, node, key),
+        Seen::Key(node, key) => hint_key(attempt, found, &mut desk.placed, last, node, key),
         Seen::Miss(_) => Phase::Hinting(None),
         Seen::Count { node, count, own } => {
             read_count(attempt, inner, found, desk, node, count, own)

@@ -5,7 +5,7 @@ ghost use Rattle.syn_rows.specs.declared.TheConstants.{NODE_LIMIT};
 ghost use Rattle.syn_plan.specs.declared.TheConstants.{MAX_LEAVES};
 
 use syn_gain::{Candidate, Proposal};
-use syn_rows::{Lit, Row};
+use syn_rows::Row;
 use syn_truth::Truth;
 
 /// The most inner rows that a commit takes.
@@ -146,17 +146,6 @@ impl Default for Counted {
             others: 0,
         }
     }
-}
-
-/// A pair of literals, and the literal that a gate of this pair became.
-#[derive(Clone, Copy, Debug, PartialEq, Eq, Default)]
-pub struct MetPair {
-    /// One literal of the pair.
-    pub first: Lit,
-    /// The other one.
-    pub second: Lit,
-    /// What the gate became.
-    pub literal: Lit,
 }
 
 /// How the function of the root by the inner rows compares with the plan's.

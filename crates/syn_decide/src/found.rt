@@ -4,7 +4,7 @@ ghost use Rattle.std.specs.Prelude.{◌<◌, All};
 ghost use Rattle.syn_rows.specs.declared.TheConstants.{NODE_LIMIT};
 
 use crate::mffc::CountedRoom;
-use crate::place::Placing;
+use crate::place::Placed;
 use crate::tables::Rounds;
 use crate::{MAX_INNER, NodeRow};
 use arrayvec::ArrayVec;
@@ -40,7 +40,7 @@ impl Found {
 #[derive(Debug, Drop)]
 pub(crate) struct Desk {
     /// For what the gates of the plan become.
-    pub(crate) placing: Placing,
+    pub(crate) placed: Placed,
     /// For the tables of the inner rows.
     pub(crate) rounds: Rounds,
     /// For the rows that die.
@@ -51,7 +51,7 @@ impl Desk {
     /// Room, and nothing in it.
     pub(crate) fn new() -> Desk {
         Desk {
-            placing: Placing::new(),
+            placed: Placed::new(),
             rounds: Rounds::new(),
             room: CountedRoom::new(),
         }

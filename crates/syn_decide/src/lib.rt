@@ -16,12 +16,12 @@ mod walk;
 mod worklist;
 
 pub use decisions::{
-    Attempt, Comparison, Counted, Decision, MAX_INNER, MetPair, NodeRow, Outcome, Phase,
-    StaleCause, Want,
+    Attempt, Comparison, Counted, Decision, MAX_INNER, NodeRow, Outcome, Phase, StaleCause, Want,
 };
 pub use laws::{
     always_fitting, always_linked, always_walked, counted_are_first, dying_are_least, empty_reads,
     hits_in_order, one_read_more, rows_always_fit, worked_reads,
 };
+pub use mffc::dying_with;
 pub use reads::{Deciding, Reads, decide};
 pub use rows::NewRows;

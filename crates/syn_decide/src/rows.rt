@@ -5,8 +5,7 @@ ghost use Rattle.syn_rows.specs.declared.TheConstants.{NODE_LIMIT};
 ghost use Rattle.syn_decide.specs.Hints as spec;
 ghost use Rattle.syn_decide.specs.Tasks.{task_of};
 
-use crate::answers::place;
-use crate::place::{Placing, is_asked};
+use crate::place::{Placed, is_asked, new_root, place, rows_needed};
 use crate::{Attempt, NodeRow};
 use arrayvec::ArrayVec;
 use syn_plan::MAX_GATES;
@@ -21,7 +20,7 @@ pub struct NewRows {
     pub needed: u32,
     /// The row that the root becomes.
     pub root: Row,
-    placing: Placing,
+    placed: Placed,
 }
 
 impl NewRows {
@@ -31,7 +30,7 @@ impl NewRows {
             rows: ArrayVec::new(),
             needed: 0,
             root: Row::Free,
-            placing: Placing::new(),
+            placed: Placed::new(),
         }
     }
 
@@ -42,10 +41,13 @@ impl NewRows {
         ensures needed { self.new.needed ≡ spec.rows_needed (task_of attempt.now) (spec.placed_by_hits (task_of attempt.now) hits.now) }
         ensures root { self.new.root ≡ spec.new_root_row (task_of attempt.now) (spec.placed_by_hits (task_of attempt.now) hits.now) }
     {
-        place(attempt, hits, &mut self.placing);
-        self.placing.copy_rows(&mut self.rows);
-        self.needed = self.placing.needed(attempt.candidate.plan.out);
-        self.root = self.placing.root_row(attempt.candidate.plan.out);
+        place(attempt, hits, &mut self.placed);
+        self.rows.clear();
+        let _ = self
+            .rows
+            .try_extend_from_slice(self.placed.extra.as_slice());
+        self.needed = rows_needed(&self.placed, attempt.candidate.plan.out);
+        self.root = new_root(&self.placed, attempt.candidate.plan.out);
     }
 
     /// The pair of the new gate at this place, and whether a hint may be tried for it.

@@ -1,5 +1,5 @@
 -- No row refers to a node behind the last one, and no new row to one behind itself; and leaves that rise don't fall.
-use Rattle.std.proofs.Common.{◌≡◌, ◌⊎◌, ℕ, zero, suc, ◌+◌, ◌<◌, ◌≤◌, ◌&&◌, ◌==◌, nat_lt, true, false, List, [], ◌∷◌, length, get_or, None, Some, refl, ap, ◌∙◌, subst, arith, inl, inr}
+use Rattle.std.proofs.Common.{◌≡◌, ◌⊎◌, ℕ, zero, suc, ◌+◌, ◌<◌, ◌≤◌, ◌&&◌, ◌==◌, nat_lt, true, false, List, [], ◌∷◌, ◌++◌, length, get_or, None, Some, refl, sym, ap, ◌∙◌, subst, arith, inl, inr}
 use Rattle.std.proofs.lemmas.Bool.{cases_Bool, cond-false, cond_both, and_parts, eqb-true, ltb-true, or_cases}
 use Rattle.std.specs.List.Sorted.{IsNonDecreasing}
 use Rattle.syn_rows.specs.declared.Lit.{Lit}
@@ -7,12 +7,16 @@ use Rattle.syn_rows.specs.declared.Row.{Row}
 use Rattle.syn_rows.specs.declared.Row.TheVariants.{Free, Source, And, Alias}
 use Rattle.syn_rows.specs.Rows.{node_of, row_at, AllRefs, InOrder}
 use Rattle.syn_rows.specs.Joining.{is_and_of, lit_of, ordered_and, same_pair}
-use Rattle.syn_rows.proofs.JoinLaws.{same_lit}
+use Rattle.syn_rows.proofs.JoinLaws.{ordered_refs, same_lit}
 use Rattle.syn_fanout_free.specs.Freed.{is_free, refers}
 use Rattle.syn_fanout_free.proofs.Pointwise.{at_ref, inside, refers_first, refers_second}
-use Rattle.syn_gain.specs.Laws.{IsBefore}
+use Rattle.syn_hashed.specs.Joined.{PairsOnce}
+use Rattle.syn_hashed.proofs.Looking.{found_nowhere}
+use Rattle.syn_gain.specs.Placing.{literal_below}
+use Rattle.syn_gain.specs.Lookups.{AreNewRows, Gives}
 use Rattle.syn_gain.specs.Leaves.{rise_above}
 use Rattle.syn_gain.specs.Searching.{literal_new}
+use Rattle.syn_gain.proofs.Bounds.{each_push}
 
 pair_refs : (P : ℕ → Type 0) (x y : Lit) → AllRefs P (ordered_and x y) → P (node_of x) × P (node_of y)
 pair_refs P x y = cond_both (nat_lt x.0 y.0) (And x y) (And y x) (λ row. AllRefs P row → P (node_of x) × P (node_of y)) (λ _ h. h) (λ _ h. (h.1, h.0))
@@ -76,8 +80,8 @@ none_new first extra (suc k) x y each =
     cond-false (is_and_of x y (row_at extra k)) (Some (lit_of (first + k))) (literal_new first extra k x y) (each k (omega arith)) ∙ none_new first extra k x y (λ i lt. each i (omega arith))
 
 -- a new row refers to no node behind it
-pub not_behind : (root first : ℕ) (extra : List Row) (x y l : Lit) (i : ℕ) → root ≤ first → AllRefs (IsBefore root first (first + i)) (row_at extra i) → (l ≡ x) ⊎ (l ≡ y) → first + i ≤ node_of l → is_and_of x y (row_at extra i) ≡ false
-not_behind root first extra x y l i low before one far = elim (cases_Bool (is_and_of x y (row_at extra i))) [
+pub not_behind : (first : ℕ) (extra : List Row) (x y l : Lit) (i : ℕ) → AreNewRows first extra → (l ≡ x) ⊎ (l ≡ y) → first + i ≤ node_of l → is_and_of x y (row_at extra i) ≡ false
+not_behind first extra x y l i new one far = elim (cases_Bool (is_and_of x y (row_at extra i))) [
   | inr f ↦ f
   | inl t ↦
       let refs = pair_refers x y (row_at extra i) t in
@@ -85,8 +89,18 @@ not_behind root first extra x y l i low before one far = elim (cases_Bool (is_an
         | inl e ↦ ap (λ (z : Lit). refers (row_at extra i) (node_of z)) e ∙ refs.0
         | inr e ↦ ap (λ (z : Lit). refers (row_at extra i) (node_of z)) e ∙ refs.1
       ] in
-      absurd (elim (at_ref (IsBefore root first (first + i)) (row_at extra i) before (node_of l) named) [
-        | inl old ↦ omega (arith, old, low, far)
-        | inr new ↦ omega (arith, new.1, far)
-      ])
+      let under = at_ref (λ m. m < first + i) (row_at extra i) (new i) (node_of l) named in
+      absurd (omega (arith, under, far))
 ]
+
+-- one more new row, of nodes before it
+pub new_rows_push : (first : ℕ) (extra : List Row) (x y : Lit) → AreNewRows first extra → node_of x < first + length extra → node_of y < first + length extra → AreNewRows first (extra ++ ordered_and x y ∷ [])
+new_rows_push first extra x y new x_in y_in = each_push (λ i row. AllRefs (λ m. m < first + i) row) extra (ordered_and x y) Free new (ordered_refs (λ m. m < first + length extra) x y x_in y_in)
+
+-- rows below a root give what is looked up there
+pub rows_give : (rows : List Row) (root : ℕ) → InOrder rows → PairsOnce rows → Gives (λ x y found. found ≡ literal_below rows root x y) (length rows) (literal_below rows root)
+rows_give rows root order pairs = record {
+  right = λ x y found e. e;
+  first_old = λ x y new. sym (found_nowhere rows pairs root x y (new_nowhere rows order x y (inl new)));
+  second_old = λ x y new. sym (found_nowhere rows pairs root x y (new_nowhere rows order x y (inr new)));
+}

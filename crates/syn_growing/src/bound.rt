@@ -32,5 +32,5 @@ pub fn may_save(
         return Ok(true);
     }
     let mut room = Room::new(alloc);
-    adds_fewer(graph, uses, proposal.borrow(), limit, &mut room)
+    Ok(adds_fewer(graph, uses, proposal.borrow(), limit, &mut room))
 }

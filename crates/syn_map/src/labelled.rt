@@ -12,6 +12,7 @@ use syn_covering::Choice;
 use syn_cuts::CutLists;
 use syn_graph::Graph;
 use syn_rows::Row;
+use syn_workers::Workers;
 
 /// The rows of a graph with the listed cuts of each node, of at most `k` leaves, and the labels over them.
 #[derive(Drop)]
@@ -31,7 +32,7 @@ impl<'a> Labelled<'a> {
         alloc: Global,
         graph: &'a Graph,
         k: u8,
-        workers: u8,
+        workers: Workers,
     ) -> Result<Labelled<'a>, AllocError>
         requires { k ≤ MAX_VARS }
         ensures rows { IfOk result (λ l. l.rows.now ≡ graph.now.rows) }

@@ -17,6 +17,7 @@ use std::thread::Threads;
 use syn_covering::net_of;
 use syn_graph::Graph;
 use syn_lutnet::LutNet;
+use syn_workers::Workers;
 
 /// The LUTs, of at most `k` inputs, of a graph: of the observed ANDs, and again and again of the ANDs among the leaves of
 /// chosen cuts, in node order. The label of a source is 0, that of an AND one more than the least, over its listed cuts of
@@ -29,7 +30,7 @@ pub fn map<R: Threads + Sync>(
     alloc: Global,
     graph: &Graph,
     k: u8,
-    workers: u8,
+    workers: Workers,
 ) -> Result<LutNet, AllocError>
     requires many { 2 ≤ k }
     requires few { k ≤ MAX_VARS }

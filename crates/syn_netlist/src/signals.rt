@@ -114,17 +114,13 @@ pub(crate) fn latch_reads(alloc: Global, latches: &[Latch]) -> Result<Vec<u32>, 
     Ok(read)
 }
 
-// Appends what a latch reads.
-fn push_reads(read: &mut Vec<u32>, latch: Latch) -> Result<(), AllocError>
+/// Appends what a latch reads. The only error is want of memory.
+pub fn push_reads(read: &mut Vec<u32>, latch: Latch) -> Result<(), AllocError>
     ensures { OnOk result (read.new.items ≡ read.old.items ++ read_numbers latch) }
 {
     read.push(latch.feed)?;
-    match latch.kind {
-        Some((_, Some(control))) => {
-            read.push(control)?;
-            Ok(())
-        }
-        Some((_, None)) => Ok(()),
-        None => Ok(()),
+    if let Some((_, Some(control))) = latch.kind {
+        read.push(control)?;
     }
+    Ok(())
 }

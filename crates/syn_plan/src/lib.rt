@@ -20,10 +20,10 @@ pub const MAX_LEAVES: u8 = 8;
 pub const MAX_GATES: usize = 381;
 
 /// The most indexes of a plan: the constant 0, the leaves and the gates.
-const MAX_INDEXES: usize = 390;
+pub const MAX_INDEXES: usize = 390;
 
-/// The indexes of a small plan, whose tables stand in less room.
-const FEW_INDEXES: usize = 32;
+/// The most indexes of a small plan, for which there is less room.
+pub const FEW_INDEXES: usize = 32;
 
 /// A literal of a plan: `2 * index + complement`. Index 0 is the constant 0, then come the leaves,
 /// then the gates.

@@ -1,74 +1,73 @@
 //! What a plan adds to the table as it stands.
 
+ghost use Rattle.std.specs.Prelude.{◌≡◌, ◌<◌, All, true};
+ghost use Rattle.syn_rows.specs.declared.TheConstants.{NODE_LIMIT};
+
 use crate::cuts::is_among;
-use arrayvec::ArrayVec;
 use syn_commit::Hints;
-use syn_plan::{PLit, Plan};
-use syn_rows::{FALSE, Lit, NODE_LIMIT, Row, simple_and};
+use syn_gain::{Lookup, PlacedPlan, literal_for};
+use syn_plan::Plan;
+use syn_rows::{Lit, NODE_LIMIT, Row};
 use syn_table::Shared;
 
 // How many indexes a plan has that is looked at: the constant, its leaves and its gates.
 const MAX_INDEXES: usize = 24;
 
-// The literals of a plan's indexes, none of those that need a new row.
-type Literals = ArrayVec<Option<Lit>, MAX_INDEXES>;
+// The number of the first new row.
+const FIRST_NEW: u32 = NODE_LIMIT as u32;
 
-// The literal of a plan's literal.
-fn literal_of(literals: &[Option<Lit>], literal: PLit) -> Option<Lit> {
-    let plain = literals.get(literal.index() as usize).copied().flatten()?;
-    Some(if literal.complemented() {
-        plain.not()
-    } else {
-        plain
-    })
+// The rows of a table that hints find, as they stand: nothing is promised of them.
+#[derive(Clone, Copy)]
+struct TableRows<'a> {
+    shared: &'a Shared,
+    hints: &'a Hints,
 }
 
-// The AND of two literals, where it needs no new row.
-fn join(shared: &Shared, hints: &Hints, x: Option<Lit>, y: Option<Lit>) -> Option<Lit> {
-    let (x, y) = (x?, y?);
-    if let Some(literal) = simple_and(x, y) {
-        return Some(literal);
-    }
-    let pair = if x.0 < y.0 { (x, y) } else { (y, x) };
-    let node = hints.suggest(pair);
-    if node == 0 || node >= shared.nodes() {
-        return None;
-    }
-    let (row, _count) = shared.peek(node);
-    if row == Row::And(pair.0, pair.1) {
-        Some(Lit::of(node, false))
-    } else {
-        None
-    }
-}
+impl Lookup for TableRows<'_> {
+    ghost stands = { λ table. Unit {0} };
 
-// The literal of a leaf.
-fn leaf_at(leaves: &[u32], place: usize) -> Option<Lit> {
-    let node = *leaves.get(place)?;
-    if (node as usize) < NODE_LIMIT {
-        Some(Lit::of(node, false))
-    } else {
-        None
-    }
-}
+    ghost finds = { λ table x y found. Unit {0} };
 
-// The literals of the constant and the leaves.
-fn begin(leaves: &[u32], count: u8) -> Literals {
-    let mut literals = Literals::new();
-    literals.push(Some(FALSE));
-    for place in 0..count as usize {
-        if !literals.is_full() {
-            literals.push(leaf_at(leaves, place));
+    ghost first = { λ table. NODE_LIMIT };
+
+    #[inline]
+    fn first_new(&self) -> u32 {
+        FIRST_NEW
+    }
+
+    #[inline]
+    fn find(&self, x: Lit, y: Lit) -> Option<Lit> {
+        let pair = if x.0 < y.0 { (x, y) } else { (y, x) };
+        let node = self.hints.suggest(pair);
+        if node == 0 || node >= self.shared.nodes() || node >= FIRST_NEW {
+            return None;
+        }
+        let (row, _count) = self.shared.peek(node);
+        if row == Row::And(pair.0, pair.1) {
+            Some(Lit::of(node, false))
+        } else {
+            None
         }
     }
-    literals
 }
 
-// Whether a gate of a plan needs a row: a new one, or one that would go.
-fn needs_row(going: &[u32], literal: Option<Lit>) -> bool {
-    match literal {
-        Some(old) => is_among(going, old.node()),
-        None => true,
+// Whether these may be nodes of a table.
+fn are_nodes(nodes: &[u32]) -> bool
+    ensures { result ≡ true → All (λ n. n < NODE_LIMIT) nodes.now }
+{
+    for node in nodes {
+        if *node >= FIRST_NEW {
+            return false;
+        }
+    }
+    true
+}
+
+// Whether the last gate became a row that goes.
+fn last_goes(placed: &PlacedPlan<MAX_INDEXES>, going: &[u32]) -> bool {
+    match placed.literals.last() {
+        Some(literal) => is_among(going, literal.node()),
+        None => false,
     }
 }
 
@@ -82,25 +81,27 @@ pub(crate) fn added(
     going: &[u32],
     most: usize,
 ) -> Option<usize> {
-    let mut literals = begin(leaves, plan.leaves);
-    let mut added = 0;
-    for gate in plan.gates.as_slice() {
-        let x = literal_of(literals.as_slice(), gate.0);
-        let y = literal_of(literals.as_slice(), gate.1);
-        let literal = join(shared, hints, x, y);
-        if needs_row(going, literal) {
-            if added >= most {
-                return None;
-            }
-            added += 1;
+    let gates = plan.gates.as_slice();
+    if plan.leaves as usize + gates.len() >= MAX_INDEXES || !are_nodes(leaves) {
+        return None;
+    }
+    let rows = TableRows { shared, hints };
+    let mut placed = PlacedPlan::<MAX_INDEXES>::new();
+    placed.begin(plan.leaves, leaves);
+    let mut made_again = 0;
+    for gate in gates {
+        placed.place_gate(&rows, *gate);
+        if last_goes(&placed, going) {
+            made_again += 1;
         }
-        if literals.is_full() {
+        if placed.extra.len() + made_again > most {
             return None;
         }
-        literals.push(literal);
     }
-    match literal_of(literals.as_slice(), plan.out) {
-        Some(out) if going.first() == Some(&out.node()) => None,
-        _ => Some(added),
+    let out = literal_for(placed.literals.as_slice(), plan.out);
+    if going.first() == Some(&out.node()) {
+        None
+    } else {
+        Some(placed.extra.len() + made_again)
     }
 }

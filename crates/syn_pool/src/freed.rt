@@ -1,59 +1,47 @@
 //! What goes with a root's row.
 
-use crate::cuts::{MAX_INNER, TableCut, fan_ins, is_among};
+use crate::cuts::{MAX_INNER, TableCut};
 use arrayvec::ArrayVec;
+use syn_decide::{Counted, dying_with};
+use syn_rows::Row;
 use syn_table::Shared;
 
-/// Nodes above a cut's leaves.
-pub(crate) type Nodes = ArrayVec<u32, MAX_INNER>;
+/// Nodes above a cut's leaves, with their rows and references.
+pub(crate) type Inner = ArrayVec<Counted, MAX_INNER>;
 
-// Takes a reference from the nodes above the leaves that are this one, of which so many are left: a node goes with its last
-// one.
-fn release(cut: &TableCut, node: u32, left: &mut Nodes, going: &mut Nodes) {
-    for (place, other) in cut.inner.as_slice().iter().enumerate() {
-        if *other == node && place < left.len() {
-            left[place] = left[place].saturating_sub(1);
-            if left[place] == 0 && !going.is_full() && !is_among(going.as_slice(), node) {
-                going.push(node);
-            }
-        }
-    }
+// A node with its row and its references, as they stand.
+fn counted_at(shared: &Shared, node: u32) -> Counted {
+    let (row, others) = if node < shared.nodes() {
+        shared.peek(node)
+    } else {
+        (Row::Free, u32::MAX)
+    };
+    Counted { node, row, others }
 }
 
-// The references of a node.
-fn count_of(shared: &Shared, node: u32) -> u32 {
-    if node >= shared.nodes() {
-        return u32::MAX;
-    }
-    let (_row, count) = shared.peek(node);
-    count
-}
-
-// The references of the nodes above the leaves.
-fn counts(shared: &Shared, cut: &TableCut) -> Nodes {
-    let mut counts = Nodes::new();
+/// The nodes above a cut's leaves, with their rows and references as they stand.
+pub(crate) fn inner_rows(shared: &Shared, cut: &TableCut) -> Inner {
+    let mut rows = Inner::new();
     for node in cut.inner.as_slice() {
-        if !counts.is_full() {
-            counts.push(count_of(shared, *node));
+        if !rows.is_full() {
+            rows.push(counted_at(shared, *node));
         }
     }
-    counts
+    rows
 }
 
 /// The nodes above a cut's leaves that go with the root's row where the leaves stay, the root first.
-pub(crate) fn going(shared: &Shared, cut: &TableCut) -> Nodes {
-    let mut left = counts(shared, cut);
-    let mut going = Nodes::new();
-    if let Some(root) = cut.inner.as_slice().get(0) {
-        going.push(*root);
-    }
-    for place in 0..MAX_INNER {
-        let Some(node) = going.as_slice().get(place) else {
-            break;
-        };
-        if let Some((a, b)) = fan_ins(shared, *node) {
-            release(cut, a.node(), &mut left, &mut going);
-            release(cut, b.node(), &mut left, &mut going);
+pub(crate) fn going(rows: &Inner) -> ArrayVec<u32, MAX_INNER> {
+    let mut going = ArrayVec::new();
+    let Some((root, rest)) = rows.as_slice().split_first() else {
+        return going;
+    };
+    let mut left: ArrayVec<u32, MAX_INNER> = ArrayVec::new();
+    let mut dying = Inner::new();
+    dying_with(&[], *root, rest, &mut left, &mut dying);
+    for row in dying.as_slice() {
+        if !going.is_full() {
+            going.push(row.node);
         }
     }
     going

@@ -1,88 +1,95 @@
-//! The function of a root over a cut.
+//! The function of a root over a cut of the table.
 
-use crate::cuts::{MAX_INNER, MAX_LEAVES, TableCut, fan_ins};
+ghost use Rattle.std.specs.Prelude.{◌≤◌, length};
+
+use crate::cuts::{MAX_INNER, fan_ins_of};
 use arrayvec::ArrayVec;
-use syn_rows::Lit;
-use syn_table::Shared;
+use syn_cones::CutFunction;
+use syn_decide::Counted;
+use syn_rows::Row;
 
-// The values of each variable at the 16 assignments.
-const VARIABLES: [u16; MAX_LEAVES] = [0xAAAA, 0xCCCC, 0xF0F0, 0xFF00];
+// The functions of the nodes above the leaves, as far as they are known.
+type Functions = ArrayVec<Option<CutFunction>, MAX_INNER>;
 
-// The values of the nodes above the leaves, as far as they are known.
-type Values = ArrayVec<Option<u16>, MAX_INNER>;
+// The function of the constant.
+const CONSTANT: CutFunction = CutFunction {
+    word: 0,
+    min_inner: 0,
+};
 
-// The place of a node among some.
-fn place_of(nodes: &[u32], node: u32) -> Option<usize> {
-    for (place, other) in nodes.iter().enumerate() {
-        if *other == node {
-            return Some(place);
+// The function of the constant, of a leaf or of a node above the leaves.
+fn function_of(
+    leaves: &[u32],
+    inner: &[Counted],
+    functions: &[Option<CutFunction>],
+    node: u32,
+) -> Option<CutFunction>
+    requires { length leaves.now ≤ 4 }
+{
+    if node == 0 {
+        return Some(CONSTANT);
+    }
+    if let Some(function) = CutFunction::of_leaf(leaves, node) {
+        return Some(function);
+    }
+    for (place, other) in inner.iter().enumerate() {
+        if other.node == node {
+            return functions.get(place).copied().flatten();
         }
     }
     None
 }
 
-// The values of a leaf or of a node above the leaves.
-fn plain_value(cut: &TableCut, values: &[Option<u16>], node: u32) -> Option<u16> {
-    if node == 0 {
-        return Some(0);
-    }
-    if let Some(place) = place_of(cut.leaves.as_slice(), node) {
-        return VARIABLES.get(place).copied();
-    }
-    let place = place_of(cut.inner.as_slice(), node)?;
-    values.get(place).copied().flatten()
+// The function of a node, from those of its fan-ins.
+fn function_at(
+    leaves: &[u32],
+    inner: &[Counted],
+    functions: &[Option<CutFunction>],
+    node: u32,
+    row: Row,
+) -> Option<CutFunction>
+    requires { length leaves.now ≤ 4 }
+{
+    let (a, b) = fan_ins_of(row)?;
+    let left = function_of(leaves, inner, functions, a.node())?;
+    let right = function_of(leaves, inner, functions, b.node())?;
+    Some(CutFunction::of_and(node, a, left, b, right))
 }
 
-// The values of a literal.
-fn value_of(cut: &TableCut, values: &[Option<u16>], literal: Lit) -> Option<u16> {
-    let plain = plain_value(cut, values, literal.node())?;
-    Some(if literal.complemented() {
-        !plain
-    } else {
-        plain
-    })
-}
-
-// The values of a node, from those of its fan-ins.
-fn value_at(shared: &Shared, cut: &TableCut, values: &[Option<u16>], node: u32) -> Option<u16> {
-    let (a, b) = fan_ins(shared, node)?;
-    let first = value_of(cut, values, a)?;
-    let second = value_of(cut, values, b)?;
-    Some(first & second)
-}
-
-// No values of the nodes above the leaves.
-fn unknown(cut: &TableCut) -> Values {
-    let mut values = Values::new();
-    for _ in cut.inner.as_slice() {
-        if !values.is_full() {
-            values.push(None);
+// No functions of so many nodes.
+fn unknown(count: usize) -> Functions {
+    let mut functions = Functions::new();
+    for _ in 0..count {
+        if !functions.is_full() {
+            functions.push(None);
         }
     }
-    values
+    functions
 }
 
-// Finds the values of the nodes above the leaves, the last one first.
-fn sweep(shared: &Shared, cut: &TableCut, values: &mut Values) {
-    for place in (0..cut.inner.len()).rev() {
-        let value = value_at(shared, cut, values.as_slice(), cut.inner[place]);
-        if place < values.len() {
-            values[place] = value;
+// Finds the functions of the nodes above the leaves, the last one first.
+fn sweep(leaves: &[u32], inner: &[Counted], functions: &mut Functions)
+    requires { length leaves.now ≤ 4 }
+{
+    for place in (0..inner.len()).rev() {
+        let (node, row) = (inner[place].node, inner[place].row);
+        let function = function_at(leaves, inner, functions.as_slice(), node, row);
+        if place < functions.len() {
+            functions[place] = function;
         }
     }
 }
 
-/// The function of a cut's root over its leaves, bit m at the assignment of the number m, where leaf i is bit i of the
-/// number. None where there are more than four leaves, or rows that change.
-pub(crate) fn function_over(shared: &Shared, cut: &TableCut) -> Option<u16> {
-    if cut.leaves.len() > MAX_LEAVES {
-        return None;
-    }
-    let mut values = unknown(cut);
-    for _ in 0..cut.inner.len() {
-        sweep(shared, cut, &mut values);
-        if let Some(Some(value)) = values.as_slice().get(0) {
-            return Some(*value);
+/// The function of the first of the nodes above a cut's leaves over these, bit m at the assignment of the number m, where
+/// leaf i is bit i of the number. None where rows lead elsewhere.
+pub(crate) fn function_over(leaves: &[u32], inner: &[Counted]) -> Option<u16>
+    requires { length leaves.now ≤ 4 }
+{
+    let mut functions = unknown(inner.len());
+    for _ in 0..inner.len() {
+        sweep(leaves, inner, &mut functions);
+        if let Some(Some(function)) = functions.as_slice().get(0) {
+            return Some(function.word);
         }
     }
     None

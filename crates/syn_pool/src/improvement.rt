@@ -11,12 +11,13 @@ use std::thread::Threads;
 use syn_commit::Gate;
 use syn_graph::Graph;
 use syn_proposals::{Keeping, Proposer};
+use syn_workers::Workers;
 
 /// How a pass goes over a graph.
 #[derive(Clone, Copy, Debug)]
 pub struct PassSettings {
     /// The most worker threads, 1 to 16.
-    pub workers: u8,
+    pub workers: Workers,
     /// Whether commits of gain 0 are let through before the graph is checked.
     pub zero_gain: bool,
     /// Whether levels are kept: only proposals that keep their root's level are made, and no observed signal becomes deeper.

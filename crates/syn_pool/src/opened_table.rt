@@ -16,6 +16,7 @@ use syn_graph::Graph;
 use syn_keys::spread;
 use syn_rows::Row;
 use syn_table::{Seat, Shared};
+use syn_workers::Workers;
 
 /// Which nodes come later on a round's table: a commit uses rows that come before its root.
 #[derive(Clone, Copy, Debug, PartialEq, Eq)]
@@ -81,7 +82,7 @@ fn keys_of(alloc: Global, graph: &Graph, order: Order) -> Result<Vec<u64>, Alloc
 pub(crate) fn opened(
     alloc: Global,
     graph: &Graph,
-    workers: u8,
+    workers: Workers,
     order: Order,
 ) -> Result<(Shared, Seat), AllocError>
     requires nodes { length graph.now.rows + 512 * workers < NODE_LIMIT }
@@ -93,7 +94,12 @@ pub(crate) fn opened(
     ensures known { IfOk result (λ t. known_of t.1 ≡ first_seat (with_spare graph.now.rows (512 * workers)) graph.now.observed) }
 {
     let keys = keys_of(alloc, graph, order)?;
-    Shared::start(alloc, graph, keys.as_slice(), SPARE * u32::from(workers))
+    Shared::start(
+        alloc,
+        graph,
+        keys.as_slice(),
+        SPARE * u32::from(workers.number()),
+    )
 }
 
 /// Hints with the pairs of all ANDs, two words for each row. The only error is want of memory.

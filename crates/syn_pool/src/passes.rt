@@ -18,6 +18,7 @@ use std::thread::Threads;
 use syn_commit::Gate;
 use syn_graph::Graph;
 use syn_proposals::{Proposer, Report};
+use syn_workers::Workers;
 
 // Steps on a graph in place of another, until it is closed; the lists are those of one before it. Whether workers commit in the
 // first of them is given; in a later one they do if the one before it says so.
@@ -87,7 +88,7 @@ pub fn pass<R: Threads + Sync, P: Proposer, G: Gate>(
     alloc: Global,
     graph: Graph,
     proposer: &P,
-    workers: u8,
+    workers: Workers,
     zero_gain: bool,
     gate: &G,
 ) -> Result<(Graph, Report), (Graph, AllocError)>

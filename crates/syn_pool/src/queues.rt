@@ -6,6 +6,7 @@ ghost use Rattle.crossbeam_deque.specs.Handles.{worker_capacity, worker_index};
 use crossbeam_deque::protocol::Free;
 use crossbeam_deque::{Steal, Stealer};
 use std::alloc::{AllocError, Global};
+use syn_workers::Workers;
 
 /// The nodes that one worker is still to visit, the next one last.
 pub(crate) type Queue = crossbeam_deque::Worker<u32>;
@@ -39,14 +40,17 @@ fn queue_of(alloc: Global, nodes: &[u32]) -> Result<Queue, AllocError> {
 
 /// The nodes in queues of equal length, the last one shorter where it doesn't come out even: one queue a worker, or fewer
 /// where nodes are few. Each has room for its nodes. The only error is want of memory.
-pub(crate) fn queues_of(alloc: Global, nodes: &[u32], workers: u8) -> Result<Vec<Queue>, AllocError>
-    requires { 1 ≤ workers }
+pub(crate) fn queues_of(
+    alloc: Global,
+    nodes: &[u32],
+    workers: Workers,
+) -> Result<Vec<Queue>, AllocError>
     ensures { IfOk result (λ queues. length queues.items ≤ workers) }
 {
-    let size = nodes.len().div_ceil(workers as usize).max(1);
+    let size = nodes.len().div_ceil(workers.number() as usize).max(1);
     let mut queues = Vec::new(alloc);
     let mut rest = nodes;
-    for _part in 0..workers {
+    for _part in 0..workers.number() {
         let (part, behind) = rest.split_at(size.min(rest.len()));
         if !part.is_empty() {
             queues.push(queue_of(alloc, part)?)?;

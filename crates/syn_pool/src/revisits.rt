@@ -7,9 +7,9 @@ ghost use Rattle.syn_pool.specs.Working.{HasWorked, IsAtWork};
 use crate::added_rows::added;
 use crate::attempts::is_done;
 use crate::candidates::candidate;
-use crate::cuts::{Cuts, TableCut, fan_ins, is_among};
+use crate::cuts::{Cuts, MAX_LEAVES, TableCut, fan_ins, is_among};
 use crate::fan_outs::FanOuts;
-use crate::freed::going;
+use crate::freed::{Inner, going, inner_rows};
 use crate::functions::function_over;
 use crate::scene::Scene;
 use crate::workers::Worker;
@@ -110,6 +110,17 @@ impl Neighbours<'_> {
     }
 }
 
+// The rows above a cut's leaves as they stand, and the root's function. None where there are more leaves than a plan has, or
+// rows that lead elsewhere.
+fn read_cut(shared: &Shared, cut: &TableCut) -> Option<(Inner, u16)> {
+    if cut.leaves.len() > MAX_LEAVES {
+        return None;
+    }
+    let inner = inner_rows(shared, cut);
+    let function = function_over(cut.leaves.as_slice(), inner.as_slice())?;
+    Some((inner, function))
+}
+
 // Commits the first of the plans over a cut that seems to save: whether it was done.
 #[tactic(auto, using(crate::proofs::Works::has_both, crate::proofs::Works::has_not, crate::proofs::Works::has_saved))]
 fn try_plans<G: Gate>(
@@ -117,6 +128,7 @@ fn try_plans<G: Gate>(
     worker: &mut Worker,
     root: u32,
     cut: &TableCut,
+    inner: &Inner,
     plans: &[Plan],
 ) -> bool
     requires at_work { IsAtWork tools.now.shared.now worker.old }
@@ -125,7 +137,7 @@ fn try_plans<G: Gate>(
     ensures worked { HasWorked false worker.old worker.new }
 {
     let leaves = cut.leaves.as_slice();
-    let freed = going(tools.shared, cut);
+    let freed = going(inner);
     for plan in plans {
         let most = freed.len().saturating_sub(1);
         if added(
@@ -166,11 +178,11 @@ fn look<P: Proposer, G: Gate>(
     let shared = scene.tools.shared;
     cuts.find(shared, root);
     for cut in cuts.as_slice() {
-        let Some(function) = function_over(shared, cut) else {
+        let Some((inner, function)) = read_cut(shared, cut) else {
             continue;
         };
         let plans = scene.proposer.plans_over(scene.lists, function);
-        if try_plans(&scene.tools, worker, root, cut, plans) {
+        if try_plans(&scene.tools, worker, root, cut, &inner, plans) {
             return true;
         }
     }
@@ -182,10 +194,11 @@ fn best_over<'a>(
     shared: &Shared,
     hints: &Hints,
     cut: &TableCut,
+    inner: &Inner,
     plans: &'a [Plan],
     least: usize,
 ) -> Option<(&'a Plan, usize)> {
-    let freed = going(shared, cut);
+    let freed = going(inner);
     let (leaves, freed) = (cut.leaves.as_slice(), freed.as_slice());
     let mut least = least;
     let mut best = None;
@@ -232,11 +245,18 @@ pub(crate) fn try_best<P: Proposer, G: Gate>(
     let mut least = 0;
     let mut best = None;
     for cut in cuts.as_slice() {
-        let Some(function) = function_over(shared, cut) else {
+        let Some((inner, function)) = read_cut(shared, cut) else {
             continue;
         };
         let plans = scene.proposer.plans_over(scene.lists, function);
-        if let Some((plan, saved)) = best_over(shared, scene.tools.hints, cut, plans, least) {
+        if let Some((plan, saved)) = best_over(
+            shared,
+            scene.tools.hints,
+            cut,
+            &inner,
+            plans,
+            least,
+        ) {
             best = Some((cut, plan));
             least = saved.saturating_add(1);
         }

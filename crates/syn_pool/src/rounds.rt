@@ -24,17 +24,15 @@ use syn_graph::Graph;
 use syn_proposals::{Improved, Proposer};
 use syn_rows::NODE_LIMIT;
 use syn_table::{Seat, Shared};
-
-// The most workers of a round.
-const MAX_WORKERS: u8 = 16;
+use syn_workers::Workers;
 
 // Whether a table of the graph can be opened, for so many workers.
-fn has_room(graph: &Graph, workers: u8) -> bool
+fn has_room(graph: &Graph, workers: Workers) -> bool
     ensures nodes { result ≡ true → length graph.now.rows + 512 * workers < NODE_LIMIT }
     ensures literals { result ≡ true → length graph.now.observed < 2 ^ 30 }
     ensures none { result ≡ false → (NODE_LIMIT ≤ length graph.now.rows + 512 * workers) ⊎ (2 ^ 30 ≤ length graph.now.observed) }
 {
-    let nodes = graph.rows.as_slice().len() + SPARE as usize * workers as usize;
+    let nodes = graph.rows.as_slice().len() + SPARE as usize * workers.number() as usize;
     nodes < NODE_LIMIT && graph.observed.as_slice().len() < 1 << 30
 }
 
@@ -52,18 +50,17 @@ fn swept<R: Threads + Sync, P: Proposer, G: Gate>(
     course: &Course<'_, R, P, G>,
     graph: &Graph,
     lists: &P::Lists,
-    tour: Tour<'_>,
+    tour: &Tour<'_>,
     shared: Shared,
     seat: Seat,
 ) -> Result<(Shared, WorkerResult), AllocError>
-    requires lists { tour.looks ≡ false → P.is_lists_of course.now.proposer.now lists.now graph.now.rows }
-    requires workers { (1 ≤ tour.workers) × (tour.workers ≤ 16) }
-    requires nodes { length graph.now.rows + 512 * tour.workers ≤ nodes_of shared }
+    requires lists { tour.now.looks ≡ false → P.is_lists_of course.now.proposer.now lists.now graph.now.rows }
+    requires nodes { length graph.now.rows + 512 * tour.now.workers ≤ nodes_of shared }
     requires table { IsOf seat shared }
-    requires numbers { tour.workers ≤ length (known_of seat).numbers }
+    requires numbers { tour.now.workers ≤ length (known_of seat).numbers }
     requires rest { IsAtRest (view_of seat) }
     ensures same { IfOk result (λ r. r.0 ≡ shared) }
-    ensures swept { IfOk result (λ r. HasSwept shared tour.entry.zero_gain seat r.1.seat r.1.report) }
+    ensures swept { IfOk result (λ r. HasSwept shared tour.now.zero_gain seat r.1.seat r.1.report) }
 {
     let alloc = course.alloc;
     let queues = queues_of(alloc, tour.nodes, tour.workers)?;
@@ -95,14 +92,13 @@ fn improved<R: Threads + Sync, P: Proposer, G: Gate>(
     course: &Course<'_, R, P, G>,
     graph: &Graph,
     lists: &P::Lists,
-    tour: Tour<'_>,
+    tour: &Tour<'_>,
 ) -> Result<Improved, AllocError>
-    requires lists { tour.looks ≡ false → P.is_lists_of course.now.proposer.now lists.now graph.now.rows }
-    requires workers { (1 ≤ tour.workers) × (tour.workers ≤ 16) }
-    requires nodes { length graph.now.rows + 512 * tour.workers < NODE_LIMIT }
+    requires lists { tour.now.looks ≡ false → P.is_lists_of course.now.proposer.now lists.now graph.now.rows }
+    requires nodes { length graph.now.rows + 512 * tour.now.workers < NODE_LIMIT }
     requires literals { length graph.now.observed < 2 ^ 30 }
     ensures follows { IfOk result (λ m. Follows graph.now m.report.gained m.graph) }
-    ensures gain { IfOk result (λ m. IsGain (not tour.entry.zero_gain) m.report) }
+    ensures gain { IfOk result (λ m. IsGain (not tour.now.zero_gain) m.report) }
     ensures report { IfOk result (λ m. IsReport m.report) }
 {
     let (table, seat) = opened(course.alloc, graph, tour.workers, tour.order)?;
@@ -115,9 +111,9 @@ fn improved<R: Threads + Sync, P: Proposer, G: Gate>(
     })
 }
 
-/// One round of 1 to 16 workers: commits proposals for the nodes of a tour on the graph's table, and closes the table. The
+/// One round: commits proposals for the nodes of a tour on the graph's table, and closes the table. The
 /// graph that comes has the same frame and the same values of the observed signals, and fewer ANDs by at least what the
-/// report says. 0 workers count as 1, and more than 16 as 16. Each has a thread of its own and a part of the nodes, and takes
+/// report says. Each worker has a thread of its own and a part of the nodes, and takes
 /// of the others' when its own is done; the work of a thread that can't be made is done by the caller's. None comes, and
 /// the graph stays, where it has no room for the workers' spare nodes below the limit of nodes, or 2^30 observed signals or
 /// more. The gate is told each commit. The only error is want of memory.
@@ -125,25 +121,17 @@ pub(crate) fn round_at<R: Threads + Sync, P: Proposer, G: Gate>(
     course: &Course<'_, R, P, G>,
     graph: &Graph,
     lists: &P::Lists,
-    tour: Tour<'_>,
+    tour: &Tour<'_>,
 ) -> Result<Option<Improved>, AllocError>
-    requires lists { tour.looks ≡ false → P.is_lists_of course.now.proposer.now lists.now graph.now.rows }
+    requires lists { tour.now.looks ≡ false → P.is_lists_of course.now.proposer.now lists.now graph.now.rows }
     ensures follows { IfOk result (λ made. IfSome made (λ m. Follows graph.now m.report.gained m.graph)) }
-    ensures gain { IfOk result (λ made. IfSome made (λ m. IsGain (not tour.entry.zero_gain) m.report)) }
+    ensures gain { IfOk result (λ made. IfSome made (λ m. IsGain (not tour.now.zero_gain) m.report)) }
     ensures report { IfOk result (λ made. IfSome made (λ m. IsReport m.report)) }
-    ensures none { IfOk result (λ made. IfNone made ((NODE_LIMIT ≤ length graph.now.rows + 512 * min (max tour.entry.workers 1) 16) ⊎ (2 ^ 30 ≤ length graph.now.observed))) }
+    ensures none { IfOk result (λ made. IfNone made ((NODE_LIMIT ≤ length graph.now.rows + 512 * tour.now.workers) ⊎ (2 ^ 30 ≤ length graph.now.observed))) }
 {
-    let workers = tour.workers.max(1).min(MAX_WORKERS);
-    if !has_room(graph, workers) {
+    if !has_room(graph, tour.workers) {
         return Ok(None);
     }
-    let tour = Tour {
-        nodes: tour.nodes,
-        order: tour.order,
-        workers,
-        zero_gain: tour.zero_gain,
-        looks: tour.looks,
-    };
     let made = improved(course, graph, lists, tour)?;
     Ok(Some(made))
 }
@@ -178,7 +166,7 @@ pub(crate) fn round<R: Threads + Sync, P: Proposer, G: Gate>(
         zero_gain: course.zero_gain,
         looks,
     };
-    let Some(improved) = round_at(course, graph, lists, tour)? else {
+    let Some(improved) = round_at(course, graph, lists, &tour)? else {
         return Ok(None);
     };
     let may = course

@@ -8,6 +8,7 @@ use syn_commit::{Hints, Tools};
 use syn_gain::Uses;
 use syn_graph::Graph;
 use syn_table::{Seat, Shared};
+use syn_workers::Workers;
 
 /// What a pass goes by, from its first step to its last.
 #[derive(Drop)]
@@ -21,20 +22,20 @@ pub(crate) struct Course<'a, R, P, G> {
     /// What is told of each commit.
     pub gate: &'a G,
     /// The most workers.
-    pub workers: u8,
+    pub workers: Workers,
     /// Whether commits of gain 0 are let through.
     pub zero_gain: bool,
 }
 
 /// What the workers of a round do.
-#[derive(Clone, Copy, Drop)]
+#[derive(Drop)]
 pub(crate) struct Tour<'a> {
     /// The nodes that they visit, in order.
     pub nodes: &'a [u32],
     /// Which nodes come later on the table.
     pub order: Order,
-    /// How many they are, at most.
-    pub workers: u8,
+    /// How many they are.
+    pub workers: Workers,
     /// Whether commits of gain 0 are let through.
     pub zero_gain: bool,
     /// Whether these are looked for among the cuts of the table as it stands, for which the lists needn't be the graph's.

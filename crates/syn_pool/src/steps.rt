@@ -24,6 +24,7 @@ use syn_commit::Gate;
 use syn_gain::{Proposal, Uses};
 use syn_graph::Graph;
 use syn_proposals::{Improved, Proposer, Report, is_better, leftovers, leftovers_among, smaller};
+use syn_workers::Workers;
 
 /// What a step makes of a graph.
 #[derive(Drop)]
@@ -59,8 +60,12 @@ const MIN_SHARE: usize = 1024;
 const FEW: usize = 4;
 
 // How many workers commit for so many leftovers.
-fn workers_for(leftovers: usize, workers: u8) -> u8 {
-    if leftovers <= MAX_ALONE { 1 } else { workers }
+fn workers_for(leftovers: usize, workers: Workers) -> Workers {
+    if leftovers <= MAX_ALONE {
+        Workers::new(1)
+    } else {
+        workers
+    }
 }
 
 // A graph with fewer ANDs in place of one with leftovers: workers commit for their roots and around them; where there are
@@ -90,7 +95,7 @@ fn commit_or_apply<R: Threads + Sync, P: Proposer, G: Gate>(
             zero_gain: false,
             looks: false,
         };
-        if let Some(improved) = round_at(course, graph, lists, tour)? {
+        if let Some(improved) = round_at(course, graph, lists, &tour)? {
             if is_better(course.alloc, course.proposer, graph, &improved.graph)? {
                 return Ok(improved);
             }

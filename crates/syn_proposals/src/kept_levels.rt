@@ -19,6 +19,7 @@ use syn_gain::{Proposal, Uses};
 use syn_graph::Graph;
 use syn_hashed::PairIndex;
 use syn_levels::{is_low, is_no_deeper, keeps_level, levels};
+use syn_workers::Workers;
 
 /// Proposes for each AND those of the proposals of a proposer that keep the AND's level, in their order.
 #[derive(Drop)]
@@ -147,7 +148,7 @@ impl<P: Proposer> Proposer for Keeping<P> {
         rt: &R,
         alloc: Global,
         graph: &Graph,
-        workers: u8,
+        workers: Workers,
     ) -> Result<Leveled<P::Lists>, AllocError> {
         let lists = self.proposer.prepare(rt, alloc, graph, workers)?;
         with_levels(alloc, graph, lists)
@@ -159,7 +160,7 @@ impl<P: Proposer> Proposer for Keeping<P> {
         alloc: Global,
         graph: &Graph,
         lists: Leveled<P::Lists>,
-        workers: u8,
+        workers: Workers,
     ) -> Result<Leveled<P::Lists>, AllocError> {
         let Leveled { lists, .. } = lists;
         let lists = self

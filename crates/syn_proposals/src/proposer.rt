@@ -17,6 +17,7 @@ use std::thread::Threads;
 use syn_gain::{Candidate, Proposal, Uses, saved};
 use syn_graph::Graph;
 use syn_plan::Plan;
+use syn_workers::Workers;
 
 /// Proposes plans in place of the ANDs of a graph.
 pub trait Proposer: Sync {
@@ -35,7 +36,7 @@ pub trait Proposer: Sync {
         rt: &R,
         alloc: Global,
         graph: &Graph,
-        workers: u8,
+        workers: Workers,
     ) -> Result<Self::Lists, AllocError>
         requires { IsSync R.row }
         ensures { IfOk result (λ lists. is_lists_of self.now lists graph.now.rows) };
@@ -48,7 +49,7 @@ pub trait Proposer: Sync {
         alloc: Global,
         graph: &Graph,
         lists: Self::Lists,
-        workers: u8,
+        workers: Workers,
     ) -> Result<Self::Lists, AllocError>
         requires { IsSync R.row }
         ensures { IfOk result (λ lists. is_lists_of self.now lists graph.now.rows) }

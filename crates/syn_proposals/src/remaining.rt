@@ -14,6 +14,7 @@ use std::thread::Threads;
 use syn_gain::{Proposal, Uses};
 use syn_graph::Graph;
 use syn_rows::Row;
+use syn_workers::Workers;
 
 // How many nodes are worth a thread.
 const MIN_CHUNK: usize = 256;
@@ -28,8 +29,11 @@ struct Part {
 }
 
 // How many threads are worth so many nodes, at most one a worker.
-fn threads_for(nodes: usize, workers: u8) -> usize {
-    nodes.div_ceil(MIN_CHUNK).min(workers as usize).max(1)
+fn threads_for(nodes: usize, workers: Workers) -> usize {
+    nodes
+        .div_ceil(MIN_CHUNK)
+        .min(workers.number() as usize)
+        .max(1)
 }
 
 // The first proposal of a node that saves, if it is an AND of the graph and has one.
@@ -168,7 +172,7 @@ fn find_parts<R: Threads + Sync, P: Proposer>(
     proposer: &P,
     lists: &P::Lists,
     nodes: &[u32],
-    workers: u8,
+    workers: Workers,
 ) -> Result<Vec<Part>, AllocError>
     requires uses { IsUsesOf uses.now graph.now }
     requires lists { P.is_lists_of proposer.now lists.now graph.now.rows }
@@ -264,7 +268,7 @@ pub fn leftovers<R: Threads + Sync, P: Proposer>(
     uses: &Uses,
     proposer: &P,
     lists: &P::Lists,
-    workers: u8,
+    workers: Workers,
 ) -> Result<Vec<Proposal>, AllocError>
     requires uses { IsUsesOf uses.now graph.now }
     requires lists { P.is_lists_of proposer.now lists.now graph.now.rows }
@@ -289,7 +293,7 @@ pub fn leftovers_among<R: Threads + Sync, P: Proposer>(
     proposer: &P,
     lists: &P::Lists,
     nodes: &[u32],
-    workers: u8,
+    workers: Workers,
 ) -> Result<Vec<Proposal>, AllocError>
     requires uses { IsUsesOf uses.now graph.now }
     requires lists { P.is_lists_of proposer.now lists.now graph.now.rows }

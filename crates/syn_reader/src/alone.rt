@@ -11,7 +11,6 @@ ghost use Rattle.syn_models.specs.Reading.{numbers_read, read_in};
 ghost use Rattle.syn_models.specs.Views.{model_in};
 ghost use Rattle.syn_models.specs.declared.ports.Role.TheVariants.{Clock, Input, Output};
 ghost use Rattle.syn_netlist.specs.Faults.{first_undefined};
-ghost use Rattle.syn_netlist.specs.Marks.{read_numbers};
 ghost use Rattle.syn_netlist.specs.Numbers.{all_below, words_at};
 ghost use Rattle.syn_netlist.specs.Views.{netlist_in};
 ghost use Rattle.syn_reader.specs.Alone.{is_alone, is_plain, latch_in_kind, latches_in, table_in_kind, tables_in};
@@ -19,7 +18,7 @@ ghost use Rattle.syn_reader.specs.Alone.{is_alone, is_plain, latch_in_kind, latc
 use crate::signals::copy_word;
 use std::alloc::{AllocError, Global};
 use syn_models::{FlatFault, MAX_WORDS, Model, Models, Statement, StatementKind, flatten};
-use syn_netlist::{Frame, Items, Latch, Netlist, Table, Word};
+use syn_netlist::{Frame, Items, Latch, Netlist, Table, Word, push_reads};
 
 // Whether no statement is a subcircuit.
 fn are_plain(statements: &[Statement]) -> bool
@@ -39,17 +38,6 @@ fn is_alone(models: &Models) -> bool
 {
     let all = models.models.as_slice();
     all.len() == 1 && are_plain(all[0].statements.as_slice())
-}
-
-// Appends what a latch reads.
-fn push_reads(reads: &mut Vec<u32>, latch: Latch) -> Result<(), AllocError>
-    ensures { OnOk result (reads.new.items ≡ reads.old.items ++ read_numbers latch) }
-{
-    reads.push(latch.feed)?;
-    if let Some((_, Some(control))) = latch.kind {
-        reads.push(control)?;
-    }
-    Ok(())
 }
 
 // What statements list: numbers of names, latches and tables; and the numbers of the names that they read, by line and word.

@@ -15,6 +15,7 @@ use syn_graph::Graph;
 use syn_growing::{cone_leaves, may_save};
 use syn_plan::factor;
 use syn_proposals::{Proposer, saves};
+use syn_workers::Workers;
 
 /// Proposes for each AND the factored plan of its function over the leaves of its cone.
 #[derive(Clone, Copy, Debug)]
@@ -49,7 +50,7 @@ impl Proposer for Cones {
         _rt: &R,
         _alloc: Global,
         _graph: &Graph,
-        _workers: u8,
+        _workers: Workers,
     ) -> Result<NoLists, AllocError> {
         Ok(NoLists)
     }

@@ -25,6 +25,7 @@ use syn_graph::Graph;
 use syn_growing::Leaves;
 use syn_proposals::Proposer;
 use syn_rows::Row;
+use syn_workers::Workers;
 
 /// Proposes for each AND the forms that stand for it over the leaves of its cone.
 #[derive(Clone, Copy, Debug)]
@@ -114,7 +115,7 @@ impl Proposer for Divisors {
         _rt: &R,
         alloc: Global,
         graph: &Graph,
-        _workers: u8,
+        _workers: Workers,
     ) -> Result<FanOuts, AllocError> {
         FanOuts::of(alloc, graph)
     }

@@ -17,7 +17,7 @@ use syn_gain::{Candidate, Proposal, Room, Uses, adds_fewer, literal_for, mffc_si
 use syn_graph::Graph;
 use syn_library::Prepared as Classes;
 use syn_plan::Plan;
-use syn_weighing::{DryRun, dry_run};
+use syn_weighing::{DryRun, dry_run, dry_run_over};
 
 /// Which proposals are worth a commit.
 #[derive(Clone, Copy, Debug)]
@@ -56,7 +56,7 @@ fn is_worth(
     if dry_run(graph, uses, candidate, any, limit, weighed) {
         return Ok(weighed.extra.len() < limit && (worth.own_row || !is_root(candidate, weighed)));
     }
-    adds_fewer(graph, uses, candidate, worth.limit, room)
+    Ok(adds_fewer(graph, uses, candidate, worth.limit, room))
 }
 
 // Adds those of the plans of an AND's function over a cut that are worth a commit, in order.
@@ -74,7 +74,7 @@ fn push_worth(
     requires plans { ArePlansOf cut.function plans.now }
     ensures { OnOk result (All (λ p. p.root ≡ cut.entry.root) proposals.old.items → All (λ p. p.root ≡ cut.entry.root) proposals.new.items) }
 {
-    let mut weighed = DryRun::over(MAX_LEAVES, cut.leaves);
+    let mut weighed = dry_run_over(MAX_LEAVES, cut.leaves);
     for plan in plans {
         let candidate = candidate(graph, cut, plan);
         if !is_worth(graph, uses, candidate, worth, &mut weighed, room)? {

@@ -10,6 +10,7 @@ use syn_cuts::{CutLists, listed};
 use syn_function_plans::PlanCache;
 use syn_graph::Graph;
 use syn_library::Prepared as Classes;
+use syn_workers::Workers;
 
 /// The most leaves of a cut that is looked at.
 pub(crate) const MAX_LEAVES: u8 = 4;
@@ -32,7 +33,7 @@ pub(crate) fn prepare<R: Threads + Sync>(
     classes: &Classes,
     graph: &Graph,
     known: PlanCache,
-    workers: u8,
+    workers: Workers,
 ) -> Result<Prepared, AllocError>
     ensures { IfOk result (λ lists. IsPreparedFor lists graph.now.rows) }
 {

@@ -28,7 +28,8 @@ use syn_graph::Graph;
 use syn_library::Prepared as Classes;
 use syn_plan::Plan;
 use syn_proposals::Proposer;
-use syn_weighing::{DryRun, are_apart, names_within, saves_nothing};
+use syn_weighing::{are_apart, dry_run_over, names_within, saves_nothing};
+use syn_workers::Workers;
 
 /// How many ANDs that go with a row are counted before its plans are looked at; hardly a plan of four leaves adds as many.
 pub(crate) const MAX_COUNTED: u32 = 16;
@@ -142,7 +143,7 @@ fn some_saves(
     let told = plans.apart.as_slice();
     let leaves_apart = leaves_apart(graph, cut);
     let mut counted = None;
-    let mut weighed = DryRun::over(MAX_LEAVES, cut.leaves);
+    let mut weighed = dry_run_over(MAX_LEAVES, cut.leaves);
     for (i, plan) in all.iter().enumerate() {
         let apart = leaves_apart && names_within(told, i, cut.leaves);
         let candidate = candidate(graph, cut, plan);
@@ -263,7 +264,7 @@ impl Proposer for CutPlans {
         rt: &R,
         alloc: Global,
         graph: &Graph,
-        workers: u8,
+        workers: Workers,
     ) -> Result<Prepared, AllocError> {
         let known = PlanCache::new(alloc)?;
         prepare(rt, alloc, &self.classes, graph, known, workers)
@@ -275,7 +276,7 @@ impl Proposer for CutPlans {
         alloc: Global,
         graph: &Graph,
         lists: Prepared,
-        workers: u8,
+        workers: Workers,
     ) -> Result<Prepared, AllocError> {
         let Prepared { known, .. } = lists;
         prepare(rt, alloc, &self.classes, graph, known, workers)

@@ -14,9 +14,7 @@ use clap::error::ErrorKind;
 use clap::{Arg, Command};
 use std::alloc::Global;
 use syn_words::{NumberRange, number_in};
-
-// The most workers.
-const MAX_WORKERS: u8 = 16;
+use syn_workers::{MAX_WORKERS, Workers};
 
 /// What the program's words ask for.
 #[derive(Clone, Copy, Debug, PartialEq, Eq)]
@@ -24,7 +22,7 @@ pub(crate) struct Arguments<'a> {
     /// The script, or none where each line of the input is one.
     pub(crate) script: Option<&'a str>,
     /// The number of workers, 1 to 16, where a command names none.
-    pub(crate) workers: u8,
+    pub(crate) workers: Workers,
 }
 
 // The texts of the options, where they are given: the script, and the number of workers.
@@ -51,19 +49,18 @@ fn texts_of<'a>(
 }
 
 // The number of workers by the text of its option: one where it is absent.
-fn workers_of(text: Option<&str>) -> Option<u8>
-    ensures value { result ≡ workers_of (option_map (λ text. text.now) text.entry) }
-    ensures few { IfSome result (λ workers. (1 ≤ workers) × (workers ≤ 16)) }
+fn workers_of(text: Option<&str>) -> Option<Workers>
+    ensures { result ≡ workers_of (option_map (λ text. text.now) text.entry) }
 {
     let Some(text) = text else {
-        return Some(1);
+        return Some(Workers::new(1));
     };
     let range = NumberRange {
         least: 1,
         most: MAX_WORKERS as u64,
     };
     let workers = number_in(range, text.as_bytes())?;
-    Some(workers as u8)
+    Some(Workers::new(workers as u8))
 }
 
 /// What the program's words ask for. The words begin with the program's name.
@@ -73,7 +70,6 @@ fn workers_of(text: Option<&str>) -> Option<u8>
 pub(crate) fn arguments_in(alloc: Global, words: &[String]) -> Result<Arguments<'_>, Refusal>
     ensures asked { IfOk result (λ arguments. asked (map string_bytes words.entry.now) ≡ Some (asked_in arguments)) }
     ensures script { IfOk result (λ arguments. Understood (map string_bytes words.entry.now) (option_map (λ text. text.now) arguments.script)) }
-    ensures workers { IfOk result (λ arguments. (1 ≤ arguments.workers) × (arguments.workers ≤ 16)) }
     ensures refused { IfErr result (WordsRefused (map string_bytes words.entry.now)) }
 {
     let (script, workers) = texts_of(alloc, words)?;

@@ -24,6 +24,7 @@ use syn_refactor::refactor;
 use syn_resub::resub;
 use syn_rewrite::rewrite;
 use syn_words::{Command, LutInputs, PassOptions};
+use syn_workers::Workers;
 
 // A graph, hashed and compacted: it is so already, and stays.
 fn hashed(graph: Graph) -> HeldNetwork
@@ -50,7 +51,7 @@ fn balanced(alloc: Global, graph: Graph) -> Result<HeldNetwork, (Graph, Refusal)
 }
 
 // How a pass is to go: as the options say, with so many workers where these name none.
-fn settings_of(options: &PassOptions, workers: u8) -> PassSettings
+fn settings_of(options: &PassOptions, workers: Workers) -> PassSettings
     ensures levels { result.levels ≡ options.now.levels }
 {
     PassSettings {
@@ -80,7 +81,7 @@ fn mapped<R: Threads + Sync>(
     alloc: Global,
     graph: Graph,
     inputs: &LutInputs,
-    workers: u8,
+    workers: Workers,
 ) -> Result<HeldNetwork, (Graph, Refusal)>
     ensures mapped { IfOk result (λ new. IsMappedTo inputs.now (graph_network (graphs.network_of graph)) (network_of new)) }
     ensures refused { IfErr result (λ back. (graphs.network_of back.0 ≡ graphs.network_of graph) × (back.1 ≡ Refusal.NoMemory)) }
@@ -113,7 +114,7 @@ fn mapped_for_area<R: Threads + Sync>(
     alloc: Global,
     graph: Graph,
     inputs: &LutInputs,
-    workers: u8,
+    workers: Workers,
 ) -> Result<HeldNetwork, (Graph, Refusal)>
     ensures mapped { IfOk result (λ new. IsMappedForArea inputs.now (graph_network (graphs.network_of graph)) (network_of new)) }
     ensures refused { IfErr result (λ back. (graphs.network_of back.0 ≡ graphs.network_of graph) × (back.1 ≡ Refusal.NoMemory)) }
@@ -155,7 +156,7 @@ fn remake_graph<R: Threads + Sync, G: Gate>(
     alloc: Global,
     command: &Command,
     graph: Graph,
-    workers: u8,
+    workers: Workers,
     gate: &G,
 ) -> Result<HeldNetwork, (Graph, Refusal)>
     ensures made { IfOk result (λ new. Makes command.now (graph_network (graphs.network_of graph)) (network_of new)) }
@@ -214,7 +215,7 @@ fn remake_luts<R: Threads + Sync, G: Gate>(
     alloc: Global,
     command: &Command,
     net: &LutNet,
-    workers: u8,
+    workers: Workers,
     gate: &G,
 ) -> Result<HeldNetwork, Refusal>
     requires making { kind_of command.now ≡ Making }
@@ -238,7 +239,7 @@ pub(crate) fn remake<R: Threads + Sync, G: Gate>(
     alloc: Global,
     command: &Command,
     network: HeldNetwork,
-    workers: u8,
+    workers: Workers,
     gate: &G,
 ) -> Result<HeldNetwork, (HeldNetwork, Refusal)>
     requires making { kind_of command.now ≡ Making }

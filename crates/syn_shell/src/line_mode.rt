@@ -15,6 +15,7 @@ use std::alloc::Global;
 use std::thread::Threads;
 use syn_commit::Gate;
 use syn_io::{Files, LineFault, Lines, Sink};
+use syn_workers::Workers;
 
 // The most lines that are run.
 const MAX_LINES: u32 = 1_048_576;
@@ -85,13 +86,12 @@ fn refuse_one_more_line<L: Lines, O: Sink>(alloc: Global, lines: &mut L, out: &m
 pub(crate) fn run_lines<R: Threads + Sync, F: Files, L: Lines, O: Sink, G: Gate>(
     rt: &R,
     alloc: Global,
-    workers: u8,
+    workers: Workers,
     files: &mut F,
     lines: &mut L,
     out: &mut O,
     gate: &G,
 ) -> u8
-    requires { (1 ≤ workers) × (workers ≤ 16) }
     ensures { (m : Option Network) × RanLines result 0 (state None (F.disk files.old) (O.screen out.old)) (L.input lines.old)
         (state m (F.disk files.new) (O.screen out.new)) (L.input lines.new) }
 {

@@ -29,13 +29,14 @@ use syn_io::{Files, Sink};
 use syn_netlist::CheckedNetlist;
 use syn_reader::ReadFault;
 use syn_words::Command;
+use syn_workers::Workers;
 
 /// What is kept from command to command: the network, a graph or a net of LUTs. Contracts see the netlist that it is
 /// written as, with the mark whether it is a net of LUTs. The number of workers changes nothing that they see.
 #[derive(Debug, Drop)]
 pub struct Session {
     network: Option<HeldNetwork>,
-    workers: u8,
+    workers: Workers,
 }
 
 impl Model for Session {
@@ -46,7 +47,7 @@ impl Model for Session {
 
     ghost view = { λ session. network_in session.network };
 
-    ghost invariant = { λ session. (1 ≤ session.workers) × (session.workers ≤ 16) × IfSome (network_in session.network) IsSmall };
+    ghost invariant = { λ session. IfSome (network_in session.network) IsSmall };
 }
 
 // The netlist that the bytes of a file spell, checked, or their first fault.
@@ -120,8 +121,7 @@ fn write<F: Files>(
 
 impl Session {
     /// No network yet; and so many workers, 1 to 16, for each command that names no number of them.
-    pub fn new(workers: u8) -> Session
-        requires { (1 ≤ workers) × (workers ≤ 16) }
+    pub fn new(workers: Workers) -> Session
         ensures { result ≡ None }
     {
         Session {

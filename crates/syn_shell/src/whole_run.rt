@@ -15,18 +15,18 @@ use std::alloc::Global;
 use std::thread::Threads;
 use syn_commit::Gate;
 use syn_io::{Files, Lines, Sink};
+use syn_workers::Workers;
 
 // Runs one script, and gives the status of its refusal, 0 where nothing was refused.
 fn run_one<R: Threads + Sync, F: Files, O: Sink, G: Gate>(
     rt: &R,
     alloc: Global,
-    workers: u8,
+    workers: Workers,
     text: &[u8],
     files: &mut F,
     out: &mut O,
     gate: &G,
 ) -> u8
-    requires { (1 ≤ workers) × (workers ≤ 16) }
     ensures { RanOne result text.now (F.disk files.old) (O.screen out.old) (F.disk files.new) (O.screen out.new) }
 {
     let mut session = Session::new(workers);

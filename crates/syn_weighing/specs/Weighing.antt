@@ -8,14 +8,15 @@ use Rattle.syn_plan.specs.declared.PLit.{PLit}
 use Rattle.syn_gain.specs.Placing.{leaf_literals, literal_for}
 use Rattle.syn_gain.specs.Replacements.{Replacement}
 use Rattle.syn_gain.specs.Searching.{Searched, search_gate, state}
-use Rattle.syn_weighing.specs.declared.dry_runs.DryRun.{DryRun}
+use Rattle.syn_gain.specs.declared.placed.PlacedPlan.{PlacedPlan}
+use Rattle.syn_weighing.specs.declared.dry_runs.TheConstants.{MAX_INDEXES}
 
 -- literals and new rows as one
-abbrev pub weight_of : DryRun → Searched
+abbrev pub weight_of : PlacedPlan MAX_INDEXES → Searched
 weight_of w = state w.literals.items w.extra.items
 
 -- the first literals are those of the constant and of so many leaves
-abbrev pub BeginsWith : ℕ → List ℕ → DryRun → Type 0
+abbrev pub BeginsWith : ℕ → List ℕ → PlacedPlan MAX_INDEXES → Type 0
 BeginsWith count leaves w = take (1 + count) w.literals.items ≡ constant ∷ leaf_literals count leaves
 
 -- something, where a pair needs a row

@@ -12,6 +12,6 @@ mod irredundant;
 mod quick_reject;
 
 pub use all_new::{AllNew, all_new_of_each, are_apart, names_within};
-pub use dry_runs::{DryRun, MAX_INDEXES, dry_run};
+pub use dry_runs::{DryRun, MAX_INDEXES, dry_run, dry_run_over};
 pub use irredundant::are_irredundant;
 pub use quick_reject::saves_nothing;

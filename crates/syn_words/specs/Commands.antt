@@ -91,9 +91,9 @@ form_of keywords.MapByFlow = with_inputs None
 form_of keywords.ReadAiger = words_alone operands.Name
 form_of keywords.WriteAiger = flag_and_name 97
 
--- A number of workers, 16 at most; the form lets no greater one through.
+-- A number of workers, 1 at least and 16 at most; the form lets no other through.
 abbrev pub workers_of : ℕ → ℕ
-workers_of number = min number 16
+workers_of number = max 1 (min number 16)
 
 -- A number of inputs, 2 at least and 8 at most, likewise.
 abbrev pub inputs_of : ℕ → ℕ

@@ -29,6 +29,7 @@ pub use laws::{either_or, not_both, one_fault, one_script, worked_forms, worked_
 pub use names::FileName;
 pub use numbers::number_in;
 use std::alloc::{AllocError, AllocFailed, Global};
+use syn_workers::Workers;
 use table::push_commands;
 use thiserror::Error;
 use words::{Phrases, bad_byte};
@@ -41,7 +42,7 @@ pub struct PassOptions {
     /// Whether only replacements that keep their root's level are made.
     pub levels: bool,
     /// The number of workers, where one is named.
-    pub workers: Option<u8>,
+    pub workers: Option<Workers>,
 }
 
 /// A command of a script. Contracts see the names of files as bytes, and numbers of inputs as numbers.

@@ -11,6 +11,7 @@ use crate::word_reader::{Given, given_by};
 use crate::words::Phrase;
 use crate::{Command, PassOptions, ScriptFault};
 use std::alloc::{AllocError, Global};
+use syn_workers::{MAX_WORKERS, Workers};
 
 /// What the names of commands say, long and short ones together.
 #[derive(Clone, Copy, Debug, PartialEq, Eq)]
@@ -82,9 +83,6 @@ fn keyword_of(word: &[u8]) -> Option<Keyword>
         None
     }
 }
-
-// So many workers at most.
-const MAX_WORKERS: u8 = 16;
 
 // The option with a number of workers.
 const WORKERS: Numbered = Numbered {
@@ -185,19 +183,15 @@ fn form_of(keyword: Keyword) -> Form
     }
 }
 
-// A number of workers, at most the most.
-fn workers_of(number: u64) -> u8
+// A number of workers, one at least and the most at most.
+fn workers_of(number: u64) -> Workers
     ensures { result ≡ workers_of number }
 {
-    if number < MAX_WORKERS as u64 {
-        number as u8
-    } else {
-        MAX_WORKERS
-    }
+    Workers::new(number.min(MAX_WORKERS as u64).max(1) as u8)
 }
 
 // The number of workers that was given, if any.
-fn given_workers(number: Option<u64>) -> Option<u8>
+fn given_workers(number: Option<u64>) -> Option<Workers>
     ensures { result ≡ option_map workers_of number }
 {
     match number {
@@ -225,7 +219,7 @@ fn one(alloc: Global, command: Command) -> Result<Vec<Command>, AllocError>
 }
 
 // These options.
-fn options(zero: bool, levels: bool, workers: Option<u8>) -> PassOptions
+fn options(zero: bool, levels: bool, workers: Option<Workers>) -> PassOptions
     ensures { result ≡ options zero levels workers }
 {
     PassOptions {

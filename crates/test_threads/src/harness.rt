@@ -7,6 +7,7 @@ use syn_commit::{Gate, Moment};
 use syn_graph::Graph;
 use syn_proposals::Report;
 use syn_reader::read_checked;
+use syn_workers::{MAX_WORKERS, Workers};
 
 /// A gate that counts the commits that were done.
 #[derive(Drop)]
@@ -86,11 +87,7 @@ pub const NAND: &str = ".model m\n.inputs a b\n.outputs y\n.names a b y\n11 0\n.
 pub const OBSERVED: &str =
     ".model m\n.inputs a b c\n.outputs f g h\n.names a b g\n11 1\n.names a c h\n11 1\n.names g h f\n1- 1\n-1 1\n.end\n";
 
-/// The numbers that stand for one worker.
-pub const ONE: [u8; 2] = [0, 1];
-
-/// Numbers of several workers: 200 counts as 16.
-pub const SEVERAL: [u8; 3] = [2, 4, 200];
-
-/// The numbers of workers that are tried.
-pub const WORKERS: [u8; 5] = [0, 1, 2, 4, 200];
+/// Numbers of several workers.
+pub fn several() -> [Workers; 3] {
+    [Workers::new(2), Workers::new(4), Workers::new(MAX_WORKERS)]
+}

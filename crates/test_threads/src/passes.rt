@@ -1,20 +1,19 @@
 //! Passes of one and of several workers.
 
-use crate::harness::{
-    AND3, Counting, NAND, OBSERVED, ONE, SEVERAL, Told, WORKERS, cones, graph_of, report,
-};
+use crate::harness::{AND3, Counting, NAND, OBSERVED, Told, cones, graph_of, report, several};
 use std::alloc::Global;
 use std::test::Fail;
 use std::thread::Threads;
 use syn_pool::pass;
 use syn_rewrite::CutPlans;
+use syn_workers::Workers;
 
 // What a pass of rewriting with so many workers on the text's graph does.
 fn passed<R: Threads + Sync>(
     rt: &R,
     alloc: Global,
     text: &[u8],
-    workers: u8,
+    workers: Workers,
     zero_gain: bool,
 ) -> Told {
     let graph = graph_of(alloc, text)?;
@@ -40,13 +39,12 @@ fn workers_gain_what_each_cone_saves(rt: HostRuntime) -> Result<(), Fail> {
     let alloc = rt.alloc();
     let one = cones(alloc, 1)?;
     let hundred = cones(alloc, 100)?;
-    for workers in ONE {
-        let found = passed(&rt, alloc, one.as_str().as_bytes(), workers, false);
-        assert_eq!(rt; found, Some((report(1, 1), 2, 1)));
-        let found = passed(&rt, alloc, hundred.as_str().as_bytes(), workers, false);
-        assert_eq!(rt; found, Some((report(100, 100), 200, 100)));
-    }
-    for workers in SEVERAL {
+    let alone = Workers::new(1);
+    let found = passed(&rt, alloc, one.as_str().as_bytes(), alone, false);
+    assert_eq!(rt; found, Some((report(1, 1), 2, 1)));
+    let found = passed(&rt, alloc, hundred.as_str().as_bytes(), alone, false);
+    assert_eq!(rt; found, Some((report(100, 100), 200, 100)));
+    for workers in several() {
         let found = passed(&rt, alloc, one.as_str().as_bytes(), workers, false);
         assert!(rt; leaves(found, 2));
         let found = passed(&rt, alloc, hundred.as_str().as_bytes(), workers, false);
@@ -69,20 +67,27 @@ fn is_another_form(found: Told) -> bool {
 #[test]
 fn other_forms_are_committed_with_gains_of_0(rt: HostRuntime) {
     let [first, second, third] = AND3;
-    let one = is_another_form(passed(&rt, rt.alloc(), first.as_bytes(), 1, true));
-    let two = is_another_form(passed(&rt, rt.alloc(), second.as_bytes(), 1, true));
-    let three = is_another_form(passed(&rt, rt.alloc(), third.as_bytes(), 1, true));
+    let alone = Workers::new(1);
+    let one = is_another_form(passed(&rt, rt.alloc(), first.as_bytes(), alone, true));
+    let two = is_another_form(passed(&rt, rt.alloc(), second.as_bytes(), alone, true));
+    let three = is_another_form(passed(&rt, rt.alloc(), third.as_bytes(), alone, true));
     assert!(rt; one && two || one && three || two && three);
+}
+
+// Whether so many workers gain nothing on closed graphs.
+fn gains_nothing<R: Threads + Sync>(rt: &R, alloc: Global, workers: Workers) -> bool {
+    let none = passed(rt, alloc, NAND.as_bytes(), workers, false);
+    let again = passed(rt, alloc, NAND.as_bytes(), workers, true);
+    let observed = passed(rt, alloc, OBSERVED.as_bytes(), workers, false);
+    none == Some((report(0, 0), 1, 0))
+        && again == Some((report(0, 0), 1, 0))
+        && observed == Some((report(0, 0), 3, 0))
 }
 
 #[test]
 fn nothing_is_gained_on_closed_graphs(rt: HostRuntime) {
-    for workers in WORKERS {
-        let none = passed(&rt, rt.alloc(), NAND.as_bytes(), workers, false);
-        assert_eq!(rt; none, Some((report(0, 0), 1, 0)));
-        let again = passed(&rt, rt.alloc(), NAND.as_bytes(), workers, true);
-        assert_eq!(rt; again, Some((report(0, 0), 1, 0)));
-        let observed = passed(&rt, rt.alloc(), OBSERVED.as_bytes(), workers, false);
-        assert_eq!(rt; observed, Some((report(0, 0), 3, 0)));
+    assert!(rt; gains_nothing(&rt, rt.alloc(), Workers::new(1)));
+    for workers in several() {
+        assert!(rt; gains_nothing(&rt, rt.alloc(), workers));
     }
 }

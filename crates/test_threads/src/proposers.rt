@@ -13,6 +13,7 @@ use syn_graph::Graph;
 use syn_proposals::Proposer;
 use syn_rewrite::CutPlans;
 use syn_rows::Row;
+use syn_workers::Workers;
 
 // The node of the cone's root: node 4 is the AND of a and b, node 5 that of a and c.
 const ROOT: u32 = 6;
@@ -37,7 +38,7 @@ fn cuts_of<R: Threads + Sync>(
     requires { is_and (row_at graph.now.rows node) ≡ true }
 {
     let proposer = CutPlans::new(alloc)?;
-    let lists = proposer.prepare(rt, alloc, graph, 1)?;
+    let lists = proposer.prepare(rt, alloc, graph, Workers::new(1))?;
     let mut cuts: Vec<Vec<u32>> = Vec::new(alloc);
     for proposal in proposer.propose(alloc, graph, &lists, node)? {
         let leaves = proposal.leaves.as_slice();
@@ -62,7 +63,7 @@ fn saving<R: Threads + Sync>(
     requires { is_and (row_at graph.now.rows node) ≡ true }
 {
     let proposer = CutPlans::new(alloc)?;
-    let lists = proposer.prepare(rt, alloc, graph, 1)?;
+    let lists = proposer.prepare(rt, alloc, graph, Workers::new(1))?;
     let uses = Uses::new(alloc, graph)?;
     proposer.first_saving(alloc, graph, &uses, &lists, node)
 }

@@ -13,6 +13,7 @@ use syn_pool::pass;
 use syn_proposals::Report;
 use syn_rewrite::CutPlans;
 use syn_rows::{Lit, Row};
+use syn_workers::Workers;
 
 // How often a held worker looks at most.
 const MAX_LOOKS: u32 = 1_000_000;
@@ -96,7 +97,7 @@ fn passed<R: Threads + Sync, G: Gate>(
     alloc: Global,
     graph: Graph,
     gate: &G,
-    workers: u8,
+    workers: Workers,
     zero_gain: bool,
 ) -> Option<(Report, Graph)> {
     let proposer = CutPlans::new(alloc).ok()?;
@@ -175,7 +176,7 @@ fn two_workers_work_at_the_same_time(rt: HostRuntime) -> Result<(), Fail> {
     let text = cones(alloc, 100)?;
     let gate = HoldsTheFirst::new();
     let found = match graph_of(alloc, text.as_str().as_bytes()) {
-        Some(graph) => passed(&rt, alloc, graph, &gate, 2, false),
+        Some(graph) => passed(&rt, alloc, graph, &gate, Workers::new(2), false),
         None => None,
     };
     assert_eq!(rt; gate.given_up.load(Ordering::SeqCst), 0);
@@ -197,7 +198,7 @@ fn eight_workers_keep_the_values(rt: HostRuntime) -> Result<(), Fail> {
             seen: AtomicU64::new(0),
         };
         let given = graph.copy(alloc)?;
-        let is_well = match passed(&rt, alloc, given, &gate, 8, zero_gain) {
+        let is_well = match passed(&rt, alloc, given, &gate, Workers::new(8), zero_gain) {
             Some((report, next)) => {
                 let fewer = u64::from(graph.count().saturating_sub(next.count()));
                 report.gained <= fewer && are_equal(alloc, &graph, &next)?

@@ -20,6 +20,7 @@ use syn_gain::{Candidate, Proposal, Room, Uses, mffc_size, saved};
 use syn_graph::Graph;
 use syn_plan::{PLit, Plan, factor};
 use syn_rows::{NODE_LIMIT, Row};
+use syn_workers::Workers;
 
 // Whether cuts have these leaves.
 fn are_cuts(cuts: &[Cut], wanted: &[&[u32]]) -> bool {
@@ -44,7 +45,7 @@ fn are_worked(lists: &CutLists) -> bool {
 }
 
 // Whether so many workers list them.
-fn lists_worked<R: Threads + Sync>(rt: &R, alloc: Global, graph: &Graph, workers: u8) -> bool {
+fn lists_worked<R: Threads + Sync>(rt: &R, alloc: Global, graph: &Graph, workers: Workers) -> bool {
     match listed(rt, alloc, graph, 4, workers) {
         Ok(lists) => are_worked(&lists),
         Err(_) => false,
@@ -59,7 +60,7 @@ fn lists_cuts(rt: HostRuntime) -> Result<(), Fail> {
     };
     for workers in 1..17 {
         assert!(rt;
-            lists_worked(&rt, alloc, &graph, workers),
+            lists_worked(&rt, alloc, &graph, Workers::new(workers)),
             "with {workers} workers"
         );
     }
@@ -108,7 +109,7 @@ fn computes_functions_over_cuts(rt: HostRuntime) -> Result<(), Fail> {
     let Some(graph) = alone(alloc) else {
         panic!(rt; "no graph");
     };
-    let lists = listed(&rt, alloc, &graph, 4, 1)?;
+    let lists = listed(&rt, alloc, &graph, 4, Workers::new(1))?;
     assert!(rt; computes(alloc, &graph, &lists, 0, 2, 0x1111));
     assert!(rt; computes(alloc, &graph, &lists, 1, 3, 0x5757));
     Ok(())
@@ -338,7 +339,7 @@ fn saving_node(alloc: Global, graph: &Graph, lists: &CutLists) -> Option<(u32, u
 fn first_saving<R: Threads + Sync>(rt: &R, alloc: Global, graph: &Graph) -> Option<Proposal>
     ensures { IfSome result (λ p. IsSoundBy graph.now.rows (replacement p)) }
 {
-    let lists = listed(rt, alloc, graph, 4, 1).ok()?;
+    let lists = listed(rt, alloc, graph, 4, Workers::new(1)).ok()?;
     let (node, place) = saving_node(alloc, graph, &lists)?;
     match listed_proposal(alloc, graph, &lists, node, place) {
         Ok(found) => found,

@@ -1,7 +1,7 @@
-use Rattle.std.proofs.Common.{ap, ◌∙◌}
-use Rattle.syn_gain.specs.Placing.{Placed}
+use Rattle.std.proofs.Common.{List, ap, ◌∙◌}
+use Rattle.syn_rows.specs.declared.Row.{Row}
 use Rattle.syn_decide.specs.Hints.{is_asked}
 use Rattle.syn_decide.proofs.answers.is_asked.Goals as goal
 
 pub returns : goal.returns
-returns c = c.asks.ensures ∙ ap (λ (s : Placed). is_asked s.extra c.args.row) c.place.ensures
+returns c = c.is_asked.ensures ∙ ap (λ (extra : List Row). is_asked extra c.args.row) (c.as_slice.ensures.value ∙ c.place.ensures.extra)

@@ -1,22 +1,22 @@
-use Rattle.std.proofs.Common.{◌≡◌, ◌+◌, List, ◌∷◌, length, get_or, sym, ap, ◌∙◌, subst, arith}
+use Rattle.std.proofs.Common.{rules, ◌≡◌, ◌+◌, List, ◌∷◌, length, get_or, sym, ap, ◌∙◌, subst, arith}
 use Rattle.std.proofs.lemmas.List.{take_all}
 use Rattle.syn_rows.specs.declared.Lit.{Lit}
 use Rattle.syn_rows.specs.declared.Row.{Row}
 use Rattle.syn_rows.specs.Joining.{constant, lit_of}
-use Rattle.syn_gain.specs.Laws.{IsPlacing}
+use Rattle.syn_gain.specs.Lookups.{ArePlaced}
 use Rattle.syn_gain.specs.Placing.{leaf_literals}
-use Rattle.syn_gain.proofs.Bounds.{begun_in, below_each}
+use Rattle.syn_gain.proofs.Bounds.{below_each}
+use Rattle.syn_gain.proofs.NodesThere.{begun_placed}
 use Rattle.syn_weighing.proofs.Told.{each_long}
 use Rattle.syn_weighing.proofs.dry_runs.dry_run.Goals as goal
 
-pub dry_run_gates-requires-clause-placing : goal.dry_run_gates-requires-clause-placing
-dry_run_gates-requires-clause-placing c =
-    let node = c.args.node in
+pub dry_run_gates-requires-clause-placed : goal.dry_run_gates-requires-clause-placed
+dry_run_gates-requires-clause-placed c =
     let r = c.args.candidate in
-    let n = length c.as_slice-rows.result.now in
-    let begun = begun_in n node r.plan.now.leaves r.leaves.now (omega (arith, r.root_is_no_constant, c.requires.leaves)) (λ i lt. omega (arith, below_each r.root r.leaves.now r.below_root i lt, c.requires.leaves)) in
-    subst (λ (ls : List Lit). IsPlacing node n ls c.clear.new.self.items) (sym (c.truncate.ensures.items ∙ c.requires.begins))
-    (subst (λ (es : List Row). IsPlacing node n (constant ∷ leaf_literals r.plan.now.leaves r.leaves.now) es) (sym c.clear.ensures) begun)
+    let first = length c.as_slice.result.now in
+    subst (λ (es : List Row). ArePlaced first c.truncate.new.self.items es) (sym c.clear.ensures)
+    (begun_placed first r.plan.now.leaves r.leaves.now c.truncate.new.self.items (c.truncate.ensures.items ∙ c.requires.begins)
+    (omega (arith, r.root_is_no_constant, c.requires.leaves, c.requires.low, ap length c.as_slice.ensures)) (search rules) (λ i lt. omega (arith, below_each r.root r.leaves.now r.below_root i lt, c.requires.leaves, c.requires.low, ap length c.as_slice.ensures)))
 
 pub returns-clause-begins : goal.returns-clause-begins
 returns-clause-begins c =
