@@ -1,5 +1,5 @@
 -- What a worker has done, moment by moment.
-use Rattle.std.proofs.Common.{◌≡◌, ◌≢◌, ℕ, ◌+◌, ◌<◌, ◌≤◌, Bool, true, false, if◌then◌else◌, List, [], ◌∷◌, ◌++◌, length, refl, sym, ap, ap₂, ◌∙◌, subst, arith, ℤ, pos, ◌+ℤ◌, ◌≤ℤ◌}
+use Rattle.std.proofs.Common.{◌≡◌, ◌≢◌, ℕ, ◌+◌, ◌<◌, ◌≤◌, Bool, true, false, not, if◌then◌else◌, List, [], ◌∷◌, ◌++◌, length, refl, sym, ap, ap₂, ◌∙◌, subst, arith, ℤ, pos, ◌+ℤ◌, ◌≤ℤ◌}
 use Rattle.std.proofs.lemmas.Int.{ints}
 use Rattle.syn_core_laws.specs.declared.Seen.{Seen}
 use Rattle.syn_decide.specs.declared.decisions.Outcome.{Outcome}
@@ -11,9 +11,10 @@ use Rattle.syn_decide.specs.Tasks.{Task}
 use Rattle.syn_table.specs.declared.Known.{Known}
 use Rattle.syn_core_laws.specs.Splits.{view_after_join}
 use Rattle.syn_proposals.specs.declared.gains.Report.{Report}
+use Rattle.syn_graph.specs.declared.Graph.{Graph}
 use Rattle.syn_table.specs.declared.Seat.{Seat}
 use Rattle.syn_table.specs.declared.Shared.{Shared}
-use Rattle.syn_table.specs.Seating.{IsOf, known_of, view_of}
+use Rattle.syn_table.specs.Seating.{IsOf, graph_of, known_of, view_of}
 use Rattle.syn_table.specs.Splitting.{all_but_last, last_of, split_from, with_joined, without_last}
 use Rattle.syn_table.specs.Steps.{with_view}
 use Rattle.syn_commit_laws.specs.Freeing.{late}
@@ -22,8 +23,8 @@ use Rattle.syn_commit.specs.Committed.{FellSince, StoredSince, changes_since, ga
 use Rattle.syn_commit.specs.Giving.{IsAtRest}
 use Rattle.syn_core_laws.specs.declared.View.{View}
 use Rattle.syn_pool.specs.declared.workers.Worker.{Worker}
-use Rattle.syn_pool.specs.Reports.{HasTried, done_of, IsSum, all_answers, reported, told, with_answer, with_gain}
-use Rattle.syn_pool.specs.Working.{HasSwept, HasWorked}
+use Rattle.syn_pool.specs.Reports.{HasTried, IsReport, done_of, IsSum, all_answers, reported, told, with_answer, with_gain}
+use Rattle.syn_pool.specs.Working.{HasSwept, HasWorked, IsRoundReport}
 use Rattle.syn_pool.proofs.Sums.{all_append, reported_both, stored_dones, sum_both, sum_of_reported, tried_both}
 use Rattle.syn_decide.proofs.Enough.{gain_enough}
 
@@ -217,3 +218,15 @@ swept_none shared zero_gain was now report table rest is no_done no_gain = recor
   fell = fell_none (view_of was).difference (view_of now).difference report.gained (ap (λ (k : Known). k.core.difference) is) no_gain;
   gains = λ strict. omega (arith, no_done, no_gain);
 }
+
+-- what workers report of a round is the sum of their attempts
+pub report_of_round : (was : Graph) (zero_gain : Bool) (report : Report) → IsRoundReport was zero_gain report → IsReport report
+report_of_round was zero_gain report is = let swept = is.swept in (swept.own ∷ swept.others, swept.sums)
+
+-- the report of a swept table is one of its graph
+pub round_report : (zero_gain : Bool) (shared : Shared) (first last : Seat) (report : Report) (was : Graph) → graph_of shared ≡ was → (view_of first).changes ≡ [] → HasSwept shared zero_gain first last report → IsRoundReport was zero_gain report
+round_report zero_gain shared first last report was graph fresh swept = record { shared = shared; graph = graph; first = first; last = last; fresh = fresh; swept = swept }
+
+pub is_false : (b : Bool) → not b ≡ true → b ≡ false
+is_false true e = sym e
+is_false false e = refl

@@ -1,10 +1,11 @@
 -- Workers at a table, and what their commits leave.
-use Rattle.std.specs.Prelude.{◌≡◌, ◌≤◌, Bool, false, List, ◌∷◌, pos, ◌+ℤ◌, ◌≤ℤ◌}
+use Rattle.std.specs.Prelude.{◌≡◌, ◌≤◌, Bool, false, List, [], ◌∷◌, pos, ◌+ℤ◌, ◌≤ℤ◌}
+use Rattle.syn_graph.specs.declared.Graph.{Graph}
 use Rattle.syn_decide.specs.Decided.{Answer}
 use Rattle.syn_proposals.specs.declared.gains.Report.{Report}
 use Rattle.syn_table.specs.declared.Seat.{Seat}
 use Rattle.syn_table.specs.declared.Shared.{Shared}
-use Rattle.syn_table.specs.Seating.{IsOf, known_of, view_of}
+use Rattle.syn_table.specs.Seating.{IsOf, graph_of, known_of, view_of}
 use Rattle.syn_table.specs.Steps.{with_view}
 use Rattle.syn_commit.specs.Giving.{HoldsAlone, IsAtRest}
 use Rattle.syn_pool.specs.declared.workers.Worker.{Worker}
@@ -36,3 +37,18 @@ pub record HasSwept (shared : Shared) (zero_gain : Bool) (was now : Seat) (repor
   pub sums : IsSum (all_answers (own ∷ others)) report
   pub fell : ((view_of now).difference +ℤ pos report.gained) ≤ℤ (view_of was).difference
   pub gains : zero_gain ≡ false → report.done ≤ report.gained
+
+-- What workers report who went over a table of the graph: with its first seat, which had stored nothing, and with those that were split from it and joined again.
+pub record IsRoundReport (was : Graph) (zero_gain : Bool) (report : Report) : Type 0 where
+  pub shared : Shared
+  pub graph : graph_of shared ≡ was
+  pub first : Seat
+  pub last : Seat
+  pub fresh : (view_of first).changes ≡ []
+  pub swept : HasSwept shared zero_gain first last report
+
+-- Workers went over a table of the graph, and none of their attempts was done.
+pub record NothingDone (was : Graph) (zero_gain : Bool) : Type 0 where
+  pub report : Report
+  pub round : IsRoundReport was zero_gain report
+  pub none : report.done ≡ 0

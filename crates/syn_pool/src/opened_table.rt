@@ -1,6 +1,6 @@
 //! What a round begins with: the table, the hints, and the nodes to visit.
 
-ghost use Rattle.std.specs.Prelude.{◌≡◌, ℕ, ◌+◌, ◌*◌, ◌<◌, ◌^◌, length, slice_index, IfOk};
+ghost use Rattle.std.specs.Prelude.{◌≡◌, ℕ, ◌+◌, ◌*◌, ◌<◌, ◌≤◌, ◌^◌, length, slice_index, IfOk};
 ghost use Rattle.syn_rows.specs.declared.TheConstants.{NODE_LIMIT};
 ghost use Rattle.syn_rows.specs.declared.Row.TheVariants.{Source};
 ghost use Rattle.syn_rows.specs.Rows.{Rises, row_at};
@@ -92,6 +92,7 @@ pub(crate) fn opened(
     ensures nodes { IfOk result (λ t. nodes_of t.0 ≡ length graph.now.rows + 512 * workers) }
     ensures table { IfOk result (λ t. IsOf t.1 t.0) }
     ensures known { IfOk result (λ t. known_of t.1 ≡ first_seat (with_spare graph.now.rows (512 * workers)) graph.now.observed) }
+    ensures numbers { IfOk result (λ t. workers ≤ length (known_of t.1).numbers) }
 {
     let keys = keys_of(alloc, graph, order)?;
     Shared::start(

@@ -45,7 +45,8 @@ pub(crate) fn queues_of(
     nodes: &[u32],
     workers: Workers,
 ) -> Result<Vec<Queue>, AllocError>
-    ensures { IfOk result (λ queues. length queues.items ≤ workers) }
+    ensures count { IfOk result (λ queues. length queues.items ≤ workers) }
+    ensures few { IfOk result (λ queues. length queues.items ≤ 16) }
 {
     let size = nodes.len().div_ceil(workers.number() as usize).max(1);
     let mut queues = Vec::new(alloc);

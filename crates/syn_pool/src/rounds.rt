@@ -6,8 +6,7 @@ ghost use Rattle.syn_proposals.specs.Following.{Follows};
 ghost use Rattle.syn_proposals.specs.Gains.{IsGain};
 ghost use Rattle.syn_table.specs.Seating.{IsOf, known_of, nodes_of, view_of};
 ghost use Rattle.syn_commit.specs.Giving.{IsAtRest};
-ghost use Rattle.syn_pool.specs.Reports.{IsReport};
-ghost use Rattle.syn_pool.specs.Working.{HasSwept};
+ghost use Rattle.syn_pool.specs.Working.{HasSwept, IsRoundReport, NothingDone};
 
 use crate::closed_table::close;
 use crate::fan_outs::FanOuts;
@@ -87,36 +86,41 @@ fn swept<R: Threads + Sync, P: Proposer, G: Gate>(
     Ok((board.shared, swept))
 }
 
-// The graph after one round on its table.
+// The graph after one round on its table; none where nothing was done.
 fn improved<R: Threads + Sync, P: Proposer, G: Gate>(
     course: &Course<'_, R, P, G>,
     graph: &Graph,
     lists: &P::Lists,
     tour: &Tour<'_>,
-) -> Result<Improved, AllocError>
+) -> Result<Option<Improved>, AllocError>
     requires lists { tour.now.looks ≡ false → P.is_lists_of course.now.proposer.now lists.now graph.now.rows }
     requires nodes { length graph.now.rows + 512 * tour.now.workers < NODE_LIMIT }
     requires literals { length graph.now.observed < 2 ^ 30 }
-    ensures follows { IfOk result (λ m. Follows graph.now m.report.gained m.graph) }
-    ensures gain { IfOk result (λ m. IsGain (not tour.now.zero_gain) m.report) }
-    ensures report { IfOk result (λ m. IsReport m.report) }
+    ensures follows { IfOk result (λ made. IfSome made (λ m. Follows graph.now m.report.gained m.graph)) }
+    ensures gain { IfOk result (λ made. IfSome made (λ m. IsGain (not tour.now.zero_gain) m.report)) }
+    ensures round { IfOk result (λ made. IfSome made (λ m. IsRoundReport graph.now tour.now.zero_gain m.report)) }
+    ensures done { IfOk result (λ made. IfSome made (λ m. 1 ≤ m.report.done)) }
+    ensures none { IfOk result (λ made. IfNone made (NothingDone graph.now tour.now.zero_gain)) }
 {
     let (table, seat) = opened(course.alloc, graph, tour.workers, tour.order)?;
     let (shared, swept) = swept(course, graph, lists, tour, table, seat)?;
     swept.memory?;
+    if swept.report.done == 0 {
+        return Ok(None);
+    }
     let next = close(course.alloc, graph, shared, swept.seat)?;
-    Ok(Improved {
+    Ok(Some(Improved {
         graph: next,
         report: swept.report,
-    })
+    }))
 }
 
 /// One round: commits proposals for the nodes of a tour on the graph's table, and closes the table. The
 /// graph that comes has the same frame and the same values of the observed signals, and fewer ANDs by at least what the
 /// report says. Each worker has a thread of its own and a part of the nodes, and takes
 /// of the others' when its own is done; the work of a thread that can't be made is done by the caller's. None comes, and
-/// the graph stays, where it has no room for the workers' spare nodes below the limit of nodes, or 2^30 observed signals or
-/// more. The gate is told each commit. The only error is want of memory.
+/// the graph stays, where nothing was done, and where it has no room for the workers' spare nodes below the limit of nodes,
+/// or 2^30 observed signals or more. The gate is told each commit. The only error is want of memory.
 pub(crate) fn round_at<R: Threads + Sync, P: Proposer, G: Gate>(
     course: &Course<'_, R, P, G>,
     graph: &Graph,
@@ -126,19 +130,19 @@ pub(crate) fn round_at<R: Threads + Sync, P: Proposer, G: Gate>(
     requires lists { tour.now.looks ≡ false → P.is_lists_of course.now.proposer.now lists.now graph.now.rows }
     ensures follows { IfOk result (λ made. IfSome made (λ m. Follows graph.now m.report.gained m.graph)) }
     ensures gain { IfOk result (λ made. IfSome made (λ m. IsGain (not tour.now.zero_gain) m.report)) }
-    ensures report { IfOk result (λ made. IfSome made (λ m. IsReport m.report)) }
-    ensures none { IfOk result (λ made. IfNone made ((NODE_LIMIT ≤ length graph.now.rows + 512 * tour.now.workers) ⊎ (2 ^ 30 ≤ length graph.now.observed))) }
+    ensures round { IfOk result (λ made. IfSome made (λ m. IsRoundReport graph.now tour.now.zero_gain m.report)) }
+    ensures done { IfOk result (λ made. IfSome made (λ m. 1 ≤ m.report.done)) }
+    ensures none { IfOk result (λ made. IfNone made ((NODE_LIMIT ≤ length graph.now.rows + 512 * tour.now.workers) ⊎ (2 ^ 30 ≤ length graph.now.observed) ⊎ NothingDone graph.now tour.now.zero_gain)) }
 {
     if !has_room(graph, tour.workers) {
         return Ok(None);
     }
-    let made = improved(course, graph, lists, tour)?;
-    Ok(Some(made))
+    improved(course, graph, lists, tour)
 }
 
 /// A round on the ANDs of the graph with the workers of the pass, the last one first: where gains of 0 are let through, on those
 /// whose neighbourhoods weren't visited, and the first one first where cuts of the table are looked at, for which the lists may be
-/// those of another graph. None comes where the graph has no room, or the proposer wouldn't take what they leave.
+/// those of another graph. None comes where nothing was done, the graph has no room, or the proposer wouldn't take what they leave.
 pub(crate) fn round<R: Threads + Sync, P: Proposer, G: Gate>(
     course: &Course<'_, R, P, G>,
     graph: &Graph,
@@ -149,7 +153,8 @@ pub(crate) fn round<R: Threads + Sync, P: Proposer, G: Gate>(
     requires lists { looks ≡ false → P.is_lists_of course.now.proposer.now lists.now graph.now.rows }
     ensures follows { IfOk result (λ made. IfSome made (λ m. Follows graph.now m.report.gained m.graph)) }
     ensures gain { IfOk result (λ made. IfSome made (λ m. IsGain (not course.now.zero_gain) m.report)) }
-    ensures report { IfOk result (λ made. IfSome made (λ m. IsReport m.report)) }
+    ensures round { IfOk result (λ made. IfSome made (λ m. IsRoundReport graph.now course.now.zero_gain m.report)) }
+    ensures done { IfOk result (λ made. IfSome made (λ m. 1 ≤ m.report.done)) }
 {
     let mut nodes = if course.zero_gain {
         visited.visit(course.alloc, graph)?

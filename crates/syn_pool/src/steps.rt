@@ -70,7 +70,7 @@ fn workers_for(leftovers: usize, workers: Workers) -> Workers {
 
 // A graph with fewer ANDs in place of one with leftovers: workers commit for their roots and around them; where there are
 // many, or nothing is gained so, the leftovers are applied.
-#[tactic(auto, using(crate::proofs::Sums::no_report))]
+#[tactic(auto, using(crate::proofs::Sums::no_report, crate::proofs::Works::report_of_round))]
 fn commit_or_apply<R: Threads + Sync, P: Proposer, G: Gate>(
     course: &Course<'_, R, P, G>,
     graph: &Graph,
@@ -277,10 +277,8 @@ pub(crate) fn one_step<R: Threads + Sync, P: Proposer, G: Gate>(
     }
     let (lists, looks) = lists_for_round(course, graph, before)?;
     match round(course, graph, &lists, looks, &mut seen.visited)? {
-        Some(improved) if improved.report.done > 0 => {
-            goes_on(course, graph, improved, lists, &mut seen.clean)
-        }
-        _ => {
+        Some(improved) => goes_on(course, graph, improved, lists, &mut seen.clean),
+        None => {
             let lists = listed(course, graph, Some(lists))?;
             check_given(course, graph, lists, &mut seen.clean)
         }

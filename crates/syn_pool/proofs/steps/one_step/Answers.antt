@@ -1,12 +1,14 @@
 use Rattle.std.proofs.Common.{not}
 use Rattle.syn_proposals.specs.Gains.{IsGain}
 use Rattle.syn_proposals.proofs.Maps.{IfSome-at}
-use Rattle.syn_pool.specs.Reports.{IsReport}
+use Rattle.syn_pool.specs.Working.{IsRoundReport}
+use Rattle.syn_pool.proofs.Works.{report_of_round}
 use Rattle.syn_pool.proofs.steps.one_step.Goals as goal
 
 pub goes_on-requires-clause-report : goal.goes_on-requires-clause-report
 goes_on-requires-clause-report g c κs within =
-    IfSome-at (λ m. IsReport m.report) c.in_ok-improved.field-0 c.in-Some.improved c.in-Some.is c.in_ok-improved.ensures.report
+    report_of_round c.args.graph.now c.args.course.now.zero_gain c.in-Some.improved.report
+    (IfSome-at (λ m. IsRoundReport c.args.graph.now c.args.course.now.zero_gain m.report) c.in_ok-improved.field-0 c.in-Some.improved c.in-Some.is c.in_ok-improved.ensures.round)
 
 pub returns-in-Some : goal.returns-in-Some
 returns-in-Some g c =
@@ -16,5 +18,5 @@ returns-in-Some g c =
 pub returns-then-not-commits : goal.returns-then-not-commits
 returns-then-not-commits g c = c.check_given.ensures (not c.args.course.now.zero_gain)
 
-pub returns-in_ok-lists-in_default : goal.returns-in_ok-lists-in_default
-returns-in_ok-lists-in_default g c = c.check_given-in_default.ensures (not c.args.course.now.zero_gain)
+pub returns-in_ok-lists-in-None : goal.returns-in_ok-lists-in-None
+returns-in_ok-lists-in-None g c = c.check_given-in-None.ensures (not c.args.course.now.zero_gain)
