@@ -3,3 +3,4 @@ mod Works
 mod Leaving
 mod Numbers
 mod Chains
+mod Turning

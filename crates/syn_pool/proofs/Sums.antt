@@ -11,13 +11,13 @@ use Rattle.syn_decide.specs.Tasks.{Task}
 use Rattle.syn_commit_laws.specs.Freeing.{redefines}
 use Rattle.syn_commit.specs.Committed.{Stores, gain_of}
 use Rattle.syn_proposals.specs.declared.gains.Report.{Report}
-use Rattle.syn_pool.specs.Reports.{HasTriedAll, IsReport, IsSum, Sweep, all_answers, done_of, dones, gains, reported, told, with_answer}
+use Rattle.syn_pool.specs.Reports.{HasTriedAll, IsSum, Sweep, all_answers, done_of, dones, gains, reported, told, with_answer}
 
 -- ---- numbers of reports
-told_low : (a : ℕ) → a ≤ 2 ^ 64 - 1 → told a ≡ a
+pub told_low : (a : ℕ) → a ≤ 2 ^ 64 - 1 → told a ≡ a
 told_low a le = min-eq_left le
 
-told_high : (a : ℕ) → 2 ^ 64 - 1 ≤ a → told a ≡ 2 ^ 64 - 1
+pub told_high : (a : ℕ) → 2 ^ 64 - 1 ≤ a → told a ≡ 2 ^ 64 - 1
 told_high a le = min-eq_right le
 
 pub told_told : (a b : ℕ) → told (told a + b) ≡ told (a + b)
@@ -96,17 +96,6 @@ sum_both xs ys r s t f g done gained = record {
   done = done ∙ ap₂ (λ (a b : ℕ). told (a + b)) f.done g.done ∙ told_both (dones xs) (dones ys) ∙ ap told (sym (dones_append xs ys));
   gained = gained ∙ ap₂ (λ (a b : ℕ). told (a + b)) f.gained g.gained ∙ told_both (gains xs) (gains ys) ∙ ap told (sym (gains_append xs ys));
 }
-
--- nothing was done
-pub no_report : (r : Report) → r.done ≡ 0 → r.gained ≡ 0 → IsReport r
-no_report r d g = ([], record { done = d; gained = g })
-
--- what one round did, and what the next did
-pub report_both : (r s t : Report) → IsReport r → IsReport s → t.done ≡ told (r.done + s.done) → t.gained ≡ told (r.gained + s.gained) → IsReport t
-report_both r s t f g done gained = (
-  f.0 ++ g.0,
-  subst (λ (xs : List Answer). IsSum xs t) (sym (all_append f.0 g.0)) (sum_both (all_answers f.0) (all_answers g.0) r s t f.1 g.1 done gained),
-)
 
 -- a commit redefines one row where it was done, and none else
 pub stored_dones : (t : Task) (s : State) (answer : Answer) (pool kept : List ℕ) (makes : List Made) (changes : List Change) → Stores t s answer pool kept makes changes → length (redefines changes) ≡ done_of answer

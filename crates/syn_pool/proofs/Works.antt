@@ -23,7 +23,7 @@ use Rattle.syn_commit.specs.Committed.{FellSince, StoredSince, changes_since, ga
 use Rattle.syn_commit.specs.Giving.{IsAtRest}
 use Rattle.syn_core_laws.specs.declared.View.{View}
 use Rattle.syn_pool.specs.declared.workers.Worker.{Worker}
-use Rattle.syn_pool.specs.Reports.{HasTried, IsReport, done_of, IsSum, all_answers, reported, told, with_answer, with_gain}
+use Rattle.syn_pool.specs.Reports.{HasTried, done_of, IsSum, all_answers, reported, told, with_answer, with_gain}
 use Rattle.syn_pool.specs.Working.{HasSwept, HasWorked, IsRoundReport}
 use Rattle.syn_pool.proofs.Sums.{all_append, reported_both, stored_dones, sum_both, sum_of_reported, tried_both}
 use Rattle.syn_decide.proofs.Enough.{gain_enough}
@@ -218,10 +218,6 @@ swept_none shared zero_gain was now report table rest is no_done no_gain = recor
   fell = fell_none (view_of was).difference (view_of now).difference report.gained (ap (λ (k : Known). k.core.difference) is) no_gain;
   gains = λ strict. omega (arith, no_done, no_gain);
 }
-
--- what workers report of a round is the sum of their attempts
-pub report_of_round : (was : Graph) (zero_gain : Bool) (report : Report) → IsRoundReport was zero_gain report → IsReport report
-report_of_round was zero_gain report is = let swept = is.swept in (swept.own ∷ swept.others, swept.sums)
 
 -- the report of a swept table is one of its graph
 pub round_report : (zero_gain : Bool) (shared : Shared) (first last : Seat) (report : Report) (was : Graph) → graph_of shared ≡ was → (view_of first).changes ≡ [] → HasSwept shared zero_gain first last report → IsRoundReport was zero_gain report

@@ -5,3 +5,4 @@ pub mod Working
 pub mod Closing
 pub mod Steps
 pub mod Improving
+pub mod Turns

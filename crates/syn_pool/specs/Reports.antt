@@ -61,10 +61,6 @@ pub record IsSum (answers : List Answer) (report : Report) : Type 0 where
   pub done : report.done ≡ told (dones answers)
   pub gained : report.gained ≡ told (gains answers)
 
--- the report of some seats' attempts
-abbrev pub IsReport : Report → Type 0
-IsReport report = (sweeps : List Sweep) × IsSum (all_answers sweeps) report
-
 -- the report with a commit more, of this gain, and with an answer more
 abbrev pub with_gain : Report → ℕ → Report
 with_gain r gain = record { done = told (r.done + 1); gained = told (r.gained + gain) }

@@ -9,14 +9,14 @@ use Rattle.syn_proposals.specs.declared.gains.Report.{Report}
 use Rattle.syn_proposals.specs.Closing.{Closed}
 use Rattle.syn_proposals.specs.Following.{Follows}
 use Rattle.syn_proposals.specs.Gains.{IsGain}
-use Rattle.syn_pool.specs.Reports.{IsReport}
+use Rattle.syn_pool.specs.Turns.{IsPassReport}
 
--- a graph follows another with fewer ANDs; none of its commits gained nothing, and the report is of commits
+-- a graph follows another with fewer ANDs; none of its commits gained nothing, and the report is of what led to it
 abbrev pub IsFewer : Graph → Report → Graph → Type 0
-IsFewer was report now = Follows was report.gained now × (length now.rows < length was.rows) × IsGain true report × IsReport report
+IsFewer was report now = Follows was report.gained now × (length now.rows < length was.rows) × IsGain true report × IsPassReport was now report
 
 -- the graph is closed; or a closed one follows it; or one with fewer ANDs
 abbrev pub IsStepOf : {L : Type 0} → Graph → (List Row → ℕ → List Replacement) → Bool → Step L → Type 0
 IsStepOf was proposals strict Stays = Closed was.rows was.observed (proposals was.rows)
-IsStepOf was proposals strict (Ends now report) = Follows was report.gained now × Closed now.rows now.observed (proposals now.rows) × IsGain strict report × IsReport report
-IsStepOf was proposals strict (GoesOn now report _ _) = Follows was report.gained now × (length now.rows < length was.rows) × IsGain strict report × IsReport report
+IsStepOf was proposals strict (Ends now report) = Follows was report.gained now × Closed now.rows now.observed (proposals now.rows) × IsGain strict report × IsPassReport was now report
+IsStepOf was proposals strict (GoesOn now report _ _) = Follows was report.gained now × (length now.rows < length was.rows) × IsGain strict report × IsPassReport was now report

@@ -6,7 +6,7 @@ ghost use Rattle.syn_netlist.specs.Frames.{frame_in};
 ghost use Rattle.syn_proposals.specs.Closing.{Closed};
 ghost use Rattle.syn_proposals.specs.Following.{Follows};
 ghost use Rattle.syn_proposals.specs.Gains.{IsGain};
-ghost use Rattle.syn_pool.specs.Reports.{IsReport};
+ghost use Rattle.syn_pool.specs.Turns.{IsPassReport};
 ghost use Rattle.syn_pool.specs.Steps.{IsStepOf};
 
 use crate::neighbourhoods::Seen;
@@ -33,11 +33,11 @@ fn close<R: Threads + Sync, P: Proposer, G: Gate>(
 ) -> Result<(Graph, Report), AllocError>
     requires follows { Follows start.now report.gained graph }
     requires gain { IsGain (not course.now.zero_gain) report }
-    requires report { IsReport report }
+    requires report { IsPassReport start.now graph report }
     ensures follows { IfOk result (λ r. Follows start.now r.1.gained r.0) }
     ensures closed { IfOk result (λ r. Closed r.0.rows r.0.observed (P.proposals course.now.proposer.now r.0.rows)) }
     ensures gain { IfOk result (λ r. IsGain (not course.now.zero_gain) r.1) }
-    ensures report { IfOk result (λ r. IsReport r.1) }
+    ensures report { IfOk result (λ r. IsPassReport start.now r.0 r.1) }
 {
     let mut graph = graph;
     let mut report = report;
@@ -63,7 +63,7 @@ pub(crate) fn closed<R: Threads + Sync, P: Proposer, G: Gate>(
     course: &Course<'_, R, P, G>,
     graph: &Graph,
 ) -> Result<Option<(Graph, Report)>, AllocError>
-    ensures some { IfOk result (λ made. IfSome made (λ r. Follows graph.now r.1.gained r.0 × Closed r.0.rows r.0.observed (P.proposals course.now.proposer.now r.0.rows) × IsGain (not course.now.zero_gain) r.1 × IsReport r.1)) }
+    ensures some { IfOk result (λ made. IfSome made (λ r. Follows graph.now r.1.gained r.0 × Closed r.0.rows r.0.observed (P.proposals course.now.proposer.now r.0.rows) × IsGain (not course.now.zero_gain) r.1 × IsPassReport graph.now r.0 r.1)) }
     ensures none { IfOk result (λ made. IfNone made (Closed graph.now.rows graph.now.observed (P.proposals course.now.proposer.now graph.now.rows))) }
 {
     let mut seen = Seen::new(course.alloc, graph)?;
@@ -82,7 +82,7 @@ pub(crate) fn closed<R: Threads + Sync, P: Proposer, G: Gate>(
 /// without them. Where `zero_gain` is true, commits of gain 0 are let through, and workers commit again before the first check
 /// for as long as a round leads to much, for ANDs in whose neighbourhood something is new. The gate is told of each commit.
 /// Where memory is refused, the same graph comes back.
-#[tactic(auto, using(crate::proofs::Sums::no_report))]
+#[tactic(auto, using(crate::proofs::Turning::no_turn))]
 pub fn pass<R: Threads + Sync, P: Proposer, G: Gate>(
     rt: &R,
     alloc: Global,
@@ -98,7 +98,7 @@ pub fn pass<R: Threads + Sync, P: Proposer, G: Gate>(
     ensures count { IfOk result (λ r. length r.0.rows + r.1.gained ≤ length graph.rows) }
     ensures closed { IfOk result (λ r. Closed r.0.rows r.0.observed (P.proposals proposer.now r.0.rows)) }
     ensures gains { IfOk result (λ r. zero_gain ≡ false → r.1.done ≤ r.1.gained) }
-    ensures report { IfOk result (λ r. IsReport r.1) }
+    ensures report { IfOk result (λ r. IsPassReport graph r.0 r.1) }
     ensures refused { IfErr result (λ e. e.0 ≡ graph) }
 {
     let course = Course {

@@ -1,7 +1,7 @@
 //! Reports of what commits gained.
 
 ghost use Rattle.std.specs.Prelude.{◌≡◌, ◌+◌, ◌≤◌};
-ghost use Rattle.syn_pool.specs.Reports.{IsReport, told};
+ghost use Rattle.syn_pool.specs.Reports.{told};
 
 use syn_proposals::Report;
 
@@ -12,7 +12,6 @@ pub(crate) const NOTHING: Report = Report { done: 0, gained: 0 };
 pub(crate) fn both(first: Report, second: Report) -> Report
     ensures sum { (result.done ≡ told (first.done + second.done)) × (result.gained ≡ told (first.gained + second.gained)) }
     ensures gained { result.gained ≤ first.gained + second.gained }
-    ensures report { IsReport first → IsReport second → IsReport result }
     ensures done { first.done ≤ first.gained → second.done ≤ second.gained → result.done ≤ result.gained }
 {
     Report {

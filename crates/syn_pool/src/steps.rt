@@ -9,7 +9,7 @@ ghost use Rattle.syn_proposals.specs.Closing.{Closed, SavesSome};
 ghost use Rattle.syn_proposals.specs.Following.{Follows};
 ghost use Rattle.syn_proposals.specs.Gains.{IsGain};
 ghost use Rattle.syn_proposals.specs.Sound.{IsLeftover, IsSound};
-ghost use Rattle.syn_pool.specs.Reports.{IsReport};
+ghost use Rattle.syn_pool.specs.Turns.{IsPassReport};
 ghost use Rattle.syn_pool.specs.Steps.{IsFewer, IsStepOf};
 
 use crate::neighbourhoods::{Marked, Neighbourhoods, Seen};
@@ -70,7 +70,7 @@ fn workers_for(leftovers: usize, workers: Workers) -> Workers {
 
 // A graph with fewer ANDs in place of one with leftovers: workers commit for their roots and around them; where there are
 // many, or nothing is gained so, the leftovers are applied.
-#[tactic(auto, using(crate::proofs::Sums::no_report, crate::proofs::Works::report_of_round))]
+#[tactic(auto, using(crate::proofs::Turning::one_round, crate::proofs::Turning::one_applied))]
 fn commit_or_apply<R: Threads + Sync, P: Proposer, G: Gate>(
     course: &Course<'_, R, P, G>,
     graph: &Graph,
@@ -180,7 +180,7 @@ fn check_improved<R: Threads + Sync, P: Proposer, G: Gate>(
     clean: &mut Neighbourhoods,
 ) -> Result<Step<P::Lists>, AllocError>
     requires follows { Follows graph.now improved.report.gained improved.graph }
-    requires report { IsReport improved.report }
+    requires report { IsPassReport graph.now improved.graph improved.report }
     ensures { (strict : Bool) → IsGain strict improved.report → IfOk result (IsStepOf graph.now (P.proposals course.now.proposer.now) strict) }
 {
     let report = improved.report;
@@ -208,7 +208,7 @@ fn goes_on<R: Threads + Sync, P: Proposer, G: Gate>(
     clean: &mut Neighbourhoods,
 ) -> Result<Step<P::Lists>, AllocError>
     requires follows { Follows graph.now improved.report.gained improved.graph }
-    requires report { IsReport improved.report }
+    requires report { IsPassReport graph.now improved.graph improved.report }
     ensures { (strict : Bool) → IsGain strict improved.report → IfOk result (IsStepOf graph.now (P.proposals course.now.proposer.now) strict) }
 {
     if course.zero_gain && is_worth_another(graph, &improved.graph) {

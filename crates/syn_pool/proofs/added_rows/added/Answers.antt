@@ -1,4 +1,4 @@
-use Rattle.std.proofs.Common.{rules, List, length, sym, ap, subst, arith}
+use Rattle.std.proofs.Common.{List, length, sym, ap, subst, arith}
 use Rattle.syn_rows.specs.declared.Row.{Row}
 use Rattle.syn_rows.specs.declared.TheConstants.{NODE_LIMIT}
 use Rattle.syn_gain.specs.Lookups.{ArePlaced}

@@ -1,0 +1,46 @@
+-- What a pass makes of a graph, turn after turn, and what it reports.
+use Rattle.std.specs.Prelude.{◌≡◌, ◌⊎◌, ℕ, ◌+◌, ◌≤◌, Bool, List, [], ◌∷◌}
+use Rattle.syn_graph.specs.declared.Graph.{Graph}
+use Rattle.syn_proposals.specs.declared.gains.Report.{Report}
+use Rattle.syn_proposals.specs.Following.{Follows}
+use Rattle.syn_pool.specs.Reports.{told}
+use Rattle.syn_pool.specs.Working.{IsRoundReport}
+
+-- One turn: the graph that it leaves, and what it reports.
+pub record Turn : Type 0 where
+  pub now : Graph
+  pub report : Report
+
+-- Workers did something on a table of the graph, and the turn reports just that: the graph has at least so many ANDs fewer.
+pub record HasCommitted (was : Graph) (t : Turn) : Type 0 where
+  pub zero_gain : Bool
+  pub round : IsRoundReport was zero_gain t.report
+  pub done : 1 ≤ t.report.done
+  pub follows : Follows was t.report.gained t.now
+
+-- Leftovers were applied without workers: the graph has fewer ANDs, and nothing is reported.
+pub record HasApplied (was : Graph) (t : Turn) : Type 0 where
+  pub done : t.report.done ≡ 0
+  pub gained : t.report.gained ≡ 0
+  pub follows : Follows was 1 t.now
+
+-- the turns lead from one graph to another
+abbrev pub LeadTo : Graph → List Turn → Graph → Type 0
+LeadTo was [] now = now ≡ was
+LeadTo was (t ∷ ts) now = (HasCommitted was t ⊎ HasApplied was t) × LeadTo t.now ts now
+
+-- what they report together
+abbrev pub all_done : List Turn → ℕ
+all_done [] = 0
+all_done (t ∷ ts) = t.report.done + all_done ts
+
+abbrev pub all_gained : List Turn → ℕ
+all_gained [] = 0
+all_gained (t ∷ ts) = t.report.gained + all_gained ts
+
+-- Turns lead from one graph to the other, and the report sums what they report.
+pub record IsPassReport (was now : Graph) (report : Report) : Type 0 where
+  pub turns : List Turn
+  pub lead : LeadTo was turns now
+  pub done : report.done ≡ told (all_done turns)
+  pub gained : report.gained ≡ told (all_gained turns)
