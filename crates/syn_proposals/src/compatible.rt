@@ -12,20 +12,13 @@ use std::alloc::{AllocError, Global};
 use syn_fanout_free::sort_used;
 use syn_gain::{NewRows, Proposal, Uses, mffc, place};
 use syn_graph::Graph;
-use syn_rows::{Lit, Row};
+use syn_rows::{Lit, Row, no_marks};
 
 // The nodes whose rows go with the roots of the chosen proposals, and those that stay: the roots, and what their new rows name.
 #[derive(Drop)]
 struct Chosen {
     goes: Vec<bool>,
     stays: Vec<bool>,
-}
-
-// So many marks, none of them set.
-fn no_marks(alloc: Global, count: usize) -> Result<Vec<bool>, AllocError>
-    ensures { IfOk result (λ marks. length marks.items ≡ count) }
-{
-    vec![in alloc; false; count]
 }
 
 // Whether one of the nodes is marked.
