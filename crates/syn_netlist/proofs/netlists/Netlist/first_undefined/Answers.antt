@@ -23,4 +23,4 @@ if_below p count numbers None h e = tt
 if_below p count numbers (Some i) h e = find_below p count numbers i h (sym e)
 
 pub returns-clause-below : goal.returns-clause-below
-returns-clause-below c = if_below (is_unmarked c.as_slice-2.result.now) (length c.args.self.now.frame.names) c.args.numbers.now c.first_unmarked.result c.requires c.first_unmarked.ensures
+returns-clause-below c = if_below (is_unmarked c.as_slice-2.result.now) (length c.args.self.now.frame.names) c.args.numbers.now c.first_unmarked.result c.requires c.first_unmarked.ensures.found
