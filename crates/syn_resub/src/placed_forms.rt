@@ -1,6 +1,6 @@
 //! What a form becomes in place of an AND, and whether it saves, told without its plan.
 
-ghost use Rattle.std.specs.Prelude.{◌≡◌, [], true, false, All, IfNone, IfOk, IfSome, length, slice_index_or};
+ghost use Rattle.std.specs.Prelude.{◌≡◌, ◌<◌, [], true, false, All, IfNone, IfOk, IfSome, length, slice_index_or};
 ghost use Rattle.std.specs.List.{AllWithin, HoldsAt};
 ghost use Rattle.syn_rows.specs.Reach.{is_and};
 ghost use Rattle.syn_rows.specs.Rows.{row_at};
