@@ -87,7 +87,7 @@ impl Deciding {
                 attempt,
                 &mut self.inner,
                 &mut self.waiting,
-                &mut self.desk.words,
+                &mut self.desk.rounds,
                 read,
             ),
             Phase::Keying => read_keying(&mut self.found, &mut self.waiting, read),

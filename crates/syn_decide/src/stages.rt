@@ -10,9 +10,8 @@ ghost use Rattle.syn_decide.specs.Fold as fold;
 ghost use Rattle.syn_decide.specs.Fold.{Stage};
 ghost use Rattle.syn_decide.specs.Phases.{stage_of, most_at, state_at};
 
-use crate::tables::compare;
+use crate::tables::{Rounds, compare};
 use crate::walk::{add_fan_ins, is_met, skip_known};
-use crate::words::Words;
 use crate::worklist::Waiting;
 use crate::{Attempt, Comparison, MAX_INNER, NodeRow, Outcome, Phase, StaleCause};
 use arrayvec::ArrayVec;
@@ -87,7 +86,7 @@ fn after_walk(
     attempt: &Attempt<'_>,
     inner: &[NodeRow],
     waiting: &mut Waiting,
-    words: &mut Words,
+    rounds: &mut Rounds,
 ) -> Phase
     requires empty { waiting.old ≡ [] }
     requires inner { length inner.now ≤ MAX_INNER }
@@ -98,7 +97,7 @@ fn after_walk(
     if let Some(leaf) = first_unmet(attempt, inner) {
         return Phase::Ended(Outcome::Stale(StaleCause::Reach(leaf)));
     }
-    match compare(attempt, inner, words) {
+    match compare(attempt, inner, rounds) {
         Comparison::Circle => Phase::Failed,
         Comparison::Same => {
             add_keys(attempt, waiting);
@@ -115,7 +114,7 @@ fn walk_on(
     attempt: &Attempt<'_>,
     inner: &[NodeRow],
     waiting: &mut Waiting,
-    words: &mut Words,
+    rounds: &mut Rounds,
 ) -> Phase
     requires inner { length inner.now ≤ MAX_INNER }
     requires few { length waiting.old ≤ 9 + length inner.now }
@@ -124,7 +123,7 @@ fn walk_on(
     ensures room { length inner.now ≤ most_at result }
 {
     let Some(node) = waiting.pop() else {
-        return after_walk(attempt, inner, waiting, words);
+        return after_walk(attempt, inner, waiting, rounds);
     };
     if inner.len() < MAX_INNER {
         waiting.push(node);
@@ -139,7 +138,7 @@ fn row_loaded(
     attempt: &Attempt<'_>,
     inner: &mut ArrayVec<NodeRow, MAX_INNER>,
     waiting: &mut Waiting,
-    words: &mut Words,
+    rounds: &mut Rounds,
     node: u32,
     row: Row,
 ) -> Phase
@@ -157,7 +156,7 @@ fn row_loaded(
     inner.push(NodeRow { node, row });
     add_fan_ins(row, waiting);
     skip_known(attempt.candidate.leaves, inner.as_slice(), waiting);
-    walk_on(attempt, inner.as_slice(), waiting, words)
+    walk_on(attempt, inner.as_slice(), waiting, rounds)
 }
 
 /// One read of the walk.
@@ -165,7 +164,7 @@ pub(crate) fn read_walking(
     attempt: &Attempt<'_>,
     inner: &mut ArrayVec<NodeRow, MAX_INNER>,
     waiting: &mut Waiting,
-    words: &mut Words,
+    rounds: &mut Rounds,
     read: Seen,
 ) -> Phase
     requires room { length inner.old.items < MAX_INNER }
@@ -181,7 +180,7 @@ pub(crate) fn read_walking(
     };
     match read {
         Seen::Row(node, row) if node == next => {
-            row_loaded(attempt, inner, waiting, words, next, row)
+            row_loaded(attempt, inner, waiting, rounds, next, row)
         }
         Seen::Miss(node) if node == next => Phase::Ended(Outcome::Busy(next)),
         _ => Phase::Failed,

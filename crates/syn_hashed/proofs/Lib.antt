@@ -11,6 +11,5 @@ mod Walked
 mod Renumbered
 mod Counted
 mod Kept
-mod HashedAgain
 pub mod Dropped
 pub mod Compacted

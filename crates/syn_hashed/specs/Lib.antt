@@ -5,6 +5,5 @@ pub mod Joined
 pub mod Growing
 pub mod Visiting
 pub mod Renumbering
-pub mod HashedAgain
 pub mod Walking
 pub mod Compacting

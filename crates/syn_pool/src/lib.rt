@@ -14,6 +14,7 @@ mod closed_table;
 mod cuts;
 mod fan_outs;
 mod freed;
+mod functions;
 mod improvement;
 mod kept_levels;
 mod neighbourhoods;
