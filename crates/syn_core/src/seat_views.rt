@@ -8,13 +8,14 @@ ghost use Rattle.syn_rows.specs.References.{sum_below};
 ghost use Rattle.syn_core_laws.specs.Lists.{look};
 
 use crate::lists::{
-    copied, look, others, others_told, refs, times, with, with_each, without_each, without_one,
+    copied, has_node, look, others, others_told, refs, times, with, with_each, without_each,
+    without_one,
 };
 use std::alloc::{AllocError, Global};
 use std::marker::Model;
 use syn_core_laws::{Change, Made, Seen, View};
 use syn_fanout_free::and_count;
-use syn_rows::{Lit, Row, has_node};
+use syn_rows::{Lit, Row};
 
 /// What a seat knows.
 #[derive(Debug, Drop)]

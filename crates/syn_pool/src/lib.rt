@@ -10,6 +10,7 @@
 
 mod added_rows;
 mod attempts;
+mod candidates;
 mod closed_table;
 mod cuts;
 mod fan_outs;
