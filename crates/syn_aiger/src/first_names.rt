@@ -9,18 +9,7 @@ ghost use Rattle.syn_aiger.specs.Naming.{first_name};
 
 use itoa::Buffer;
 use std::alloc::{AllocError, Global};
-use syn_aiger_files::{Place, Symbol};
-
-fn letter_of(place: Place) -> u8
-    ensures letter { result ≡ letter_of place }
-    ensures byte { is_word_byte result ≡ true }
-{
-    match place {
-        Place::Input => b'i',
-        Place::Latch => b'l',
-        Place::Output => b'o',
-    }
-}
+use syn_aiger_files::{Place, Symbol, letter_of};
 
 /// The letter and the digits of the number, as a word.
 pub fn numbered(alloc: Global, letter: u8, number: u32) -> Result<Vec<u8>, AllocError>

@@ -31,7 +31,7 @@ pub use fault::{AigFault, MAX_GATES};
 pub use files::{Aig, AigAnd, AigLatch, Inputs, Place, Symbol};
 pub use numbers::number_of;
 pub use parser::parse;
-pub use printer::print;
+pub use printer::{letter_of, print};
 
 /// What is printed of a file that can be written says it, in both formats.
 pub fn printed_says()

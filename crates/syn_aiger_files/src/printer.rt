@@ -4,6 +4,7 @@ ghost use Rattle.std.specs.Prelude.{◌≡◌, ◌<◌, ◌^◌, ◌++◌, ◌�
 ghost use Rattle.syn_aiger_files.specs.Literals.{literals_from};
 ghost use Rattle.syn_aiger_files.specs.Printed.{ascii_and, ascii_latch, binary_and, binary_latch, body_of, decimals, first_line_of, format_word, grouped, number_line, printed, reset_of, single, symbol_line};
 ghost use Rattle.syn_aiger_files.specs.Symbols.{letter_of};
+ghost use Rattle.syn_netlist.specs.Words.{is_word_byte};
 ghost use Rattle.syn_shapes.specs.Printed.{blanked, line};
 
 use crate::files::{Aig, AigAnd, AigLatch, Inputs, Place, Symbol};
@@ -192,8 +193,10 @@ fn push_binary_body(out: &mut Vec<u8>, g: &Aig) -> Result<(), AllocError>
     push_binary_ands(out, g.ands.as_slice())
 }
 
-fn letter_of(place: Place) -> u8
-    ensures { result ≡ letter_of place }
+/// The letter of a place in a symbol table.
+pub fn letter_of(place: Place) -> u8
+    ensures letter { result ≡ letter_of place }
+    ensures byte { is_word_byte result ≡ true }
 {
     match place {
         Place::Input => b'i',

@@ -6,13 +6,7 @@ ghost use Rattle.syn_rows.specs.Rows.{AllRefs, in_order_from, node_of};
 ghost use Rattle.syn_balance.specs.Roots.{AreRead, complements, ComplementsOf, HasRoots, IsCounted, IsObserved, IsRead, mark_at};
 
 use std::alloc::{AllocError, Global};
-use syn_rows::{Lit, Row};
-
-fn no_marks(alloc: Global, count: usize) -> Result<Vec<bool>, AllocError>
-    ensures { IfOk result (λ v. v.items ≡ replicate count false) }
-{
-    vec![in alloc; false; count]
-}
+use syn_rows::{Lit, Row, no_marks};
 
 // Reads a fan-in: marks its node where it was seen before or is named by a complement.
 fn read_fan_in(lit: Lit, seen: &mut [bool], marks: &mut [bool])

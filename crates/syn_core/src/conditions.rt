@@ -12,11 +12,11 @@ ghost use Rattle.syn_core.specs.Conditions.{refers_by, any_node, is_served};
 ghost use Rattle.syn_core_laws.specs.Events.{Refers, KnowsUsed, MayPin, KeyBelow, MayRest, MayRedefine, MayFree, IsAnd};
 ghost use Rattle.syn_core_laws.specs.SameValue.{SameValue};
 
-use crate::lists::{has_node, look, refs, times, with_each, without_each};
+use crate::lists::{look, refs, times, with_each, without_each};
 use crate::seat_views::SeatView;
 use crate::values::same_value;
 use std::alloc::{AllocError, Global};
-use syn_rows::{Lit, Row};
+use syn_rows::{Lit, Row, has_node};
 
 impl SeatView {
     pub(crate) fn knows_used(&self, node: u32) -> bool

@@ -8,14 +8,13 @@ ghost use Rattle.syn_rows.specs.References.{sum_below};
 ghost use Rattle.syn_core_laws.specs.Lists.{look};
 
 use crate::lists::{
-    copied, has_node, look, others, others_told, refs, times, with, with_each, without_each,
-    without_one,
+    copied, look, others, others_told, refs, times, with, with_each, without_each, without_one,
 };
 use std::alloc::{AllocError, Global};
 use std::marker::Model;
 use syn_core_laws::{Change, Made, Seen, View};
 use syn_fanout_free::and_count;
-use syn_rows::{Lit, Row};
+use syn_rows::{Lit, Row, has_node};
 
 /// What a seat knows.
 #[derive(Debug, Drop)]

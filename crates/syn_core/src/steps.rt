@@ -11,12 +11,11 @@ ghost use Rattle.syn_core_laws.specs.Sound.{IsSound};
 
 use crate::StepFault;
 use crate::conditions::is_and;
-use crate::lists::has_node;
 use crate::states::State;
 use arrayvec::ArrayVec;
 use std::alloc::AllocError;
 use syn_core_laws::{Event, EventKind};
-use syn_rows::Row;
+use syn_rows::{Row, has_node};
 
 impl State {
     fn may_claim(&self, seat: usize, node: u32) -> bool

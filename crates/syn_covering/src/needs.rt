@@ -12,13 +12,7 @@ ghost use Rattle.syn_covering.specs.Needs.{IsSwept};
 
 use crate::choice::Choice;
 use std::alloc::{AllocError, Global};
-use syn_rows::{Lit, Row};
-
-fn no_marks(alloc: Global, count: usize) -> Result<Vec<bool>, AllocError>
-    ensures { IfOk result (λ v. v.items ≡ replicate count false) }
-{
-    vec![in alloc; false; count]
-}
+use syn_rows::{Lit, Row, no_marks};
 
 // Whether a node is an AND.
 #[inline]

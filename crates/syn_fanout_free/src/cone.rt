@@ -69,10 +69,12 @@ fn dies(rows: &[Row], counts: &[u32], n: u32, used: &[u32], node: u32, often: u1
     counts[node as usize] as u128 <= often && may_be_freed(rows, n, used, node)
 }
 
-/// Freed rows, the greatest first, and how many of them are ANDs.
+/// Freed rows.
 #[derive(Drop)]
 pub struct Mffc {
+    /// Their nodes, the greatest first.
     pub nodes: SmallVec<u32, 32>,
+    /// How many of them are ANDs.
     pub ands: u32,
 }
 

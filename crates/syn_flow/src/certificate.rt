@@ -15,7 +15,7 @@ use std::alloc::{AllocError, Global};
 use syn_graph::Graph;
 use syn_lutnet::greatest_depth;
 use syn_paths::{Room, are_paths_for};
-use syn_rows::Row;
+use syn_rows::{Row, no_marks};
 
 // A label may stand over this greatest label of a fan-in.
 fn is_over(level: u32, label: u32) -> bool
@@ -136,13 +136,6 @@ fn note(
     Ok(())
 }
 
-// So many marks that aren't set.
-fn unmarked(alloc: Global, count: usize) -> Result<Vec<bool>, AllocError>
-    ensures { IfOk result (λ v. v.items ≡ replicate count false) }
-{
-    vec![in alloc; false; count]
-}
-
 // Marks of the nodes whose labels the entries bear out.
 fn noted(
     alloc: Global,
@@ -157,7 +150,7 @@ fn noted(
     ensures marks { IfOk result (λ v. length v.items ≡ length rows.now) }
     ensures noted { IfOk result (λ v. AreNoted k rows.now (label_in labels.now) (map shown_of paths.now) (length paths.now) v.items) }
 {
-    let mut marks = unmarked(alloc, rows.len())?;
+    let mut marks = no_marks(alloc, rows.len())?;
     let mut room = Room::of(alloc, rows.len())?;
     for entry in paths {
         note(rows, labels, k, entry, marks.as_mut_slice(), &mut room)?;

@@ -12,11 +12,15 @@ ghost use Rattle.syn_gain.specs.Proposals.{replacement_of};
 ghost use Rattle.syn_gain.specs.Replacements.{SavesNothing, SavesSome};
 ghost use Rattle.syn_gain.specs.Searching.{new_rows_anywhere};
 ghost use Rattle.syn_gain.specs.Uses.{IsUsesOf};
+ghost use Rattle.std.specs.List.Sorted.{IsNonDecreasing};
+ghost use Rattle.syn_rows.specs.Nodes.{has_node};
+ghost use Rattle.syn_fanout_free.specs.Freed.{IsFreedByCount};
+ghost use Rattle.syn_fanout_free.specs.Freeing.{open_to};
 
 use crate::new_rows::{adds_fewer_anywhere, is_small, place_into};
 use crate::{Candidate, PlacedPlan, Uses};
 use std::alloc::{AllocError, Global};
-use syn_fanout_free::{Change, KeptRows};
+use syn_fanout_free::{Change, KeptRows, Mffc, freed};
 use syn_graph::Graph;
 use syn_plan::{FEW_INDEXES, MAX_INDEXES};
 
@@ -61,6 +65,30 @@ pub fn mffc_size(
         root,
         leaves,
         limit,
+    )
+}
+
+/// The rows that go with that of an AND where these nodes stay. The only error is want of memory, which a small cone doesn't
+/// take.
+pub fn mffc(
+    alloc: Global,
+    graph: &Graph,
+    uses: &Uses,
+    root: u32,
+    spared: &[u32],
+) -> Result<Mffc, AllocError>
+    requires uses { IsUsesOf uses.now graph.now }
+    requires root { is_and (row_at graph.now.rows root) ≡ true }
+    requires rises { IsNonDecreasing spared.now }
+    ensures { IfOk result (λ f. IsFreedByCount graph.now.rows (count_in uses.now.counts.items) root (open_to graph.now.rows root spared.now) (λ m. has_node f.nodes.items m)) }
+{
+    freed(
+        alloc,
+        graph.rows.as_slice(),
+        uses.counts.as_slice(),
+        root,
+        spared,
+        u32::MAX,
     )
 }
 

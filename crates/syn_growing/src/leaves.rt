@@ -9,7 +9,7 @@ ghost use Rattle.syn_growing.specs.Growing.{one_new, without_node};
 
 use arrayvec::ArrayVec;
 use syn_cones::gap_for;
-use syn_rows::Lit;
+use syn_rows::{Lit, has_node};
 
 /// The most leaves of a cone.
 pub const MAX_LEAVES: usize = 8;
@@ -23,24 +23,12 @@ pub type Leaves = ArrayVec<u32, MAX_LEAVES>;
 /// Inner nodes, in the order in which they were replaced.
 pub(crate) type Inner = ArrayVec<u32, MAX_INNER>;
 
-// Whether a node is among others.
-fn has(nodes: &[u32], node: u32) -> bool
-    ensures { result ≡ has_node nodes.now node }
-{
-    for other in nodes {
-        if *other == node {
-            return true;
-        }
-    }
-    false
-}
-
 /// How many leaves a node adds: one where it isn't among them yet, else none.
 pub(crate) fn one_new(leaves: &[u32], node: u32) -> usize
     ensures value { result ≡ one_new leaves.now node }
     ensures one { result ≤ 1 }
 {
-    if has(leaves, node) { 0 } else { 1 }
+    if has_node(leaves, node) { 0 } else { 1 }
 }
 
 // Puts a node in its place, where it isn't there.
@@ -95,7 +83,7 @@ pub(crate) fn has_room(inner: &[u32], leaf: u32, a: u32, b: u32) -> bool
     requires { length inner.now ≤ 48 }
     ensures { result ≡ nat_le (length (without_numbers (a ∷ b ∷ []) inner.now ++ leaf ∷ [])) 48 }
 {
-    inner.len() < MAX_INNER || has(inner, a) || has(inner, b)
+    inner.len() < MAX_INNER || has_node(inner, a) || has_node(inner, b)
 }
 
 // Takes two nodes out.

@@ -17,7 +17,7 @@ use crate::compaction::Rows;
 use crate::construction::HashedRows;
 use crate::literals::{first_literals, literal_of, literals_of};
 use std::alloc::{AllocError, Global};
-use syn_rows::{Lit, Row};
+use syn_rows::{Lit, Row, no_marks};
 
 /// The rows that the observed literals reach, made again in the order in which these visit them, each node after its
 /// first and then its second fan-in; aliases are followed. The literals name the new rows.
@@ -114,12 +114,6 @@ pub fn visit_all<M: Maker>(
         }
     }
     Ok(())
-}
-
-fn no_marks(alloc: Global, count: usize) -> Result<Vec<bool>, AllocError>
-    ensures { IfOk result (λ marks. marks.items ≡ replicate count false) }
-{
-    vec![in alloc; false; count]
 }
 
 // Each literal's node is entered, the first one's next.

@@ -16,7 +16,7 @@ use crate::first_fault::model_marks;
 use crate::hierarchy::{Bind, Model, Statement, StatementKind, Subcircuit};
 use crate::ports::{Ports, is_reading, number_named};
 use std::alloc::{AllocError, Global};
-use syn_netlist::{Latch, Word};
+use syn_netlist::{Latch, Word, first_unmarked};
 
 // Appends the actual of a bind whose formal reads.
 fn push_reading(
@@ -113,20 +113,6 @@ fn all_reads(
         push_reads(file, &s.kind, &mut numbers)?;
     }
     Ok(numbers)
-}
-
-// The first of the numbers that isn't marked.
-fn first_unmarked(marks: &[bool], numbers: &[u32]) -> Option<u32>
-    requires { all_below (length marks.now) numbers.now ≡ true }
-    ensures found { result ≡ find (is_unmarked marks.now) numbers.now }
-    ensures below { IfSome result (λ i. i < length marks.now) }
-{
-    for n in numbers {
-        if !marks[*n as usize] {
-            return Some(*n);
-        }
-    }
-    None
 }
 
 // The first name that a model reads and never defines, by line and word.

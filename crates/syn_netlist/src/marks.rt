@@ -39,9 +39,10 @@ pub fn marks_of(alloc: Global, count: u32, numbers: &[u32]) -> Result<Vec<bool>,
 }
 
 /// The first of the numbers that isn't marked.
-pub(crate) fn first_unmarked(marks: &[bool], numbers: &[u32]) -> Option<u32>
+pub fn first_unmarked(marks: &[bool], numbers: &[u32]) -> Option<u32>
     requires { all_below (length marks.now) numbers.now ≡ true }
-    ensures { result ≡ find (is_unmarked marks.now) numbers.now }
+    ensures found { result ≡ find (is_unmarked marks.now) numbers.now }
+    ensures below { IfSome result (λ i. i < length marks.now) }
 {
     for n in numbers {
         if !marks[*n as usize] {

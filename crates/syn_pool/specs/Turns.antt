@@ -18,7 +18,7 @@ pub record HasCommitted (was : Graph) (t : Turn) : Type 0 where
   pub done : 1 ≤ t.report.done
   pub follows : Follows was t.report.gained t.now
 
--- Leftovers were applied without workers: the graph has fewer ANDs, and nothing is reported.
+-- Nothing is reported, and the graph has fewer ANDs, as where leftovers are applied without workers.
 pub record HasApplied (was : Graph) (t : Turn) : Type 0 where
   pub done : t.report.done ≡ 0
   pub gained : t.report.gained ≡ 0

@@ -3,11 +3,10 @@
 ghost use Rattle.std.specs.Prelude.{◌≡◌, ◌<◌, All, true};
 ghost use Rattle.syn_rows.specs.declared.TheConstants.{NODE_LIMIT};
 
-use crate::cuts::is_among;
 use syn_commit::Hints;
 use syn_gain::{Lookup, PlacedPlan, literal_for};
 use syn_plan::Plan;
-use syn_rows::{Lit, NODE_LIMIT, Row};
+use syn_rows::{Lit, NODE_LIMIT, Row, has_node};
 use syn_table::Shared;
 
 // How many indexes a plan has that is looked at: the constant, its leaves and its gates.
@@ -66,7 +65,7 @@ fn are_nodes(nodes: &[u32]) -> bool
 // Whether the last gate became a row that goes.
 fn last_goes(placed: &PlacedPlan<MAX_INDEXES>, going: &[u32]) -> bool {
     match placed.literals.last() {
-        Some(literal) => is_among(going, literal.node()),
+        Some(literal) => has_node(going, literal.node()),
         None => false,
     }
 }

@@ -10,7 +10,6 @@
 
 mod added_rows;
 mod attempts;
-mod candidates;
 mod closed_table;
 mod cuts;
 mod fan_outs;

@@ -2,12 +2,11 @@
 
 ghost use Rattle.std.specs.Prelude.{◌≤◌};
 
-use crate::cuts::is_among;
 use arrayvec::ArrayVec;
 use syn_decide::MAX_INNER;
 use syn_gain::Proposal;
 use syn_graph::Graph;
-use syn_rows::Row;
+use syn_rows::{Row, has_node};
 
 // The rows between a root and leaves, each once.
 type Inner = ArrayVec<u32, MAX_INNER>;
@@ -15,7 +14,7 @@ type Inner = ArrayVec<u32, MAX_INNER>;
 // Meets a node: one that is neither a leaf nor among the rows, none of which is below the least, joins them. False where
 // there is no room for it.
 fn meet(inner: &mut Inner, least: &mut u32, leaves: &[u32], node: u32) -> bool {
-    if is_among(leaves, node) || (node >= *least && is_among(inner.as_slice(), node)) {
+    if has_node(leaves, node) || (node >= *least && has_node(inner.as_slice(), node)) {
         return true;
     }
     if inner.is_full() {
@@ -54,7 +53,7 @@ pub(crate) fn is_over_fan_ins(graph: &Graph, proposal: &Proposal) -> bool {
     let leaves = proposal.leaves.as_slice();
     match graph.rows.as_slice().get(proposal.root as usize) {
         Some(Row::And(a, b)) => {
-            leaves.len() == 2 && is_among(leaves, a.node()) && is_among(leaves, b.node())
+            leaves.len() == 2 && has_node(leaves, a.node()) && has_node(leaves, b.node())
         }
         _ => false,
     }

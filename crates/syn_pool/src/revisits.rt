@@ -6,8 +6,7 @@ ghost use Rattle.syn_pool.specs.Working.{HasWorked, IsAtWork};
 
 use crate::added_rows::added;
 use crate::attempts::is_done;
-use crate::candidates::candidate;
-use crate::cuts::{Cuts, MAX_LEAVES, TableCut, fan_ins, is_among};
+use crate::cuts::{Cuts, MAX_LEAVES, TableCut, fan_ins};
 use crate::fan_outs::FanOuts;
 use crate::freed::{Inner, going, inner_rows};
 use crate::functions::function_over;
@@ -15,11 +14,11 @@ use crate::scene::Scene;
 use crate::workers::Worker;
 use arrayvec::ArrayVec;
 use syn_commit::{Gate, Hints, Tools};
-use syn_gain::owned;
+use syn_gain::{Candidate, owned};
 use syn_graph::Graph;
 use syn_plan::Plan;
 use syn_proposals::Proposer;
-use syn_rows::Row;
+use syn_rows::{Row, has_node};
 use syn_table::Shared;
 
 // The most nodes that wait for a look; more are left to the check.
@@ -47,7 +46,7 @@ struct Neighbours<'a> {
 
 // Lets a node wait for a look, unless it waits already or there is no room.
 fn note(pending: &mut Worklist, node: u32) {
-    if !pending.is_full() && !is_among(pending.as_slice(), node) {
+    if !pending.is_full() && !has_node(pending.as_slice(), node) {
         pending.push(node);
     }
 }
@@ -152,7 +151,7 @@ fn try_plans<G: Gate>(
         {
             continue;
         }
-        let Some(candidate) = candidate(root, leaves, plan) else {
+        let Some(candidate) = Candidate::tested(root, leaves, plan) else {
             continue;
         };
         if is_done(tools, worker, &owned(candidate), false) {
@@ -264,7 +263,7 @@ pub(crate) fn try_best<P: Proposer, G: Gate>(
     let Some((cut, plan)) = best else {
         return;
     };
-    if let Some(candidate) = candidate(root, cut.leaves.as_slice(), plan) {
+    if let Some(candidate) = Candidate::tested(root, cut.leaves.as_slice(), plan) {
         let zero_gain = scene.board.zero_gain;
         let _done = is_done(&scene.tools, worker, &owned(candidate), zero_gain);
     }

@@ -9,10 +9,10 @@ ghost use Rattle.syn_resub.specs.FanOuts.{AreFanOuts, is_over};
 ghost use Rattle.syn_resub.specs.Scanning.{IsPutUpTo};
 
 use crate::FanOuts;
-use crate::nodes::{Nodes, has, put};
+use crate::nodes::{Nodes, put};
 use syn_gain::node_at;
 use syn_graph::Graph;
-use syn_rows::Row;
+use syn_rows::{Row, has_node};
 
 // Puts an AND over divisor d, where its first fan-in is a divisor too.
 fn put_fan_out(graph: &Graph, leaves: &[u32], node: u32, d: u32, m: u32, nodes: &mut Nodes)
@@ -23,7 +23,7 @@ fn put_fan_out(graph: &Graph, leaves: &[u32], node: u32, d: u32, m: u32, nodes: 
     ensures put { IsPutUpTo graph.now.rows leaves.now node d (suc m) nodes.new.items }
 {
     if let Row::And(a, _b) = graph.rows.as_slice()[m as usize] {
-        if has(nodes.as_slice(), a.node()) {
+        if has_node(nodes.as_slice(), a.node()) {
             put(nodes, m);
         }
     }

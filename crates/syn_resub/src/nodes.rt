@@ -28,13 +28,6 @@ pub(crate) fn place_of(nodes: &[u32], node: u32) -> Option<usize>
     None
 }
 
-/// Whether a node is among others.
-pub(crate) fn has(nodes: &[u32], node: u32) -> bool
-    ensures { result ≡ has_node nodes.now node }
-{
-    place_of(nodes, node).is_some()
-}
-
 /// Puts a node in its place among rising nodes, where it isn't there, and drops the last of more than 64.
 pub(crate) fn put(nodes: &mut Nodes, node: u32)
     requires { length nodes.old.items ≤ 64 }

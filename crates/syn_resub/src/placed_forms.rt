@@ -1,12 +1,11 @@
 //! What a form becomes in place of an AND, and whether it saves, told without its plan.
 
-ghost use Rattle.std.specs.Prelude.{◌≡◌, ◌+◌, ◌-◌, ◌<◌, ◌^◌, [], true, false, All, IfNone, IfOk, IfSome, length, slice_index_or};
+ghost use Rattle.std.specs.Prelude.{◌≡◌, ◌<◌, [], true, false, All, IfNone, IfOk, IfSome, length, slice_index_or};
 ghost use Rattle.std.specs.List.{AllWithin, HoldsAt};
 ghost use Rattle.syn_rows.specs.Reach.{is_and};
 ghost use Rattle.syn_rows.specs.Rows.{row_at};
 ghost use Rattle.syn_fanout_free.specs.Bounding.{IsMostLost};
 ghost use Rattle.syn_fanout_free.specs.Saved.{count_in};
-ghost use Rattle.syn_gain.specs.Placing.{root_row};
 ghost use Rattle.syn_gain.specs.Replacements.{new_root_by, new_rows_by};
 ghost use Rattle.syn_gain.specs.Searching.{placed_pair};
 ghost use Rattle.syn_gain.specs.Uses.{IsUsesOf};
@@ -23,7 +22,7 @@ use crate::divided::Divided;
 use arrayvec::ArrayVec;
 use std::alloc::{AllocError, Global};
 use syn_fanout_free::{Change, KeptRows, gain_is_positive};
-use syn_gain::{Uses, literal_below, mffc_size};
+use syn_gain::{Uses, literal_below, mffc_size, root_row};
 use syn_graph::Graph;
 use syn_rows::{FALSE, Lit, Row, ordered_and, simple_and};
 
@@ -95,29 +94,6 @@ pub(crate) fn makes_row(graph: &Graph, uses: &Uses, form: Form) -> bool
     !place(graph, uses, count, form).extra.is_empty()
 }
 
-// The last row of a list, or another where it is empty.
-fn last_or(rows: &[Row], row: Row) -> Row
-    ensures { result ≡ slice_index_or rows.now (length rows.now - 1) row }
-{
-    if rows.is_empty() {
-        row
-    } else {
-        rows[rows.len() - 1]
-    }
-}
-
-// The new row of the AND.
-fn root_of(rows: &[Row], extra: &[Row], literal: Lit) -> Row
-    requires { length rows.now + length extra.now < 2 ^ 31 }
-    ensures { result ≡ root_row (length rows.now) extra.now literal }
-{
-    if literal.0 as u64 + 2 == 2 * (rows.len() as u64 + extra.len() as u64) {
-        last_or(extra, Row::Alias(literal))
-    } else {
-        Row::Alias(literal)
-    }
-}
-
 // The new rows of a form in place of an AND: the AND's own, and the one behind the last row, if it makes one.
 #[derive(Debug, Drop)]
 struct NewRows {
@@ -137,7 +113,7 @@ fn new_rows(graph: &Graph, uses: &Uses, node: u32, divided: &Divided, form: Form
     let _ = divided;
     let placed = place(graph, uses, node, form);
     let rows = graph.rows.as_slice();
-    let root = root_of(rows, placed.extra.as_slice(), placed.literal);
+    let root = root_row(rows.len() as u32, placed.extra.as_slice(), placed.literal);
     NewRows {
         root,
         extra: placed.extra,

@@ -15,12 +15,12 @@ ghost use Rattle.syn_resub.specs.Resubstitution.{gate_of, gates_of, index_in, li
 
 use crate::Form;
 use crate::divided::Divided;
-use crate::nodes::{MAX_DIVISORS, has, place_of};
+use crate::nodes::{MAX_DIVISORS, place_of};
 use arrayvec::ArrayVec;
 use syn_gain::node_at;
 use syn_graph::Graph;
 use syn_plan::{PLit, Plan};
-use syn_rows::{Lit, Row};
+use syn_rows::{Lit, Row, has_node};
 
 // The nodes whose rows are gates.
 type Inner = ArrayVec<u32, MAX_DIVISORS>;
@@ -41,8 +41,8 @@ struct Gathered {
 fn is_needed(leaves: &[u32], wanted: &[u32], node: u32) -> bool
     ensures { result ≡ (has_node wanted.now node && not (has_node leaves.now node)) }
 {
-    let wanted = has(wanted, node);
-    let leaf = has(leaves, node);
+    let wanted = has_node(wanted, node);
+    let leaf = has_node(leaves, node);
     wanted && !leaf
 }
 

@@ -9,7 +9,7 @@ ghost use Rattle.syn_weighing.specs.AllNew as spec;
 use crate::dry_runs::MAX_INDEXES;
 use arrayvec::ArrayVec;
 use syn_plan::{PLit, Plan};
-use syn_rows::Row;
+use syn_rows::{Row, has_node};
 
 // How many levels of rows are looked at below a leaf.
 const LEVELS: u8 = 5;
@@ -214,19 +214,6 @@ pub fn names_within(told: &[Option<AllNew>], place: usize, leaves: &[u32]) -> bo
     }
 }
 
-// Whether a node is a leaf.
-#[inline]
-fn is_leaf(leaves: &[u32], node: u32) -> bool
-    ensures { result ≡ has_node leaves.now node }
-{
-    for leaf in leaves {
-        if *leaf == node {
-            return true;
-        }
-    }
-    false
-}
-
 // Whether a node may be made of leaves, so far as the rows of so many levels tell. None below the least one is.
 #[cycle(made)]
 fn may_be_made(rows: &[Row], leaves: &[u32], levels: u8, node: u32) -> bool
@@ -238,7 +225,7 @@ fn may_be_made(rows: &[Row], leaves: &[u32], levels: u8, node: u32) -> bool
     if node < leaves[0] {
         return false;
     }
-    if levels == 0 || is_leaf(leaves, node) {
+    if levels == 0 || has_node(leaves, node) {
         return true;
     }
     joins_made(rows, leaves, levels - 1, rows[node as usize])

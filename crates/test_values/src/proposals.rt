@@ -16,7 +16,7 @@ use std::test::Fail;
 use std::thread::Threads;
 use syn_apply::apply;
 use syn_cuts::{Cut, CutLists, function, listed};
-use syn_gain::{Candidate, Proposal, Room, Uses, mffc_size, saved};
+use syn_gain::{Candidate, Proposal, Room, Uses, are_below, mffc_size, rise_above, saved};
 use syn_graph::Graph;
 use syn_plan::{PLit, Plan, factor};
 use syn_rows::{NODE_LIMIT, Row};
@@ -216,32 +216,6 @@ fn bounds_what_dies(rt: HostRuntime) {
     };
     assert!(rt; bounds(alloc, &alone, 3, true));
     assert!(rt; bounds(alloc, &shared, 1, false));
-}
-
-// Whether the nodes rise, the first above this one.
-fn rise_above(low: u32, nodes: &[u32]) -> bool
-    ensures { result ≡ rise_above low nodes.now }
-{
-    let mut last = low;
-    for node in nodes {
-        if *node <= last {
-            return false;
-        }
-        last = *node;
-    }
-    true
-}
-
-// Whether the nodes are below this one.
-fn are_below(high: u32, nodes: &[u32]) -> bool
-    ensures { result ≡ are_below high nodes.now }
-{
-    for node in nodes {
-        if *node >= high {
-            return false;
-        }
-    }
-    true
 }
 
 // The nodes as the leaves of a proposal; none where there are too many.

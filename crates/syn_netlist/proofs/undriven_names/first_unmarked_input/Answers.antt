@@ -10,7 +10,7 @@ returns-in-Some c =
     let i : ℕ = c.loop-table.table-index in
     let test : ℕ → Bool = is_unmarked c.args.marks.now in
     let inside : i < length tables = omega arith in
-    find_front test c.table-item.result.inputs (flat_map table_inputs (drop (i + 1) tables)) c.in-Some.n (c.in-Some.ensures ∙ ap (λ (l : List ℕ). find test l) c.as_slice.ensures)
+    find_front test c.table-item.result.inputs (flat_map table_inputs (drop (i + 1) tables)) c.in-Some.n (c.in-Some.ensures.found ∙ ap (λ (l : List ℕ). find test l) c.as_slice.ensures)
     ∙ ap (λ (l : List ℕ). find test l) (sym (inputs_drop tables i c.table-item.result inside c.table-item.is)) ∙ c.loop-table.invariant
 
 pub loop-table-preserved : goal.loop-table-preserved
@@ -19,5 +19,5 @@ loop-table-preserved c =
     let i : ℕ = c.loop-table.table-index in
     let test : ℕ → Bool = is_unmarked c.args.marks.now in
     let inside : i < length tables = omega arith in
-    sym (find_back test c.table-item.result.inputs (flat_map table_inputs (drop (i + 1) tables)) (c.in-None.ensures ∙ ap (λ (l : List ℕ). find test l) c.as_slice.ensures))
+    sym (find_back test c.table-item.result.inputs (flat_map table_inputs (drop (i + 1) tables)) (c.in-None.ensures.found ∙ ap (λ (l : List ℕ). find test l) c.as_slice.ensures))
     ∙ ap (λ (l : List ℕ). find test l) (sym (inputs_drop tables i c.table-item.result inside c.table-item.is)) ∙ c.loop-table.invariant

@@ -11,8 +11,8 @@ use Rattle.syn_resub.proofs.divisors.put_fan_out.Goals as goal
 pub put-requires : goal.put-requires
 put-requires c = put_few c.args.graph.now.rows c.args.leaves.now c.args.node c.args.d c.args.m c.args.nodes.now.items c.requires.put
 
-pub returns-then-has : goal.returns-then-has
-returns-then-has c =
+pub returns-then-has_node : goal.returns-then-has_node
+returns-then-has_node c =
     let rows = c.args.graph.now.rows in
     let is : row_at rows c.args.m ≡ And c.in-And.a c.in-And._b = search rules in
     let here : has_node c.args.nodes.now.items (node_of c.in-And.a) ≡ true = search rules in
@@ -22,8 +22,8 @@ returns-then-has c =
           (put_one rows c.args.leaves.now c.args.node c.args.d c.args.m c.args.nodes.now.items (over_above rows c.args.d c.args.m (in_order c.args.graph.now) c.requires.over) c.requires.below c.requires.over (same ∙ here) c.requires.put);
     }
 
-pub returns-else-has : goal.returns-else-has
-returns-else-has c =
+pub returns-else-has_node : goal.returns-else-has_node
+returns-else-has_node c =
     let rows = c.args.graph.now.rows in
     let is : row_at rows c.args.m ≡ And c.in-And.a c.in-And._b = search rules in
     let here : has_node c.args.nodes.now.items (node_of c.in-And.a) ≡ false = search rules in

@@ -3,11 +3,11 @@
 ghost use Rattle.std.specs.Prelude.{◌≡◌, IfSome, length, true};
 ghost use Rattle.syn_gain.specs.Leaves.{are_below, gates_within, names_within, rise_above};
 
-use syn_gain::Candidate;
+use crate::Candidate;
 use syn_plan::{PLit, Plan};
 
-// Whether the nodes rise, the first above this one.
-fn rise_above(low: u32, nodes: &[u32]) -> bool
+/// Whether the nodes rise, the first above this one.
+pub fn rise_above(low: u32, nodes: &[u32]) -> bool
     ensures { result ≡ rise_above low nodes.now }
 {
     let mut last = low;
@@ -20,8 +20,8 @@ fn rise_above(low: u32, nodes: &[u32]) -> bool
     true
 }
 
-// Whether the nodes are below this one.
-fn are_below(high: u32, nodes: &[u32]) -> bool
+/// Whether the nodes are below this one.
+pub fn are_below(high: u32, nodes: &[u32]) -> bool
     ensures { result ≡ are_below high nodes.now }
 {
     for node in nodes {
@@ -52,20 +52,22 @@ fn gates_within(count: usize, leaves: u8, gates: &[(PLit, PLit)]) -> bool
     true
 }
 
-/// The proposal to replace the root by a plan; none where the leaves don't rise from above 0 to below the root, or the plan
-/// names a leaf behind the last of them.
-pub(crate) fn candidate<'a>(root: u32, leaves: &'a [u32], plan: &'a Plan) -> Option<Candidate<'a>>
-    ensures root { IfSome result (λ c. c.root ≡ root) }
-    ensures leaves { IfSome result (λ c. c.leaves.now ≡ leaves.now) }
-    ensures plan { IfSome result (λ c. c.plan.now ≡ plan.now) }
-{
-    if root == 0 || !rise_above(0, leaves) || !are_below(root, leaves) {
-        return None;
-    }
-    if !gates_within(leaves.len(), plan.leaves, plan.gates.as_slice())
-        || !names_within(leaves.len(), plan.leaves, plan.out)
+impl<'a> Candidate<'a> {
+    /// The proposal to replace the root by a plan; none where the leaves don't rise from above 0 to below the root, or the
+    /// plan names a leaf behind the last of them.
+    pub fn tested(root: u32, leaves: &'a [u32], plan: &'a Plan) -> Option<Candidate<'a>>
+        ensures root { IfSome result (λ c. c.root ≡ root) }
+        ensures leaves { IfSome result (λ c. c.leaves.now ≡ leaves.now) }
+        ensures plan { IfSome result (λ c. c.plan.now ≡ plan.now) }
     {
-        return None;
+        if root == 0 || !rise_above(0, leaves) || !are_below(root, leaves) {
+            return None;
+        }
+        if !gates_within(leaves.len(), plan.leaves, plan.gates.as_slice())
+            || !names_within(leaves.len(), plan.leaves, plan.out)
+        {
+            return None;
+        }
+        Some(Candidate { root, leaves, plan })
     }
-    Some(Candidate { root, leaves, plan })
 }
