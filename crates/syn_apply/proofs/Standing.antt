@@ -29,6 +29,7 @@ use Rattle.syn_gain.specs.declared.proposals.Proposal.{Proposal}
 use Rattle.syn_gain.specs.Placing.{each_below}
 use Rattle.syn_gain.specs.Proposals.{replacement}
 use Rattle.syn_gain.proofs.Bounds.{below_each, leaf_in}
+use Rattle.syn_apply.specs.Applied.{leaves_by}
 use Rattle.syn_apply.specs.Remaking.{AllStand, IsGrown, SourcesStay, Stands, moved}
 use Rattle.syn_apply.specs.Sound.{IsSoundBy}
 use Rattle.syn_apply.proofs.Keeping.{plan_is_root}
@@ -46,6 +47,14 @@ IfOk-map (Err e) f h = h
 pub both_ok : {T E : Type 0} {P Q S : T → Type 0} (r : Result T E) → ((x : T) → P x → Q x → S x) → IfOk r P → IfOk r Q → IfOk r S
 both_ok (Ok x) f p q = f x p q
 both_ok (Err e) f p q = p
+
+pub OnOk-map : {T E : Type 0} {P Q : Type 0} (r : Result T E) → (P → Q) → OnOk r P → OnOk r Q
+OnOk-map (Ok x) f h = f h
+OnOk-map (Err e) f h = h
+
+pub on_and_if : {T E : Type 0} {P : Type 0} {Q S : T → Type 0} (r : Result T E) → ((x : T) → P → Q x → S x) → OnOk r P → IfOk r Q → IfOk r S
+on_and_if (Ok x) f p q = f x p q
+on_and_if (Err e) f p q = q
 
 -- rows that grow
 
@@ -180,10 +189,6 @@ leaf_value_is rows new literals leaves all count h some below given at_0 i = eli
       ∙ (all 0 some).value given at_0 ∙ front_value count rows 0 h (omega arith) given ∙ at_0
       ∙ sym (get_or_past (map (value_in (values_of given rows)) leaves) i false (let long = length-map leaves (value_in (values_of given rows)) in omega arith))
 ]
-
--- the literals of a plan's leaves
-abbrev pub leaves_by : List Lit → ℕ → List ℕ → List Lit
-leaves_by literals count leaves = each_below count (λ i. get_or literals (get_or leaves i 0) constant)
 
 pub length_each : (n : ℕ) (f : ℕ → Lit) → length (each_below n f) ≡ n
 length_each zero f = refl

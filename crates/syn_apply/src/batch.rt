@@ -1,6 +1,6 @@
 //! Many proposals applied together: the rows are made again from the sources up, with plans in place of the roots.
 
-ghost use Rattle.std.specs.Prelude.{◌≡◌, ◌+◌, ◌&&◌, ◌<◌, ◌≤◌, All, Bool, List, false, true, length, map, slice_index_or, IfNone, IfOk, IfSome, OnOk};
+ghost use Rattle.std.specs.Prelude.{◌≡◌, ◌+◌, ◌&&◌, ◌<◌, ◌≤◌, ◌++◌, ◌∷◌, [], All, Bool, List, false, true, length, map, slice_index_or, IfNone, IfOk, IfSome, OnOk};
 ghost use Rattle.syn_rows.specs.declared.Lit.{Lit};
 ghost use Rattle.syn_rows.specs.declared.Row.{Row};
 ghost use Rattle.syn_rows.specs.declared.TheConstants.{NODE_LIMIT};
@@ -10,19 +10,21 @@ ghost use Rattle.syn_rows.specs.Rows.{node_of, row_at};
 ghost use Rattle.syn_rows.specs.Values.{rows_function};
 ghost use Rattle.syn_hashed.specs.Growing.{IsAnd};
 ghost use Rattle.syn_hashed.specs.Hashed.{IsHashed};
+ghost use Rattle.syn_hashed.specs.Joined.{joined_lit, joined_rows};
 ghost use Rattle.syn_netlist.specs.Frames.{frame_in};
 ghost use Rattle.syn_gain.specs.declared.proposals.Proposal.{Proposal};
-ghost use Rattle.syn_gain.specs.Placing.{each_below};
 ghost use Rattle.syn_gain.specs.Proposals.{replacement};
+ghost use Rattle.syn_placing.specs.Placing.{literal_for};
+ghost use Rattle.syn_apply.specs.Applied.{AreAppliedTogether, AreRemade, Begins, IsJoinedAgain, MakesNext, leaves_by, planned_gates, remade};
 ghost use Rattle.syn_apply.specs.Remaking.{AllStand, IsGrown, SourcesStay, Stands, moved};
 ghost use Rattle.syn_apply.specs.Sound.{IsSoundBy};
 
 use arrayvec::ArrayVec;
 use std::alloc::{AllocError, Global};
-use syn_gain::{Proposal, literal_at, node_at};
+use syn_gain::{Proposal, node_at};
 use syn_graph::{Graph, copy_frame};
 use syn_hashed::HashedRows;
-use syn_placing::place_plan;
+use syn_placing::{literal_at, place_plan};
 use syn_rows::{Lit, NODE_LIMIT, Row};
 use syn_strash::finish;
 
@@ -34,6 +36,8 @@ fn and(hashed: &mut HashedRows, a: Lit, b: Lit) -> Result<Lit, AllocError>
     ensures grown { OnOk result (IsGrown hashed.old.rows.items hashed.new.rows.items) }
     ensures there { IfOk result (λ l. node_of l < length hashed.new.rows.items) }
     ensures value { IfOk result (λ l. IsAnd hashed.old.rows.items a b hashed.new.rows.items l) }
+    ensures rows { OnOk result (hashed.new.rows.items ≡ joined_rows hashed.old.rows.items a b) }
+    ensures literal { IfOk result (λ l. l ≡ joined_lit hashed.old.rows.items a b) }
 {
     if hashed.rows.len() + 1 < NODE_LIMIT {
         hashed.and(a, b)
@@ -70,6 +74,7 @@ fn joined(
     ensures sources { hashed.new.source_count ≡ hashed.old.source_count }
     ensures grown { OnOk result (IsGrown hashed.old.rows.items hashed.new.rows.items) }
     ensures stands { IfOk result (Stands rows.now hashed.new.rows.items node) }
+    ensures again { IfOk result (λ l. IsJoinedAgain rows.now (remade hashed.old.rows.items literals.now) (remade hashed.new.rows.items (literals.now ++ l ∷ []))) }
 {
     let first = moved(literals, a);
     let second = moved(literals, b);
@@ -79,7 +84,7 @@ fn joined(
 // The literals that stand for a plan's leaves, of which there are so many.
 fn leaf_literals(literals: &[Lit], count: u8, leaves: &[u32]) -> ArrayVec<Lit, 8>
     requires { count ≤ 8 }
-    ensures { result.items ≡ each_below count (λ i. slice_index_or literals.now (slice_index_or leaves.now i 0) constant) }
+    ensures { result.items ≡ leaves_by literals.now count leaves.now }
 {
     let mut found = ArrayVec::new();
     for i in 0..count {
@@ -105,6 +110,8 @@ fn planned(
     ensures sources { hashed.new.source_count ≡ hashed.old.source_count }
     ensures grown { OnOk result (IsGrown hashed.old.rows.items hashed.new.rows.items) }
     ensures stands { IfOk result (Stands rows.now hashed.new.rows.items proposal.now.root) }
+    ensures rows { OnOk result (hashed.new.rows.items ≡ (planned_gates (remade hashed.old.rows.items literals.now) proposal.now).rows) }
+    ensures literal { IfOk result (λ l. l ≡ literal_for (planned_gates (remade hashed.old.rows.items literals.now) proposal.now).literals proposal.now.plan.out) }
 {
     let plan = &proposal.plan;
     if hashed.rows.len() + plan.gates.len() < NODE_LIMIT {
@@ -167,6 +174,7 @@ fn made(
     ensures sources { hashed.new.source_count ≡ hashed.old.source_count }
     ensures grown { OnOk result (IsGrown hashed.old.rows.items hashed.new.rows.items) }
     ensures stands { IfOk result (Stands rows.now hashed.new.rows.items node) }
+    ensures next { IfOk result (λ l. MakesNext rows.now proposals.now (remade hashed.old.rows.items literals.now) (remade hashed.new.rows.items (literals.now ++ l ∷ []))) }
     ensures source { IfOk result (λ l. node < hashed.old.source_count + 1 → l ≡ lit_of node) }
 {
     match fan_ins(rows[node as usize]) {
@@ -193,7 +201,9 @@ fn remade(
     requires hashed { IsHashed hashed.old.source_count rows.now }
     requires few { length rows.now < NODE_LIMIT }
     requires sound { All (λ p. IsSoundBy rows.now (replacement p)) proposals.now }
+    requires begins { Begins hashed.old.source_count (remade hashed.old.rows.items []) }
     ensures sources { hashed.new.source_count ≡ hashed.old.source_count }
+    ensures remade { IfOk result (λ v. AreRemade hashed.old.source_count rows.now proposals.now (length rows.now) (remade hashed.new.rows.items v.items)) }
     ensures few { OnOk result (length hashed.old.rows.items < NODE_LIMIT → length hashed.new.rows.items < NODE_LIMIT) }
     ensures all { IfOk result (λ v. length v.items ≡ length rows.now) }
     ensures standing { IfOk result (λ v. AllStand rows.now hashed.new.rows.items v.items) }
@@ -235,6 +245,7 @@ pub fn applied_together(
     ensures frame { IfOk result (λ g. frame_in g.frame ≡ frame_in graph.now.frame) }
     ensures names { IfOk result (λ g. g.frame.names ≡ graph.now.frame.names) }
     ensures values { IfOk result (λ g. (bits : List Bool) → rows_function g.rows g.observed bits ≡ rows_function graph.now.rows graph.now.observed bits) }
+    ensures applied { IfOk result (AreAppliedTogether graph.now proposals.now) }
 {
     let mut hashed = HashedRows::new(alloc, graph.source_count as usize)?;
     let rows = graph.rows.as_slice();

@@ -12,6 +12,7 @@ ghost use Rattle.syn_netlist.specs.Frames.{frame_in};
 ghost use Rattle.syn_gain.specs.Proposals.{replacement_of};
 ghost use Rattle.syn_gain.specs.Replacements.{SavedBy, rows_after_by};
 ghost use Rattle.syn_levels.specs.Levels.{IsNoDeeper, keeps_level};
+ghost use Rattle.syn_apply.specs.Applied.{IsAppliedAlone};
 ghost use Rattle.syn_apply.specs.Sound.{IsSoundBy};
 
 pub use batch::applied_together;
@@ -42,6 +43,7 @@ pub fn applied(alloc: Global, graph: &Graph, candidate: Candidate) -> Result<Gra
     ensures names { IfOk result (λ g. g.frame.names ≡ graph.now.frame.names) }
     ensures values { IfOk result (λ g. (bits : List Bool) → rows_function g.rows g.observed bits ≡ rows_function graph.now.rows graph.now.observed bits) }
     ensures count { IfOk result (λ g. (s : ℤ) → SavedBy graph.now.rows graph.now.observed (replacement_of candidate.entry) s → (pos (length g.rows) +ℤ s) ≤ℤ pos (length graph.now.rows)) }
+    ensures alone { IfOk result (IsAppliedAlone graph.now (replacement_of candidate.entry)) }
     ensures levels { IfOk result (λ g. keeps_level graph.now.rows (replacement_of candidate.entry) ≡ true → IsNoDeeper graph.now g) }
 {
     let _count = graph.count();

@@ -5,7 +5,7 @@ use Rattle.syn_rows.specs.declared.Row.{Row}
 use Rattle.syn_rows.specs.Values.{rows_function}
 use Rattle.syn_shapes.specs.Graphs.{lit_at}
 use Rattle.syn_hashed.specs.Growing.{level_by}
-use Rattle.syn_hashed.specs.Compacting.{IsCompaction}
+use Rattle.syn_hashed.specs.HashedAgain.{IsHashedAgain}
 use Rattle.syn_balance.specs.Rule.{AreByRule}
 use Rattle.syn_graph.specs.declared.Graph.{Graph}
 
@@ -21,4 +21,4 @@ pub record FollowsRule (count : ℕ) (rows : List Row) (lits : List Lit) (new_ro
   pub mid_rows : List Row
   pub mid_lits : List Lit
   pub made : AreByRule count rows lits mid_rows mid_lits
-  pub compact : IsCompaction count mid_rows mid_lits new_rows new_lits
+  pub compact : IsHashedAgain count mid_rows mid_lits new_rows new_lits

@@ -5,13 +5,8 @@ use Rattle.std.proofs.lemmas.Option.{none-some}
 use Rattle.syn_rows.specs.declared.Row.{Row}
 use Rattle.syn_rows.specs.declared.Row.TheVariants as row
 use Rattle.syn_rows.specs.Rows.{AllRefs, node_of}
-use Rattle.syn_truth.specs.declared.Truth.{Truth}
 use Rattle.syn_rows.specs.Nodes.{has_node}
 use Rattle.syn_core_laws.specs.SameValue.{both, known_value, turned_by, value_by, value_of_row}
-use Rattle.syn_decide.specs.declared.decisions.NodeRow.{NodeRow}
-use Rattle.syn_decide.specs.Walk.{row_among}
-use Rattle.syn_decide.specs.Functions.{leaf_value}
-use Rattle.syn_decide.specs.Tables.{IsNodeTable}
 
 -- each value of the first is one of the second
 abbrev pub Keeps : (ℕ → Option Bool) → (ℕ → Option Bool) → Type 0
@@ -67,9 +62,3 @@ more_steps known over choice (suc m) k le n b h = elim (cases_eq k (suc m)) [
   | inl e ↦ subst (λ z. value_by known over choice z n ≡ Some b) e h
   | inr ne ↦ one_step known over choice m n b (more_steps known over choice m k (omega arith) n b h)
 ]
-
--- so does a table
-pub table_stays : (vars : ℕ) (leaves : List ℕ) (inner : List NodeRow) (steps more n : ℕ) (table : Truth) → steps ≤ more
-    → IsNodeTable vars leaves inner steps n (Some table) → IsNodeTable vars leaves inner more n (Some table)
-table_stays vars leaves inner steps more n table le h =
-    record { values = λ xs l. sym (more_steps (row_among inner) leaves (leaf_value leaves xs) more steps le n _ (sym (h.values xs l))) }

@@ -6,6 +6,7 @@ pub mod Hints
 pub mod Dying
 pub mod Fold
 pub mod Tables
+pub mod Words
 pub mod Told
 pub mod Phases
 pub mod Walked

@@ -3,6 +3,7 @@
 ghost use Rattle.std.specs.Prelude.{◌<◌, ◌≤◌, length};
 ghost use Rattle.syn_rows.specs.declared.TheConstants.{NODE_LIMIT};
 ghost use Rattle.syn_plan.specs.declared.TheConstants.{MAX_LEAVES};
+ghost use Rattle.syn_decide.specs.declared.decisions.TheConstants.{MAX_INNER};
 
 use syn_gain::{Candidate, Proposal};
 use syn_rows::Row;
@@ -124,6 +125,19 @@ impl Default for NodeRow {
             row: Row::Free,
         }
     }
+}
+
+/// Leaves, and rows between them and a root, in any order.
+#[derive(Clone, Copy, Debug)]
+pub struct Cone<'a> {
+    /// The leaves, at most eight.
+    pub leaves: &'a [u32],
+    /// The value that the eighth has, if there is one.
+    pub last: bool,
+    /// The rows.
+    pub inner: &'a [NodeRow],
+    pub ghost leaves_are_few: { length leaves.now ≤ MAX_LEAVES },
+    pub ghost rows_are_few: { length inner.now ≤ MAX_INNER },
 }
 
 /// An inner row whose count was loaded.

@@ -5,7 +5,7 @@ ghost use Rattle.syn_rows.specs.declared.TheConstants.{NODE_LIMIT};
 
 use crate::mffc::CountedRoom;
 use crate::place::Placed;
-use crate::tables::Rounds;
+use crate::words::Words;
 use crate::{MAX_INNER, NodeRow};
 use arrayvec::ArrayVec;
 use syn_plan::MAX_GATES;
@@ -42,7 +42,7 @@ pub(crate) struct Desk {
     /// For what the gates of the plan become.
     pub(crate) placed: Placed,
     /// For the tables of the inner rows.
-    pub(crate) rounds: Rounds,
+    pub(crate) words: Words,
     /// For the rows that die.
     pub(crate) room: CountedRoom,
 }
@@ -52,7 +52,7 @@ impl Desk {
     pub(crate) fn new() -> Desk {
         Desk {
             placed: Placed::new(),
-            rounds: Rounds::new(),
+            words: Words::new(),
             room: CountedRoom::new(),
         }
     }

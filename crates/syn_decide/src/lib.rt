@@ -13,10 +13,12 @@ mod rows;
 mod stages;
 mod tables;
 mod walk;
+mod words;
 mod worklist;
 
 pub use decisions::{
-    Attempt, Comparison, Counted, Decision, MAX_INNER, NodeRow, Outcome, Phase, StaleCause, Want,
+    Attempt, Comparison, Cone, Counted, Decision, MAX_INNER, NodeRow, Outcome, Phase, StaleCause,
+    Want,
 };
 pub use laws::{
     always_fitting, always_linked, always_walked, counted_are_first, dying_are_least, empty_reads,
@@ -25,3 +27,4 @@ pub use laws::{
 pub use mffc::dying_with;
 pub use reads::{Deciding, Reads, decide};
 pub use rows::NewRows;
+pub use words::Words;

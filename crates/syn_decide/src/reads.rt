@@ -87,7 +87,7 @@ impl Deciding {
                 attempt,
                 &mut self.inner,
                 &mut self.waiting,
-                &mut self.desk.rounds,
+                &mut self.desk.words,
                 read,
             ),
             Phase::Keying => read_keying(&mut self.found, &mut self.waiting, read),

@@ -10,8 +10,9 @@ ghost use Rattle.syn_decide.specs.Fold as fold;
 ghost use Rattle.syn_decide.specs.Fold.{Stage};
 ghost use Rattle.syn_decide.specs.Phases.{stage_of, most_at, state_at};
 
-use crate::tables::{Rounds, compare};
+use crate::tables::compare;
 use crate::walk::{add_fan_ins, is_met, skip_known};
+use crate::words::Words;
 use crate::worklist::Waiting;
 use crate::{Attempt, Comparison, MAX_INNER, NodeRow, Outcome, Phase, StaleCause};
 use arrayvec::ArrayVec;
@@ -86,7 +87,7 @@ fn after_walk(
     attempt: &Attempt<'_>,
     inner: &[NodeRow],
     waiting: &mut Waiting,
-    rounds: &mut Rounds,
+    words: &mut Words,
 ) -> Phase
     requires empty { waiting.old ≡ [] }
     requires inner { length inner.now ≤ MAX_INNER }
@@ -97,7 +98,7 @@ fn after_walk(
     if let Some(leaf) = first_unmet(attempt, inner) {
         return Phase::Ended(Outcome::Stale(StaleCause::Reach(leaf)));
     }
-    match compare(attempt, inner, rounds) {
+    match compare(attempt, inner, words) {
         Comparison::Circle => Phase::Failed,
         Comparison::Same => {
             add_keys(attempt, waiting);
@@ -114,7 +115,7 @@ fn walk_on(
     attempt: &Attempt<'_>,
     inner: &[NodeRow],
     waiting: &mut Waiting,
-    rounds: &mut Rounds,
+    words: &mut Words,
 ) -> Phase
     requires inner { length inner.now ≤ MAX_INNER }
     requires few { length waiting.old ≤ 9 + length inner.now }
@@ -123,7 +124,7 @@ fn walk_on(
     ensures room { length inner.now ≤ most_at result }
 {
     let Some(node) = waiting.pop() else {
-        return after_walk(attempt, inner, waiting, rounds);
+        return after_walk(attempt, inner, waiting, words);
     };
     if inner.len() < MAX_INNER {
         waiting.push(node);
@@ -138,7 +139,7 @@ fn row_loaded(
     attempt: &Attempt<'_>,
     inner: &mut ArrayVec<NodeRow, MAX_INNER>,
     waiting: &mut Waiting,
-    rounds: &mut Rounds,
+    words: &mut Words,
     node: u32,
     row: Row,
 ) -> Phase
@@ -156,7 +157,7 @@ fn row_loaded(
     inner.push(NodeRow { node, row });
     add_fan_ins(row, waiting);
     skip_known(attempt.candidate.leaves, inner.as_slice(), waiting);
-    walk_on(attempt, inner.as_slice(), waiting, rounds)
+    walk_on(attempt, inner.as_slice(), waiting, words)
 }
 
 /// One read of the walk.
@@ -164,7 +165,7 @@ pub(crate) fn read_walking(
     attempt: &Attempt<'_>,
     inner: &mut ArrayVec<NodeRow, MAX_INNER>,
     waiting: &mut Waiting,
-    rounds: &mut Rounds,
+    words: &mut Words,
     read: Seen,
 ) -> Phase
     requires room { length inner.old.items < MAX_INNER }
@@ -180,7 +181,7 @@ pub(crate) fn read_walking(
     };
     match read {
         Seen::Row(node, row) if node == next => {
-            row_loaded(attempt, inner, waiting, rounds, next, row)
+            row_loaded(attempt, inner, waiting, words, next, row)
         }
         Seen::Miss(node) if node == next => Phase::Ended(Outcome::Busy(next)),
         _ => Phase::Failed,

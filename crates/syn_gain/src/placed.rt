@@ -14,6 +14,7 @@ ghost use Rattle.syn_gain.specs.Searching as search;
 
 use crate::Lookup;
 use arrayvec::ArrayVec;
+use syn_placing::literal_for;
 use syn_plan::PLit;
 use syn_rows::{FALSE, Lit, Row, is_and_of, ordered_and, simple_and};
 
@@ -50,25 +51,6 @@ fn literal_new(first: u32, extra: &[Row], from: usize, x: Lit, y: Lit) -> Option
         }
     }
     None
-}
-
-/// The literal that a plan's literal becomes, where its indexes became these.
-pub fn literal_for(literals: &[Lit], l: PLit) -> Lit
-    ensures { result ≡ spec.literal_for literals.now l }
-{
-    let plain = literal_at(literals, l.index() as usize);
-    if l.complemented() { plain.not() } else { plain }
-}
-
-/// The literal of an index, the constant past the end.
-pub fn literal_at(literals: &[Lit], index: usize) -> Lit
-    ensures { result ≡ slice_index_or literals.now index joining.constant }
-{
-    if index < literals.len() {
-        literals[index]
-    } else {
-        FALSE
-    }
 }
 
 /// The node at a place of a list, 0 past its end.

@@ -62,7 +62,7 @@ pub record IsKeeping (count : ℕ) (rows : List Row) (keep : ℕ → Bool) : Typ
   pub front : (n : ℕ) → n < count + 1 → keep n ≡ true
   pub closed : (n : ℕ) → keep n ≡ true → AllRefs (λ m. keep m ≡ true) (row_at rows n)
 
-kept_closed : (count : ℕ) (rows : List Row) (lits : List Lit) (set : ℕ → Bool) → IsHashed count rows → IsReachedSet rows lits set → IsKeeping count rows (is_kept count set)
+pub kept_closed : (count : ℕ) (rows : List Row) (lits : List Lit) (set : ℕ → Bool) → IsHashed count rows → IsReachedSet rows lits set → IsKeeping count rows (is_kept count set)
 kept_closed count rows lits set hashed reached = record {
   stays = front_stays count set;
   front = front_kept count set;
@@ -146,7 +146,7 @@ from_at count rows keep hashed keeping j above lt =
       second_kept = refs.1;
     }
 
-kept_hashed : (count : ℕ) (rows : List Row) (keep : ℕ → Bool) → IsHashed count rows → IsKeeping count rows keep → IsHashed count (kept_rows keep rows)
+pub kept_hashed : (count : ℕ) (rows : List Row) (keep : ℕ → Bool) → IsHashed count rows → IsKeeping count rows keep → IsHashed count (kept_rows keep rows)
 kept_hashed count rows keep hashed keeping = record {
   there = omega (arith, length-kept keep rows, keeping.stays (count + 1) (omega arith), below_rises keep (count + 1) (length rows) (omega (arith, hashed.there)));
   front = λ n lt.

@@ -11,5 +11,6 @@ mod Walked
 mod Renumbered
 mod Counted
 mod Kept
+mod HashedAgain
 pub mod Dropped
 pub mod Compacted

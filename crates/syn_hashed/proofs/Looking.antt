@@ -80,7 +80,7 @@ pair_row x y (And a b) rising h =
       | inr f ↦ cond-false (nat_lt b.0 a.0) (And b a) (And a b) f
     ]
 
-is_ordered : (rows : List Row) → PairsOnce rows → (x y : Lit) (k : ℕ) → is_and_of x y (row_at rows k) ≡ true → row_at rows k ≡ ordered_and x y
+pub is_ordered : (rows : List Row) → PairsOnce rows → (x y : Lit) (k : ℕ) → is_and_of x y (row_at rows k) ≡ true → row_at rows k ≡ ordered_and x y
 is_ordered rows p x y k h = pair_row x y (row_at rows k) (p.ordered k) h
 
 pub pair_itself : (x y : Lit) → same_pair x y x y ≡ true
@@ -183,7 +183,7 @@ hashed_pairs_once count rows h = record {
 there_is : (rows : List Row) (x y : Lit) (o : Option Lit) → NeedRow x y → o ≡ literal_below rows (length rows) x y → o ≡ literal_there rows x y
 there_is rows x y o needs e = e ∙ ap (λ s. or_else s (literal_below rows (length rows) x y)) (sym (needs_none x y needs))
 
-in_order : (x y : Lit) → x.0 < y.0 → ordered_and x y ≡ And x y
+pub in_order : (x y : Lit) → x.0 < y.0 → ordered_and x y ≡ And x y
 in_order x y less = cond-true (nat_lt x.0 y.0) (And x y) (And y x) (lt-ltb x.0 y.0 less)
 
 pub joined_found : (count : ℕ) (rows : List Row) → IsHashed count rows → (k : ℕ) (a b : Lit) → is_gate k (And a b) ≡ true → (n : ℕ) → row_at rows n ≡ And a b → n < length rows → (l : Lit) → l.0 ≡ 2 * n

@@ -5,5 +5,6 @@ pub mod Joined
 pub mod Growing
 pub mod Visiting
 pub mod Renumbering
+pub mod HashedAgain
 pub mod Walking
 pub mod Compacting

@@ -10,6 +10,7 @@ ghost use Rattle.syn_rows.specs.Values.{value_in};
 ghost use Rattle.syn_rows.specs.Reach.{Ands, IsReachedSet};
 ghost use Rattle.syn_hashed.specs.Hashed.{IsHashed, lit_at};
 ghost use Rattle.syn_hashed.specs.Growing.{level_by};
+ghost use Rattle.syn_hashed.specs.HashedAgain.{IsExactCompaction, IsHashedAgain};
 ghost use Rattle.syn_hashed.specs.Compacting.{CanCompact, HasValuation, IsCompacted, IsCompaction, is_kept, IsPlaces, kept_below, kept_lits, kept_rows, moved_lit, moved_row, SameValues};
 
 use crate::visit::in_visiting_order;
@@ -130,7 +131,8 @@ fn drop_unmarked(
     requires few { length rows.now < 2 ^ 31 }
     requires marks { length marks.now ≡ length rows.now }
     requires reached { IsReachedSet rows.now observed.now (value_in marks.now) }
-    ensures { IfOk result (λ r. IsCompaction count rows.now observed.now r.rows.items r.observed.items) }
+    ensures compact { IfOk result (λ r. IsCompaction count rows.now observed.now r.rows.items r.observed.items) }
+    ensures exact { IfOk result (λ r. IsHashedAgain count rows.now observed.now r.rows.items r.observed.items) }
 {
     let places = places_of(alloc, count, marks)?;
     let kept = kept_rows(alloc, count, rows, marks, places.as_slice())?;
@@ -159,7 +161,8 @@ fn drop_unreached(alloc: Global, count: u32, all: Rows) -> Result<Rows, AllocErr
     requires hashed { IsHashed count all.rows.items }
     requires within { All (λ l. node_of l < length all.rows.items) all.observed.items }
     requires few { length all.rows.items < 2 ^ 31 }
-    ensures { IfOk result (λ r. IsCompaction count all.rows.items all.observed.items r.rows.items r.observed.items) }
+    ensures compact { IfOk result (λ r. IsCompaction count all.rows.items all.observed.items r.rows.items r.observed.items) }
+    ensures exact { IfOk result (λ r. IsHashedAgain count all.rows.items all.observed.items r.rows.items r.observed.items) }
 {
     let rows = all.rows.as_slice();
     let observed = all.observed.as_slice();
@@ -180,7 +183,8 @@ pub fn compact_rows(
 ) -> Result<Rows, AllocError>
     requires can { CanCompact source_count rows.now observed.now }
     requires few { length rows.now < NODE_LIMIT }
-    ensures { IfOk result (λ r. IsCompacted source_count rows.now observed.now r.rows.items r.observed.items) }
+    ensures compacted { IfOk result (λ r. IsCompacted source_count rows.now observed.now r.rows.items r.observed.items) }
+    ensures exact { IfOk result (λ r. IsExactCompaction source_count rows.now observed.now r.rows.items r.observed.items) }
 {
     let ordered = in_visiting_order(alloc, source_count, rows, observed)?;
     let kept = drop_unreached(alloc, source_count, ordered)?;
@@ -198,6 +202,7 @@ pub fn compact_hashed(
     requires within { All (λ l. node_of l < length rows.now) observed.now }
     requires few { length rows.now < NODE_LIMIT }
     ensures compact { IfOk result (λ r. IsCompaction source_count rows.now observed.now r.rows.items r.observed.items) }
+    ensures exact { IfOk result (λ r. IsHashedAgain source_count rows.now observed.now r.rows.items r.observed.items) }
     ensures ands { IfOk result (λ r. (k : ℕ) → Ands rows.now observed.now k → length r.rows.items ≤ source_count + 1 + k) }
 {
     let kept = renumbered(alloc, source_count, rows, observed)?;

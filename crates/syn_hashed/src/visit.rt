@@ -10,6 +10,7 @@ ghost use Rattle.syn_rows.specs.Values.{value_in};
 ghost use Rattle.syn_rows.specs.Walk.{unmarked};
 ghost use Rattle.syn_hashed.specs.Hashed.{IsHashed};
 ghost use Rattle.syn_hashed.specs.Compacting.{CanCompact};
+ghost use Rattle.syn_hashed.specs.HashedAgain.{IsHashedAgain, IsHashedRow, IsHashing};
 ghost use Rattle.syn_hashed.specs.Visiting.{first_literal, FirstsOf, fan_ins_of, IsMade, IsMadeAgain, IsReady, IsVisit, literal_of, StaysVisited, unvisited, visited};
 ghost use Rattle.syn_hashed.specs.Walking.{enters, steps_of, VisitsReached};
 
@@ -29,7 +30,8 @@ pub fn in_visiting_order(
 ) -> Result<Rows, AllocError>
     requires can { CanCompact source_count rows.now observed.now }
     requires few { length rows.now < NODE_LIMIT }
-    ensures { IfOk result (λ r. IsMadeAgain source_count rows.now observed.now r.rows.items r.observed.items) }
+    ensures made { IfOk result (λ r. IsMadeAgain source_count rows.now observed.now r.rows.items r.observed.items) }
+    ensures exact { IfOk result (λ r. IsHashedAgain source_count rows.now observed.now r.rows.items r.observed.items) }
 {
     let mut hashed = HashedRows::new(alloc, source_count as usize)?;
     let mut literals = first_literals(alloc, source_count as usize, rows.len())?;
@@ -76,7 +78,7 @@ pub trait Maker {
 impl Maker for HashedRows {
     ghost sources = { λ h. h.source_count };
 
-    ghost stands = { λ h rows literals. IsVisit h.source_count rows literals h.rows.items };
+    ghost stands = { λ h rows literals. IsHashing h.source_count rows literals h.rows.items };
 
     fn make(
         &mut self,
@@ -193,6 +195,7 @@ fn stand_in(
     requires there { node < length rows.now }
     ensures sources { hashed.new.source_count ≡ hashed.old.source_count }
     ensures made { IfOk result (λ o. IfSome o (λ l. IsMade hashed.old.source_count rows.now node hashed.old.rows.items hashed.new.rows.items l)) }
+    ensures row { IfOk result (λ o. IfSome o (IsHashedRow (visited literals.now) hashed.new.rows.items (row_at rows.now node))) }
     ensures same { IfOk result (λ o. IfNone o (hashed.new.rows.items ≡ hashed.old.rows.items)) }
     ensures ready { IfOk result (λ o. IsReady literals.now (row_at rows.now node) → IsSome o) }
 {
@@ -215,11 +218,11 @@ fn make(
     literals: &mut [Option<Lit>],
     node: usize,
 ) -> Result<(), AllocError>
-    requires visit { IsVisit hashed.old.source_count rows.now literals.old hashed.old.rows.items }
+    requires hashing { IsHashing hashed.old.source_count rows.now literals.old hashed.old.rows.items }
     requires there { node < length rows.now }
     requires room { length rows.now < NODE_LIMIT }
     ensures sources { hashed.new.source_count ≡ hashed.old.source_count }
-    ensures visit { OnOk result (IsVisit hashed.old.source_count rows.now literals.new hashed.new.rows.items) }
+    ensures hashing { OnOk result (IsHashing hashed.old.source_count rows.now literals.new hashed.new.rows.items) }
     ensures stays { OnOk result (StaysVisited literals.old literals.new) }
     ensures others { OnOk result ((m : ℕ) → m ≢ node → visited literals.new m ≡ visited literals.old m) }
     ensures made { OnOk result (IsReady literals.old (row_at rows.now node) → IsSome (visited literals.new node)) }

@@ -7,6 +7,7 @@ ghost use Rattle.syn_rows.specs.Rows.{node_of};
 ghost use Rattle.syn_rows.specs.Joining.{ordered_and};
 ghost use Rattle.syn_hashed.specs.Hashed.{IsHashed};
 ghost use Rattle.syn_hashed.specs.Compacting.{IsCompacted};
+ghost use Rattle.syn_hashed.specs.HashedAgain.{IsHashedAgain};
 ghost use Rattle.syn_hashed.specs.Renumbering.{IsRenumbering};
 
 use crate::compaction::Rows;
@@ -67,7 +68,8 @@ pub fn renumbered(
     requires hashed { IsHashed source_count rows.now }
     requires within { All (λ l. node_of l < length rows.now) observed.now }
     requires few { length rows.now < NODE_LIMIT }
-    ensures { IfOk result (λ r. IsCompacted source_count rows.now observed.now r.rows.items r.observed.items) }
+    ensures compacted { IfOk result (λ r. IsCompacted source_count rows.now observed.now r.rows.items r.observed.items) }
+    ensures exact { IfOk result (λ r. IsHashedAgain source_count rows.now observed.now r.rows.items r.observed.items) }
 {
     let source_count = source_count as usize;
     let mut kept = RenumberedRows {

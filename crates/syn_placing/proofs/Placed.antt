@@ -1,18 +1,54 @@
 -- Literals of a plan while its gates become ANDs: they are there, and have the values that its gates give.
-use Rattle.std.proofs.Common.{◌≡◌, ℕ, ◌+◌, ◌<◌, ◌&&◌, nat_lt, Bool, true, false, All, List, [], ◌∷◌, ◌++◌, length, map, get_or, drop, refl, sym, ap, ap₂, ◌∙◌, subst, arith}
-use Rattle.std.proofs.lemmas.Bool.{and_parts, ltb-true}
-use Rattle.std.proofs.lemmas.List.{drop_more, map-append}
+use Rattle.std.proofs.Common.{◌≡◌, ℕ, ◌+◌, ◌<◌, ◌&&◌, ◌%◌, ◌==◌, nat_eq, nat_lt, not, Bool, true, false, All, List, [], ◌∷◌, ◌++◌, length, map, get_or, drop, refl, sym, ap, ap₂, ◌∙◌, subst, arith, inl, inr}
+use Rattle.std.proofs.lemmas.Bool.{and_parts, cases_Bool, cond_both, cond-false, cond-true, ltb-true}
+use Rattle.std.proofs.lemmas.List.{drop_more, get_or-map, map-append}
 use Rattle.std.proofs.lemmas.List.Elements.{All-head, All-tail, All-push, All-weaker}
 use Rattle.syn_rows.specs.declared.Lit.{Lit}
 use Rattle.syn_rows.specs.declared.Row.{Row}
-use Rattle.syn_rows.specs.Joining.{constant}
+use Rattle.syn_rows.specs.Joining.{complement, constant}
 use Rattle.syn_rows.specs.Rows.{node_of}
+use Rattle.syn_rows.specs.Values.{lit_value}
+use Rattle.syn_rows.proofs.JoinLaws.{complement_node, complement_value}
 use Rattle.syn_hashed.specs.Growing.{Extends, value_by}
+use Rattle.syn_hashed.specs.Joined.{joined_lit, joined_rows}
 use Rattle.syn_hashed.proofs.Rising.{extends_longer, literal_kept}
 use Rattle.syn_plan.specs.declared.PLit.{PLit}
 use Rattle.syn_plan.specs.declared.plan.Plan.{Plan}
 use Rattle.syn_plan.specs.Gates.{index_of, in_order, literal_value, values_after}
 use Rattle.syn_plan.specs.Plans.{plan_truth}
+use Rattle.syn_placing.specs.Placing.{PlacedGates, literal_for, with_gate, with_gates}
+
+-- a plan's literal becomes one that is there, and has its value
+
+pub literal_there : (bound : ℕ) (literals : List Lit) (l : PLit) → index_of l < length literals → All (λ x. node_of x < bound) literals → node_of (literal_for literals l) < bound
+literal_there bound literals l lt all =
+    let plain : Lit = get_or literals (index_of l) constant in
+    cond_both (l.0 % 2 == 0) plain (complement plain) (λ (t : Lit). node_of t < bound)
+    (λ _. all (index_of l) constant lt)
+    (λ _. subst (λ (n : ℕ). n < bound) (sym (complement_node plain)) (all (index_of l) constant lt))
+
+pub literal_has_value : (v : ℕ → Bool) (literals : List Lit) (l : PLit) → index_of l < length literals → lit_value v (literal_for literals l) ≡ literal_value (map (lit_value v) literals) l
+literal_has_value v literals l lt =
+    let plain : Lit = get_or literals (index_of l) constant in
+    let value : Bool = get_or (map (lit_value v) literals) (index_of l) false in
+    let same : lit_value v plain ≡ value = sym (get_or-map (lit_value v) literals (index_of l) constant false lt) in
+    elim (cases_Bool (nat_eq (l.0 % 2) 0)) [
+      | inl t ↦ ap (lit_value v) (cond-true (nat_eq (l.0 % 2) 0) plain (complement plain) t) ∙ same ∙ sym (cond-true (nat_eq (l.0 % 2) 0) value (not value) t)
+      | inr f ↦ ap (lit_value v) (cond-false (nat_eq (l.0 % 2) 0) plain (complement plain) f) ∙ complement_value v plain ∙ ap not same ∙ sym (cond-false (nat_eq (l.0 % 2) 0) value (not value) f)
+    ]
+
+-- the state of placing
+abbrev pub state : List Row → List Lit → PlacedGates
+state rows literals = record { rows = rows; literals = literals }
+
+pub gate_placed : (old new : List Row) (literals after : List Lit) (gate : PLit × PLit) (a b l : Lit) → a ≡ literal_for literals gate.0 → b ≡ literal_for literals gate.1
+    → new ≡ joined_rows old a b → l ≡ joined_lit old a b → after ≡ literals ++ l ∷ [] → state new after ≡ with_gate (state old literals) gate
+gate_placed old new literals after gate a b l first second rows literal is =
+    ap₂ state (rows ∙ ap₂ (joined_rows old) first second) (is ∙ ap (λ (x : Lit). literals ++ x ∷ []) (literal ∙ ap₂ (joined_lit old) first second))
+
+pub gates_placed : (s after all : PlacedGates) (gates : List (PLit × PLit)) (i : ℕ) (d : PLit × PLit) → i < length gates
+    → after ≡ with_gate s (get_or gates i d) → with_gates s (drop i gates) ≡ all → with_gates after (drop (i + 1) gates) ≡ all
+gates_placed s after all gates i d lt e h = ap (λ (t : PlacedGates). with_gates t (drop (i + 1) gates)) e ∙ sym (ap (with_gates s) (drop_more gates i d lt)) ∙ h
 
 -- rows that grow keep literals and their values
 

@@ -1,7 +1,7 @@
 //! Plans placed in hashed rows: each gate becomes an AND, which is made where it isn't there yet.
 #![tactic(auto)]
 
-ghost use Rattle.std.specs.Prelude.{◌≡◌, ℕ, ◌+◌, ◌<◌, ◌≤◌, ◌&&◌, ◌++◌, ◌∷◌, [], All, Bool, List, false, true, length, map, IfOk, OnOk};
+ghost use Rattle.std.specs.Prelude.{◌≡◌, ℕ, ◌+◌, ◌<◌, ◌≤◌, ◌&&◌, ◌++◌, ◌∷◌, [], All, Bool, List, false, true, length, map, slice_index_or, IfOk, OnOk};
 ghost use Rattle.syn_rows.specs.declared.Row.{Row};
 ghost use Rattle.syn_rows.specs.declared.TheConstants.{NODE_LIMIT};
 ghost use Rattle.syn_rows.specs.Joining.{constant};
@@ -10,6 +10,7 @@ ghost use Rattle.syn_rows.specs.Values.{lit_value};
 ghost use Rattle.syn_hashed.specs.Growing.{Extends, value_by};
 ghost use Rattle.syn_plan.specs.Gates.{in_order, index_of, literal_value, values_after};
 ghost use Rattle.syn_plan.specs.Plans.{plan_truth};
+ghost use Rattle.syn_placing.specs.Placing as spec;
 
 use smallvec::SmallVec;
 use std::alloc::{AllocError, Global};
@@ -20,15 +21,23 @@ use syn_rows::{FALSE, Lit};
 // How many literals of a plan stand inline; a plan of more takes memory.
 const INLINE_LITERALS: usize = 32;
 
-// The literal that a plan's literal becomes, where its indexes became these.
-#[inline]
-fn literal_for(literals: &[Lit], l: PLit) -> Lit
-    requires { index_of l < length literals.now }
-    ensures there { (rows : List Row) → All (λ x. node_of x < length rows) literals.now → node_of result < length rows }
-    ensures value { (v : ℕ → Bool) → lit_value v result ≡ literal_value (map (lit_value v) literals.now) l }
+/// The literal that a plan's literal becomes, where its indexes became these.
+pub fn literal_for(literals: &[Lit], l: PLit) -> Lit
+    ensures { result ≡ spec.literal_for literals.now l }
 {
-    let plain = literals[l.index() as usize];
+    let plain = literal_at(literals, l.index() as usize);
     if l.complemented() { plain.not() } else { plain }
+}
+
+/// The literal of an index, the constant past the end.
+pub fn literal_at(literals: &[Lit], index: usize) -> Lit
+    ensures { result ≡ slice_index_or literals.now index constant }
+{
+    if index < literals.len() {
+        literals[index]
+    } else {
+        FALSE
+    }
 }
 
 // The literals of the constant 0 and of a plan's leaves.
@@ -54,6 +63,7 @@ fn place_gate(
     ensures sources { hashed.new.source_count ≡ hashed.old.source_count }
     ensures grows { Extends hashed.old.rows.items hashed.new.rows.items }
     ensures few { length hashed.new.rows.items ≤ length hashed.old.rows.items + 1 }
+    ensures placed { OnOk result (record { rows = hashed.new.rows.items; literals = literals.new.items } ≡ spec.with_gate (record { rows = hashed.old.rows.items; literals = literals.old.items }) gate) }
     ensures len { OnOk result (length literals.new.items ≡ length literals.old.items + 1) }
     ensures there { OnOk result (All (λ l. node_of l < length hashed.new.rows.items) literals.new.items) }
     ensures values { OnOk result ((given : ℕ → Bool) → given 0 ≡ false → map (value_by given hashed.new.rows.items) literals.new.items ≡ map (value_by given hashed.old.rows.items) literals.old.items ++ (literal_value (map (value_by given hashed.old.rows.items) literals.old.items) gate.0 && literal_value (map (value_by given hashed.old.rows.items) literals.old.items) gate.1) ∷ []) }
@@ -77,6 +87,7 @@ fn place_gates(
     ensures sources { hashed.new.source_count ≡ hashed.old.source_count }
     ensures grows { Extends hashed.old.rows.items hashed.new.rows.items }
     ensures few { length hashed.new.rows.items ≤ length hashed.old.rows.items + length gates.now }
+    ensures placed { OnOk result (record { rows = hashed.new.rows.items; literals = literals.new.items } ≡ spec.with_gates (record { rows = hashed.old.rows.items; literals = literals.old.items }) gates.now) }
     ensures len { OnOk result (length literals.new.items ≡ length literals.old.items + length gates.now) }
     ensures there { OnOk result (All (λ l. node_of l < length hashed.new.rows.items) literals.new.items) }
     ensures values { OnOk result ((given : ℕ → Bool) → given 0 ≡ false → map (value_by given hashed.new.rows.items) literals.new.items ≡ values_after (map (value_by given hashed.old.rows.items) literals.old.items) gates.now) }
@@ -101,6 +112,8 @@ pub fn place_plan(
     ensures sources { hashed.new.source_count ≡ hashed.old.source_count }
     ensures grows { Extends hashed.old.rows.items hashed.new.rows.items }
     ensures few { length hashed.new.rows.items ≤ length hashed.old.rows.items + length plan.now.gates.items }
+    ensures rows { OnOk result (hashed.new.rows.items ≡ (spec.placed_gates hashed.old.rows.items leaves.now plan.now.gates.items).rows) }
+    ensures literal { IfOk result (λ l. l ≡ spec.literal_for (spec.placed_gates hashed.old.rows.items leaves.now plan.now.gates.items).literals plan.now.out) }
     ensures there { IfOk result (λ l. node_of l < length hashed.new.rows.items) }
     ensures value { IfOk result (λ l. (given : ℕ → Bool) → given 0 ≡ false → value_by given hashed.new.rows.items l ≡ plan_truth plan.now (map (value_by given hashed.old.rows.items) leaves.now)) }
 {

@@ -4,8 +4,9 @@ use Rattle.std.proofs.lemmas.Bool.{cases_lt}
 use Rattle.syn_graph.specs.declared.Graph.{Graph}
 use Rattle.syn_proposals.specs.declared.gains.Report.{Report}
 use Rattle.syn_proposals.specs.Following.{Follows}
+use Rattle.syn_proposals.specs.Sound.{AppliesSome}
 use Rattle.syn_pool.specs.Reports.{told}
-use Rattle.syn_pool.specs.Working.{IsRoundReport}
+use Rattle.syn_pool.specs.Working.{IsRound}
 use Rattle.syn_pool.specs.Turns.{IsPassReport, LeadTo, Turn, all_done, all_gained}
 use Rattle.syn_pool.proofs.Sums.{told_both, told_high, told_low}
 
@@ -45,9 +46,9 @@ told_alone n m is =
     let few = told_few m in
     sym (told_low (n + 0) (omega (arith, is, few)) ∙ omega arith)
 
-pub one_round : (was now : Graph) (zero_gain : Bool) (r : Report) → IsRoundReport was zero_gain r → 1 ≤ r.done → Follows was r.gained now → IsPassReport was now r
+pub one_round : (was now : Graph) (zero_gain : Bool) (r : Report) → IsRound was zero_gain r now → 1 ≤ r.done → Follows was r.gained now → IsPassReport was now r
 one_round was now zero_gain r round done follows =
-    let sums = round.swept.sums in
+    let sums = round.workers.swept.sums in
     record {
       turns = record { now = now; report = r } ∷ [];
       lead = (inl (record { zero_gain = zero_gain; round = round; done = done; follows = follows }), refl);
@@ -55,10 +56,10 @@ one_round was now zero_gain r round done follows =
       gained = told_alone r.gained _ sums.gained;
     }
 
-pub one_applied : (was now : Graph) (r : Report) → r.done ≡ 0 → r.gained ≡ 0 → Follows was 1 now → IsPassReport was now r
-one_applied was now r done gained follows = record {
+pub one_applied : (was now : Graph) (r : Report) → r.done ≡ 0 → r.gained ≡ 0 → Follows was 1 now → AppliesSome was now → IsPassReport was now r
+one_applied was now r done gained follows applied = record {
   turns = record { now = now; report = r } ∷ [];
-  lead = (inr (record { done = done; gained = gained; follows = follows }), refl);
+  lead = (inr (record { done = done; gained = gained; follows = follows; applied = applied }), refl);
   done = told_alone r.done 0 done;
   gained = told_alone r.gained 0 gained;
 }

@@ -3,26 +3,28 @@ use Rattle.std.specs.Prelude.{◌≡◌, ◌⊎◌, ℕ, ◌+◌, ◌≤◌, Boo
 use Rattle.syn_graph.specs.declared.Graph.{Graph}
 use Rattle.syn_proposals.specs.declared.gains.Report.{Report}
 use Rattle.syn_proposals.specs.Following.{Follows}
+use Rattle.syn_proposals.specs.Sound.{AppliesSome}
 use Rattle.syn_pool.specs.Reports.{told}
-use Rattle.syn_pool.specs.Working.{IsRoundReport}
+use Rattle.syn_pool.specs.Working.{IsRound}
 
 -- One turn: the graph that it leaves, and what it reports.
 pub record Turn : Type 0 where
   pub now : Graph
   pub report : Report
 
--- Workers did something on a table of the graph, and the turn reports just that: the graph has at least so many ANDs fewer.
+-- Workers did something on a table of the graph, which leaves the next one, and the turn reports just that: at least so many ANDs fewer.
 pub record HasCommitted (was : Graph) (t : Turn) : Type 0 where
   pub zero_gain : Bool
-  pub round : IsRoundReport was zero_gain t.report
+  pub round : IsRound was zero_gain t.report t.now
   pub done : 1 ≤ t.report.done
   pub follows : Follows was t.report.gained t.now
 
--- Nothing is reported, and the graph has fewer ANDs, as where leftovers are applied without workers.
+-- Proposals were applied without workers, and nothing is reported: the graph is exactly what one makes alone, or many together, and has fewer ANDs.
 pub record HasApplied (was : Graph) (t : Turn) : Type 0 where
   pub done : t.report.done ≡ 0
   pub gained : t.report.gained ≡ 0
   pub follows : Follows was 1 t.now
+  pub applied : AppliesSome was t.now
 
 -- the turns lead from one graph to another
 abbrev pub LeadTo : Graph → List Turn → Graph → Type 0

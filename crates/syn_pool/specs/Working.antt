@@ -9,6 +9,7 @@ use Rattle.syn_table.specs.Seating.{IsOf, graph_of, known_of, view_of}
 use Rattle.syn_table.specs.Steps.{with_view}
 use Rattle.syn_commit.specs.Giving.{HoldsAlone, IsAtRest}
 use Rattle.syn_pool.specs.declared.workers.Worker.{Worker}
+use Rattle.syn_pool.specs.Closing.{IsLeft}
 use Rattle.syn_pool.specs.Reports.{HasTriedAll, IsSum, Sweep, all_answers, reported}
 
 -- the seat is one of this table, it holds its spare nodes alone, and nothing is pinned
@@ -46,6 +47,11 @@ pub record IsRoundReport (was : Graph) (zero_gain : Bool) (report : Report) : Ty
   pub last : Seat
   pub fresh : (view_of first).changes ≡ []
   pub swept : HasSwept shared zero_gain first last report
+
+-- A round: what its workers report, and the graph that their last seat leaves where it closes the table, by its difference in ANDs.
+pub record IsRound (was : Graph) (zero_gain : Bool) (report : Report) (now : Graph) : Type 0 where
+  pub workers : IsRoundReport was zero_gain report
+  pub left : IsLeft was (view_of workers.last).difference now
 
 -- Workers went over a table of the graph, and none of their attempts was done.
 pub record NothingDone (was : Graph) (zero_gain : Bool) : Type 0 where

@@ -14,7 +14,6 @@ mod closed_table;
 mod cuts;
 mod fan_outs;
 mod freed;
-mod functions;
 mod improvement;
 mod kept_levels;
 mod neighbourhoods;

@@ -8,12 +8,12 @@ use crate::added_rows::added;
 use crate::attempts::is_done;
 use crate::cuts::{Cuts, MAX_LEAVES, TableCut, fan_ins};
 use crate::fan_outs::FanOuts;
-use crate::freed::{Inner, going, inner_rows};
-use crate::functions::function_over;
+use crate::freed::{Inner, going};
 use crate::scene::Scene;
 use crate::workers::Worker;
 use arrayvec::ArrayVec;
 use syn_commit::{Gate, Hints, Tools};
+use syn_decide::{Cone, Words};
 use syn_gain::{Candidate, owned};
 use syn_graph::Graph;
 use syn_plan::Plan;
@@ -42,6 +42,25 @@ struct Neighbours<'a> {
     graph: &'a Graph,
     fan_outs: &'a FanOuts,
     shared: &'a Shared,
+}
+
+/// What a worker keeps for its looks: room for the cuts of a node, for the rows above a cut's leaves, and for their words.
+#[derive(Drop)]
+pub(crate) struct Desk {
+    cuts: Cuts,
+    inner: Inner,
+    words: Words,
+}
+
+impl Desk {
+    /// Nothing.
+    pub(crate) fn new() -> Desk {
+        Desk {
+            cuts: Cuts::new(),
+            inner: Inner::new(),
+            words: Words::new(),
+        }
+    }
 }
 
 // Lets a node wait for a look, unless it waits already or there is no room.
@@ -109,15 +128,26 @@ impl Neighbours<'_> {
     }
 }
 
-// The rows above a cut's leaves as they stand, and the root's function. None where there are more leaves than a plan has, or
-// rows that lead elsewhere.
-fn read_cut(shared: &Shared, cut: &TableCut) -> Option<(Inner, u16)> {
+// The root's function over a cut, by the rows above the leaves as they stand, which are left in `inner`. None where there are
+// more leaves than a plan has, or rows that lead elsewhere.
+fn read_cut(
+    shared: &Shared,
+    cut: &TableCut,
+    root: u32,
+    inner: &mut Inner,
+    words: &mut Words,
+) -> Option<u16> {
     if cut.leaves.len() > MAX_LEAVES {
         return None;
     }
-    let inner = inner_rows(shared, cut);
-    let function = function_over(cut.leaves.as_slice(), inner.as_slice())?;
-    Some((inner, function))
+    inner.read(shared, cut);
+    let cone = Cone {
+        leaves: cut.leaves.as_slice(),
+        last: false,
+        inner: inner.rows.as_slice(),
+    };
+    let word = cone.root_word(root, words)?;
+    Some((word & 0xffff) as u16)
 }
 
 // Commits the first of the plans over a cut that seems to save: whether it was done.
@@ -166,7 +196,7 @@ fn try_plans<G: Gate>(
 fn look<P: Proposer, G: Gate>(
     scene: &Scene<'_, P, P::Lists, G>,
     worker: &mut Worker,
-    cuts: &mut Cuts,
+    desk: &mut Desk,
     root: u32,
 ) -> bool
     requires at_work { IsAtWork scene.now.tools.shared.now worker.old }
@@ -175,13 +205,14 @@ fn look<P: Proposer, G: Gate>(
     ensures worked { HasWorked false worker.old worker.new }
 {
     let shared = scene.tools.shared;
+    let Desk { cuts, inner, words } = desk;
     cuts.find(shared, root);
     for cut in cuts.as_slice() {
-        let Some((inner, function)) = read_cut(shared, cut) else {
+        let Some(function) = read_cut(shared, cut, root, inner, words) else {
             continue;
         };
         let plans = scene.proposer.plans_over(scene.lists, function);
-        if try_plans(&scene.tools, worker, root, cut, &inner, plans) {
+        if try_plans(&scene.tools, worker, root, cut, inner, plans) {
             return true;
         }
     }
@@ -231,7 +262,7 @@ pub(crate) fn has_plans<P: Proposer>(proposer: &P, lists: &P::Lists) -> bool {
 pub(crate) fn try_best<P: Proposer, G: Gate>(
     scene: &Scene<'_, P, P::Lists, G>,
     worker: &mut Worker,
-    cuts: &mut Cuts,
+    desk: &mut Desk,
     root: u32,
 )
     requires at_work { IsAtWork scene.now.tools.shared.now worker.old }
@@ -240,11 +271,12 @@ pub(crate) fn try_best<P: Proposer, G: Gate>(
     ensures worked { HasWorked scene.now.board.now.zero_gain worker.old worker.new }
 {
     let shared = scene.tools.shared;
+    let Desk { cuts, inner, words } = desk;
     cuts.find(shared, root);
     let mut least = 0;
     let mut best = None;
     for cut in cuts.as_slice() {
-        let Some((inner, function)) = read_cut(shared, cut) else {
+        let Some(function) = read_cut(shared, cut, root, inner, words) else {
             continue;
         };
         let plans = scene.proposer.plans_over(scene.lists, function);
@@ -252,7 +284,7 @@ pub(crate) fn try_best<P: Proposer, G: Gate>(
             shared,
             scene.tools.hints,
             cut,
-            &inner,
+            inner,
             plans,
             least,
         ) {
@@ -274,7 +306,7 @@ pub(crate) fn try_best<P: Proposer, G: Gate>(
 fn look_at<P: Proposer, G: Gate>(
     scene: &Scene<'_, P, P::Lists, G>,
     worker: &mut Worker,
-    cuts: &mut Cuts,
+    desk: &mut Desk,
     node: u32,
 ) -> bool
     requires at_work { IsAtWork scene.now.tools.shared.now worker.old }
@@ -286,7 +318,7 @@ fn look_at<P: Proposer, G: Gate>(
         return false;
     }
     let (row, _count) = shared.peek(node);
-    matches!(row, Row::And(_, _)) && look(scene, worker, cuts, node)
+    matches!(row, Row::And(_, _)) && look(scene, worker, desk, node)
 }
 
 /// Looks around a commit that was done at a node, and around each that follows, until nothing is gained near any of them.
@@ -294,7 +326,7 @@ fn look_at<P: Proposer, G: Gate>(
 pub(crate) fn revisit_fanouts<P: Proposer, G: Gate>(
     scene: &Scene<'_, P, P::Lists, G>,
     worker: &mut Worker,
-    cuts: &mut Cuts,
+    desk: &mut Desk,
     node: u32,
 )
     requires at_work { IsAtWork scene.now.tools.shared.now worker.old }
@@ -312,7 +344,7 @@ pub(crate) fn revisit_fanouts<P: Proposer, G: Gate>(
         let Some(next) = pending.pop() else {
             return;
         };
-        if look_at(scene, worker, cuts, next) {
+        if look_at(scene, worker, desk, next) {
             around.add_neighbours(next, &mut pending);
         }
     }

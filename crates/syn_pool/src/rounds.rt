@@ -6,7 +6,7 @@ ghost use Rattle.syn_proposals.specs.Following.{Follows};
 ghost use Rattle.syn_proposals.specs.Gains.{IsGain};
 ghost use Rattle.syn_table.specs.Seating.{IsOf, known_of, nodes_of, view_of};
 ghost use Rattle.syn_commit.specs.Giving.{IsAtRest};
-ghost use Rattle.syn_pool.specs.Working.{HasSwept, IsRoundReport, NothingDone};
+ghost use Rattle.syn_pool.specs.Working.{HasSwept, IsRound, NothingDone};
 
 use crate::closed_table::close;
 use crate::fan_outs::FanOuts;
@@ -98,7 +98,7 @@ fn improved<R: Threads + Sync, P: Proposer, G: Gate>(
     requires literals { length graph.now.observed < 2 ^ 30 }
     ensures follows { IfOk result (λ made. IfSome made (λ m. Follows graph.now m.report.gained m.graph)) }
     ensures gain { IfOk result (λ made. IfSome made (λ m. IsGain (not tour.now.zero_gain) m.report)) }
-    ensures round { IfOk result (λ made. IfSome made (λ m. IsRoundReport graph.now tour.now.zero_gain m.report)) }
+    ensures round { IfOk result (λ made. IfSome made (λ m. IsRound graph.now tour.now.zero_gain m.report m.graph)) }
     ensures done { IfOk result (λ made. IfSome made (λ m. 1 ≤ m.report.done)) }
     ensures none { IfOk result (λ made. IfNone made (NothingDone graph.now tour.now.zero_gain)) }
 {
@@ -130,7 +130,7 @@ pub(crate) fn round_at<R: Threads + Sync, P: Proposer, G: Gate>(
     requires lists { tour.now.looks ≡ false → P.is_lists_of course.now.proposer.now lists.now graph.now.rows }
     ensures follows { IfOk result (λ made. IfSome made (λ m. Follows graph.now m.report.gained m.graph)) }
     ensures gain { IfOk result (λ made. IfSome made (λ m. IsGain (not tour.now.zero_gain) m.report)) }
-    ensures round { IfOk result (λ made. IfSome made (λ m. IsRoundReport graph.now tour.now.zero_gain m.report)) }
+    ensures round { IfOk result (λ made. IfSome made (λ m. IsRound graph.now tour.now.zero_gain m.report m.graph)) }
     ensures done { IfOk result (λ made. IfSome made (λ m. 1 ≤ m.report.done)) }
     ensures none { IfOk result (λ made. IfNone made ((NODE_LIMIT ≤ length graph.now.rows + 512 * tour.now.workers) ⊎ (2 ^ 30 ≤ length graph.now.observed) ⊎ NothingDone graph.now tour.now.zero_gain)) }
 {
@@ -153,7 +153,7 @@ pub(crate) fn round<R: Threads + Sync, P: Proposer, G: Gate>(
     requires lists { looks ≡ false → P.is_lists_of course.now.proposer.now lists.now graph.now.rows }
     ensures follows { IfOk result (λ made. IfSome made (λ m. Follows graph.now m.report.gained m.graph)) }
     ensures gain { IfOk result (λ made. IfSome made (λ m. IsGain (not course.now.zero_gain) m.report)) }
-    ensures round { IfOk result (λ made. IfSome made (λ m. IsRoundReport graph.now course.now.zero_gain m.report)) }
+    ensures round { IfOk result (λ made. IfSome made (λ m. IsRound graph.now course.now.zero_gain m.report m.graph)) }
     ensures done { IfOk result (λ made. IfSome made (λ m. 1 ≤ m.report.done)) }
 {
     let mut nodes = if course.zero_gain {

@@ -8,9 +8,8 @@ ghost use Rattle.syn_pool.specs.Scenes.{IsReady};
 ghost use Rattle.syn_pool.specs.Working.{HasWorked, IsAtWork};
 
 use crate::attempts::{try_each, try_from_some_place};
-use crate::cuts::Cuts;
 use crate::queues::{Queue, next_node};
-use crate::revisits::{revisit_fanouts, try_best};
+use crate::revisits::{Desk, revisit_fanouts, try_best};
 use crate::scene::Scene;
 use crate::workers::Worker;
 use std::alloc::AllocError;
@@ -44,7 +43,7 @@ fn may_change<G: Gate>(tools: &Tools<'_, G>, worker: &Worker, node: u32) -> bool
 fn visit_for_gain<P: Proposer, G: Gate>(
     scene: &Scene<'_, P, P::Lists, G>,
     worker: &mut Worker,
-    cuts: &mut Cuts,
+    desk: &mut Desk,
     node: u32,
 ) -> Result<bool, AllocError>
     requires ready { IsReady P.is_lists_of scene.now }
@@ -64,7 +63,7 @@ fn visit_for_gain<P: Proposer, G: Gate>(
     let saving = proposer.commit_candidates(board.alloc, graph, &board.uses, lists, node, false)?;
     let done = try_each(graph, tools, worker, saving.as_slice(), false, true);
     if done && !board.fan_outs.is_empty() {
-        revisit_fanouts(scene, worker, cuts, node);
+        revisit_fanouts(scene, worker, desk, node);
     }
     Ok(done)
 }
@@ -74,7 +73,7 @@ fn visit_for_gain<P: Proposer, G: Gate>(
 fn visit_for_any<P: Proposer, G: Gate>(
     scene: &Scene<'_, P, P::Lists, G>,
     worker: &mut Worker,
-    cuts: &mut Cuts,
+    desk: &mut Desk,
     node: u32,
 ) -> Result<(), AllocError>
     requires ready { IsReady P.is_lists_of scene.now }
@@ -84,7 +83,7 @@ fn visit_for_any<P: Proposer, G: Gate>(
     ensures at_work { IsAtWork scene.now.tools.shared.now worker.new }
     ensures worked { HasWorked true worker.old worker.new }
 {
-    if visit_for_gain(scene, worker, cuts, node)? {
+    if visit_for_gain(scene, worker, desk, node)? {
         return Ok(());
     }
     let Scene {
@@ -108,7 +107,7 @@ fn visit_for_any<P: Proposer, G: Gate>(
 fn visit<P: Proposer, G: Gate>(
     scene: &Scene<'_, P, P::Lists, G>,
     worker: &mut Worker,
-    cuts: &mut Cuts,
+    desk: &mut Desk,
     node: u32,
 ) -> Result<(), AllocError>
     requires ready { IsReady P.is_lists_of scene.now }
@@ -120,13 +119,13 @@ fn visit<P: Proposer, G: Gate>(
         return Ok(());
     }
     if scene.board.looks {
-        try_best(scene, worker, cuts, node);
+        try_best(scene, worker, desk, node);
         return Ok(());
     }
     if scene.board.zero_gain {
-        return visit_for_any(scene, worker, cuts, node);
+        return visit_for_any(scene, worker, desk, node);
     }
-    let _done = visit_for_gain(scene, worker, cuts, node)?;
+    let _done = visit_for_gain(scene, worker, desk, node)?;
     Ok(())
 }
 
@@ -144,13 +143,13 @@ pub(crate) fn take_all<P: Proposer, G: Gate>(
     ensures worked { HasWorked scene.now.board.now.zero_gain worker.old worker.new }
 {
     let mut queue = queue;
-    let mut cuts = Cuts::new();
+    let mut desk = Desk::new();
     let thieves = scene.board.thieves.as_slice();
     for _ in scene.graph.rows.as_slice() {
         let Some(node) = next_node(&mut queue, thieves, scene.tools.worker) else {
             break;
         };
-        visit(scene, worker, &mut cuts, node)?;
+        visit(scene, worker, &mut desk, node)?;
     }
     Ok(())
 }

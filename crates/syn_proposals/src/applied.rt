@@ -10,7 +10,8 @@ ghost use Rattle.syn_gain.specs.Uses.{IsUsesOf};
 ghost use Rattle.syn_proposals.specs.Closing.{Closed, SavesSome};
 ghost use Rattle.syn_levels.specs.Levels.{IsNoDeeper, keeps_level};
 ghost use Rattle.syn_proposals.specs.Following.{Follows};
-ghost use Rattle.syn_proposals.specs.Sound.{IsSound};
+ghost use Rattle.syn_apply.specs.Applied.{IsAppliedAlone};
+ghost use Rattle.syn_proposals.specs.Sound.{AppliesSome, IsSound};
 
 use crate::Proposer;
 use crate::compatible::select_compatible;
@@ -34,6 +35,7 @@ pub fn first_applied(alloc: Global, graph: &Graph, proposal: &Proposal) -> Resul
     requires sound { IsSound graph.now.rows proposal.now }
     requires saves { SavesSome graph.now.rows graph.now.observed (replacement proposal.now) }
     ensures follows { IfOk result (Follows graph.now 1) }
+    ensures alone { IfOk result (IsAppliedAlone graph.now (replacement proposal.now)) }
     ensures levels { IfOk result (λ g. keeps_level graph.now.rows (replacement proposal.now) ≡ true → IsNoDeeper graph.now g) }
 {
     if has_room(graph, proposal) {
@@ -81,7 +83,8 @@ pub fn smaller<P: Proposer>(
     requires ands { All (λ p. is_and (row_at graph.now.rows p.root) ≡ true) found.now }
     requires saves { All (λ p. SavesSome graph.now.rows graph.now.observed (replacement p)) found.now }
     requires sound { All (IsSound graph.now.rows) found.now }
-    ensures { IfOk result (Follows graph.now 1) }
+    ensures follows { IfOk result (Follows graph.now 1) }
+    ensures applied { IfOk result (AppliesSome graph.now) }
 {
     let marks = select_compatible(alloc, graph, uses, found)?;
     let next = applied_together(alloc, graph, found, marks.as_slice())?;

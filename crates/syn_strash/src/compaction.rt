@@ -8,6 +8,7 @@ ghost use Rattle.syn_rows.specs.Reach.{Ands};
 ghost use Rattle.syn_hashed.specs.Hashed.{lit_at};
 ghost use Rattle.syn_hashed.specs.Growing.{level_by};
 ghost use Rattle.syn_hashed.specs.Compacting.{CanCompact, SameValues};
+ghost use Rattle.syn_hashed.specs.HashedAgain.{IsExactCompaction};
 ghost use Rattle.syn_netlist.specs.Frames.{frame_in};
 ghost use Rattle.syn_netlist.specs.Lists.{observed, sources};
 ghost use Rattle.syn_graph.specs.Graphs.{HasOwnSources};
@@ -34,6 +35,7 @@ pub fn compact(
     requires names { length frame.now.names < 2 ^ 31 }
     ensures frame { IfOk result (λ g. frame_in g.frame ≡ frame_in frame.now) }
     ensures names { IfOk result (λ g. g.frame.names ≡ frame.now.names) }
+    ensures exact { IfOk result (λ g. IsExactCompaction (length (sources (frame_in frame.now))) rows.now lits.now g.rows g.observed) }
     ensures values { IfOk result (λ g. SameValues (length (sources (frame_in frame.now))) rows.now lits.now g.rows g.observed) }
     ensures fewer { IfOk result (λ g. (k : ℕ) → Ands rows.now lits.now k → length g.rows ≤ length (sources (frame_in frame.now)) + 1 + k) }
     ensures levels { IfOk result (λ g. (level : ℕ → ℕ) → HasLevels rows.now level → (i : ℕ) → i < length lits.now → level_by g.rows (lit_at g.observed i) ≤ level (node_of (lit_at lits.now i))) }

@@ -8,6 +8,7 @@ ghost use Rattle.syn_rows.specs.Values.{rows_function};
 ghost use Rattle.syn_netlist.specs.Frames.{frame_in};
 ghost use Rattle.syn_netlist.specs.Lists.{observed, sources};
 ghost use Rattle.syn_graph.specs.Graphs.{HasOwnSources};
+ghost use Rattle.syn_hashed.specs.HashedAgain.{IsHashedAgain};
 
 use std::alloc::{AllocError, Global};
 use syn_graph::Graph;
@@ -31,6 +32,7 @@ pub fn finish(
     requires names { length frame.names < 2 ^ 31 }
     ensures frame { IfOk result (λ g. g.frame ≡ frame) }
     ensures values { IfOk result (λ g. (bits : List Bool) → rows_function g.rows g.observed bits ≡ rows_function hashed.rows.items lits.now bits) }
+    ensures exact { IfOk result (λ g. IsHashedAgain hashed.source_count hashed.rows.items lits.now g.rows g.observed) }
     ensures fewer { IfOk result (λ g. length g.rows ≤ length hashed.rows.items) }
     ensures ands { IfOk result (λ g. (k : ℕ) → Ands hashed.rows.items lits.now k → length g.rows ≤ hashed.source_count + 1 + k) }
 {

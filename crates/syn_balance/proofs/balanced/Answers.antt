@@ -3,6 +3,7 @@ use Rattle.syn_rows.specs.declared.Lit.{Lit}
 use Rattle.syn_rows.specs.declared.Row.{Row}
 use Rattle.syn_rows.specs.Rows.{in_order_from}
 use Rattle.syn_hashed.specs.Compacting.{IsCompaction}
+use Rattle.syn_hashed.specs.HashedAgain.{IsHashedAgain}
 use Rattle.syn_hashed.specs.Visiting.{IsRebuilt}
 use Rattle.syn_hashed.proofs.Dropped.{hashed_order}
 use Rattle.syn_balance.specs.Rule.{AreByRule}
@@ -34,5 +35,5 @@ returns-clause-rule c =
       mid_rows = made.rows.items;
       mid_lits = made.observed.items;
       made = subst₂ (λ (rs : List Row) (ls : List Lit). AreByRule g.source_count rs ls made.rows.items made.observed.items) c.as_slice.ensures c.as_slice-2.ensures c.in_ok-made.ensures.rule;
-      compact = subst₂ (λ (rs : List Row) (ls : List Lit). IsCompaction g.source_count rs ls kept.rows.items kept.observed.items) c.as_slice-3.ensures.value c.as_slice-4.ensures.value c.in_ok-kept.ensures.compact;
+      compact = subst₂ (λ (rs : List Row) (ls : List Lit). IsHashedAgain g.source_count rs ls kept.rows.items kept.observed.items) c.as_slice-3.ensures.value c.as_slice-4.ensures.value c.in_ok-kept.ensures.exact;
     }

@@ -3,7 +3,8 @@ use Rattle.syn_plan.specs.declared.PLit.{PLit}
 use Rattle.syn_plan.specs.Gates.{in_order, values_after}
 use Rattle.syn_hashed.specs.Growing.{value_by}
 use Rattle.syn_hashed.proofs.Rising.{extends_through}
-use Rattle.syn_placing.proofs.Placed.{gates_values, order_here}
+use Rattle.syn_placing.specs.Placing.{with_gates}
+use Rattle.syn_placing.proofs.Placed.{gates_placed, gates_values, order_here, state}
 use Rattle.syn_placing.proofs.place_gates.Goals as goal
 
 abbrev no_gate : PLit × PLit
@@ -24,6 +25,8 @@ loop-gate-preserved c =
       sources = done.sources ∙ inv.sources;
       grows = extends_through c.args.hashed.now.rows.items c.loop-gate.hashed.rows.items c.place_gate.new.hashed.rows.items inv.grows done.grows;
       few = omega (arith, done.few, inv.few);
+      placed = gates_placed (state c.loop-gate.hashed.rows.items c.loop-gate.literals.items) (state c.place_gate.new.hashed.rows.items c.place_gate.new.literals.items)
+          (with_gates (state c.args.hashed.now.rows.items c.args.literals.now.items) gates) gates c.loop-gate.gate-index _ c.loop-gate-test.true done.placed inv.placed;
       len = omega (arith, done.len, inv.len);
       there = done.there;
       order = ap (λ n. in_order n (drop (c.loop-gate.gate-index + 1) gates)) done.len ∙ (order_here (length c.loop-gate.literals.items) gates c.loop-gate.gate-index no_gate c.loop-gate-test.true inv.order).2;

@@ -1,13 +1,15 @@
-use Rattle.std.proofs.Common.{◌≡◌, ℕ, ◌<◌, All, List, length, map, sym, ap, ◌∙◌, subst}
+use Rattle.std.proofs.Common.{◌≡◌, ℕ, ◌+◌, ◌<◌, All, List, length, map, refl, sym, ap, ◌∙◌, subst, subst₂}
 use Rattle.syn_rows.specs.declared.Lit.{Lit}
 use Rattle.syn_rows.specs.declared.Row.{Row}
 use Rattle.syn_rows.specs.Rows.{node_of}
 use Rattle.syn_rows.specs.Values.{rows_function}
+use Rattle.syn_hashed.specs.HashedAgain.{IsHashedAgain}
 use Rattle.syn_netlist.specs.Frames.{frame_in}
 use Rattle.syn_netlist.specs.Lists.{Frame, sources}
 use Rattle.syn_graph.specs.declared.Graph.{Graph}
 use Rattle.syn_graph.specs.Graphs.{HasOwnSources}
 use Rattle.syn_gain.specs.Proposals.{replacement}
+use Rattle.syn_apply.specs.Applied.{AreRemade, remade}
 use Rattle.syn_apply.specs.Remaking.{AllStand, SourcesStay, moved}
 use Rattle.syn_apply.specs.Sound.{IsSoundBy}
 use Rattle.syn_apply.proofs.Standing.{IfOk-map, moved_function, moved_own, moved_within}
@@ -56,3 +58,27 @@ returns-clause-values c =
     IfOk-map c.finish.result
     (λ made same bits. same bits ∙ ap (λ ls. rows_function new ls bits) is
     ∙ moved_function g.rows new literals g.observed standing (c.in_ok-literals.ensures.all ∙ ap length c.as_slice-rows.ensures) g.graph.within bits) c.finish.ensures.values
+
+pub remade-requires-clause-begins : goal.remade-requires-clause-begins
+remade-requires-clause-begins c =
+    let h = c.in_ok-hashed.hashed in
+    record {
+      few = c.in_ok-hashed.ensures.rows ∙ ap (λ (k : ℕ). k + 1) (sym c.in_ok-hashed.ensures.sources);
+      sources = h.hashed.front;
+      none = refl;
+    }
+
+pub returns-clause-applied : goal.returns-clause-applied
+returns-clause-applied c =
+    let g = c.args.graph.now in
+    let new = c.remade.new.hashed.rows.items in
+    let literals = c.in_ok-literals.literals.items in
+    let is = lits_are c.as_slice.result.now literals g.observed c.as_slice-2.result.now c.as_slice-3.result.now c.in_ok-observed.observed.items c.as_slice.ensures.value c.as_slice-2.ensures c.as_slice-3.ensures.value c.in_ok-observed.ensures in
+    let made : AreRemade g.source_count g.rows c.args.proposals.now (length g.rows) (remade new literals) =
+    subst₂ (λ (k : ℕ) (rs : List Row). AreRemade k rs c.args.proposals.now (length rs) (remade new literals)) c.in_ok-hashed.ensures.sources c.as_slice-rows.ensures c.in_ok-literals.ensures.remade in
+    IfOk-map c.finish.result
+    (λ made_graph exact. record {
+      s = remade new literals;
+      made = made;
+      compact = subst₂ (λ (k : ℕ) (ls : List Lit). IsHashedAgain k new ls made_graph.rows made_graph.observed) (c.in_ok-literals.ensures.sources ∙ c.in_ok-hashed.ensures.sources) is exact;
+    }) c.finish.ensures.exact

@@ -1,9 +1,12 @@
-use Rattle.std.proofs.Common.{◌<◌, length, sym, subst}
+use Rattle.std.proofs.Common.{◌≡◌, ℕ, ◌<◌, [], ◌∷◌, ◌++◌, length, sym, ap, ap₂, ◌∙◌, subst}
 use Rattle.syn_rows.specs.declared.Lit.{Lit}
-use Rattle.syn_rows.specs.Rows.{node_of}
+use Rattle.syn_rows.specs.declared.Row.TheVariants.{And}
+use Rattle.syn_rows.specs.Rows.{node_of, row_at}
 use Rattle.syn_hashed.specs.Growing.{IsAnd}
+use Rattle.syn_hashed.specs.Joined.{joined_lit, joined_rows}
+use Rattle.syn_apply.specs.Applied.{remade}
 use Rattle.syn_apply.specs.Remaking.{moved}
-use Rattle.syn_apply.proofs.Standing.{both_ok, fan_ins_there, joined_stands}
+use Rattle.syn_apply.proofs.Standing.{both_ok, fan_ins_there, joined_stands, on_and_if}
 use Rattle.syn_apply.proofs.batch.joined.Goals as goal
 
 pub and-requires-clause-first : goal.and-requires-clause-first
@@ -28,3 +31,16 @@ returns-clause-stands c =
     (subst (λ (x : Lit). IsAnd old.rows.items x (moved c.args.literals.now c.args.b) new.rows.items l) c.moved-first.ensures
     (subst (λ (y : Lit). IsAnd old.rows.items c.moved-first.result y new.rows.items l) c.moved-second.ensures value)))
     c.and.ensures.there c.and.ensures.value
+
+pub returns-clause-again : goal.returns-clause-again
+returns-clause-again c =
+    let old = c.args.hashed.now.rows.items in
+    let literals = c.args.literals.now in
+    on_and_if c.and.result
+    (λ l rows literal. record {
+      a = c.args.a;
+      b = c.args.b;
+      is = subst (λ (n : ℕ). row_at c.args.rows.now n ≡ And c.args.a c.args.b) c.requires.node c.requires.row;
+      made = ap₂ remade (rows ∙ ap₂ (joined_rows old) c.moved-first.ensures c.moved-second.ensures)
+          (ap (λ (x : Lit). literals ++ x ∷ []) (literal ∙ ap₂ (joined_lit old) c.moved-first.ensures c.moved-second.ensures));
+    }) c.and.ensures.rows c.and.ensures.literal

@@ -1,11 +1,16 @@
-use Rattle.std.proofs.Common.{◌≡◌, ℕ, ◌+◌, ◌*◌, IfOk, sym, ap, ◌∙◌, subst, arith}
+use Rattle.std.proofs.Common.{◌≡◌, ℕ, ◌+◌, ◌*◌, IfOk, List, false, [], ◌∷◌, ◌++◌, sym, ap, ap₂, ◌∙◌, subst, arith, inl, inr}
+use Rattle.syn_rows.specs.declared.Lit.{Lit}
+use Rattle.syn_rows.specs.declared.Row.{Row}
 use Rattle.syn_rows.specs.Joining.{lit_of}
+use Rattle.syn_rows.specs.Reach.{is_and}
+use Rattle.syn_rows.specs.Rows.{row_at}
 use Rattle.syn_rows.proofs.JoinLaws.{same_lit}
 use Rattle.syn_gain.specs.declared.proposals.Proposal.{Proposal}
 use Rattle.syn_gain.specs.Proposals.{replacement}
+use Rattle.syn_apply.specs.Applied.{remade}
 use Rattle.syn_apply.specs.Remaking.{Stands}
 use Rattle.syn_apply.specs.Sound.{IsSoundBy}
-use Rattle.syn_apply.proofs.Standing.{open_stands}
+use Rattle.syn_apply.proofs.Standing.{IfOk-map, on_and_if, open_stands}
 use Rattle.syn_apply.proofs.batch.made.Goals as goal
 
 pub returns-in-None-clause-stands : goal.returns-in-None-clause-stands
@@ -29,3 +34,28 @@ returns-then-here-clause-stands c =
     let p = c.index-proposals-place.result in
     let root : p.root ≡ c.args.node = ap (λ (q : Proposal). q.root) c.index-proposals-place.is ∙ c.is_taken-here.ensures.root c.if-here.true p in
     subst (λ (k : ℕ). IfOk c.planned.result (Stands c.args.rows.now c.planned.new.hashed.rows.items k)) root c.planned.ensures.stands
+
+pub returns-in-None-clause-next : goal.returns-in-None-clause-next
+returns-in-None-clause-next c =
+    let literals = c.args.literals.now in
+    inl (record {
+      no_and = subst (λ (n : ℕ). is_and (row_at c.args.rows.now n) ≡ false) c.requires.node c.in-None.ensures.none;
+      made = ap (λ (l : Lit). remade c.args.hashed.now.rows.items (literals ++ l ∷ [])) (same_lit c.of.result (lit_of c.args.node) (omega (arith, c.of.ensures)) ∙ ap lit_of c.requires.node);
+    })
+
+pub returns-then-here-clause-next : goal.returns-then-here-clause-next
+returns-then-here-clause-next c =
+    let p = c.index-proposals-place.result in
+    let literals = c.args.literals.now in
+    on_and_if c.planned.result
+    (λ l rows literal. inr (inr (record {
+      place = c.args.place;
+      there = c.is_taken-here.ensures.there c.if-here.true;
+      p = p;
+      at = sym c.index-proposals-place.is;
+      root = ap (λ (q : Proposal). q.root) c.index-proposals-place.is ∙ c.is_taken-here.ensures.root c.if-here.true p ∙ c.requires.node;
+      made = ap₂ (λ (rs : List Row) (x : Lit). remade rs (literals ++ x ∷ [])) rows literal;
+    }))) c.planned.ensures.rows c.planned.ensures.literal
+
+pub returns-else-here-clause-next : goal.returns-else-here-clause-next
+returns-else-here-clause-next c = IfOk-map c.joined.result (λ l h. inr (inl h)) c.joined.ensures.again

@@ -5,7 +5,9 @@ use Rattle.syn_hashed.specs.Growing.{value_by}
 use Rattle.syn_hashed.proofs.Rising.{literals_keep}
 use Rattle.syn_plan.specs.Plans.{plan_truth}
 use Rattle.syn_gain.specs.declared.proposals.Proposal.{Proposal}
-use Rattle.syn_apply.proofs.Standing.{OnOk-of, both_ok, grown_extends, leaves_by, leaves_there, length_each, planned_stands}
+use Rattle.syn_placing.specs.Placing.{literal_for, placed_gates}
+use Rattle.syn_apply.specs.Applied.{leaves_by}
+use Rattle.syn_apply.proofs.Standing.{IfOk-map, OnOk-map, OnOk-of, both_ok, grown_extends, leaves_there, length_each, planned_stands}
 use Rattle.syn_apply.proofs.batch.planned.Goals as goal
 
 pub place_plan-requires-clause-count : goal.place_plan-requires-clause-count
@@ -38,3 +40,19 @@ returns-then-len-lt-NODE_LIMIT-clause-stands c =
     (λ l there value.
     planned_stands c.args.hashed.now.source_count rows old c.place_plan.new.hashed.rows.items literals p l c.requires.hashed c.requires.standing c.requires.node c.requires.sound there
     (λ given at_0. value given at_0 ∙ ap (λ (ls : List Lit). plan_truth p.plan (map (value_by given old) ls)) leaves)) c.place_plan.ensures.there c.place_plan.ensures.value
+
+pub returns-then-len-lt-NODE_LIMIT-clause-rows : goal.returns-then-len-lt-NODE_LIMIT-clause-rows
+returns-then-len-lt-NODE_LIMIT-clause-rows c =
+    let p : Proposal = c.args.proposal.now in
+    let old = c.args.hashed.now.rows.items in
+    let leaves : c.as_slice-then-len-lt-NODE_LIMIT.result.now ≡ leaves_by c.args.literals.now p.plan.leaves p.leaves.items =
+    c.as_slice-then-len-lt-NODE_LIMIT.ensures.value ∙ c.leaf_literals-leaves.ensures ∙ ap (leaves_by c.args.literals.now p.plan.leaves) c.as_slice.ensures.value in
+    OnOk-map c.place_plan.result (λ h. h ∙ ap (λ (ls : List Lit). (placed_gates old ls p.plan.gates.items).rows) leaves) c.place_plan.ensures.rows
+
+pub returns-then-len-lt-NODE_LIMIT-clause-literal : goal.returns-then-len-lt-NODE_LIMIT-clause-literal
+returns-then-len-lt-NODE_LIMIT-clause-literal c =
+    let p : Proposal = c.args.proposal.now in
+    let old = c.args.hashed.now.rows.items in
+    let leaves : c.as_slice-then-len-lt-NODE_LIMIT.result.now ≡ leaves_by c.args.literals.now p.plan.leaves p.leaves.items =
+    c.as_slice-then-len-lt-NODE_LIMIT.ensures.value ∙ c.leaf_literals-leaves.ensures ∙ ap (leaves_by c.args.literals.now p.plan.leaves) c.as_slice.ensures.value in
+    IfOk-map c.place_plan.result (λ l h. h ∙ ap (λ (ls : List Lit). literal_for (placed_gates old ls p.plan.gates.items).literals p.plan.out) leaves) c.place_plan.ensures.literal

@@ -1,10 +1,11 @@
-use Rattle.std.proofs.Common.{arith, vec_len, ◌≡◌, ◌+◌, ℕ, List, length, map, Option, sym, ap, ◌∙◌, subst}
+use Rattle.std.proofs.Common.{arith, vec_len, ◌≡◌, ◌+◌, ℕ, List, length, map, Option, Some, sym, ap, ◌∙◌, subst}
 use Rattle.std.proofs.lemmas.List.{take_at, length-replicate}
 use Rattle.syn_rows.specs.declared.Lit.{Lit}
 use Rattle.syn_rows.specs.declared.Row.TheVariants.{Source}
 use Rattle.syn_hashed.specs.Visiting.{FirstsOf, literal_of}
 use Rattle.syn_hashed.specs.Renumbering.{IsRenumbering}
 use Rattle.syn_hashed.proofs.Compacted.{hashed_can_compact}
+use Rattle.syn_hashed.proofs.HashedAgain.{renumbered_again}
 use Rattle.syn_hashed.proofs.Renumbered.{renumbered, renumbering_begins}
 use Rattle.syn_hashed.proofs.Rising.{hashed_new}
 use Rattle.syn_hashed.proofs.visit_order.renumbered.Goals as goal
@@ -29,5 +30,8 @@ returns c =
     let stands : IsRenumbering count rows c.visit_all.new.literals new.rows.items = subst (λ (k : ℕ). IsRenumbering k rows c.visit_all.new.literals new.rows.items) c.in_ok-visit_all.ensures.sources c.in_ok-visit_all.ensures.stands in
     let size : length c.visit_all.new.literals ≡ vec_len c.in_ok-literals.literals = omega (arith, stands.visit.all, c.in_ok-literals.ensures.all, ap length c.as_mut_slice.ensures.value, c.as_mut_slice.ensures.len) in
     let same : c.as_slice.result.now ≡ c.visit_all.new.literals = c.as_slice.ensures.value ∙ take_at c.visit_all.new.literals _ (vec_len c.in_ok-literals.literals) size in
-    renumbered count rows c.visit_all.new.literals new.rows.items stands lits c.in_ok-observed.observed.items (hashed_can_compact count rows lits c.requires.hashed c.requires.within) c.in_ok-visit_all.ensures.reached
-    (c.in_ok-observed.ensures ∙ ap (λ (l : List (Option Lit)). map (literal_of l) lits) same)
+    let named : map (λ l. Some l) c.in_ok-observed.observed.items ≡ map (literal_of c.visit_all.new.literals) lits = c.in_ok-observed.ensures ∙ ap (λ (l : List (Option Lit)). map (literal_of l) lits) same in
+    record {
+      compacted = renumbered count rows c.visit_all.new.literals new.rows.items stands lits c.in_ok-observed.observed.items (hashed_can_compact count rows lits c.requires.hashed c.requires.within) c.in_ok-visit_all.ensures.reached named;
+      exact = renumbered_again count rows c.visit_all.new.literals new.rows.items lits c.in_ok-observed.observed.items stands named;
+    }

@@ -21,5 +21,7 @@ pub returns-clause-gain : goal.returns-clause-gain
 returns-clause-gain g c strict = c.in_ok-shared.ensures.swept.gains (is_false c.args.tour.now.zero_gain strict)
 
 pub returns-clause-round : goal.returns-clause-round
-returns-clause-round g c =
-    round_report c.args.tour.now.zero_gain c.in_ok-table.table c.in_ok-table.seat c.in_ok-shared.swept.seat c.in_ok-shared.swept.report c.args.graph.now c.in_ok-table.ensures.graph (ap (λ (k : Known). k.core.changes) c.in_ok-table.ensures.known) c.in_ok-shared.ensures.swept
+returns-clause-round g c = record {
+  workers = round_report c.args.tour.now.zero_gain c.in_ok-table.table c.in_ok-table.seat c.in_ok-shared.swept.seat c.in_ok-shared.swept.report c.args.graph.now c.in_ok-table.ensures.graph (ap (λ (k : Known). k.core.changes) c.in_ok-table.ensures.known) c.in_ok-shared.ensures.swept;
+  left = c.in_ok-next.ensures;
+}

@@ -2,14 +2,14 @@ use Rattle.std.proofs.Common.{◌≤◌, not}
 use Rattle.syn_proposals.specs.Following.{Follows}
 use Rattle.syn_proposals.specs.Gains.{IsGain}
 use Rattle.syn_proposals.proofs.Maps.{IfSome-at}
-use Rattle.syn_pool.specs.Working.{IsRoundReport}
+use Rattle.syn_pool.specs.Working.{IsRound}
 use Rattle.syn_pool.proofs.Turning.{one_round}
 use Rattle.syn_pool.proofs.steps.one_step.Goals as goal
 
 pub goes_on-requires-clause-report : goal.goes_on-requires-clause-report
 goes_on-requires-clause-report g c κs within =
     one_round c.args.graph.now c.in-Some.improved.graph c.args.course.now.zero_gain c.in-Some.improved.report
-    (IfSome-at (λ m. IsRoundReport c.args.graph.now c.args.course.now.zero_gain m.report) c.in_ok-improved.field-0 c.in-Some.improved c.in-Some.is c.in_ok-improved.ensures.round)
+    (IfSome-at (λ m. IsRound c.args.graph.now c.args.course.now.zero_gain m.report m.graph) c.in_ok-improved.field-0 c.in-Some.improved c.in-Some.is c.in_ok-improved.ensures.round)
     (IfSome-at (λ m. 1 ≤ m.report.done) c.in_ok-improved.field-0 c.in-Some.improved c.in-Some.is c.in_ok-improved.ensures.done)
     (IfSome-at (λ m. Follows c.args.graph.now m.report.gained m.graph) c.in_ok-improved.field-0 c.in-Some.improved c.in-Some.is c.in_ok-improved.ensures.follows)
 

@@ -1,5 +1,7 @@
 use Rattle.std.proofs.Common.{◌≡◌, sym, ap, ◌∙◌, subst}
 use Rattle.syn_gain.specs.Proposals.{replacement_of}
+use Rattle.syn_gain.specs.Replacements.{Replacement}
+use Rattle.syn_apply.specs.Applied.{IsAppliedAlone}
 use Rattle.syn_levels.specs.Levels.{keeps_level}
 use Rattle.syn_proposals.specs.Closing.{SavesSome}
 use Rattle.syn_proposals.proofs.Borrowed.{borrowed_is}
@@ -19,3 +21,9 @@ returns-then-has_room-clause-levels c =
     let graph = c.args.graph.now in
     let same = borrowed_is c.borrow.result c.args.proposal.now c.borrow.ensures.root c.borrow.ensures.leaves c.borrow.ensures.plan in
     IfOk-map c.applied.result (λ g lower keeps. lower (ap (keeps_level graph.rows) same ∙ keeps)) c.applied.ensures.levels
+
+pub returns-then-has_room-clause-alone : goal.returns-then-has_room-clause-alone
+returns-then-has_room-clause-alone c =
+    let graph = c.args.graph.now in
+    let same = borrowed_is c.borrow.result c.args.proposal.now c.borrow.ensures.root c.borrow.ensures.leaves c.borrow.ensures.plan in
+    IfOk-map c.applied.result (λ g alone. subst (λ (r : Replacement). IsAppliedAlone graph r g) same alone) c.applied.ensures.alone

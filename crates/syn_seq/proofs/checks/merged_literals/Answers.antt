@@ -44,7 +44,7 @@ returns-clause-alike c =
     let lits = c.as_slice-6.ensures.value ∙ lits_are_merged g c.args.fates.now c.as_slice-4.result.now _ c.as_slice-3.result.now c.as_slice-4.ensures (c.as_slice-3.ensures.value ∙ c.in_ok-places.ensures.places) c.in_ok-lits.ensures in
     let found : List Lit = c.as_slice-7.result.now in
     let many : length found ≡ length (observed (frame_in g.frame)) =
-    ap length c.as_slice-7.ensures.value ∙ c.in_ok-compacted.ensures.same_count ∙ ap length c.as_slice-6.ensures.value ∙ ap length c.in_ok-lits.ensures ∙ length-map c.as_slice-4.result.now _ ∙ ap length c.as_slice-4.ensures ∙ g.graph.count in
+    ap length c.as_slice-7.ensures.value ∙ c.in_ok-compacted.ensures.compacted.same_count ∙ ap length c.as_slice-6.ensures.value ∙ ap length c.in_ok-lits.ensures ∙ length-map c.as_slice-4.result.now _ ∙ ap length c.as_slice-4.ensures ∙ g.graph.count in
     merged_alike c.network_of_graph.ensures g c.args.fates.now c.requires.count c.requires.targets c.in_ok-compacted.compacted.rows.items found
-    (compacted_with g c.args.fates.now c.as_slice-5.result.now c.as_slice-6.result.now c.in_ok-compacted.compacted.rows.items found rows lits (subst (λ (ls : List Lit). IsCompacted g.source_count c.as_slice-5.result.now c.as_slice-6.result.now c.in_ok-compacted.compacted.rows.items ls) (sym c.as_slice-7.ensures.value) c.in_ok-compacted.ensures)) many
+    (compacted_with g c.args.fates.now c.as_slice-5.result.now c.as_slice-6.result.now c.in_ok-compacted.compacted.rows.items found rows lits (subst (λ (ls : List Lit). IsCompacted g.source_count c.as_slice-5.result.now c.as_slice-6.result.now c.in_ok-compacted.compacted.rows.items ls) (sym c.as_slice-7.ensures.value) c.in_ok-compacted.ensures.compacted)) many
     c.in_ok-found.found.items (c.in_ok-found.ensures.lits (lit_by g found) (lits_by g found many))

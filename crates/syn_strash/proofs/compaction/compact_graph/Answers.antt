@@ -15,16 +15,16 @@ with_rows-requires-clause-graph c =
     let frame = frame_in c.args.graph.frame in
     let kept = c.in-Ok.kept in
     let compacted : IsCompacted (length (sources frame)) c.args.rows.now c.args.lits.now kept.rows.items kept.observed.items =
-    subst (λ (k : ℕ). IsCompacted k c.args.rows.now c.args.lits.now kept.rows.items kept.observed.items) c.args.graph.source_count_is c.in-Ok.ensures in
+    subst (λ (k : ℕ). IsCompacted k c.args.rows.now c.args.lits.now kept.rows.items kept.observed.items) c.args.graph.source_count_is c.in-Ok.ensures.compacted in
     compacted_graph frame c.args.rows.now kept.rows.items c.args.lits.now kept.observed.items c.requires.count c.requires.own compacted
 
 pub returns-in-Ok-clause-values : goal.returns-in-Ok-clause-values
 returns-in-Ok-clause-values c =
-    subst₂ (λ (rs : List Row) (ls : List Lit). SameValues c.args.graph.source_count c.args.rows.now c.args.lits.now rs ls) (sym c.with_rows.ensures.rows) (sym c.with_rows.ensures.observed) c.in-Ok.ensures.same_values
+    subst₂ (λ (rs : List Row) (ls : List Lit). SameValues c.args.graph.source_count c.args.rows.now c.args.lits.now rs ls) (sym c.with_rows.ensures.rows) (sym c.with_rows.ensures.observed) c.in-Ok.ensures.compacted.same_values
 
 pub returns-in-Ok-clause-fewer : goal.returns-in-Ok-clause-fewer
-returns-in-Ok-clause-fewer c = λ k counted. omega (arith, ap length c.with_rows.ensures.rows, c.in-Ok.ensures.ands k counted)
+returns-in-Ok-clause-fewer c = λ k counted. omega (arith, ap length c.with_rows.ensures.rows, c.in-Ok.ensures.compacted.ands k counted)
 
 pub returns-in-Ok-clause-levels : goal.returns-in-Ok-clause-levels
 returns-in-Ok-clause-levels c = λ level h i lt.
-    subst₂ (λ (rs : List Row) (ls : List Lit). level_by rs (lit_at ls i) ≤ level (node_of (lit_at c.args.lits.now i))) (sym c.with_rows.ensures.rows) (sym c.with_rows.ensures.observed) (c.in-Ok.ensures.levels level h i lt)
+    subst₂ (λ (rs : List Row) (ls : List Lit). level_by rs (lit_at ls i) ≤ level (node_of (lit_at c.args.lits.now i))) (sym c.with_rows.ensures.rows) (sym c.with_rows.ensures.observed) (c.in-Ok.ensures.compacted.levels level h i lt)

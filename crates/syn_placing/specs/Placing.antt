@@ -1,0 +1,36 @@
+-- A plan placed in rows: each of its gates becomes the AND of the literals of its two.
+use Rattle.std.specs.Prelude.{◌%◌, ◌==◌, if◌then◌else◌, List, [], ◌∷◌, ◌++◌, slice_index_or}
+use Rattle.syn_rows.specs.declared.Lit.{Lit}
+use Rattle.syn_rows.specs.declared.Row.{Row}
+use Rattle.syn_rows.specs.Joining.{constant, complement}
+use Rattle.syn_hashed.specs.Joined.{joined_lit, joined_rows}
+use Rattle.syn_plan.specs.declared.PLit.{PLit}
+use Rattle.syn_plan.specs.Gates.{index_of}
+
+-- the literal that a plan's literal becomes, where its indexes became these
+abbrev pub literal_for : List Lit → PLit → Lit
+literal_for literals l =
+    if l.0 % 2 == 0
+    then slice_index_or literals (index_of l) constant
+    else complement (slice_index_or literals (index_of l) constant)
+
+-- rows, and the literals that a plan's indexes became in them
+pub record PlacedGates : Type 0 where
+  pub rows : List Row
+  pub literals : List Lit
+
+-- one gate more
+abbrev pub with_gate : PlacedGates → PLit × PLit → PlacedGates
+with_gate s gate = record {
+  rows = joined_rows s.rows (literal_for s.literals gate.0) (literal_for s.literals gate.1);
+  literals = s.literals ++ joined_lit s.rows (literal_for s.literals gate.0) (literal_for s.literals gate.1) ∷ [];
+}
+
+-- the gates of a plan in order
+abbrev pub with_gates : PlacedGates → List (PLit × PLit) → PlacedGates
+with_gates s [] = s
+with_gates s (gate ∷ gates) = with_gates (with_gate s gate) gates
+
+-- the rows after a plan with these gates over these literals of its leaves, and what its indexes became
+abbrev pub placed_gates : List Row → List Lit → List (PLit × PLit) → PlacedGates
+placed_gates rows leaves gates = with_gates (record { rows = rows; literals = constant ∷ leaves }) gates
