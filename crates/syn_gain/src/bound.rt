@@ -15,7 +15,7 @@ ghost use Rattle.syn_gain.specs.Uses.{IsUsesOf};
 ghost use Rattle.std.specs.List.Sorted.{IsNonDecreasing};
 ghost use Rattle.syn_rows.specs.Nodes.{has_node};
 ghost use Rattle.syn_fanout_free.specs.Freed.{IsFreedByCount};
-ghost use Rattle.syn_fanout_free.specs.Freeing.{open_to};
+ghost use Rattle.syn_fanout_free.specs.Freeing.{AreFreed, open_to};
 
 use crate::new_rows::{adds_fewer_anywhere, is_small, place_into};
 use crate::{Candidate, PlacedPlan, Uses};
@@ -68,19 +68,21 @@ pub fn mffc_size(
     )
 }
 
-/// The rows that go with that of an AND where these nodes stay. The only error is want of memory, which a small cone doesn't
-/// take.
+/// The rows that go with that of an AND where these nodes stay; once more than `limit` ANDs go, the rest isn't looked for.
+/// The only error is want of memory, which a small cone doesn't take.
 pub fn mffc(
     alloc: Global,
     graph: &Graph,
     uses: &Uses,
     root: u32,
     spared: &[u32],
+    limit: u32,
 ) -> Result<Mffc, AllocError>
     requires uses { IsUsesOf uses.now graph.now }
     requires root { is_and (row_at graph.now.rows root) ≡ true }
     requires rises { IsNonDecreasing spared.now }
-    ensures { IfOk result (λ f. IsFreedByCount graph.now.rows (count_in uses.now.counts.items) root (open_to graph.now.rows root spared.now) (λ m. has_node f.nodes.items m)) }
+    ensures gone { IfOk result (λ f. AreFreed graph.now.rows (count_in uses.now.counts.items) root (open_to graph.now.rows root spared.now) f.nodes.items) }
+    ensures all { IfOk result (λ f. f.ands ≤ limit → IsFreedByCount graph.now.rows (count_in uses.now.counts.items) root (open_to graph.now.rows root spared.now) (λ m. has_node f.nodes.items m)) }
 {
     freed(
         alloc,
@@ -88,7 +90,7 @@ pub fn mffc(
         uses.counts.as_slice(),
         root,
         spared,
-        u32::MAX,
+        limit,
     )
 }
 

@@ -14,6 +14,9 @@ use syn_gain::{NewRows, Proposal, Uses, mffc, place};
 use syn_graph::Graph;
 use syn_rows::{Lit, Row, no_marks};
 
+// Of a cone that goes no more ANDs than so many are looked for: it may be as deep as the graph.
+const MAX_GONE: u32 = 256;
+
 // The nodes whose rows go with the roots of the chosen proposals, and those that stay: the roots, and what their new rows name.
 #[derive(Drop)]
 struct Chosen {
@@ -45,10 +48,10 @@ impl Chosen {
         })
     }
 
-    // Takes a proposal with whose root these nodes go, and whose new rows name those, unless it meets one that was taken.
+    // Takes a proposal for a root that stays, with whose row these nodes go, and whose new rows name those, unless it meets one
+    // that was taken.
     fn take(&mut self, root: u32, goes: &[u32], names: &[u32]) -> bool {
-        if any_marked(self.goes.as_slice(), &[root])
-            || any_marked(self.goes.as_slice(), names)
+        if any_marked(self.goes.as_slice(), names)
             || any_marked(self.goes.as_slice(), goes)
             || any_marked(self.stays.as_slice(), goes)
         {
@@ -103,9 +106,19 @@ fn choose(
     requires uses { IsUsesOf uses.now graph.now }
     requires root { is_and (row_at graph.now.rows proposal.now.root) ≡ true }
 {
+    if any_marked(chosen.goes.as_slice(), &[proposal.root]) {
+        return Ok(false);
+    }
     let new = place(alloc, graph, &uses.pairs, proposal.borrow())?;
     let names = names_of(alloc, graph.rows.as_slice().len(), &new)?;
-    let gone = mffc(alloc, graph, uses, proposal.root, names.as_slice())?;
+    let gone = mffc(
+        alloc,
+        graph,
+        uses,
+        proposal.root,
+        names.as_slice(),
+        MAX_GONE,
+    )?;
     Ok(chosen.take(proposal.root, gone.nodes.as_slice(), names.as_slice()))
 }
 
