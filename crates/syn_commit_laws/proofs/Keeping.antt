@@ -30,7 +30,8 @@ use Rattle.syn_decide.specs.Functions.{has_none, leaf_value, now_value, root_val
 use Rattle.syn_decide.specs.Hints.{first_new, is_last_new, literal_hit, new_root_row, out_literal, placed_by_hits, rows_needed}
 use Rattle.syn_decide.specs.Fitting.{HitsAreInside, IsFitting, IsInside}
 use Rattle.syn_commit_laws.specs.Redefining.{AreStored, IsInOrder, MetLeavesAreFew, RedefinesKeepValue, met_leaves, row_made}
-use Rattle.syn_commit_laws.proofs.Valued.{LitHas, choice_free, chosen_value}
+use Rattle.syn_decide.proofs.Choices.{choice_free}
+use Rattle.syn_commit_laws.proofs.Valued.{LitHas, chosen_value}
 use Rattle.syn_commit_laws.proofs.Placed.{AreRight, gates_right, lit_plain, output_right}
 use Rattle.syn_commit_laws.proofs.Chosen.{known_among, over_lacks, over_meets, root_moves, root_there, something, used_met}
 use Rattle.syn_commit_laws.proofs.Stored.{Has, IsRow, hit_is, more, new_is, old_has, one, root_is, zero_is}

@@ -1,9 +1,9 @@
 -- Values of nodes, literals and rows by known rows, whatever the number of steps.
-use Rattle.std.proofs.Common.{◌≡◌, ◌≢◌, ℕ, zero, suc, ◌+◌, ◌≤◌, ◌==◌, ◌&&◌, ◌||◌, nat_lt, Bool, true, false, if◌then◌else◌, List, [], ◌∷◌, ◌++◌, map, Option, Some, None, refl, sym, ap, ap₂, ◌∙◌, subst, arith}
+use Rattle.std.proofs.Common.{◌≡◌, ◌≢◌, ℕ, suc, ◌+◌, ◌≤◌, ◌==◌, ◌&&◌, ◌||◌, nat_lt, Bool, true, false, if◌then◌else◌, List, [], ◌∷◌, ◌++◌, map, Option, Some, None, refl, sym, ap, ap₂, ◌∙◌, subst, arith}
 use Rattle.std.specs.List.{filter}
 use Rattle.std.proofs.lemmas.Bool.{cond_both, ne_eqb}
 use Rattle.syn_rows.specs.declared.Row.{Row}
-use Rattle.syn_rows.specs.declared.Row.TheVariants.{Free, Source, And, Alias}
+use Rattle.syn_rows.specs.declared.Row.TheVariants.{And, Alias}
 use Rattle.syn_rows.specs.declared.Lit.{Lit}
 use Rattle.syn_rows.specs.Rows.{node_of}
 use Rattle.syn_rows.specs.Values.{lit_value}
@@ -12,7 +12,7 @@ use Rattle.syn_rows.specs.Nodes.{has_node}
 use Rattle.syn_rows.proofs.JoinLaws.{and_turned}
 use Rattle.syn_rows.proofs.Nodes.{same_node}
 use Rattle.syn_core_laws.specs.SameValue.{HasValue, both, known_value, turned_by, value_by, value_of_row}
-use Rattle.syn_decide.specs.Functions.{has_none, leaf_value}
+use Rattle.syn_decide.specs.Functions.{leaf_value}
 use Rattle.syn_decide.proofs.Steps.{more_steps, of_each, row_moves}
 
 -- the choice of a value for a node of a list
@@ -42,41 +42,6 @@ has_filtered p (m ∷ ns) n = go (p m) refl (m == n) refl (has_filtered p ns n)
         none true = refl
         none false = refl
     go false e false f next = next
-
--- whether a literal, a pair and a row have a value hangs on whether their nodes have one
-turned_none : (l : Lit) (x : Option Bool) → has_none (turned_by l x) ≡ has_none x
-turned_none l None = refl
-turned_none l (Some b) = refl
-
-both_none : (x y : Option Bool) → has_none (both x y) ≡ (has_none x || has_none y)
-both_none None y = refl
-both_none (Some a) None = refl
-both_none (Some a) (Some b) = refl
-
-row_none : (V W : ℕ → Option Bool) → ((m : ℕ) → has_none (V m) ≡ has_none (W m)) → (r : Row) → has_none (value_of_row V r) ≡ has_none (value_of_row W r)
-row_none V W h Free = refl
-row_none V W h Source = refl
-row_none V W h (And a b) =
-    both_none (turned_by a (V (node_of a))) (turned_by b (V (node_of b)))
-    ∙ ap₂ (λ p q. p || q) (turned_none a (V (node_of a)) ∙ h (node_of a) ∙ sym (turned_none a (W (node_of a)))) (turned_none b (V (node_of b)) ∙ h (node_of b) ∙ sym (turned_none b (W (node_of b))))
-    ∙ sym (both_none (turned_by a (W (node_of a))) (turned_by b (W (node_of b))))
-row_none V W h (Alias a) = turned_none a (V (node_of a)) ∙ h (node_of a) ∙ sym (turned_none a (W (node_of a)))
-
-known_none : (V W : ℕ → Option Bool) → ((m : ℕ) → has_none (V m) ≡ has_none (W m)) → (o : Option Row) → has_none (known_value V o) ≡ has_none (known_value W o)
-known_none V W h None = refl
-known_none V W h (Some r) = row_none V W h r
-
-open_none : (p q x y : Bool) (v w : Option Bool) → has_none v ≡ has_none w → has_none (if p then Some x else (if q then Some false else v)) ≡ has_none (if p then Some y else (if q then Some false else w))
-open_none true q x y v w h = refl
-open_none false true x y v w h = refl
-open_none false false x y v w h = h
-
--- whether a node has a value doesn't hang on the choice
-pub choice_free : (known : ℕ → Option Row) (over : List ℕ) (c d : ℕ → Bool) (k n : ℕ) → has_none (value_by known over c k n) ≡ has_none (value_by known over d k n)
-choice_free known over c d zero n = open_none (has_node over n) (n == 0) (c n) (d n) None None refl
-choice_free known over c d (suc k) n =
-    open_none (has_node over n) (n == 0) (c n) (d n) (known_value (value_by known over c k) (known n)) (known_value (value_by known over d k) (known n))
-    (known_none (value_by known over c k) (value_by known over d k) (choice_free known over c d k) (known n))
 
 -- the literal has this value, where H tells which nodes have which
 abbrev pub LitHas : (ℕ → Bool → Type 0) → Lit → Bool → Type 0

@@ -10,6 +10,7 @@ pub mod Hitting
 pub mod Counting
 pub mod LeafTables
 pub mod Steps
+pub mod Choices
 pub mod Sweeping
 pub mod Fitting
 pub mod Enough

@@ -1,4 +1,4 @@
-use Rattle.std.proofs.Common.{◌≡◌, Bool, true, false, cond, length, take, get_or, sym, ap, ◌∙◌}
+use Rattle.std.proofs.Common.{cond, take, sym, ap, ◌∙◌}
 use Rattle.syn_truth.specs.Words.{value_in}
 use Rattle.syn_truth.proofs.Halves.{by_word}
 use Rattle.syn_decide.proofs.words.leaf_word.Goals as goal

@@ -1,4 +1,4 @@
-use Rattle.std.proofs.Common.{◌≡◌, ◌%◌, ◌==◌, Bool, false, not, if◌then◌else◌, Some, take, rules, sym, ap, ◌∙◌, arith}
+use Rattle.std.proofs.Common.{◌≡◌, ◌%◌, ◌==◌, false, not, if◌then◌else◌, Some, take, rules, sym, ap, ◌∙◌, arith}
 use Rattle.syn_truth.specs.Words.{value_in}
 use Rattle.syn_truth.proofs.Halves.{first_fits, not_words}
 use Rattle.syn_core_laws.specs.SameValue.{turned_by}
