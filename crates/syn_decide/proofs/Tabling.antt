@@ -73,8 +73,8 @@ padded_minterm (suc i) (x ∷ xs) k = ap (λ m. digit x + 2 * m) (padded_minterm
 pub none_tells : (vars : ℕ) (c : Cone) (steps n : ℕ) → IsNodeWord c steps n None → IsNodeTable vars c.leaves.now c.inner.now steps n None
 none_tells vars c steps n node = record {
   values = λ xs e. is_none (value_after c.inner.now c.leaves.now xs steps n)
-    (choice_free (row_among c.inner.now) c.leaves.now (leaf_value c.leaves.now xs) (leaf_value c.leaves.now ys) steps n
-    ∙ none_is_none (value_after c.inner.now c.leaves.now ys steps n) (node.values ys refl refl));
+      (choice_free (row_among c.inner.now) c.leaves.now (leaf_value c.leaves.now xs) (leaf_value c.leaves.now ys) steps n
+      ∙ none_is_none (value_after c.inner.now c.leaves.now ys steps n) (node.values ys refl refl));
 }
   where
     ys : List Bool
@@ -85,10 +85,10 @@ pub low_tells : (vars : ℕ) (c : Cone) (steps n low high : ℕ) (f : Truth) →
     → AtEach vars (λ xs. value_of f xs ≡ value_in (cond (get_or xs 7 false) high low) (take 7 xs)) → IsNodeWord c steps n (Some low) → IsNodeTable vars c.leaves.now c.inner.now steps n (Some f)
 low_tells vars c steps n low high f few within last is node = record {
   values = λ xs e.
-    let chosen : get_or xs 7 false ≡ false = get_or_past xs 7 false (omega (arith, e)) in
-    let none : get_or (xs ++ replicate (8 - vars) false) 7 false ≡ c.last = padded_at xs (8 - vars) 7 ∙ chosen ∙ sym last in
-    let count : length (xs ++ replicate (8 - vars) false) ≡ 8 = omega (arith, length-append xs (replicate (8 - vars) false), length-replicate (8 - vars) false, e) in
-    ap Some (is xs e ∙ ap (λ b. value_in (cond b high low) (take 7 xs)) chosen ∙ sym (ap (λ m. nat_eq (bit_at low m) 1) (padded_minterm 7 xs (8 - vars))))
-    ∙ node.values (xs ++ replicate (8 - vars) false) count none
-    ∙ value_more c.inner.now c.leaves.now xs (replicate (8 - vars) false) steps n (omega (arith, e));
+      let chosen : get_or xs 7 false ≡ false = get_or_past xs 7 false (omega (arith, e)) in
+      let none : get_or (xs ++ replicate (8 - vars) false) 7 false ≡ c.last = padded_at xs (8 - vars) 7 ∙ chosen ∙ sym last in
+      let count : length (xs ++ replicate (8 - vars) false) ≡ 8 = omega (arith, length-append xs (replicate (8 - vars) false), length-replicate (8 - vars) false, e) in
+      ap Some (is xs e ∙ ap (λ b. value_in (cond b high low) (take 7 xs)) chosen ∙ sym (ap (λ m. nat_eq (bit_at low m) 1) (padded_minterm 7 xs (8 - vars))))
+      ∙ node.values (xs ++ replicate (8 - vars) false) count none
+      ∙ value_more c.inner.now c.leaves.now xs (replicate (8 - vars) false) steps n (omega (arith, e));
 }

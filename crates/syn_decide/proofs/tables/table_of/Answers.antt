@@ -12,5 +12,5 @@ returns-clause-values c = λ xs e.
     by_word _ xs e
     ∙ and_words (take 7 xs) (first_fits xs) (get_or xs 7 false) c.args.low c.args.high c.constant-all.result.low c.constant-all.result.high
     ∙ ap (λ b. value_in (cond (get_or xs 7 false) c.args.high c.args.low) (take 7 xs) && b)
-      (sym (by_word c.constant-all.result xs (e ∙ sym c.constant-all.ensures.vars)) ∙ c.constant-all.ensures.values xs e)
+    (sym (by_word c.constant-all.result xs (e ∙ sym c.constant-all.ensures.vars)) ∙ c.constant-all.ensures.values xs e)
     ∙ and_true _

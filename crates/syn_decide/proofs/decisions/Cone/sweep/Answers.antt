@@ -14,7 +14,7 @@ loop-place-preserved c = record {
   fewer = omega (arith, c.make_word-made.ensures.fewer, c.loop-place.invariant.fewer);
   made = λ steps h. subst (λ k. IsMade c.args.self.now k c.make_word-made.new.words) (let same : steps + c.loop-place.made + c.make_word-made.result ≡ steps + (c.loop-place.made + c.make_word-made.result) = omega arith in same)
       (c.make_word-made.ensures.made (steps + c.loop-place.made) (c.loop-place.invariant.made steps h));
-  still = λ none. 
+  still = λ none.
       let no_more : c.make_word-made.result ≡ 0 = omega arith in
       let none_before : c.loop-place.made ≡ 0 = omega arith in
       subst (λ ws. IsStill c.args.self.now ws (c.loop-place.place - 1)) (sym (c.make_word-made.ensures.same no_more))
