@@ -24,7 +24,8 @@ use Rattle.syn_commit.specs.Giving.{IsAtRest}
 use Rattle.syn_core_laws.specs.declared.View.{View}
 use Rattle.syn_pool.specs.declared.workers.Worker.{Worker}
 use Rattle.syn_pool.specs.Reports.{HasTried, done_of, IsSum, all_answers, reported, told, with_answer, with_gain}
-use Rattle.syn_pool.specs.Working.{HasSwept, HasWorked, IsRoundReport}
+use Rattle.syn_pool.specs.Closing.{IsLeft}
+use Rattle.syn_pool.specs.Working.{HasSwept, HasWorked, IsRound, IsRoundReport}
 use Rattle.syn_pool.proofs.Sums.{all_append, reported_both, stored_dones, sum_both, sum_of_reported, tried_both}
 use Rattle.syn_decide.proofs.Enough.{gain_enough}
 
@@ -222,6 +223,11 @@ swept_none shared zero_gain was now report table rest is no_done no_gain = recor
 -- the report of a swept table is one of its graph
 pub round_report : (zero_gain : Bool) (shared : Shared) (first last : Seat) (report : Report) (was : Graph) → graph_of shared ≡ was → (view_of first).changes ≡ [] → HasSwept shared zero_gain first last report → IsRoundReport was zero_gain report
 round_report zero_gain shared first last report was graph fresh swept = record { shared = shared; graph = graph; first = first; last = last; fresh = fresh; swept = swept }
+
+-- with the graph that the last seat leaves
+pub round : (zero_gain : Bool) (shared : Shared) (first last : Seat) (report : Report) (was now : Graph) → graph_of shared ≡ was → (view_of first).changes ≡ [] → HasSwept shared zero_gain first last report
+    → IsLeft was (view_of last).difference now → IsRound was zero_gain report now
+round zero_gain shared first last report was now graph fresh swept left = record { workers = round_report zero_gain shared first last report was graph fresh swept; left = left }
 
 pub is_false : (b : Bool) → not b ≡ true → b ≡ false
 is_false true e = sym e

@@ -2,7 +2,7 @@ use Rattle.std.proofs.Common.{ap}
 use Rattle.syn_table.specs.declared.Known.{Known}
 use Rattle.syn_table.specs.Seating.{view_of}
 use Rattle.syn_pool.proofs.Leaving.{follows}
-use Rattle.syn_pool.proofs.Works.{is_false, round_report}
+use Rattle.syn_pool.proofs.Works.{is_false, round, round_report}
 use Rattle.syn_pool.proofs.rounds.improved.Goals as goal
 
 pub returns-then-swept-eq0-clause-none : goal.returns-then-swept-eq0-clause-none
@@ -21,7 +21,6 @@ pub returns-clause-gain : goal.returns-clause-gain
 returns-clause-gain g c strict = c.in_ok-shared.ensures.swept.gains (is_false c.args.tour.now.zero_gain strict)
 
 pub returns-clause-round : goal.returns-clause-round
-returns-clause-round g c = record {
-  workers = round_report c.args.tour.now.zero_gain c.in_ok-table.table c.in_ok-table.seat c.in_ok-shared.swept.seat c.in_ok-shared.swept.report c.args.graph.now c.in_ok-table.ensures.graph (ap (λ (k : Known). k.core.changes) c.in_ok-table.ensures.known) c.in_ok-shared.ensures.swept;
-  left = c.in_ok-next.ensures;
-}
+returns-clause-round g c =
+    round c.args.tour.now.zero_gain c.in_ok-table.table c.in_ok-table.seat c.in_ok-shared.swept.seat c.in_ok-shared.swept.report c.args.graph.now c.in_ok-next.next c.in_ok-table.ensures.graph
+    (ap (λ (k : Known). k.core.changes) c.in_ok-table.ensures.known) c.in_ok-shared.ensures.swept c.in_ok-next.ensures
