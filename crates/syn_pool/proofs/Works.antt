@@ -227,6 +227,7 @@ round_report zero_gain shared first last report was graph fresh swept = record {
 -- with the graph that the last seat leaves
 pub round : (zero_gain : Bool) (shared : Shared) (first last : Seat) (report : Report) (was now : Graph) → graph_of shared ≡ was → (view_of first).changes ≡ [] → HasSwept shared zero_gain first last report
     → IsLeft was (view_of last).difference now → IsRound was zero_gain report now
+unfolding round_report
 round zero_gain shared first last report was now graph fresh swept left = record { workers = round_report zero_gain shared first last report was graph fresh swept; left = left }
 
 pub is_false : (b : Bool) → not b ≡ true → b ≡ false

@@ -70,7 +70,7 @@ fn workers_for(leftovers: usize, workers: Workers) -> Workers {
 
 // A graph with fewer ANDs in place of one with leftovers: workers commit for their roots and around them; where there are
 // many, or nothing is gained so, the leftovers are applied.
-#[tactic(auto, using(crate::proofs::Turning::one_round, crate::proofs::Turning::one_applied))]
+#[tactic(auto, using(crate::proofs::Turning::one_round))]
 fn commit_or_apply<R: Threads + Sync, P: Proposer, G: Gate>(
     course: &Course<'_, R, P, G>,
     graph: &Graph,
