@@ -8,7 +8,7 @@ pub mod Linking
 pub mod Ranking
 pub mod Hitting
 pub mod Counting
-pub mod LeafTables
+pub mod Leaves
 pub mod Steps
 pub mod Choices
 pub mod Sweeping

@@ -1,9 +1,8 @@
 //! The tables of the root by the inner rows and of the plan, compared.
 
-ghost use Rattle.std.specs.Prelude.{◌≡◌, ◌≤◌, if◌then◌else◌, max, length, false, slice_index_or, take};
+ghost use Rattle.std.specs.Prelude.{◌≡◌, ◌≤◌, max, length, take};
 ghost use Rattle.syn_truth.specs.declared.TheConstants.{MAX_VARS};
 ghost use Rattle.syn_truth.specs.Truth.{AtEach, value_of};
-ghost use Rattle.syn_truth.specs.Words.{value_in};
 ghost use Rattle.syn_plan.specs.Plans.{plan_truth};
 ghost use Rattle.syn_decide.specs.declared.decisions.TheConstants.{MAX_INNER};
 ghost use Rattle.syn_decide.specs.Tables as spec;
@@ -30,20 +29,6 @@ fn was_table(plan: &Plan, vars: u8) -> Truth
     plan.truth().widen(vars)
 }
 
-// The table of so many variables with these words, the second where variable 7 is true.
-fn table_of(vars: u8, low: u128, high: u128) -> Truth
-    requires { vars ≤ MAX_VARS }
-    ensures vars { result.vars ≡ vars }
-    ensures values { AtEach vars (λ xs. value_of result xs ≡ value_in (if slice_index_or xs 7 false then high else low) (take 7 xs)) }
-{
-    let all = Truth::constant(vars, true);
-    Truth {
-        vars,
-        low: low & all.low,
-        high: high & all.high,
-    }
-}
-
 // The table of the root by the inner rows.
 fn now_table(attempt: &Attempt<'_>, inner: &[NodeRow], vars: u8, words: &mut Words) -> Option<Truth>
     requires few { vars ≤ MAX_VARS }
@@ -61,7 +46,7 @@ fn now_table(attempt: &Attempt<'_>, inner: &[NodeRow], vars: u8, words: &mut Wor
     };
     let low = cone.root_word(root, words)?;
     if vars < MAX_VARS {
-        return Some(table_of(vars, low, 0));
+        return Some(Truth::of_words(vars, low, 0));
     }
     let cone = Cone {
         leaves,
@@ -69,7 +54,7 @@ fn now_table(attempt: &Attempt<'_>, inner: &[NodeRow], vars: u8, words: &mut Wor
         inner,
     };
     let high = cone.root_word(root, words)?;
-    Some(table_of(vars, low, high))
+    Some(Truth::of_words(vars, low, high))
 }
 
 /// The function of the root by the inner rows, against the plan's.

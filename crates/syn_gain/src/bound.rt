@@ -15,7 +15,7 @@ ghost use Rattle.syn_gain.specs.Uses.{IsUsesOf};
 ghost use Rattle.std.specs.List.Sorted.{IsNonDecreasing};
 ghost use Rattle.syn_rows.specs.Nodes.{has_node};
 ghost use Rattle.syn_fanout_free.specs.Freed.{IsFreedByCount};
-ghost use Rattle.syn_fanout_free.specs.Freeing.{AreFreed, open_to};
+ghost use Rattle.syn_fanout_free.specs.Freeing.{AreFreed, ands_among, open_to};
 
 use crate::new_rows::{adds_fewer_anywhere, is_small, place_into};
 use crate::{Candidate, PlacedPlan, Uses};
@@ -82,6 +82,7 @@ pub fn mffc(
     requires root { is_and (row_at graph.now.rows root) ≡ true }
     requires rises { IsNonDecreasing spared.now }
     ensures gone { IfOk result (λ f. AreFreed graph.now.rows (count_in uses.now.counts.items) root (open_to graph.now.rows root spared.now) f.nodes.items) }
+    ensures ands { IfOk result (λ f. f.ands ≡ ands_among graph.now.rows f.nodes.items) }
     ensures all { IfOk result (λ f. f.ands ≤ limit → IsFreedByCount graph.now.rows (count_in uses.now.counts.items) root (open_to graph.now.rows root spared.now) (λ m. has_node f.nodes.items m)) }
 {
     freed(

@@ -65,7 +65,7 @@ impl Truth {
 
     /// The table of `vars` variables that has the values of `high` where variable 7 is true, else of `low`.
     #[inline]
-    fn of_words(vars: u8, low: u128, high: u128) -> Truth
+    pub fn of_words(vars: u8, low: u128, high: u128) -> Truth
         requires { vars ≤ MAX_VARS }
         ensures vars { result.vars ≡ vars }
         ensures values { AtEach vars (λ xs. value_of result xs ≡ value_in (if slice_index_or xs 7 false then high else low) (take 7 xs)) }

@@ -9,7 +9,7 @@ returns-in_err-low-clause-values c =
     (none_tells c.args.vars _ _ _ c.in_err-low.ensures)
 
 pub returns-then-vars-lt-MAX_VARS-clause-values : goal.returns-then-vars-lt-MAX_VARS-clause-values
-returns-then-vars-lt-MAX_VARS-clause-values c = low_tells c.args.vars _ _ _ c.in_ok-low.low 0 c.table_of.result c.if-vars-lt-MAX_VARS.true c.requires.within refl c.table_of.ensures.values c.in_ok-low.ensures
+returns-then-vars-lt-MAX_VARS-clause-values c = low_tells c.args.vars _ _ _ c.in_ok-low.low 0 c.of_words.result c.if-vars-lt-MAX_VARS.true c.requires.within refl c.of_words.ensures.values c.in_ok-low.ensures
 
 pub returns-in_err-high-clause-values : goal.returns-in_err-high-clause-values
 returns-in_err-high-clause-values c =

@@ -1,5 +1,5 @@
-use Rattle.std.proofs.Common.{IfOk, subst}
-use Rattle.syn_fanout_free.specs.Freeing.{AreFreed, open_to}
+use Rattle.std.proofs.Common.{◌≡◌, IfOk, subst}
+use Rattle.syn_fanout_free.specs.Freeing.{AreFreed, ands_among, open_to}
 use Rattle.syn_fanout_free.specs.Saved.{count_in}
 use Rattle.syn_fanout_free.proofs.Ends.{reached_referred}
 use Rattle.syn_gain.proofs.Owning.{as_owned}
@@ -15,3 +15,6 @@ returns-clause-gone c =
     subst (λ rows. IfOk c.freed.result (λ f. AreFreed rows (count_in c.args.uses.now.counts.items) c.args.root (open_to rows c.args.root c.args.spared.now) f.nodes.items)) c.as_slice.ensures
     (subst (λ counts. IfOk c.freed.result (λ f. AreFreed c.as_slice.result.now (count_in counts) c.args.root (open_to c.as_slice.result.now c.args.root c.args.spared.now) f.nodes.items)) c.as_slice-2.ensures.value
     c.freed.ensures.sound)
+
+pub returns-clause-ands : goal.returns-clause-ands
+returns-clause-ands c = subst (λ rows. IfOk c.freed.result (λ f. f.ands ≡ ands_among rows f.nodes.items)) c.as_slice.ensures c.freed.ensures.ands

@@ -1,5 +1,5 @@
 use Rattle.std.proofs.Common.{None, ◌∙◌}
-use Rattle.syn_decide.proofs.LeafTables.{apart_test}
+use Rattle.syn_decide.proofs.Leaves.{apart_test}
 use Rattle.syn_decide.proofs.Sweeping.{for_past}
 use Rattle.syn_decide.proofs.decisions.Cone.word_of_inner.Goals as goal
 

@@ -1,5 +1,5 @@
 use Rattle.std.proofs.Common.{◌∙◌, arith}
-use Rattle.syn_decide.proofs.LeafTables.{apart_test, has_past, value_past}
+use Rattle.syn_decide.proofs.Leaves.{apart_test, has_past, value_past}
 use Rattle.syn_decide.proofs.decisions.Cone.word_of_leaf.Goals as goal
 
 pub loop-place-preserved : goal.loop-place-preserved

@@ -1,4 +1,4 @@
--- The table of a leaf, sought along the list of leaves.
+-- A leaf, sought along the list of leaves.
 use Rattle.std.proofs.Common.{◌≡◌, ℕ, suc, ◌+◌, ◌<◌, ◌==◌, ◌||◌, Bool, true, false, if◌then◌else◌, List, length, drop, get_or, refl, sym, ap, ap₂, ◌∙◌, arith, drop-cons}
 use Rattle.syn_rows.proofs.Nodes.{same_node}
 use Rattle.syn_rows.specs.Nodes.{has_node}
