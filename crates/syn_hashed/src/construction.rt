@@ -22,10 +22,10 @@ pub struct HashedRows {
     pub source_count: usize,
     /// The row of each node.
     pub rows: Vec<Row>,
-    // The index of the pairs.
-    index: PairIndex,
+    /// The index of the pairs.
+    pub index: PairIndex,
     pub ghost hashed: { IsHashed source_count rows.items },
-    ghost indexed: { IsIndexOf rows.items index },
+    pub ghost indexed: { IsIndexOf rows.items index },
 }
 
 impl HashedRows {
