@@ -1,5 +1,5 @@
 -- Graphs after proposals that were judged on the graph as it is: one alone, or many together.
-use Rattle.std.specs.Prelude.{◌≡◌, ℕ, zero, suc, ◌+◌, ◌<◌, ◌⊎◌, Bool, false, List, [], ◌∷◌, ◌++◌, length, map, slice_index_or}
+use Rattle.std.specs.Prelude.{◌≡◌, ℕ, zero, suc, ◌+◌, ◌<◌, ◌⊎◌, false, List, [], ◌∷◌, ◌++◌, length, map, slice_index_or}
 use Rattle.syn_rows.specs.declared.Lit.{Lit}
 use Rattle.syn_rows.specs.declared.Row.{Row}
 use Rattle.syn_rows.specs.declared.Row.TheVariants.{Source, And}
@@ -9,9 +9,9 @@ use Rattle.syn_rows.specs.Joining.{constant, lit_of}
 use Rattle.syn_hashed.specs.Joined.{joined_lit, joined_rows}
 use Rattle.syn_hashed.specs.HashedAgain.{IsExactCompaction, IsHashedAgain}
 use Rattle.syn_graph.specs.declared.Graph.{Graph}
-use Rattle.syn_placing.specs.Placing.{PlacedGates, literal_for, placed_gates}
+use Rattle.syn_placing.specs.Placing.{PlacedGates, placed_gates}
 use Rattle.syn_gain.specs.declared.proposals.Proposal.{Proposal}
-use Rattle.syn_gain.specs.Placing.{each_below}
+use Rattle.syn_gain.specs.Placing.{each_below, literal_for}
 use Rattle.syn_gain.specs.Replacements.{Replacement, rows_after_by}
 use Rattle.syn_apply.specs.Remaking.{moved}
 

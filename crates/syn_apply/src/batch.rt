@@ -14,17 +14,17 @@ ghost use Rattle.syn_hashed.specs.Joined.{joined_lit, joined_rows};
 ghost use Rattle.syn_netlist.specs.Frames.{frame_in};
 ghost use Rattle.syn_gain.specs.declared.proposals.Proposal.{Proposal};
 ghost use Rattle.syn_gain.specs.Proposals.{replacement};
-ghost use Rattle.syn_placing.specs.Placing.{literal_for};
+ghost use Rattle.syn_gain.specs.Placing.{literal_for};
 ghost use Rattle.syn_apply.specs.Applied.{AreAppliedTogether, AreRemade, Begins, IsJoinedAgain, MakesNext, leaves_by, planned_gates, remade};
 ghost use Rattle.syn_apply.specs.Remaking.{AllStand, IsGrown, SourcesStay, Stands, moved};
 ghost use Rattle.syn_apply.specs.Sound.{IsSoundBy};
 
 use arrayvec::ArrayVec;
 use std::alloc::{AllocError, Global};
-use syn_gain::{Proposal, node_at};
+use syn_gain::{Proposal, literal_at, node_at};
 use syn_graph::{Graph, copy_frame};
 use syn_hashed::HashedRows;
-use syn_placing::{literal_at, place_plan};
+use syn_placing::place_plan;
 use syn_rows::{Lit, NODE_LIMIT, Row};
 use syn_strash::finish;
 
@@ -97,7 +97,6 @@ fn leaf_literals(literals: &[Lit], count: u8, leaves: &[u32]) -> ArrayVec<Lit, 8
 // The literal of a plan in place of an old node, over the literals of the nodes before it, where there is room for
 // a row for each of its gates.
 fn planned(
-    alloc: Global,
     hashed: &mut HashedRows,
     rows: &[Row],
     literals: &[Lit],
@@ -116,7 +115,7 @@ fn planned(
     let plan = &proposal.plan;
     if hashed.rows.len() + plan.gates.len() < NODE_LIMIT {
         let leaves = leaf_literals(literals, plan.leaves, proposal.leaves.as_slice());
-        place_plan(alloc, hashed, leaves.as_slice(), plan)
+        place_plan(hashed, leaves.as_slice(), plan)
     } else {
         Err(AllocError)
     }
@@ -156,7 +155,6 @@ fn fan_ins(row: Row) -> Option<(Lit, Lit)>
 
 // The literal of one node: a source's own, that of a taken proposal's plan, or that of its AND.
 fn made(
-    alloc: Global,
     hashed: &mut HashedRows,
     rows: &[Row],
     literals: &[Lit],
@@ -182,7 +180,7 @@ fn made(
         Some((a, b)) => {
             let here = is_taken(proposals, taken, place, node);
             if here {
-                planned(alloc, hashed, rows, literals, &proposals[place])
+                planned(hashed, rows, literals, &proposals[place])
             } else {
                 joined(hashed, rows, literals, node, a, b)
             }
@@ -213,7 +211,7 @@ fn remade(
     let mut place = 0;
     for node in 0..rows.len() as u32 {
         let before = literals.as_slice();
-        let literal = made(alloc, hashed, rows, before, node, proposals, taken, place)?;
+        let literal = made(hashed, rows, before, node, proposals, taken, place)?;
         literals.push(literal)?;
         place = place_after(proposals, place, node);
     }

@@ -78,12 +78,7 @@ fn input_literals(signals: &[Lit], inputs: &[u32]) -> ArrayVec<Lit, MAX_INPUTS>
 }
 
 // The literal of a LUT, from those of the signals before it: the gates of factoring its function, in order.
-fn lut_literal(
-    alloc: Global,
-    hashed: &mut HashedRows,
-    signals: &[Lit],
-    lut: &Lut,
-) -> Result<Lit, AllocError>
+fn lut_literal(hashed: &mut HashedRows, signals: &[Lit], lut: &Lut) -> Result<Lit, AllocError>
     requires inputs { list_all (reads_below (length signals.now)) lut.now.inputs.items ≡ true }
     requires there { AllThere hashed.old.rows.items signals.now }
     requires room { length hashed.old.rows.items + lut_gates (lut_data lut.now) < NODE_LIMIT }
@@ -95,12 +90,11 @@ fn lut_literal(
 {
     let plan = syn_plan::factor(lut.truth);
     let leaves = input_literals(signals, lut.inputs.as_slice());
-    place_plan(alloc, hashed, leaves.as_slice(), &plan)
+    place_plan(hashed, leaves.as_slice(), &plan)
 }
 
 // Gives each LUT its literal, behind those of the constant and of the sources.
 fn name_luts(
-    alloc: Global,
     hashed: &mut HashedRows,
     luts: &[Lut],
     signals: &mut Vec<Lit>,
@@ -116,7 +110,7 @@ fn name_luts(
     ensures begins { OnOk result ((i : ℕ) → i < length signals.old.items → lit_at signals.new.items i ≡ lit_at signals.old.items i) }
 {
     for lut in luts {
-        let literal = lut_literal(alloc, hashed, signals.as_slice(), lut)?;
+        let literal = lut_literal(hashed, signals.as_slice(), lut)?;
         signals.push(literal)?;
     }
     Ok(())
@@ -167,7 +161,7 @@ fn build_net(alloc: Global, net: &LutNet) -> Result<Built, AllocError>
 {
     let mut hashed = HashedRows::new(alloc, net.source_count as usize)?;
     let mut signals = source_literals(alloc, net.source_count)?;
-    name_luts(alloc, &mut hashed, net.luts.as_slice(), &mut signals)?;
+    name_luts(&mut hashed, net.luts.as_slice(), &mut signals)?;
     let observed = signed_literals(alloc, signals.as_slice(), net.observed.as_slice())?;
     Ok(Built { hashed, observed })
 }

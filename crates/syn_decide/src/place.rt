@@ -10,8 +10,7 @@ ghost use Rattle.syn_decide.specs.Hints as spec;
 ghost use Rattle.syn_decide.specs.Tasks.{task_of};
 
 use crate::{Attempt, NodeRow};
-use syn_gain::{Lookup, PlacedPlan, root_row};
-use syn_placing::literal_for;
+use syn_gain::{Lookup, PlacedPlan, literal_for, root_row};
 use syn_plan::{MAX_INDEXES, PLit};
 use syn_rows::{Lit, NODE_LIMIT, Row};
 

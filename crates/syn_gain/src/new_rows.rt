@@ -12,11 +12,10 @@ ghost use Rattle.syn_gain.specs.Proposals.{replacement_of};
 ghost use Rattle.syn_gain.specs.Replacements.{new_root_by, new_rows_by};
 ghost use Rattle.syn_gain.specs.Searching as search;
 
-use crate::{Candidate, PlacedPlan, RowsBelow};
+use crate::{Candidate, PlacedPlan, RowsBelow, literal_for};
 use smallvec::SmallVec;
 use std::alloc::{AllocError, Global};
 use syn_hashed::PairIndex;
-use syn_placing::literal_for;
 use syn_plan::{FEW_INDEXES, MAX_INDEXES};
 use syn_rows::{Lit, Row};
 

@@ -12,9 +12,8 @@ ghost use Rattle.syn_gain.specs.Lookups.{AreNewRows, ArePlaced, Gives};
 ghost use Rattle.syn_gain.specs.Placing as spec;
 ghost use Rattle.syn_gain.specs.Searching as search;
 
-use crate::Lookup;
+use crate::{Lookup, literal_for};
 use arrayvec::ArrayVec;
-use syn_placing::literal_for;
 use syn_plan::PLit;
 use syn_rows::{FALSE, Lit, Row, is_and_of, ordered_and, simple_and};
 
@@ -87,6 +86,18 @@ impl<const INDEXES: usize> PlacedPlan<INDEXES> {
             let leaf = node_at(leaves, i as usize);
             self.literals.push(Lit::of(leaf, false));
         }
+    }
+
+    /// Places the constant and a plan's leaves, which have these literals.
+    pub fn begin_over(&mut self, leaves: &[Lit])
+        requires { length leaves.now < INDEXES }
+        ensures literals { self.new.literals.items ≡ joining.constant ∷ leaves.now }
+        ensures none { self.new.extra.items ≡ [] }
+    {
+        self.literals.clear();
+        self.extra.clear();
+        self.literals.push(FALSE);
+        let _ = self.literals.try_extend_from_slice(leaves);
     }
 
     // The literal of a pair that is there: of a row that is looked up, or else of the last new row that is its AND. No old

@@ -8,9 +8,8 @@ ghost use Rattle.syn_levels.specs.Levels.{IsNoDeeper};
 
 use crate::root_levels::levels;
 use std::alloc::{AllocError, Global};
-use syn_gain::node_at;
+use syn_gain::{literal_at, node_at};
 use syn_graph::Graph;
-use syn_placing::literal_at;
 use syn_rows::Lit;
 
 // The level of a literal's node, 0 past the end.

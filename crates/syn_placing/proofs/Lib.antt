@@ -1,1 +1,3 @@
 pub mod Placed
+mod Joined
+mod Fitting

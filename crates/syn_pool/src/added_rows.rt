@@ -4,8 +4,7 @@ ghost use Rattle.std.specs.Prelude.{◌≡◌, ◌<◌, All, true};
 ghost use Rattle.syn_rows.specs.declared.TheConstants.{NODE_LIMIT};
 
 use syn_commit::Hints;
-use syn_gain::{Lookup, PlacedPlan};
-use syn_placing::literal_for;
+use syn_gain::{Lookup, PlacedPlan, literal_for};
 use syn_plan::Plan;
 use syn_rows::{Lit, NODE_LIMIT, Row, has_node};
 use syn_table::Shared;

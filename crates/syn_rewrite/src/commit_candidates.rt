@@ -13,10 +13,9 @@ use crate::proposer::{MAX_COUNTED, candidate};
 use crate::rooted::RootedCut;
 use std::alloc::{AllocError, Global};
 use syn_function_plans::{FunctionPlans, PlanSource};
-use syn_gain::{Candidate, Proposal, Room, Uses, adds_fewer, mffc_size, owned};
+use syn_gain::{Candidate, Proposal, Room, Uses, adds_fewer, literal_for, mffc_size, owned};
 use syn_graph::Graph;
 use syn_library::Prepared as Classes;
-use syn_placing::literal_for;
 use syn_plan::Plan;
 use syn_weighing::{DryRun, dry_run, dry_run_over};
 

@@ -1,51 +1,53 @@
-use Rattle.std.proofs.Common.{◌≡◌, ◌+◌, ◌<◌, All, List, ◌∷◌, ℕ, length, map, sym, ap, ap₂, ◌∙◌, subst, arith}
-use Rattle.std.proofs.lemmas.List.Elements.{All-cons}
+use Rattle.std.proofs.Common.{List, [], ◌∷◌, ◌++◌, length, sym, ap, ◌∙◌, subst}
 use Rattle.syn_rows.specs.declared.Lit.{Lit}
 use Rattle.syn_rows.specs.declared.Row.{Row}
 use Rattle.syn_rows.specs.Joining.{constant}
-use Rattle.syn_rows.specs.Rows.{node_of}
-use Rattle.syn_rows.specs.Values.{value_in, values_of}
-use Rattle.syn_plan.specs.declared.PLit.{PLit}
-use Rattle.syn_plan.specs.Gates.{in_order, index_of, literal_value}
 use Rattle.syn_hashed.specs.Growing.{value_by}
-use Rattle.syn_hashed.proofs.Rising.{source_value}
-use Rattle.syn_placing.specs.Placing.{PlacedGates, literal_for, placed_gates, with_gates}
-use Rattle.syn_placing.proofs.Placed.{literal_has_value, literal_there, output_value, state}
+use Rattle.syn_plan.specs.Plans.{plan_truth}
+use Rattle.syn_gain.specs.Placing.{literal_for}
+use Rattle.syn_gain.specs.Searching.{Searched, search_gates, state}
+use Rattle.syn_placing.specs.Placing.{AreLacking, PlacedGates}
+use Rattle.syn_placing.proofs.Fitting.{plan_value}
+use Rattle.syn_placing.proofs.Joined.{plan_is}
 use Rattle.syn_placing.proofs.place_plan.Goals as goal
 
-pub place_gates-requires-clause-order : goal.place_gates-requires-clause-order
-place_gates-requires-clause-order c =
-    let p = c.args.plan.now in
-    let long : length c.in_ok-literals.literals.items ≡ 1 + p.leaves = omega (arith, ap (λ (ls : List Lit). length ls) c.in_ok-literals.ensures, c.requires.count) in
-    ap₂ (λ (n : ℕ) (gs : List (PLit × PLit)). in_order n gs) long c.as_slice.ensures.value ∙ p.ordered
-
-pub place_gates-requires-clause-there : goal.place_gates-requires-clause-there
-place_gates-requires-clause-there c =
+pub append-requires-clause-lacking : goal.append-requires-clause-lacking
+append-requires-clause-lacking c =
     let rows = c.args.hashed.now.rows.items in
-    subst (λ (ls : List Lit). All (λ l. node_of l < length rows) ls) (sym c.in_ok-literals.ensures)
-    (All-cons (λ l. node_of l < length rows) constant c.args.leaves.now (omega (arith, c.args.hashed.now.hashed.there)) c.requires.there)
+    let begun : List Lit = constant ∷ c.args.leaves.now in
+    let gates = c.args.plan.now.gates.items in
+    let found = c.placed_over-placed.ensures.searched ∙ ap (λ (rs : List Row). search_gates rs (length rs) (state begun []) gates) c.as_slice.ensures.value in
+    subst (AreLacking rows) (sym (c.as_slice-2.ensures.value ∙ ap (λ (s : Searched). s.extra) found)) (plan_is rows begun gates).1
 
-pub returns : goal.returns
-returns c =
-    let p = c.args.plan.now in
-    let gates = p.gates.items in
+pub returns-clause-rows : goal.returns-clause-rows
+returns-clause-rows c =
+    let rows = c.args.hashed.now.rows.items in
+    let begun : List Lit = constant ∷ c.args.leaves.now in
+    let gates = c.args.plan.now.gates.items in
+    let found = c.placed_over-placed.ensures.searched ∙ ap (λ (rs : List Row). search_gates rs (length rs) (state begun []) gates) c.as_slice.ensures.value in
+    c.in_ok-append.ensures.rows
+    ∙ ap (λ (extra : List Row). rows ++ extra) (c.as_slice-2.ensures.value ∙ ap (λ (s : Searched). s.extra) found)
+    ∙ sym (ap (λ (s : PlacedGates). s.rows) (plan_is rows begun gates).0)
+
+pub returns-clause-literal : goal.returns-clause-literal
+returns-clause-literal c =
+    let rows = c.args.hashed.now.rows.items in
+    let begun : List Lit = constant ∷ c.args.leaves.now in
+    let gates = c.args.plan.now.gates.items in
+    let found = c.placed_over-placed.ensures.searched ∙ ap (λ (rs : List Row). search_gates rs (length rs) (state begun []) gates) c.as_slice.ensures.value in
+    c.literal_for.ensures
+    ∙ ap (λ (ls : List Lit). literal_for ls c.args.plan.now.out) (c.as_slice-3.ensures.value ∙ ap (λ (s : Searched). s.literals) found ∙ sym (ap (λ (s : PlacedGates). s.literals) (plan_is rows begun gates).0))
+
+pub returns-clause-value : goal.returns-clause-value
+unfolding plan_truth
+returns-clause-value c = λ given at_0.
+    let rows = c.args.hashed.now.rows.items in
+    let new = c.append.new.hashed in
     let leaves = c.args.leaves.now in
-    let old = c.args.hashed.now.rows.items in
-    let new = c.place_gates.new.hashed.rows.items in
-    let literals : List Lit = c.place_gates.new.literals.items in
-    let done = c.in_ok-place_gates.ensures in
-    let placed : state new literals ≡ placed_gates old leaves gates =
-    done.placed ∙ ap₂ (λ (ls : List Lit) (gs : List (PLit × PLit)). with_gates (state old ls) gs) c.in_ok-literals.ensures c.as_slice.ensures.value in
-    let long : index_of p.out < length literals = omega (arith, p.there, done.len, ap (λ (ls : List Lit). length ls) c.in_ok-literals.ensures, c.requires.count, ap (λ (gs : List (PLit × PLit)). length gs) c.as_slice.ensures.value) in
-    let out : c.literal_for.result ≡ literal_for literals p.out = c.literal_for.ensures ∙ ap (λ (ls : List Lit). literal_for ls p.out) c.as_slice-2.ensures in
-    record {
-      sources = done.sources;
-      grows = done.grows;
-      few = omega (arith, done.few, ap (λ (gs : List (PLit × PLit)). length gs) c.as_slice.ensures.value);
-      rows = ap (λ (s : PlacedGates). s.rows) placed;
-      literal = out ∙ ap (λ (s : PlacedGates). literal_for s.literals p.out) placed;
-      there = subst (λ (l : Lit). node_of l < length new) (sym out) (literal_there (length new) literals p.out long done.there);
-      value = λ given at_0. output_value given old new p leaves c.in_ok-literals.literals.items literals c.as_slice.result.now c.literal_for.result c.in_ok-literals.ensures c.as_slice.ensures.value
-          (source_value c.args.hashed.now.source_count old c.args.hashed.now.hashed given 0 (omega arith) ∙ at_0) (done.values given at_0)
-          (ap (value_by given new) out ∙ literal_has_value (value_in (values_of given new)) literals p.out long);
-    }
+    let begun : List Lit = constant ∷ leaves in
+    let gates = c.args.plan.now.gates.items in
+    let found = c.placed_over-placed.ensures.searched ∙ ap (λ (rs : List Row). search_gates rs (length rs) (state begun []) gates) c.as_slice.ensures.value in
+    ap (value_by given new.rows.items)
+    (c.literal_for.ensures ∙ ap (λ (ls : List Lit). literal_for ls c.args.plan.now.out) (c.as_slice-3.ensures.value ∙ ap (λ (s : Searched). s.literals) found))
+    ∙ plan_value new.source_count rows c.as_slice-2.result.now new.rows.items given leaves gates c.args.plan.now.out c.in_ok-append.ensures.rows new.hashed at_0 c.requires.there
+    (c.as_slice-2.ensures.value ∙ ap (λ (s : Searched). s.extra) found)

@@ -5,7 +5,7 @@ use Rattle.syn_rows.specs.Rows.{node_of}
 use Rattle.syn_rows.specs.Values.{rows_function}
 use Rattle.syn_hashed.specs.HashedAgain.{IsHashedAgain}
 use Rattle.syn_netlist.specs.Frames.{frame_in}
-use Rattle.syn_netlist.specs.Lists.{Frame, sources}
+use Rattle.syn_netlist.specs.Lists.{Frame}
 use Rattle.syn_graph.specs.declared.Graph.{Graph}
 use Rattle.syn_graph.specs.Graphs.{HasOwnSources}
 use Rattle.syn_gain.specs.Proposals.{replacement}

@@ -1,4 +1,4 @@
-use Rattle.std.proofs.Common.{◌≡◌, ℕ, ◌+◌, ◌*◌, IfOk, List, false, [], ◌∷◌, ◌++◌, sym, ap, ap₂, ◌∙◌, subst, arith, inl, inr}
+use Rattle.std.proofs.Common.{◌≡◌, ℕ, IfOk, List, false, [], ◌∷◌, ◌++◌, sym, ap, ap₂, ◌∙◌, subst, arith, inl, inr}
 use Rattle.syn_rows.specs.declared.Lit.{Lit}
 use Rattle.syn_rows.specs.declared.Row.{Row}
 use Rattle.syn_rows.specs.Joining.{lit_of}

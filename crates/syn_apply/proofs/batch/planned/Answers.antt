@@ -5,7 +5,8 @@ use Rattle.syn_hashed.specs.Growing.{value_by}
 use Rattle.syn_hashed.proofs.Rising.{literals_keep}
 use Rattle.syn_plan.specs.Plans.{plan_truth}
 use Rattle.syn_gain.specs.declared.proposals.Proposal.{Proposal}
-use Rattle.syn_placing.specs.Placing.{literal_for, placed_gates}
+use Rattle.syn_gain.specs.Placing.{literal_for}
+use Rattle.syn_placing.specs.Placing.{placed_gates}
 use Rattle.syn_apply.specs.Applied.{leaves_by}
 use Rattle.syn_apply.proofs.Standing.{IfOk-map, OnOk-map, OnOk-of, both_ok, grown_extends, leaves_there, length_each, planned_stands}
 use Rattle.syn_apply.proofs.batch.planned.Goals as goal
