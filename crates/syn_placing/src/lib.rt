@@ -2,12 +2,14 @@
 #![tactic(auto)]
 
 ghost use Rattle.std.specs.Prelude.{◌≡◌, ℕ, ◌+◌, ◌<◌, ◌≤◌, ◌++◌, ◌∷◌, [], All, Bool, false, length, map, IfOk, OnOk};
+ghost use Rattle.arrayvec.specs.ArrayVec.{array_vec_len};
 ghost use Rattle.syn_rows.specs.declared.TheConstants.{NODE_LIMIT};
 ghost use Rattle.syn_rows.specs.Joining.{constant};
 ghost use Rattle.syn_rows.specs.Rows.{AllRefs, InOrder, node_of};
 ghost use Rattle.syn_hashed.specs.Growing.{Extends, value_by};
 ghost use Rattle.syn_hashed.specs.Indexed.{IsIndexOf};
 ghost use Rattle.syn_hashed.specs.Joined.{PairsOnce};
+ghost use Rattle.syn_plan.specs.declared.TheConstants.{MAX_INDEXES};
 ghost use Rattle.syn_plan.specs.Plans.{plan_truth};
 ghost use Rattle.syn_gain.specs.Lookups.{AreNewRows, ArePlaced};
 ghost use Rattle.syn_gain.specs.Placing.{literal_for};
@@ -17,7 +19,7 @@ ghost use Rattle.syn_placing.specs.Placing as spec;
 use std::alloc::AllocError;
 use syn_gain::{PlacedPlan, RowsBelow, literal_for};
 use syn_hashed::{HashedRows, PairIndex};
-use syn_plan::{MAX_INDEXES, Plan};
+use syn_plan::{FEW_INDEXES, MAX_INDEXES, Plan};
 use syn_rows::{Lit, Row};
 
 // Adds an AND that the rows lack.
@@ -53,12 +55,14 @@ fn append(hashed: &mut HashedRows, extra: &[Row]) -> Result<(), AllocError>
 }
 
 // What a plan becomes over rows, with their index, that have room for one more for each of its gates.
-fn placed_over(
+fn placed_over<const INDEXES: usize>(
     rows: &[Row],
     index: &PairIndex,
     leaves: &[Lit],
     plan: &Plan,
-) -> PlacedPlan<MAX_INDEXES>
+) -> PlacedPlan<INDEXES>
+    requires fits { plan.now.leaves + array_vec_len plan.now.gates < INDEXES }
+    requires most { INDEXES ≤ MAX_INDEXES }
     requires index { IsIndexOf rows.now index.now }
     requires pairs { PairsOnce rows.now }
     requires order { InOrder rows.now }
@@ -70,7 +74,7 @@ fn placed_over(
     ensures there { ArePlaced (length rows.now) result.literals.items result.extra.items }
     ensures few { length result.extra.items ≤ length plan.now.gates.items }
 {
-    let mut placed = PlacedPlan::<MAX_INDEXES>::new();
+    let mut placed = PlacedPlan::<INDEXES>::new();
     placed.begin_over(leaves);
     let all = RowsBelow {
         rows,
@@ -79,6 +83,31 @@ fn placed_over(
     };
     let _ = placed.place_gates(&all, plan.gates.as_slice(), u32::MAX);
     placed
+}
+
+// The literal of a plan that has fewer indexes than this. A function fills its locals as it begins, so each size has its own.
+#[inline(never)]
+fn place_in<const INDEXES: usize>(
+    hashed: &mut HashedRows,
+    leaves: &[Lit],
+    plan: &Plan,
+) -> Result<Lit, AllocError>
+    requires fits { plan.now.leaves + array_vec_len plan.now.gates < INDEXES }
+    requires most { INDEXES ≤ MAX_INDEXES }
+    requires count { plan.now.leaves ≡ length leaves.now }
+    requires there { All (λ l. node_of l < length hashed.old.rows.items) leaves.now }
+    requires room { length hashed.old.rows.items + length plan.now.gates.items < NODE_LIMIT }
+    ensures sources { hashed.new.source_count ≡ hashed.old.source_count }
+    ensures grows { Extends hashed.old.rows.items hashed.new.rows.items }
+    ensures few { length hashed.new.rows.items ≤ length hashed.old.rows.items + length plan.now.gates.items }
+    ensures rows { OnOk result (hashed.new.rows.items ≡ (spec.placed_gates hashed.old.rows.items leaves.now plan.now.gates.items).rows) }
+    ensures literal { IfOk result (λ l. l ≡ literal_for (spec.placed_gates hashed.old.rows.items leaves.now plan.now.gates.items).literals plan.now.out) }
+    ensures there { IfOk result (λ l. node_of l < length hashed.new.rows.items) }
+    ensures value { IfOk result (λ l. (given : ℕ → Bool) → given 0 ≡ false → value_by given hashed.new.rows.items l ≡ plan_truth plan.now (map (value_by given hashed.old.rows.items) leaves.now)) }
+{
+    let placed = placed_over::<INDEXES>(hashed.rows.as_slice(), &hashed.index, leaves, plan);
+    append(hashed, placed.extra.as_slice())?;
+    Ok(literal_for(placed.literals.as_slice(), plan.out))
 }
 
 /// The literal of a plan over these literals of its leaves, by the ANDs of its gates in order. The rows grow by at most as
@@ -95,7 +124,9 @@ pub fn place_plan(hashed: &mut HashedRows, leaves: &[Lit], plan: &Plan) -> Resul
     ensures there { IfOk result (λ l. node_of l < length hashed.new.rows.items) }
     ensures value { IfOk result (λ l. (given : ℕ → Bool) → given 0 ≡ false → value_by given hashed.new.rows.items l ≡ plan_truth plan.now (map (value_by given hashed.old.rows.items) leaves.now)) }
 {
-    let placed = placed_over(hashed.rows.as_slice(), &hashed.index, leaves, plan);
-    append(hashed, placed.extra.as_slice())?;
-    Ok(literal_for(placed.literals.as_slice(), plan.out))
+    if (plan.leaves as usize) + plan.gates.len() < FEW_INDEXES {
+        place_in::<FEW_INDEXES>(hashed, leaves, plan)
+    } else {
+        place_in::<MAX_INDEXES>(hashed, leaves, plan)
+    }
 }

@@ -8,7 +8,7 @@ use Rattle.syn_gain.proofs.Fresh.{rows_give}
 use Rattle.syn_placing.proofs.placed_over.Goals as goal
 
 pub returns-clause-searched : goal.returns-clause-searched
-returns-clause-searched c =
+returns-clause-searched g c =
     let n = length c.args.rows.now in
     let gates = c.as_slice.result.now in
     let f = literal_below c.args.rows.now n in

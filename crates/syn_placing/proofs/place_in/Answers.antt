@@ -9,10 +9,10 @@ use Rattle.syn_gain.specs.Searching.{Searched, search_gates, state}
 use Rattle.syn_placing.specs.Placing.{AreLacking, PlacedGates}
 use Rattle.syn_placing.proofs.Fitting.{plan_value}
 use Rattle.syn_placing.proofs.Joined.{plan_is}
-use Rattle.syn_placing.proofs.place_plan.Goals as goal
+use Rattle.syn_placing.proofs.place_in.Goals as goal
 
 pub append-requires-clause-lacking : goal.append-requires-clause-lacking
-append-requires-clause-lacking c =
+append-requires-clause-lacking g c =
     let rows = c.args.hashed.now.rows.items in
     let begun : List Lit = constant ∷ c.args.leaves.now in
     let gates = c.args.plan.now.gates.items in
@@ -20,7 +20,7 @@ append-requires-clause-lacking c =
     subst (AreLacking rows) (sym (c.as_slice-2.ensures.value ∙ ap (λ (s : Searched). s.extra) found)) (plan_is rows begun gates).1
 
 pub returns-clause-rows : goal.returns-clause-rows
-returns-clause-rows c =
+returns-clause-rows g c =
     let rows = c.args.hashed.now.rows.items in
     let begun : List Lit = constant ∷ c.args.leaves.now in
     let gates = c.args.plan.now.gates.items in
@@ -30,7 +30,7 @@ returns-clause-rows c =
     ∙ sym (ap (λ (s : PlacedGates). s.rows) (plan_is rows begun gates).0)
 
 pub returns-clause-literal : goal.returns-clause-literal
-returns-clause-literal c =
+returns-clause-literal g c =
     let rows = c.args.hashed.now.rows.items in
     let begun : List Lit = constant ∷ c.args.leaves.now in
     let gates = c.args.plan.now.gates.items in
@@ -40,7 +40,7 @@ returns-clause-literal c =
 
 pub returns-clause-value : goal.returns-clause-value
 unfolding plan_truth
-returns-clause-value c = λ given at_0.
+returns-clause-value g c = λ given at_0.
     let rows = c.args.hashed.now.rows.items in
     let new = c.append.new.hashed in
     let leaves = c.args.leaves.now in
