@@ -1,5 +1,5 @@
 -- Graphs after proposals that were judged on the graph as it is: one alone, or many together.
-use Rattle.std.specs.Prelude.{◌≡◌, ℕ, zero, suc, ◌+◌, ◌<◌, ◌⊎◌, false, List, [], ◌∷◌, ◌++◌, length, map, slice_index_or}
+use Rattle.std.specs.Prelude.{◌≡◌, ◌≢◌, ℕ, zero, suc, ◌+◌, ◌<◌, ◌≤◌, ◌⊎◌, Bool, false, true, List, [], ◌∷◌, ◌++◌, length, map, slice_index_or}
 use Rattle.syn_rows.specs.declared.Lit.{Lit}
 use Rattle.syn_rows.specs.declared.Row.{Row}
 use Rattle.syn_rows.specs.declared.Row.TheVariants.{Source, And}
@@ -53,26 +53,40 @@ leaves_by literals count leaves = each_below count (λ i. slice_index_or literal
 abbrev pub planned_gates : Remade → Proposal → PlacedGates
 planned_gates old p = placed_gates old.rows (leaves_by old.literals p.plan.leaves p.leaves.items) p.plan.gates.items
 
--- The next node is the root of one of the proposals, and the output of its plan stands for it.
-pub record IsPlanned (proposals : List Proposal) (old s : Remade) : Type 0 where
+-- The proposal that is the next one for a node: those before it are for nodes before that one, and it is not.
+pub record IsNext (proposals : List Proposal) (node place : ℕ) : Type 0 where
+  pub within : place ≤ length proposals
+  pub passed : (i : ℕ) (d : Proposal) → i < place → (slice_index_or proposals i d).root < node
+  pub waits : (d : Proposal) → place < length proposals → node ≤ (slice_index_or proposals place d).root
+
+-- No proposal is taken for a node: the next one isn't taken, or is for another.
+pub record NoneTaken (proposals : List Proposal) (taken : List Bool) (node : ℕ) : Type 0 where
+  pub place : ℕ
+  pub next : IsNext proposals node place
+  pub other : (d : Proposal) → place < length proposals → slice_index_or taken place false ≡ true → (slice_index_or proposals place d).root ≢ node
+
+-- The next node is the root of a taken proposal, and the output of its plan stands for it.
+pub record IsPlanned (proposals : List Proposal) (taken : List Bool) (old s : Remade) : Type 0 where
   pub place : ℕ
   pub there : place < length proposals
+  pub next : IsNext proposals (length old.literals) place
+  pub is_taken : slice_index_or taken place false ≡ true
   pub p : Proposal
   pub at : slice_index_or proposals place p ≡ p
   pub root : p.root ≡ length old.literals
   pub made : s ≡ remade (planned_gates old p).rows (old.literals ++ literal_for (planned_gates old p).literals p.plan.out ∷ [])
 
 -- the next node is made again in one of these ways
-abbrev pub MakesNext : List Row → List Proposal → Remade → Remade → Type 0
-MakesNext rows proposals old s = StandsForItself rows old s ⊎ (IsJoinedAgain rows old s ⊎ IsPlanned proposals old s)
+abbrev pub MakesNext : List Row → List Proposal → List Bool → Remade → Remade → Type 0
+MakesNext rows proposals taken old s = StandsForItself rows old s ⊎ ((IsJoinedAgain rows old s × NoneTaken proposals taken (length old.literals)) ⊎ IsPlanned proposals taken old s)
 
 -- so many nodes were made again, from node 0 up
-abbrev pub AreRemade : ℕ → List Row → List Proposal → ℕ → Remade → Type 0
-AreRemade count rows proposals zero s = Begins count s
-AreRemade count rows proposals (suc n) s = (old : Remade) × AreRemade count rows proposals n old × MakesNext rows proposals old s
+abbrev pub AreRemade : ℕ → List Row → List Proposal → List Bool → ℕ → Remade → Type 0
+AreRemade count rows proposals taken zero s = Begins count s
+AreRemade count rows proposals taken (suc n) s = (old : Remade) × AreRemade count rows proposals taken n old × MakesNext rows proposals taken old s
 
--- Many together: the rows made again with the plans of some of them in place of their roots, compacted.
-pub record AreAppliedTogether (was : Graph) (proposals : List Proposal) (now : Graph) : Type 0 where
+-- Many together: the rows made again with the plans of the taken ones in place of their roots, compacted.
+pub record AreAppliedTogether (was : Graph) (proposals : List Proposal) (taken : List Bool) (now : Graph) : Type 0 where
   pub s : Remade
-  pub made : AreRemade was.source_count was.rows proposals (length was.rows) s
+  pub made : AreRemade was.source_count was.rows proposals taken (length was.rows) s
   pub compact : IsHashedAgain was.source_count s.rows (map (moved s.literals) was.observed) now.rows now.observed

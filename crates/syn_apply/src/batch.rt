@@ -1,6 +1,6 @@
 //! Many proposals applied together: the rows are made again from the sources up, with plans in place of the roots.
 
-ghost use Rattle.std.specs.Prelude.{◌≡◌, ◌+◌, ◌&&◌, ◌<◌, ◌≤◌, ◌++◌, ◌∷◌, [], All, Bool, List, false, true, length, map, slice_index_or, IfNone, IfOk, IfSome, OnOk};
+ghost use Rattle.std.specs.Prelude.{◌≡◌, ◌≢◌, ◌+◌, ◌&&◌, ◌<◌, ◌≤◌, ◌++◌, ◌∷◌, [], All, Bool, List, false, true, length, map, slice_index_or, IfNone, IfOk, IfSome, OnOk};
 ghost use Rattle.syn_rows.specs.declared.Lit.{Lit};
 ghost use Rattle.syn_rows.specs.declared.Row.{Row};
 ghost use Rattle.syn_rows.specs.declared.TheConstants.{NODE_LIMIT};
@@ -15,7 +15,7 @@ ghost use Rattle.syn_netlist.specs.Frames.{frame_in};
 ghost use Rattle.syn_gain.specs.declared.proposals.Proposal.{Proposal};
 ghost use Rattle.syn_gain.specs.Proposals.{replacement};
 ghost use Rattle.syn_gain.specs.Placing.{literal_for};
-ghost use Rattle.syn_apply.specs.Applied.{AreAppliedTogether, AreRemade, Begins, IsJoinedAgain, MakesNext, leaves_by, planned_gates, remade};
+ghost use Rattle.syn_apply.specs.Applied.{AreAppliedTogether, AreRemade, Begins, IsJoinedAgain, IsNext, MakesNext, leaves_by, planned_gates, remade};
 ghost use Rattle.syn_apply.specs.Remaking.{AllStand, IsGrown, SourcesStay, Stands, moved};
 ghost use Rattle.syn_apply.specs.Sound.{IsSoundBy};
 
@@ -124,7 +124,9 @@ fn planned(
 // Whether the proposal at a place is taken and is one for this node.
 fn is_taken(proposals: &[Proposal], taken: &[bool], place: usize, node: u32) -> bool
     ensures there { result ≡ true → place < length proposals.now }
+    ensures taken { result ≡ true → slice_index_or taken.now place false ≡ true }
     ensures root { result ≡ true → (d : Proposal) → (slice_index_or proposals.now place d).root ≡ node }
+    ensures other { result ≡ false → (d : Proposal) → place < length proposals.now → slice_index_or taken.now place false ≡ true → (slice_index_or proposals.now place d).root ≢ node }
 {
     if place < proposals.len() && place < taken.len() {
         taken[place] && proposals[place].root == node
@@ -133,8 +135,11 @@ fn is_taken(proposals: &[Proposal], taken: &[bool], place: usize, node: u32) -> 
     }
 }
 
-// The place after those before a node and at it.
-fn place_after(proposals: &[Proposal], place: usize, node: u32) -> usize {
+// The place of the next proposal for the node behind this one, from that of the next one for this node.
+fn place_after(proposals: &[Proposal], place: usize, node: u32) -> usize
+    requires { IsNext proposals.now node place }
+    ensures { IsNext proposals.now (node + 1) result }
+{
     let mut place = place;
     while place < proposals.len() && proposals[place].root <= node {
         place += 1;
@@ -167,12 +172,13 @@ fn made(
     requires few { length rows.now < NODE_LIMIT }
     requires inside { node < length rows.now }
     requires node { node ≡ length literals.now }
+    requires next { IsNext proposals.now node place }
     requires standing { AllStand rows.now hashed.old.rows.items literals.now }
     requires sound { All (λ p. IsSoundBy rows.now (replacement p)) proposals.now }
     ensures sources { hashed.new.source_count ≡ hashed.old.source_count }
     ensures grown { OnOk result (IsGrown hashed.old.rows.items hashed.new.rows.items) }
     ensures stands { IfOk result (Stands rows.now hashed.new.rows.items node) }
-    ensures next { IfOk result (λ l. MakesNext rows.now proposals.now (remade hashed.old.rows.items literals.now) (remade hashed.new.rows.items (literals.now ++ l ∷ []))) }
+    ensures next { IfOk result (λ l. MakesNext rows.now proposals.now taken.now (remade hashed.old.rows.items literals.now) (remade hashed.new.rows.items (literals.now ++ l ∷ []))) }
     ensures source { IfOk result (λ l. node < hashed.old.source_count + 1 → l ≡ lit_of node) }
 {
     match fan_ins(rows[node as usize]) {
@@ -201,7 +207,7 @@ fn remade(
     requires sound { All (λ p. IsSoundBy rows.now (replacement p)) proposals.now }
     requires begins { Begins hashed.old.source_count (remade hashed.old.rows.items []) }
     ensures sources { hashed.new.source_count ≡ hashed.old.source_count }
-    ensures remade { IfOk result (λ v. AreRemade hashed.old.source_count rows.now proposals.now (length rows.now) (remade hashed.new.rows.items v.items)) }
+    ensures remade { IfOk result (λ v. AreRemade hashed.old.source_count rows.now proposals.now taken.now (length rows.now) (remade hashed.new.rows.items v.items)) }
     ensures few { OnOk result (length hashed.old.rows.items < NODE_LIMIT → length hashed.new.rows.items < NODE_LIMIT) }
     ensures all { IfOk result (λ v. length v.items ≡ length rows.now) }
     ensures standing { IfOk result (λ v. AllStand rows.now hashed.new.rows.items v.items) }
@@ -243,7 +249,7 @@ pub fn applied_together(
     ensures frame { IfOk result (λ g. frame_in g.frame ≡ frame_in graph.now.frame) }
     ensures names { IfOk result (λ g. g.frame.names ≡ graph.now.frame.names) }
     ensures values { IfOk result (λ g. (bits : List Bool) → rows_function g.rows g.observed bits ≡ rows_function graph.now.rows graph.now.observed bits) }
-    ensures applied { IfOk result (AreAppliedTogether graph.now proposals.now) }
+    ensures applied { IfOk result (AreAppliedTogether graph.now proposals.now taken.now) }
 {
     let mut hashed = HashedRows::new(alloc, graph.source_count as usize)?;
     let rows = graph.rows.as_slice();

@@ -1,5 +1,5 @@
 -- Sound proposals, and those that are left over.
-use Rattle.std.specs.Prelude.{ℕ, ◌⊎◌, All, List}
+use Rattle.std.specs.Prelude.{ℕ, ◌⊎◌, All, Bool, List}
 use Rattle.syn_rows.specs.declared.Lit.{Lit}
 use Rattle.syn_rows.specs.declared.Row.{Row}
 use Rattle.syn_gain.specs.declared.proposals.Proposal.{Proposal}
@@ -26,4 +26,4 @@ IsSoundSaving was p = IsSound was.rows p × SavesSome was.rows was.observed (rep
 -- One sound proposal that saves was applied alone, or many together.
 abbrev pub AppliesSome : Graph → Graph → Type 0
 AppliesSome was now =
-    ((p : Proposal) × IsSoundSaving was p × IsAppliedAlone was (replacement p) now) ⊎ ((found : List Proposal) × All (IsSoundSaving was) found × AreAppliedTogether was found now)
+    ((p : Proposal) × IsSoundSaving was p × IsAppliedAlone was (replacement p) now) ⊎ ((found : List Proposal) × (taken : List Bool) × All (IsSoundSaving was) found × AreAppliedTogether was found taken now)

@@ -74,8 +74,8 @@ returns-clause-applied c =
     let new = c.remade.new.hashed.rows.items in
     let literals = c.in_ok-literals.literals.items in
     let is = lits_are c.as_slice.result.now literals g.observed c.as_slice-2.result.now c.as_slice-3.result.now c.in_ok-observed.observed.items c.as_slice.ensures.value c.as_slice-2.ensures c.as_slice-3.ensures.value c.in_ok-observed.ensures in
-    let made : AreRemade g.source_count g.rows c.args.proposals.now (length g.rows) (remade new literals) =
-    subst₂ (λ (k : ℕ) (rs : List Row). AreRemade k rs c.args.proposals.now (length rs) (remade new literals)) c.in_ok-hashed.ensures.sources c.as_slice-rows.ensures c.in_ok-literals.ensures.remade in
+    let made : AreRemade g.source_count g.rows c.args.proposals.now c.args.taken.now (length g.rows) (remade new literals) =
+    subst₂ (λ (k : ℕ) (rs : List Row). AreRemade k rs c.args.proposals.now c.args.taken.now (length rs) (remade new literals)) c.in_ok-hashed.ensures.sources c.as_slice-rows.ensures c.in_ok-literals.ensures.remade in
     IfOk-map c.finish.result
     (λ made_graph exact. record {
       s = remade new literals;

@@ -1,4 +1,4 @@
-use Rattle.std.proofs.Common.{◌≡◌, ℕ, IfOk, List, false, [], ◌∷◌, ◌++◌, sym, ap, ap₂, ◌∙◌, subst, arith, inl, inr}
+use Rattle.std.proofs.Common.{◌≡◌, ℕ, IfOk, List, false, [], ◌∷◌, ◌++◌, length, sym, ap, ap₂, ◌∙◌, subst, arith, inl, inr}
 use Rattle.syn_rows.specs.declared.Lit.{Lit}
 use Rattle.syn_rows.specs.declared.Row.{Row}
 use Rattle.syn_rows.specs.Joining.{lit_of}
@@ -7,7 +7,7 @@ use Rattle.syn_rows.specs.Rows.{row_at}
 use Rattle.syn_rows.proofs.JoinLaws.{same_lit}
 use Rattle.syn_gain.specs.declared.proposals.Proposal.{Proposal}
 use Rattle.syn_gain.specs.Proposals.{replacement}
-use Rattle.syn_apply.specs.Applied.{remade}
+use Rattle.syn_apply.specs.Applied.{IsNext, NoneTaken, remade}
 use Rattle.syn_apply.specs.Remaking.{Stands}
 use Rattle.syn_apply.specs.Sound.{IsSoundBy}
 use Rattle.syn_apply.proofs.Standing.{IfOk-map, on_and_if, open_stands}
@@ -51,6 +51,8 @@ returns-then-here-clause-next c =
     (λ l rows literal. inr (inr (record {
       place = c.args.place;
       there = c.is_taken-here.ensures.there c.if-here.true;
+      next = subst (λ (n : ℕ). IsNext c.args.proposals.now n c.args.place) c.requires.node c.requires.next;
+      is_taken = c.is_taken-here.ensures.taken c.if-here.true;
       p = p;
       at = sym c.index-proposals-place.is;
       root = ap (λ (q : Proposal). q.root) c.index-proposals-place.is ∙ c.is_taken-here.ensures.root c.if-here.true p ∙ c.requires.node;
@@ -58,4 +60,10 @@ returns-then-here-clause-next c =
     }))) c.planned.ensures.rows c.planned.ensures.literal
 
 pub returns-else-here-clause-next : goal.returns-else-here-clause-next
-returns-else-here-clause-next c = IfOk-map c.joined.result (λ l h. inr (inl h)) c.joined.ensures.again
+returns-else-here-clause-next c =
+    let none : NoneTaken c.args.proposals.now c.args.taken.now (length c.args.literals.now) = record {
+      place = c.args.place;
+      next = subst (λ (n : ℕ). IsNext c.args.proposals.now n c.args.place) c.requires.node c.requires.next;
+      other = λ d lt taken same. c.is_taken-here.ensures.other c.if-here.false d lt taken (same ∙ sym c.requires.node);
+    } in
+    IfOk-map c.joined.result (λ l h. inr (inl (h, none))) c.joined.ensures.again

@@ -20,13 +20,14 @@ loop-node-preserved c =
     let keeps = c.loop-node.invariant in
     let made = c.in_ok-literal.ensures in
     let is : c.push.new.self.items ≡ lits ++ l ∷ [] = c.in_ok-push.ensures.items in
-    let next : MakesNext rows c.args.proposals.now (remade old lits) (remade new (lits ++ l ∷ [])) =
-    subst (λ (ls : List Lit). MakesNext rows c.args.proposals.now (remade old ls) (remade new (ls ++ l ∷ []))) c.as_slice-before.ensures.value made.next in
+    let next : MakesNext rows c.args.proposals.now c.args.taken.now (remade old lits) (remade new (lits ++ l ∷ [])) =
+    subst (λ (ls : List Lit). MakesNext rows c.args.proposals.now c.args.taken.now (remade old ls) (remade new (ls ++ l ∷ []))) c.as_slice-before.ensures.value made.next in
     record {
+      next = c.place_after-place.ensures;
       all = omega (arith, ap length is, length_push lits l, keeps.all);
       sources = made.sources ∙ keeps.sources;
-      remade = subst (λ (k : ℕ). AreRemade c.args.hashed.now.source_count rows c.args.proposals.now k (remade new c.push.new.self.items)) (next_is c.loop-node.node)
-          (remade old lits, keeps.remade, subst (λ (ls : List Lit). MakesNext rows c.args.proposals.now (remade old lits) (remade new ls)) (sym is) next);
+      remade = subst (λ (k : ℕ). AreRemade c.args.hashed.now.source_count rows c.args.proposals.now c.args.taken.now k (remade new c.push.new.self.items)) (next_is c.loop-node.node)
+          (remade old lits, keeps.remade, subst (λ (ls : List Lit). MakesNext rows c.args.proposals.now c.args.taken.now (remade old lits) (remade new ls)) (sym is) next);
       few = λ room. made.grown.few (keeps.few room);
       standing = subst (AllStand rows new) (sym is) (all_stand_more rows old new lits l made.grown keeps.standing (subst (λ k. Stands rows new k l) (sym keeps.all) made.stands));
       stay = subst (SourcesStay c.args.hashed.now.source_count) (sym is) (sources_stay_more c.args.hashed.now.source_count lits l keeps.stay

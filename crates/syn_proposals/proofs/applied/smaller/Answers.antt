@@ -21,7 +21,7 @@ first_applied-requires-clause-saves g c =
     All-read (λ p. SavesSome c.args.graph.now.rows c.args.graph.now.observed (replacement p)) c.args.found.now 0 c.index-found-0.result c.requires.some c.index-found-0.is c.requires.saves
 
 pub returns-then-better-clause-applied : goal.returns-then-better-clause-applied
-returns-then-better-clause-applied g c = inr (c.args.found.now, (λ i d lt. (c.requires.sound i d lt, c.requires.saves i d lt)), c.in_ok-next.ensures.applied)
+returns-then-better-clause-applied g c = inr (c.args.found.now, c.as_slice.result.now, (λ i d lt. (c.requires.sound i d lt, c.requires.saves i d lt)), c.in_ok-next.ensures.applied)
 
 pub returns-clause-applied : goal.returns-clause-applied
 returns-clause-applied g c =
