@@ -3,7 +3,7 @@ use Rattle.std.proofs.Common.{◌≡◌, ℕ, ◌<◌, ◌≤◌, ◌+◌, ◌*�
 use Rattle.std.proofs.lemmas.Bool.{and_parts, cases_lt, or_cases, both_ways}
 use Rattle.syn_netlist.specs.Faults.{AnswersCircle, IsAnsweredCircle, ReachesCircle}
 use Rattle.syn_netlist.specs.Lists.{output_of}
-use Rattle.syn_netlist.specs.Marks.{distinct_numbers, has_number}
+use Rattle.syn_lists.specs.Numbers.{distinct_numbers, has_number}
 use Rattle.syn_netlist.specs.Words.{distinct}
 use Rattle.syn_models.proofs.Circles.{circle_or_none, one_circle}
 use Rattle.syn_reader.specs.Limits.{most_sources}

@@ -8,8 +8,8 @@ use Rattle.syn_netlist.specs.Words.{distinct, has_word, is_word, without}
 use Rattle.syn_netlist.specs.Lists.{Frame, Latch, Netlist, latch_output, output_of, sources}
 use Rattle.syn_netlist.specs.Order.{Ordered}
 use Rattle.syn_netlist.proofs.Sets.{same_word, word_same, has_head, has_left, has_right}
-use Rattle.syn_shapes.specs.GraphShape.{GraphHasFunction, and_tables, end_tables, lit_of_table, node_names, place, shown}
-use Rattle.syn_shapes.proofs.Spelled.{graph_has_function_is, place_in_front}
+use Rattle.syn_network.specs.GraphShape.{GraphHasFunction, and_tables, end_tables, lit_of_table, node_names, place, shown}
+use Rattle.syn_network.proofs.Spelled.{graph_has_function_is, place_in_front}
 use Rattle.syn_rows.proofs.Folds.{one_valuation_is}
 use Rattle.syn_netlist.proofs.Evaluation.{ordered_has_one}
 use Rattle.syn_aiger_files.specs.declared.files.AigLatch.{AigLatch}

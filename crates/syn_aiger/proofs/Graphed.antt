@@ -12,9 +12,10 @@ use Rattle.syn_netlist.specs.Lists.{Frame, observed, sources}
 use Rattle.syn_netlist.specs.Numbers.{word_at}
 use Rattle.syn_netlist.specs.Values.{Consistent, HasFunction}
 use Rattle.syn_netlist.specs.Words.{has_word}
-use Rattle.syn_shapes.specs.GraphShape.{GraphHasFunction, place, rows_of}
-use Rattle.syn_shapes.specs.Graphs.{lit_at, source_lit}
-use Rattle.syn_shapes.specs.Spelling.{NetworkOfGraph, NetworkSpells}
+use Rattle.syn_network.specs.GraphShape.{GraphHasFunction, place, rows_of}
+use Rattle.syn_network.specs.NamedGraphs.{source_lit}
+use Rattle.syn_hashed.specs.Hashed.{lit_at}
+use Rattle.syn_network.specs.Spelling.{NetworkOfGraph, NetworkSpells}
 use Rattle.syn_graph.specs.declared.Graph.{Graph}
 use Rattle.syn_graph.specs.Graphs.{HasOwnSources, network_of}
 use Rattle.syn_aiger_files.specs.declared.fault.TheConstants.{MAX_GATES}

@@ -7,7 +7,7 @@ use Rattle.syn_rows.specs.declared.Lit.{Lit}
 use Rattle.syn_netlist.specs.Faults.{AnswersCircle}
 use Rattle.syn_netlist.specs.Lists.{Frame, Netlist, observed}
 use Rattle.syn_netlist.specs.Numbers.{word_at, words_at}
-use Rattle.syn_netlist.specs.Marks.{has_number}
+use Rattle.syn_lists.specs.Numbers.{has_number}
 use Rattle.syn_reader.specs.Limits.{most_sources}
 use Rattle.syn_aiger_files.specs.declared.fault.AigFault.{AigFault}
 use Rattle.syn_aiger_files.specs.declared.fault.AigFault.TheVariants.{Header, Line, Pair, Symbol, Undefined, Cycle, TooManySources, TooManyGates, NoMemory}

@@ -16,9 +16,9 @@ use Rattle.syn_netlist.specs.Order.{Ordered}
 use Rattle.syn_netlist.specs.Values.{Consistent}
 use Rattle.syn_netlist.proofs.Sets.{same_word, has_head, has_tail, has_left, has_right}
 use Rattle.syn_models.proofs.Once.{without_has}
-use Rattle.syn_shapes.specs.GraphShape.{GraphHasFunction, GraphShape, and_tables, lit_of, node_names, row_of, rows_of, source_row}
-use Rattle.syn_shapes.specs.Spelling.{gates_of}
-use Rattle.syn_shapes.proofs.Spelled.{source_rows, spelled_in_order}
+use Rattle.syn_network.specs.GraphShape.{GraphHasFunction, GraphShape, and_tables, lit_of, node_names, row_of, rows_of, source_row}
+use Rattle.syn_network.specs.Spelling.{gates_of}
+use Rattle.syn_network.proofs.Spelled.{source_rows, spelled_in_order}
 use Rattle.syn_aiger_files.specs.Files.{next_of, variable_of}
 use Rattle.syn_aiger_files.specs.Literals.{literals_from}
 use Rattle.syn_aiger_files.proofs.Spelled.{literals-append}

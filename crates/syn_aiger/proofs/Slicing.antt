@@ -7,15 +7,15 @@ use Rattle.std.proofs.lemmas.List.Folds.{list_all-append}
 use Rattle.syn_netlist.specs.declared.Latch as code
 use Rattle.syn_netlist.specs.Kept.{latch_in}
 use Rattle.syn_netlist.specs.Lists.{Latch, latch_output, sources}
-use Rattle.syn_netlist.specs.Marks.{has_number}
+use Rattle.syn_lists.specs.Numbers.{has_number}
 use Rattle.syn_netlist.specs.declared.LatchKind.{LatchKind}
 use Rattle.syn_netlist.specs.Numbers.{all_below, kind_at, word_at, words_at}
 use Rattle.syn_netlist.specs.Words.{distinct, has_word}
 use Rattle.syn_netlist.proofs.Sets.{distinct_push, same_word}
 use Rattle.syn_rows.specs.declared.Lit.{Lit}
-use Rattle.syn_shapes.specs.GraphShape.{place}
-use Rattle.syn_shapes.specs.Graphs.{source_lit}
-use Rattle.syn_shapes.proofs.Spelled.{place_lt}
+use Rattle.syn_network.specs.GraphShape.{place}
+use Rattle.syn_network.specs.NamedGraphs.{source_lit}
+use Rattle.syn_network.proofs.Spelled.{place_lt}
 use Rattle.syn_aiger_files.specs.declared.files.Aig.{Aig}
 use Rattle.syn_aiger_files.specs.declared.files.AigLatch.{AigLatch}
 use Rattle.syn_aiger_files.specs.declared.files.Place.{Place}

@@ -14,7 +14,7 @@ use Rattle.syn_netlist.specs.Lists.{Frame, Netlist, latch_output, observed, sour
 use Rattle.syn_netlist.specs.Numbers.{all_below, kind_at, word_at, words_at}
 use Rattle.syn_netlist.specs.Words.{is_word, without}
 use Rattle.syn_netlist.proofs.Places.{below_parts}
-use Rattle.syn_shapes.specs.GraphShape.{rows_of}
+use Rattle.syn_network.specs.GraphShape.{rows_of}
 use Rattle.syn_graph.specs.declared.Graph.{Graph}
 use Rattle.syn_graph.specs.Graphs.{network_of}
 use Rattle.syn_aiger_files.specs.declared.files.Aig.{Aig}

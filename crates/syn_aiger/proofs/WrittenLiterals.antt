@@ -8,14 +8,14 @@ use Rattle.syn_netlist.specs.declared.Latch.{Latch}
 use Rattle.syn_netlist.specs.Frames.{frame_in}
 use Rattle.syn_netlist.specs.Kept.{control_number, latch_in, latch_numbers, latches_below}
 use Rattle.syn_netlist.specs.Lists.{Netlist, latch_reads, observed}
-use Rattle.syn_netlist.specs.Marks.{has_number}
+use Rattle.syn_lists.specs.Numbers.{has_number}
 use Rattle.syn_netlist.specs.Numbers.{all_below, word_at, words_at}
 use Rattle.syn_netlist.specs.Words.{distinct, has_word}
 use Rattle.syn_netlist.proofs.Places.{below_parts, has_words}
 use Rattle.syn_netlist.proofs.Sets.{has_head, has_left, has_right, has_tail}
-use Rattle.syn_shapes.specs.GraphShape.{lit_of}
-use Rattle.syn_shapes.specs.Spelling.{NetworkSpells}
-use Rattle.syn_shapes.proofs.Networks.{network_spells}
+use Rattle.syn_network.specs.GraphShape.{lit_of}
+use Rattle.syn_network.specs.Spelling.{NetworkSpells}
+use Rattle.syn_network.proofs.SpelledNetworks.{network_spells}
 use Rattle.syn_graph.specs.declared.Graph.{Graph}
 use Rattle.syn_graph.specs.Graphs.{network_of}
 use Rattle.syn_aiger_files.specs.declared.files.AigLatch.{AigLatch}

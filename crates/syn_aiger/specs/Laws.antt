@@ -2,10 +2,10 @@
 use Rattle.std.specs.Prelude.{ℕ, ◌≡◌, ◌⊎◌, ◌^◌, ◌<◌, ◌≤◌, Bool, true, List, ◌∷◌, ◌++◌, length, map, None, Ok}
 use Rattle.std.specs.List.{list_all}
 use Rattle.syn_netlist.specs.Lists.{Frame, Netlist, latch_output}
-use Rattle.syn_netlist.specs.Marks.{distinct_numbers}
+use Rattle.syn_lists.specs.Numbers.{distinct_numbers}
 use Rattle.syn_netlist.specs.Order.{Ordered}
 use Rattle.syn_netlist.specs.Words.{is_word}
-use Rattle.syn_shapes.specs.GraphShape.{GraphShape, rows_of}
+use Rattle.syn_network.specs.GraphShape.{GraphShape, rows_of}
 use Rattle.syn_aiger_files.specs.declared.fault.AigFault.{AigFault}
 use Rattle.syn_aiger.specs.Faults.{IsFirstFault, Spells, Within}
 use Rattle.syn_aiger_files.specs.declared.files.Aig.{Aig}

@@ -5,8 +5,8 @@ use Rattle.syn_rows.specs.declared.Row.TheVariants.{Free, Source, And, Alias}
 use Rattle.syn_netlist.specs.Lists.{Frame, Latch, Netlist, latch_output, sources}
 use Rattle.syn_netlist.specs.Values.{Consistent}
 use Rattle.syn_netlist.specs.Words.{without}
-use Rattle.syn_shapes.specs.GraphShape.{lit_of, rows_of}
-use Rattle.syn_shapes.specs.Spelling.{gates_of}
+use Rattle.syn_network.specs.GraphShape.{lit_of, rows_of}
+use Rattle.syn_network.specs.Spelling.{gates_of}
 use Rattle.syn_aiger_files.specs.declared.files.Aig.{Aig}
 use Rattle.syn_aiger_files.specs.declared.files.AigAnd.{AigAnd}
 use Rattle.syn_aiger_files.specs.declared.files.AigLatch.{AigLatch}

@@ -14,7 +14,8 @@ use crate::file_numbers::Numbered;
 use crate::given::Given;
 use std::alloc::{AllocError, Global};
 use syn_aiger_files::AigLatch;
-use syn_netlist::{Frame, Items, Latch, Word};
+use syn_lists::Items;
+use syn_netlist::{Frame, Latch, Word};
 
 /// The frame of a file, and the literals of its names by their numbers.
 #[derive(Drop)]

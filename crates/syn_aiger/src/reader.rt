@@ -54,8 +54,8 @@ fn graph_of(alloc: Global, file: &Numbered) -> Result<Graph, AllocError>
     ensures few { IfOk result (λ graph. length graph.rows ≤ graph.source_count + 1 + MAX_GATES) }
     ensures outputs { IfOk result (λ graph. length graph.frame.outputs ≤ most_variables) }
 {
-    syn_shapes::network_of_graph();
-    syn_shapes::graph_has_function();
+    syn_network::network_of_graph();
+    syn_network::graph_has_function();
     let rows = rows(alloc, file)?;
     let given = names_of(alloc, file)?;
     let framed = frame_file(alloc, file, given)?;

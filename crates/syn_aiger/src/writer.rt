@@ -20,7 +20,8 @@ ghost use Rattle.syn_aiger.specs.Writing.{aig_of, and_by, ands_by, first_typed, 
 use std::alloc::{AllocError, Global};
 use syn_aiger_files::{Aig, AigAnd, AigLatch, Inputs, Place, Symbol, print};
 use syn_graph::Graph;
-use syn_netlist::{Frame, Items, Latch, Names, Word};
+use syn_lists::Items;
+use syn_netlist::{Frame, Latch, Names, Word};
 use syn_rows::{Lit, Row};
 
 /// Why a graph is written as no AIGER file.

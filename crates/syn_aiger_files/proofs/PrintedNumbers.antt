@@ -6,7 +6,7 @@ use Rattle.std.specs.Str.Parse.{AllDigits}
 use Rattle.std.proofs.lemmas.Bool.{cases_lt, cond-true, cond-false, and_from, and_left, or_from, not_from_false}
 use Rattle.std.proofs.lemmas.Str.Parse.{IsNumeralModel, numerals_by_fold, tells_digits, digit_from_value}
 use Rattle.std.proofs.lemmas.Fmt.{decimal_is_IsNumeral, length-decimal-le, first_decimal, decimal_digit, digits_value-decimal}
-use Rattle.syn_shapes.specs.Printed.{blanked, line}
+use Rattle.syn_netlist.specs.TextLines.{blanked, line}
 use Rattle.syn_aiger_files.specs.Texts.{and_number, begins_with_lf, begun, behind, delta, first_line, front, is_digit, is_numeral, lines_at, may_lead, number_of, numbers_of, numbers_on, or_none, value_from, words_of}
 use Rattle.syn_aiger_files.specs.Printed.{decimals, grouped, number_line}
 

@@ -19,14 +19,16 @@ use Rattle.syn_plan.specs.declared.plan.Plan.{Plan}
 use Rattle.syn_plan.specs.Plans.{plan_truth}
 use Rattle.syn_truth.specs.declared.Truth.{Truth}
 use Rattle.syn_truth.specs.Truth.{AtEach, value_of}
-use Rattle.syn_shapes.specs.GraphShape.{place, GraphHasFunction}
-use Rattle.syn_shapes.specs.GraphShape as shape
-use Rattle.syn_shapes.proofs.Spelled.{place_lt}
-use Rattle.syn_shapes.specs.Graphs.{IsGraph, IsHashed, lit_at, source_lit}
-use Rattle.syn_shapes.specs.Spelling.{numbers_from, network, NetworkOfGraph, NetworkSpells}
+use Rattle.syn_network.specs.GraphShape.{place, GraphHasFunction}
+use Rattle.syn_network.specs.GraphShape as shape
+use Rattle.syn_network.proofs.Spelled.{place_lt}
+use Rattle.syn_network.specs.NamedGraphs.{IsNamedGraph, source_lit}
+use Rattle.syn_hashed.specs.Hashed.{IsHashed, lit_at}
+use Rattle.syn_network.specs.Spelling.{network, NetworkOfGraph, NetworkSpells}
+use Rattle.syn_lists.specs.Numbers.{numbers_from}
 use Rattle.syn_hashed.specs.Growing.{Extends, value_by}
 use Rattle.syn_hashed.proofs.Rising.{source_value}
-use Rattle.syn_graph.specs.Graphs.{HasOwnSources}
+use Rattle.syn_network.specs.Networks.{HasOwnSources}
 use Rattle.syn_lutshapes.specs.Luts as spelled
 use Rattle.syn_lutshapes.specs.Luts.{fold_luts, lut_at, lut_value, luts_function, net_gates, ones_of, ones_value, signal_values, is_input, IsLutNet, none_exceeds}
 use Rattle.syn_lutshapes.specs.LutShape.{LutsHaveFunction, observed_of}
@@ -217,7 +219,7 @@ lut_value_is given old new t plan leaves l computes long is =
 
 -- the netlist of the graph is the graph of the LUT net's
 pub graph_of_luts : NetworkOfLuts → LutsHaveFunction → NetworkOfGraph → GraphHasFunction → SameFromFunction → (frame : Frame) (luts : List spelled.Lut) (lits : List Lit) (rows : List Row) (outs : List Lit) → distinct frame.clocks ≡ true → distinct (sources frame) ≡ true
-    → IsLutNet frame luts lits → (k : ℕ) → none_exceeds k luts ≡ true → IsGraph frame rows outs → ((bits : List Bool) → length bits ≡ length (sources frame) → rows_function rows outs bits ≡ luts_function luts lits bits)
+    → IsLutNet frame luts lits → (k : ℕ) → none_exceeds k luts ≡ true → IsNamedGraph frame rows outs → ((bits : List Bool) → length bits ≡ length (sources frame) → rows_function rows outs bits ≡ luts_function luts lits bits)
     → length rows ≤ length (sources frame) + 1 + net_gates luts → IsGraphOfLuts (lut_network frame luts lits) (network frame rows outs)
 graph_of_luts of_luts luts_have of_graph graph_has same_meaning frame luts lits rows outs clocks once net k small graph same fewer = record {
   same = same_meaning n m (luts_function luts lits) refl from to;

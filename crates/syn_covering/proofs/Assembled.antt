@@ -12,7 +12,7 @@ use Rattle.syn_rows.specs.Reach.{is_and}
 use Rattle.syn_rows.specs.Values.{rows_function, value_in}
 use Rattle.syn_netlist.specs.Frames.{frame_in}
 use Rattle.syn_netlist.specs.Lists.{Frame, sources}
-use Rattle.syn_shapes.specs.Graphs.{IsGraph}
+use Rattle.syn_network.specs.NamedGraphs.{IsNamedGraph}
 use Rattle.syn_truth.specs.declared.Truth.{Truth}
 use Rattle.syn_rows.specs.Nodes.{has_node}
 use Rattle.syn_cones.specs.Cones.{IsTruthOver}
@@ -82,7 +82,7 @@ luts_pushed P done new l i e long each here j lt =
 abbrev with_sign : ℕ → Lit → Lit
 with_sign s l = record { 0 = 2 * s + l.0 % 2 }
 
-module _ (frame : Frame) (k : ℕ) (cut : ℕ → List ℕ) (rows : List Row) (lits : List Lit) (marks : List Bool) (nodes numbers : List ℕ) (luts : List Lut) (outs : List Lit) (fit : AreLutCuts k rows cut) (graph : IsGraph frame rows lits) (swept : IsSwept cut rows lits marks 0) (nodes_are : nodes ≡ marked_from 0 marks) (numbered : (m : ℕ) → m < length marks → HasSignal (length (sources frame)) (marked_from 0 marks) m → number_at numbers m ≡ signal_of (length (sources frame)) (marked_from 0 marks) m) (made : AreLutsOf cut rows numbers nodes luts) (outs_are : outs ≡ map (numbered_lit numbers) lits) where
+module _ (frame : Frame) (k : ℕ) (cut : ℕ → List ℕ) (rows : List Row) (lits : List Lit) (marks : List Bool) (nodes numbers : List ℕ) (luts : List Lut) (outs : List Lit) (fit : AreLutCuts k rows cut) (graph : IsNamedGraph frame rows lits) (swept : IsSwept cut rows lits marks 0) (nodes_are : nodes ≡ marked_from 0 marks) (numbered : (m : ℕ) → m < length marks → HasSignal (length (sources frame)) (marked_from 0 marks) m → number_at numbers m ≡ signal_of (length (sources frame)) (marked_from 0 marks) m) (made : AreLutsOf cut rows numbers nodes luts) (outs_are : outs ≡ map (numbered_lit numbers) lits) where
   abbrev count : ℕ
   count = length (sources frame)
 

@@ -7,7 +7,7 @@ use Rattle.syn_rows.specs.declared.Row.{Row}
 use Rattle.syn_rows.specs.Rows.{row_at}
 use Rattle.syn_rows.specs.Reach.{is_and, ands_from}
 use Rattle.syn_netlist.specs.Lists.{Frame, sources}
-use Rattle.syn_shapes.specs.Graphs.{IsGraph}
+use Rattle.syn_network.specs.NamedGraphs.{IsNamedGraph}
 use Rattle.syn_lutshapes.specs.Luts.{Lut, rising}
 use Rattle.syn_covering.specs.Cuts.{AreLutCuts}
 use Rattle.syn_covering.specs.Mappings.{node_at, IsMapping, MappingIsSmall}
@@ -38,7 +38,7 @@ in_range low high [] le r f g = omega (arith, le)
 in_range low high (m ∷ ms) le r f g = omega (arith, f 0 (omega arith), rising_fits m ms high r g)
 
 -- the nodes that have LUTs stand behind the sources
-pub nodes_fit : (frame : Frame) (k : ℕ) (cut : ℕ → List ℕ) (rows : List Row) (lits : List Lit) (nodes : List ℕ) (luts : List Lut) (outs : List Lit) → AreLutCuts k rows cut → IsGraph frame rows lits → IsMapping cut (length (sources frame)) rows lits nodes luts outs
+pub nodes_fit : (frame : Frame) (k : ℕ) (cut : ℕ → List ℕ) (rows : List Row) (lits : List Lit) (nodes : List ℕ) (luts : List Lut) (outs : List Lit) → AreLutCuts k rows cut → IsNamedGraph frame rows lits → IsMapping cut (length (sources frame)) rows lits nodes luts outs
     → length (sources frame) + 1 + length nodes ≤ length rows
 nodes_fit frame k cut rows lits nodes luts outs fit graph mapping =
     in_range (length (sources frame) + 1) (length rows) nodes (omega (arith, graph.hashed.there)) mapping.rise

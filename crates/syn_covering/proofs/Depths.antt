@@ -7,7 +7,7 @@ use Rattle.syn_rows.specs.declared.Row.{Row}
 use Rattle.syn_rows.specs.Rows.{node_of, row_at}
 use Rattle.syn_rows.specs.Reach.{is_and}
 use Rattle.syn_netlist.specs.Lists.{Frame, sources}
-use Rattle.syn_shapes.specs.Graphs.{IsGraph}
+use Rattle.syn_network.specs.NamedGraphs.{IsNamedGraph}
 use Rattle.syn_rows.specs.Nodes.{has_node}
 use Rattle.syn_lutshapes.specs.Luts.{Lut, lut_at, greatest, lut_depth, signal_depths, depth_in, net_depth}
 use Rattle.syn_lutshapes.proofs.Deepest.{greatest_map, greatest_at, greatest_any, greatest_le, all_zero, all_zero_at, length-all_zero, depth_local}
@@ -17,7 +17,7 @@ use Rattle.syn_lutshapes.proofs.Folding.{length-luts}
 use Rattle.syn_covering.proofs.Matching.{has_node_at, place_of_at, signal_source, signal_node, signals_match}
 use Rattle.syn_covering.proofs.Mapped.{luts_made, node_high, node_is_and, observed_signal}
 
-module _ (frame : Frame) (k : ℕ) (cut : ℕ → List ℕ) (rows : List Row) (lits : List Lit) (nodes : List ℕ) (luts : List Lut) (outs : List Lit) (fit : AreLutCuts k rows cut) (graph : IsGraph frame rows lits) (mapping : IsMapping cut (length (sources frame)) rows lits nodes luts outs) (label : ℕ → ℕ) (deep : AreDepths rows label cut) where
+module _ (frame : Frame) (k : ℕ) (cut : ℕ → List ℕ) (rows : List Row) (lits : List Lit) (nodes : List ℕ) (luts : List Lut) (outs : List Lit) (fit : AreLutCuts k rows cut) (graph : IsNamedGraph frame rows lits) (mapping : IsMapping cut (length (sources frame)) rows lits nodes luts outs) (label : ℕ → ℕ) (deep : AreDepths rows label cut) where
   is_gate : (n : ℕ) → has_node nodes n ≡ true → is_and (row_at rows n) ≡ true
   is_gate n h = node_is_and frame k cut rows lits nodes luts outs fit graph mapping n h
 

@@ -8,11 +8,12 @@ use Rattle.syn_rows.specs.Rows.{node_of}
 use Rattle.syn_netlist.specs.Words.{has_word}
 use Rattle.syn_netlist.specs.Lists.{sources, observed}
 use Rattle.syn_netlist.specs.Numbers.{word_at}
-use Rattle.syn_netlist.specs.Marks.{has_number}
-use Rattle.syn_netlist.specs.Walk.{distinct_numbers}
-use Rattle.syn_shapes.specs.GraphShape.{place}
-use Rattle.syn_shapes.specs.Graphs.{source_lit, lit_at}
-use Rattle.syn_shapes.proofs.Spelled.{place_lt}
+use Rattle.syn_lists.specs.Numbers.{has_number}
+use Rattle.syn_lists.specs.Numbers.{distinct_numbers}
+use Rattle.syn_network.specs.GraphShape.{place}
+use Rattle.syn_network.specs.NamedGraphs.{source_lit}
+use Rattle.syn_hashed.specs.Hashed.{lit_at}
+use Rattle.syn_network.proofs.Spelled.{place_lt}
 use Rattle.syn_lutshapes.specs.Luts.{Lut, lut_at, rising, is_input, is_lut, Reached}
 use Rattle.syn_rows.specs.Nodes.{has_node}
 use Rattle.syn_cones.specs.Leaves.{rise_above}

@@ -12,7 +12,8 @@ use Rattle.syn_rows.specs.Values.{lit_value, is_open, given_by, value_in, values
 use Rattle.syn_rows.specs.Reach.{is_and}
 use Rattle.syn_rows.proofs.Folds.{one_valuation_is}
 use Rattle.syn_netlist.specs.Lists.{Frame, sources}
-use Rattle.syn_shapes.specs.Graphs.{is_gate, IsGraph}
+use Rattle.syn_network.specs.NamedGraphs.{IsNamedGraph}
+use Rattle.syn_hashed.specs.Hashed.{is_gate}
 use Rattle.syn_rows.specs.Nodes.{has_node}
 use Rattle.syn_cones.proofs.Swapping.{all_fit_between}
 use Rattle.syn_hashed.proofs.Orders.{hashed_in_order}
@@ -53,7 +54,7 @@ lits_map : (count : ℕ) (nodes : List ℕ) (u f : ℕ → Bool) (ls : List Lit)
 lits_map count nodes u f [] h = refl
 lits_map count nodes u f (l ∷ ls) h = ap₂ (λ (b : Bool) (bs : List Bool). b ∷ bs) h.0 (lits_map count nodes u f ls h.1)
 
-module _ (frame : Frame) (k : ℕ) (cut : ℕ → List ℕ) (rows : List Row) (lits : List Lit) (nodes : List ℕ) (luts : List Lut) (outs : List Lit) (fit : AreLutCuts k rows cut) (graph : IsGraph frame rows lits) (mapping : IsMapping cut (length (sources frame)) rows lits nodes luts outs) where
+module _ (frame : Frame) (k : ℕ) (cut : ℕ → List ℕ) (rows : List Row) (lits : List Lit) (nodes : List ℕ) (luts : List Lut) (outs : List Lit) (fit : AreLutCuts k rows cut) (graph : IsNamedGraph frame rows lits) (mapping : IsMapping cut (length (sources frame)) rows lits nodes luts outs) where
   abbrev pub count : ℕ
   count = length (sources frame)
 

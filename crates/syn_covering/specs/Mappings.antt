@@ -7,7 +7,7 @@ use Rattle.syn_rows.specs.Rows.{node_of, row_at}
 use Rattle.syn_rows.specs.Values.{rows_function}
 use Rattle.syn_rows.specs.Reach.{is_and, Ands}
 use Rattle.syn_netlist.specs.Lists.{Frame, sources}
-use Rattle.syn_shapes.specs.Graphs.{IsGraph}
+use Rattle.syn_network.specs.NamedGraphs.{IsNamedGraph}
 use Rattle.syn_truth.specs.Truth.{AtEach}
 use Rattle.syn_rows.specs.Nodes.{has_node}
 use Rattle.syn_cones.specs.Cones.{FitsBetween}
@@ -65,25 +65,25 @@ pub record IsMapping (cut : ℕ → List ℕ) (count : ℕ) (rows : List Row) (l
 
 -- Of a graph, over cuts that LUTs may read, such LUTs have the graph's function,
 abbrev pub MappingKeepsFunction : Type 0
-MappingKeepsFunction = (frame : Frame) (k : ℕ) (cut : ℕ → List ℕ) (rows : List Row) (lits : List Lit) (nodes : List ℕ) (luts : List Lut) (outs : List Lit) → AreLutCuts k rows cut → IsGraph frame rows lits
+MappingKeepsFunction = (frame : Frame) (k : ℕ) (cut : ℕ → List ℕ) (rows : List Row) (lits : List Lit) (nodes : List ℕ) (luts : List Lut) (outs : List Lit) → AreLutCuts k rows cut → IsNamedGraph frame rows lits
     → IsMapping cut (length (sources frame)) rows lits nodes luts outs → (bits : List Bool) → length bits ≡ length (sources frame) → luts_function luts outs bits ≡ rows_function rows lits bits
 
 -- their depth is the greatest label of an observed node, where the labels are the depths over the cuts,
 abbrev pub MappingHasDepth : Type 0
-MappingHasDepth = (frame : Frame) (k : ℕ) (cut : ℕ → List ℕ) (rows : List Row) (lits : List Lit) (nodes : List ℕ) (luts : List Lut) (outs : List Lit) → AreLutCuts k rows cut → IsGraph frame rows lits
+MappingHasDepth = (frame : Frame) (k : ℕ) (cut : ℕ → List ℕ) (rows : List Row) (lits : List Lit) (nodes : List ℕ) (luts : List Lut) (outs : List Lit) → AreLutCuts k rows cut → IsNamedGraph frame rows lits
     → IsMapping cut (length (sources frame)) rows lits nodes luts outs → (label : ℕ → ℕ) → AreDepths rows label cut → net_depth (length (sources frame)) luts ≡ greatest label (map node_of lits)
 
 -- they are a LUT net of the graph's frame,
 abbrev pub MappingIsNet : Type 0
-MappingIsNet = (frame : Frame) (k : ℕ) (cut : ℕ → List ℕ) (rows : List Row) (lits : List Lit) (nodes : List ℕ) (luts : List Lut) (outs : List Lit) → AreLutCuts k rows cut → IsGraph frame rows lits
+MappingIsNet = (frame : Frame) (k : ℕ) (cut : ℕ → List ℕ) (rows : List Row) (lits : List Lit) (nodes : List ℕ) (luts : List Lut) (outs : List Lit) → AreLutCuts k rows cut → IsNamedGraph frame rows lits
     → IsMapping cut (length (sources frame)) rows lits nodes luts outs → IsLutNet frame luts outs
 
 -- none of them has more than k inputs,
 abbrev pub MappingFits : Type 0
-MappingFits = (frame : Frame) (k : ℕ) (cut : ℕ → List ℕ) (rows : List Row) (lits : List Lit) (nodes : List ℕ) (luts : List Lut) (outs : List Lit) → AreLutCuts k rows cut → IsGraph frame rows lits
+MappingFits = (frame : Frame) (k : ℕ) (cut : ℕ → List ℕ) (rows : List Row) (lits : List Lit) (nodes : List ℕ) (luts : List Lut) (outs : List Lit) → AreLutCuts k rows cut → IsNamedGraph frame rows lits
     → IsMapping cut (length (sources frame)) rows lits nodes luts outs → none_exceeds k luts ≡ true
 
 -- and there are at most as many of them as reached ANDs.
 abbrev pub MappingIsSmall : Type 0
-MappingIsSmall = (frame : Frame) (k : ℕ) (cut : ℕ → List ℕ) (rows : List Row) (lits : List Lit) (nodes : List ℕ) (luts : List Lut) (outs : List Lit) (ands : ℕ) → AreLutCuts k rows cut → IsGraph frame rows lits
+MappingIsSmall = (frame : Frame) (k : ℕ) (cut : ℕ → List ℕ) (rows : List Row) (lits : List Lit) (nodes : List ℕ) (luts : List Lut) (outs : List Lit) (ands : ℕ) → AreLutCuts k rows cut → IsNamedGraph frame rows lits
     → IsMapping cut (length (sources frame)) rows lits nodes luts outs → Ands rows lits ands → length luts ≤ ands

@@ -17,8 +17,8 @@ use crate::needs::needed;
 use crate::signals::number;
 use std::alloc::{AllocError, Global};
 use syn_graph::{Graph, copy_frame};
+use syn_lists::Items;
 use syn_lutnet::LutNet;
-use syn_netlist::Items;
 
 /// The LUTs of a graph over one cut for each AND: of the observed ANDs, and again and again of the ANDs among the leaves of
 /// their cuts, in node order. Where the label of an AND is one more than the greatest of a leaf of its cut, and any other's

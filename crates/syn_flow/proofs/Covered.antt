@@ -8,7 +8,8 @@ use Rattle.syn_rows.specs.declared.Row.{Row}
 use Rattle.syn_rows.specs.Rows.{node_of}
 use Rattle.syn_rows.specs.Reach.{is_and}
 use Rattle.syn_netlist.specs.Lists.{Frame, sources}
-use Rattle.syn_shapes.specs.Graphs.{IsGraph, lit_at}
+use Rattle.syn_network.specs.NamedGraphs.{IsNamedGraph}
+use Rattle.syn_hashed.specs.Hashed.{lit_at}
 use Rattle.syn_lutshapes.specs.Luts.{depth_in, greatest, is_input, IsLutNet, Lut, lut_at, lut_depth, net_depth, none_exceeds, signal_depths}
 use Rattle.syn_covering.specs.Mappings.{node_at}
 use Rattle.syn_flow.specs.Witness.{AreBorneOut, Shown}
@@ -63,7 +64,7 @@ lut_deep frame luts outs net j lt =
     lut_step lut_depth 0 depth_local (all_zero (suc (length (sources frame)))) luts (length (sources frame) + 1 + j) j (omega (arith, length-all_zero (length (sources frame)))) lt
     (inputs_in (length (sources frame) + 1 + j) (lut_at luts j).inputs (inputs_of frame luts outs net j lt))
 
-covered : (k : ℕ) (frame : Frame) (rows : List Row) (lits : List Lit) (label : ℕ → ℕ) (shown : List Shown) → IsGraph frame rows lits → AreBorneOut k rows label shown
+covered : (k : ℕ) (frame : Frame) (rows : List Row) (lits : List Lit) (label : ℕ → ℕ) (shown : List Shown) → IsNamedGraph frame rows lits → AreBorneOut k rows label shown
     → (nodes : List ℕ) (luts : List Lut) (outs : List Lit) → IsCovering k frame rows lits nodes luts outs
     → (limit j : ℕ) → j < limit → j < length luts → label (node_at nodes j) ≤ depth_in (signal_depths (length (sources frame)) luts) (length (sources frame) + 1 + j)
 covered k frame rows lits label shown graph out nodes luts outs cover zero j lt there = absurd (omega (arith, lt))
@@ -100,7 +101,7 @@ bound_coverings k frame rows lits label shown graph out nodes luts outs cover i 
     omega (arith, low, same, greatest_any (signal_depths (length (sources frame)) luts) (node_of (lit_at outs i)))
 
 -- so the greatest label of an observed node is the least depth, where it is a depth
-pub labels_least : (k : ℕ) (frame : Frame) (rows : List Row) (lits : List Lit) (label : ℕ → ℕ) (shown : List Shown) → IsGraph frame rows lits → AreBorneOut k rows label shown → IsLeastDepth k frame rows lits (greatest label (map node_of lits))
+pub labels_least : (k : ℕ) (frame : Frame) (rows : List Row) (lits : List Lit) (label : ℕ → ℕ) (shown : List Shown) → IsNamedGraph frame rows lits → AreBorneOut k rows label shown → IsLeastDepth k frame rows lits (greatest label (map node_of lits))
 labels_least k frame rows lits label shown graph out nodes luts outs cover =
     greatest_le label (map node_of lits) (net_depth (length (sources frame)) luts) (λ i lt.
     let inside : i < length lits = omega (arith, lt, length-map lits node_of) in

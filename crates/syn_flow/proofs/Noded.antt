@@ -23,7 +23,7 @@ use Rattle.syn_flow.specs.Labels.{IsFlowLabel}
 use Rattle.syn_flow.specs.Labelling.{AreLabelled, cut_at, IsChoice, IsNode}
 use Rattle.syn_rows.proofs.Nodes.{has_here, has_there}
 use Rattle.syn_hashed.proofs.Orders.{hashed_in_order}
-use Rattle.syn_shapes.proofs.Gates.{first_below, first_there, gate_parts, GateParts}
+use Rattle.syn_network.proofs.Gates.{first_below, first_there, gate_parts, GateParts}
 use Rattle.syn_cones.proofs.Swapping.{fan_ins_are_cut}
 use Rattle.syn_cones.proofs.Walking.{refers_row}
 use Rattle.syn_paths.proofs.Falling.{greatest_over, refers_below}

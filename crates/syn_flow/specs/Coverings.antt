@@ -5,7 +5,8 @@ use Rattle.syn_rows.specs.declared.Row.{Row}
 use Rattle.syn_rows.specs.Rows.{node_of, row_at}
 use Rattle.syn_rows.specs.Reach.{is_and}
 use Rattle.syn_netlist.specs.Lists.{Frame, sources}
-use Rattle.syn_shapes.specs.Graphs.{IsGraph, lit_at}
+use Rattle.syn_network.specs.NamedGraphs.{IsNamedGraph}
+use Rattle.syn_hashed.specs.Hashed.{lit_at}
 use Rattle.syn_cones.specs.Cones.{IsCut}
 use Rattle.syn_lutshapes.specs.Luts.{IsLutNet, Lut, lut_at, net_depth, none_exceeds}
 use Rattle.syn_covering.specs.Mappings.{node_at}
@@ -34,5 +35,5 @@ IsLeastDepth k frame rows lits depth = (nodes : List ℕ) (luts : List Lut) (out
 
 -- Labels that paths bear out undercut no covering: no covering of the graph is shallower than the label of an observed node.
 abbrev pub BorneOutBoundCoverings : Type 0
-BorneOutBoundCoverings = (k : ℕ) (frame : Frame) (rows : List Row) (lits : List Lit) (label : ℕ → ℕ) (shown : List Shown) → IsGraph frame rows lits → AreBorneOut k rows label shown
+BorneOutBoundCoverings = (k : ℕ) (frame : Frame) (rows : List Row) (lits : List Lit) (label : ℕ → ℕ) (shown : List Shown) → IsNamedGraph frame rows lits → AreBorneOut k rows label shown
     → (nodes : List ℕ) (luts : List Lut) (outs : List Lit) → IsCovering k frame rows lits nodes luts outs → (i : ℕ) → i < length lits → label (node_of (lit_at lits i)) ≤ net_depth (length (sources frame)) luts

@@ -17,8 +17,8 @@ use crate::witness::FlowProof;
 use std::alloc::{AllocError, Global};
 use syn_covering::net_of;
 use syn_graph::Graph;
+use syn_lists::Items;
 use syn_lutnet::LutNet;
-use syn_netlist::Items;
 
 /// The LUTs, of at most `k` inputs, of a graph at the least depth that any covering has, and what bears out the labels. The
 /// label of a source is 0, that of an AND over sources alone 1. Else let p be the greatest label of its fan-ins, and its top

@@ -10,7 +10,8 @@ ghost use Rattle.syn_lutnet.specs.Data.{luts_data};
 use crate::depths::{deepest, depths};
 use crate::luts::Lut;
 use std::alloc::{AllocError, Global};
-use syn_netlist::{Frame, Items};
+use syn_lists::Items;
+use syn_netlist::Frame;
 use syn_rows::Lit;
 
 /// A network of lookup tables: signal 0 is the constant 0, then come the sources of the frame, then the LUTs, each of

@@ -13,13 +13,13 @@ use Rattle.syn_netlist.specs.Lists.{Table, Netlist, output_of, latch_reads, sour
 use Rattle.syn_netlist.specs.Numbers.{word_at}
 use Rattle.syn_netlist.specs.Order.{Ordered}
 use Rattle.syn_netlist.proofs.Sets.{has_word-append, has_head, has_tail}
-use Rattle.syn_shapes.specs.GraphShape.{place, shown, lit_of_table, is_end_cover, is_end_table}
-use Rattle.syn_shapes.specs.Graphs.{lit_at}
-use Rattle.syn_shapes.specs.Spelling.{ends_from}
-use Rattle.syn_shapes.proofs.Spelled.{place_in_front}
-use Rattle.syn_shapes.proofs.Inner.{filtered, distinct-filter, length-inner_names, inner_names_distinct, inner_names_free}
-use Rattle.syn_shapes.proofs.Gates.{lit}
-use Rattle.syn_shapes.proofs.Ends.{firsts_distinct, AllWithin, end_outputs, ends_are_ends, ends_read, end_found, end_back}
+use Rattle.syn_network.specs.GraphShape.{place, shown, lit_of_table, is_end_cover, is_end_table}
+use Rattle.syn_hashed.specs.Hashed.{lit_at}
+use Rattle.syn_network.specs.Spelling.{ends_from}
+use Rattle.syn_network.proofs.Spelled.{place_in_front}
+use Rattle.syn_network.proofs.Inner.{filtered, distinct-filter, length-inner_names, inner_names_distinct, inner_names_free}
+use Rattle.syn_network.proofs.Gates.{lit}
+use Rattle.syn_network.proofs.Ends.{firsts_distinct, AllWithin, end_outputs, ends_are_ends, ends_read, end_found, end_back}
 use Rattle.syn_lutshapes.specs.Luts.{Lut, IsClosed, Reached, none_exceeds, net_depth, net_gates}
 use Rattle.syn_lutshapes.specs.LutShape.{has_more, lut_tables, end_tables, signal_names, lut_of, luts_of, lit_of, observed_of, is_lut_table, LutShape}
 use Rattle.syn_lutshapes.specs.LutSpelling.{lut_tables_of, lut_names, lut_network, NetworkOfLuts}

@@ -8,13 +8,13 @@ use Rattle.std.proofs.lemmas.List.{length-map, length_push, get_or_append_left}
 use Rattle.syn_netlist.specs.Words.{has_word, distinct}
 use Rattle.syn_netlist.specs.Costs.{is_sign}
 use Rattle.syn_netlist.specs.Lists.{Table, output_of}
-use Rattle.syn_netlist.specs.Marks.{has_number}
+use Rattle.syn_lists.specs.Numbers.{has_number}
 use Rattle.syn_netlist.specs.Numbers.{word_at}
 use Rattle.syn_netlist.specs.Order.{reads_known}
-use Rattle.syn_netlist.specs.Walk.{distinct_numbers}
+use Rattle.syn_lists.specs.Numbers.{distinct_numbers}
 use Rattle.syn_netlist.proofs.Sets.{same_word}
 use Rattle.syn_truth.specs.Truth.{digit}
-use Rattle.syn_shapes.proofs.Gates.{has_at, place_back}
+use Rattle.syn_network.proofs.Gates.{has_at, place_back}
 use Rattle.syn_lutshapes.specs.Luts.{Lut, rising, is_input, is_lut, lut_at, none_exceeds}
 use Rattle.syn_lutshapes.specs.LutShape.{has_more, is_one, row_minterm, signal_of, lut_of, is_minterm_row, is_lut_table}
 use Rattle.syn_lutshapes.specs.LutSpelling.{minterm_row, signal_name, lut_table, lut_tables_of}

@@ -8,10 +8,11 @@ use Rattle.syn_rows.specs.Reach.{HasObserved}
 use Rattle.syn_netlist.specs.Words.{has_word}
 use Rattle.syn_netlist.specs.Lists.{Frame, sources, observed}
 use Rattle.syn_netlist.specs.Numbers.{word_at}
-use Rattle.syn_netlist.specs.Walk.{distinct_numbers}
-use Rattle.syn_shapes.specs.GraphShape.{place}
-use Rattle.syn_shapes.specs.Graphs.{source_lit, lit_at}
-use Rattle.syn_shapes.specs.Spelling.{numbers_from}
+use Rattle.syn_lists.specs.Numbers.{distinct_numbers}
+use Rattle.syn_network.specs.GraphShape.{place}
+use Rattle.syn_network.specs.NamedGraphs.{source_lit}
+use Rattle.syn_hashed.specs.Hashed.{lit_at}
+use Rattle.syn_lists.specs.Numbers.{numbers_from}
 use Rattle.syn_truth.specs.declared.Truth.{Truth}
 use Rattle.syn_truth.specs.Truth.{AtEach, minterm_of, value_at, value_of}
 use Rattle.syn_plan.specs.Factoring.{factored, falling}

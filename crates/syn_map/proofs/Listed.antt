@@ -8,7 +8,7 @@ use Rattle.syn_rows.specs.declared.Row.TheVariants.{Free, Source, And, Alias}
 use Rattle.syn_rows.specs.Rows.{row_at, node_of}
 use Rattle.syn_rows.specs.Reach.{is_and}
 use Rattle.syn_hashed.specs.Hashed.{is_gate, IsHashed}
-use Rattle.syn_shapes.proofs.Gates.{gate_parts, first_below}
+use Rattle.syn_network.proofs.Gates.{gate_parts, first_below}
 use Rattle.syn_cones.specs.Cones.{IsCut}
 use Rattle.syn_cuts.specs.Cuts.{union, comes_before, put, arranged, is_small, unions_with, unions, merge_cut_sets, row_cuts, listed_cuts}
 use Rattle.syn_cuts.specs.Laws.{IsListedCut}

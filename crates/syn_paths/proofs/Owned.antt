@@ -12,7 +12,7 @@ use Rattle.syn_hashed.specs.Hashed.{is_gate, IsHashed}
 use Rattle.syn_cones.specs.Cones.{is_end, IsCut, Refers}
 use Rattle.syn_paths.specs.Tops.{IsInTop, label_in}
 use Rattle.syn_rows.proofs.Nodes.{has_here, has_one, has_there, here_or_there}
-use Rattle.syn_shapes.proofs.Gates.{first_there, gate_parts, second_there}
+use Rattle.syn_network.proofs.Gates.{first_there, gate_parts, second_there}
 use Rattle.syn_hashed.proofs.Orders.{hashed_in_order}
 use Rattle.syn_cones.proofs.Walking.{refers_row}
 use Rattle.syn_paths.proofs.Falling.{and_refs, cut_below, refers_below}

@@ -7,8 +7,7 @@ ghost use Rattle.syn_commit.specs.Giving.{IsAtRest};
 ghost use Rattle.syn_pool.specs.Closing.{IsLeft};
 
 use std::alloc::{AllocError, Global};
-use syn_graph::Graph;
-use syn_strash::compact;
+use syn_graph::{Graph, compact};
 use syn_table::{Seat, Shared};
 
 /// Closes the table of a graph, when each other seat was joined, and compacts its rows: the graph that is left. The only
@@ -32,6 +31,6 @@ pub(crate) fn close(
     let _count = graph.count();
     let rows = closed.rows.as_slice();
     let literals = graph.observed.as_slice();
-    let next = compact(alloc, &graph.frame, rows, literals)?;
+    let next = compact(alloc, graph.source_count, rows, literals)?;
     Ok(next)
 }

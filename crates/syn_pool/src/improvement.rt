@@ -1,7 +1,8 @@
 //! The one way in which a proposer is run over a graph.
 
-ghost use Rattle.std.specs.Prelude.{◌≡◌, IfErr, IfOk};
-ghost use Rattle.syn_pool.specs.Improving.{IsImproved};
+ghost use Rattle.std.specs.Prelude.{IfNone, IfOk, IfSome};
+ghost use Rattle.syn_proposals.specs.Closing.{Closed};
+ghost use Rattle.syn_pool.specs.Improving.{allowed, IsImproved};
 
 use crate::kept_levels::kept_closed;
 use crate::passes::pass;
@@ -24,20 +25,20 @@ pub struct PassSettings {
     pub levels: bool,
 }
 
-/// The graph that a pass of a proposer leaves, without its report: the same frame, the same values of the observed signals, no more
-/// ANDs, and no proposal saves; where levels are kept, no observed signal is deeper, and no proposal saves that keeps its root's
-/// level. With one worker it is the same each time; with several it may depend on which commits first. The gate is told of each
-/// commit. Where memory is refused, the same graph comes back.
+/// The graph that a pass of a proposer leaves, without its report: the same function, no more ANDs, and no proposal saves; where
+/// levels are kept, no observed signal is deeper, and no proposal saves that keeps its root's level. None comes where that is so of
+/// the given graph. With one worker it is the same each time; with several it may depend on which commits first. The gate is told
+/// of each commit. The only error is want of memory.
 pub fn improve<R: Threads + Sync, P: Proposer + Drop, G: Gate>(
     rt: &R,
     alloc: Global,
-    graph: Graph,
+    graph: &Graph,
     proposer: P,
     settings: PassSettings,
     gate: &G,
-) -> Result<Graph, (Graph, AllocError)>
-    ensures improved { IfOk result (IsImproved (P.proposals proposer) settings.levels graph) }
-    ensures refused { IfErr result (λ e. e.0 ≡ graph) }
+) -> Result<Option<Graph>, AllocError>
+    ensures some { IfOk result (λ made. IfSome made (IsImproved (P.proposals proposer) settings.levels graph.now)) }
+    ensures none { IfOk result (λ made. IfNone made (Closed graph.now.rows graph.now.observed (allowed settings.levels (P.proposals proposer) graph.now.rows))) }
 {
     let PassSettings {
         workers,
@@ -45,8 +46,10 @@ pub fn improve<R: Threads + Sync, P: Proposer + Drop, G: Gate>(
         levels,
     } = settings;
     if !levels {
-        let (made, _report) = pass(rt, alloc, graph, &proposer, workers, zero_gain, gate)?;
-        return Ok(made);
+        return match pass(rt, alloc, graph, &proposer, workers, zero_gain, gate)? {
+            Some((made, _report)) => Ok(Some(made)),
+            None => Ok(None),
+        };
     }
     let keeping = Keeping { proposer };
     let course = Course {
@@ -57,9 +60,5 @@ pub fn improve<R: Threads + Sync, P: Proposer + Drop, G: Gate>(
         workers,
         zero_gain,
     };
-    match kept_closed(&course, &graph) {
-        Ok(Some(made)) => Ok(made),
-        Ok(None) => Ok(graph),
-        Err(error) => Err((graph, error)),
-    }
+    kept_closed(&course, graph)
 }

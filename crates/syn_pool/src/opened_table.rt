@@ -13,7 +13,7 @@ use crate::visits::is_gate;
 use std::alloc::{AllocError, Global};
 use syn_commit::Hints;
 use syn_graph::Graph;
-use syn_keys::spread;
+use syn_table::spread;
 use syn_rows::Row;
 use syn_table::{Seat, Shared};
 use syn_workers::Workers;

@@ -1,8 +1,6 @@
 //! Rounds until the graph is closed.
 
-ghost use Rattle.std.specs.Prelude.{◌≡◌, ◌+◌, ◌≤◌, ℕ, Bool, false, not, List, IfErr, IfNone, IfOk, IfSome, length};
-ghost use Rattle.syn_rows.specs.Values.{rows_function};
-ghost use Rattle.syn_netlist.specs.Frames.{frame_in};
+ghost use Rattle.std.specs.Prelude.{◌≡◌, ◌+◌, ◌≤◌, ℕ, false, not, List, IfErr, IfNone, IfOk, IfSome, length};
 ghost use Rattle.syn_proposals.specs.Closing.{Closed};
 ghost use Rattle.syn_proposals.specs.Following.{Follows};
 ghost use Rattle.syn_proposals.specs.Gains.{IsGain};
@@ -10,7 +8,7 @@ ghost use Rattle.syn_pool.specs.Turns.{IsPassReport};
 ghost use Rattle.syn_pool.specs.Steps.{IsStepOf};
 
 use crate::neighbourhoods::Seen;
-use crate::reports::{NOTHING, both};
+use crate::reports::both;
 use crate::scene::Course;
 use crate::steps::{Step, one_step};
 use std::alloc::{AllocError, Global};
@@ -77,29 +75,22 @@ pub(crate) fn closed<R: Threads + Sync, P: Proposer, G: Gate>(
 }
 
 /// Lets workers commit proposals on a graph, and then checks it; workers commit for what the check finds, or it is applied,
-/// again and again until no proposal saves: the same frame, the same values of the observed signals, fewer ANDs by at least
-/// what the report says, and closed. The report has what the workers' commits did and gained, and nothing of what was applied
+/// again and again until no proposal saves: the same function, fewer ANDs by at least what the report says, and closed. None
+/// comes where the graph is closed. The report has what the workers' commits did and gained, and nothing of what was applied
 /// without them. Where `zero_gain` is true, commits of gain 0 are let through, and workers commit again before the first check
-/// for as long as a round leads to much, for ANDs in whose neighbourhood something is new. The gate is told of each commit.
-/// Where memory is refused, the same graph comes back.
-#[tactic(auto, using(crate::proofs::Turning::no_turn))]
+/// for as long as a round leads to much, for ANDs in whose neighbourhood something is new. The gate is told of each commit. The
+/// only error is want of memory.
 pub fn pass<R: Threads + Sync, P: Proposer, G: Gate>(
     rt: &R,
     alloc: Global,
-    graph: Graph,
+    graph: &Graph,
     proposer: &P,
     workers: Workers,
     zero_gain: bool,
     gate: &G,
-) -> Result<(Graph, Report), (Graph, AllocError)>
-    ensures frame { IfOk result (λ r. frame_in r.0.frame ≡ frame_in graph.frame) }
-    ensures names { IfOk result (λ r. r.0.frame.names ≡ graph.frame.names) }
-    ensures values { IfOk result (λ r. (bits : List Bool) → rows_function r.0.rows r.0.observed bits ≡ rows_function graph.rows graph.observed bits) }
-    ensures count { IfOk result (λ r. length r.0.rows + r.1.gained ≤ length graph.rows) }
-    ensures closed { IfOk result (λ r. Closed r.0.rows r.0.observed (P.proposals proposer.now r.0.rows)) }
-    ensures gains { IfOk result (λ r. zero_gain ≡ false → r.1.done ≤ r.1.gained) }
-    ensures report { IfOk result (λ r. IsPassReport graph r.0 r.1) }
-    ensures refused { IfErr result (λ e. e.0 ≡ graph) }
+) -> Result<Option<(Graph, Report)>, AllocError>
+    ensures some { IfOk result (λ made. IfSome made (λ r. Follows graph.now r.1.gained r.0 × Closed r.0.rows r.0.observed (P.proposals proposer.now r.0.rows) × IsGain (not zero_gain) r.1 × IsPassReport graph.now r.0 r.1)) }
+    ensures none { IfOk result (λ made. IfNone made (Closed graph.now.rows graph.now.observed (P.proposals proposer.now graph.now.rows))) }
 {
     let course = Course {
         rt,
@@ -109,9 +100,5 @@ pub fn pass<R: Threads + Sync, P: Proposer, G: Gate>(
         workers,
         zero_gain,
     };
-    match closed(&course, &graph) {
-        Ok(Some(made)) => Ok(made),
-        Ok(None) => Ok((graph, NOTHING)),
-        Err(error) => Err((graph, error)),
-    }
+    closed(&course, graph)
 }

@@ -1,6 +1,6 @@
 //! One step of a pass: a round of workers, then the check, and what it finds is committed or applied.
 
-ghost use Rattle.std.specs.Prelude.{◌≡◌, ◌<◌, Bool, not, false, true, All, IfNone, IfOk, IfSome, length};
+ghost use Rattle.std.specs.Prelude.{◌≡◌, ◌<◌, ◌≤◌, Bool, not, false, true, All, IfNone, IfOk, IfSome, length};
 ghost use Rattle.syn_rows.specs.Reach.{is_and};
 ghost use Rattle.syn_rows.specs.Rows.{row_at};
 ghost use Rattle.syn_gain.specs.Proposals.{replacement};
@@ -47,8 +47,12 @@ fn roots_of(alloc: Global, proposals: &[Proposal]) -> Result<Vec<u32>, AllocErro
     Ok(roots)
 }
 
-// The most leftovers that are committed for; more are applied at once, which takes less for each.
+// The most leftovers that are committed for at once; more are applied first, which takes less for each.
 const MAX_COMMITTED: usize = 1024;
+
+// Where applying leftovers takes away less than one AND for so many of them, they are in each other's way, and committing for
+// them may gain more.
+const MIN_APPLIED: usize = 4;
 
 // The most leftovers that are left to one worker: several would meet around so few, and leave more to the next check.
 const MAX_ALONE: usize = 256;
@@ -68,9 +72,45 @@ fn workers_for(leftovers: usize, workers: Workers) -> Workers {
     }
 }
 
-// A graph with fewer ANDs in place of one with leftovers: workers commit for their roots and around them; where there are
-// many, or nothing is gained so, the leftovers are applied.
+// A graph in place of one with leftovers, and better than another that isn't larger: workers commit for their roots and around
+// them. There may be none.
 #[tactic(auto, using(crate::proofs::Turning::one_round))]
+fn committed<R: Threads + Sync, P: Proposer, G: Gate>(
+    course: &Course<'_, R, P, G>,
+    graph: &Graph,
+    lists: &P::Lists,
+    found: &[Proposal],
+    than: &Graph,
+) -> Result<Option<Improved>, AllocError>
+    requires lists { P.is_lists_of course.now.proposer.now lists.now graph.now.rows }
+    requires than { length than.now.rows ≤ length graph.now.rows }
+    ensures { IfOk result (λ made. IfSome made (λ m. IsFewer graph.now m.report m.graph)) }
+{
+    let roots = roots_of(course.alloc, found)?;
+    let tour = Tour {
+        nodes: roots.as_slice(),
+        order: Order::Numbers,
+        workers: workers_for(found.len(), course.workers),
+        zero_gain: false,
+        looks: false,
+    };
+    if let Some(improved) = round_at(course, graph, lists, &tour)? {
+        if is_better(course.alloc, course.proposer, than, &improved.graph)? {
+            return Ok(Some(improved));
+        }
+    }
+    Ok(None)
+}
+
+// Whether a graph that comes of applying so many leftovers of another is hardly smaller than that.
+fn gains_little(graph: &Graph, next: &Graph, leftovers: usize) -> bool {
+    let (before, after) = (graph.rows.as_slice().len(), next.rows.as_slice().len());
+    before.saturating_sub(after) < leftovers / MIN_APPLIED
+}
+
+// A graph with fewer ANDs in place of one with leftovers: workers commit for their roots and around them; where there are
+// many, or nothing is gained so, the leftovers are applied. Where that takes away few ANDs for many leftovers, workers commit for
+// these, and the smaller graph comes.
 fn commit_or_apply<R: Threads + Sync, P: Proposer, G: Gate>(
     course: &Course<'_, R, P, G>,
     graph: &Graph,
@@ -86,22 +126,18 @@ fn commit_or_apply<R: Threads + Sync, P: Proposer, G: Gate>(
     requires sound { All (IsSound graph.now.rows) found.now }
     ensures { IfOk result (λ m. IsFewer graph.now m.report m.graph) }
 {
-    if found.len() <= MAX_COMMITTED {
-        let roots = roots_of(course.alloc, found)?;
-        let tour = Tour {
-            nodes: roots.as_slice(),
-            order: Order::Numbers,
-            workers: workers_for(found.len(), course.workers),
-            zero_gain: false,
-            looks: false,
-        };
-        if let Some(improved) = round_at(course, graph, lists, &tour)? {
-            if is_better(course.alloc, course.proposer, graph, &improved.graph)? {
-                return Ok(improved);
-            }
+    let is_many = found.len() > MAX_COMMITTED;
+    if !is_many {
+        if let Some(improved) = committed(course, graph, lists, found, graph)? {
+            return Ok(improved);
         }
     }
     let next = smaller(course.alloc, graph, uses, course.proposer, found)?;
+    if is_many && gains_little(graph, &next, found.len()) {
+        if let Some(improved) = committed(course, graph, lists, found, &next)? {
+            return Ok(improved);
+        }
+    }
     Ok(Improved {
         graph: next,
         report: NOTHING,

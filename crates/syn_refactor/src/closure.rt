@@ -1,7 +1,8 @@
 //! Refactoring until nothing is left to save.
 
-ghost use Rattle.std.specs.Prelude.{◌≡◌, IfErr, IfOk};
-ghost use Rattle.syn_pool.specs.Improving.{IsImproved};
+ghost use Rattle.std.specs.Prelude.{IfNone, IfOk, IfSome};
+ghost use Rattle.syn_proposals.specs.Closing.{Closed};
+ghost use Rattle.syn_pool.specs.Improving.{allowed, IsImproved};
 ghost use Rattle.syn_refactor.specs.Refactoring.{refactorings};
 
 use crate::Cones;
@@ -20,12 +21,12 @@ use syn_pool::{PassSettings, improve};
 pub fn refactor<R: Threads + Sync, G: Gate>(
     rt: &R,
     alloc: Global,
-    graph: Graph,
+    graph: &Graph,
     settings: PassSettings,
     gate: &G,
-) -> Result<Graph, (Graph, AllocError)>
-    ensures improved { IfOk result (IsImproved refactorings settings.levels graph) }
-    ensures refused { IfErr result (λ e. e.0 ≡ graph) }
+) -> Result<Option<Graph>, AllocError>
+    ensures some { IfOk result (λ made. IfSome made (IsImproved refactorings settings.levels graph.now)) }
+    ensures none { IfOk result (λ made. IfNone made (Closed graph.now.rows graph.now.observed (allowed settings.levels refactorings graph.now.rows))) }
 {
     improve(rt, alloc, graph, Cones, settings, gate)
 }

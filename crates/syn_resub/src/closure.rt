@@ -1,7 +1,8 @@
 //! Resubstitution until nothing is left to save.
 
-ghost use Rattle.std.specs.Prelude.{◌≡◌, IfErr, IfOk};
-ghost use Rattle.syn_pool.specs.Improving.{IsImproved};
+ghost use Rattle.std.specs.Prelude.{IfNone, IfOk, IfSome};
+ghost use Rattle.syn_proposals.specs.Closing.{Closed};
+ghost use Rattle.syn_pool.specs.Improving.{allowed, IsImproved};
 ghost use Rattle.syn_resub.specs.Resubstitution.{resubstitutions};
 
 use crate::Divisors;
@@ -20,12 +21,12 @@ use syn_pool::{PassSettings, improve};
 pub fn resub<R: Threads + Sync, G: Gate>(
     rt: &R,
     alloc: Global,
-    graph: Graph,
+    graph: &Graph,
     settings: PassSettings,
     gate: &G,
-) -> Result<Graph, (Graph, AllocError)>
-    ensures improved { IfOk result (IsImproved resubstitutions settings.levels graph) }
-    ensures refused { IfErr result (λ e. e.0 ≡ graph) }
+) -> Result<Option<Graph>, AllocError>
+    ensures some { IfOk result (λ made. IfSome made (IsImproved resubstitutions settings.levels graph.now)) }
+    ensures none { IfOk result (λ made. IfNone made (Closed graph.now.rows graph.now.observed (allowed settings.levels resubstitutions graph.now.rows))) }
 {
     improve(rt, alloc, graph, Divisors, settings, gate)
 }

@@ -1,7 +1,8 @@
 //! Rewriting until nothing is left to save.
 
-ghost use Rattle.std.specs.Prelude.{◌≡◌, IfErr, IfOk};
-ghost use Rattle.syn_pool.specs.Improving.{IsImproved};
+ghost use Rattle.std.specs.Prelude.{IfNone, IfOk, IfSome};
+ghost use Rattle.syn_proposals.specs.Closing.{Closed};
+ghost use Rattle.syn_pool.specs.Improving.{allowed, IsImproved};
 ghost use Rattle.syn_rewrite.specs.Rewriting.{rewritings};
 
 use crate::CutPlans;
@@ -20,15 +21,13 @@ use syn_pool::{PassSettings, improve};
 pub fn rewrite<R: Threads + Sync, G: Gate>(
     rt: &R,
     alloc: Global,
-    graph: Graph,
+    graph: &Graph,
     settings: PassSettings,
     gate: &G,
-) -> Result<Graph, (Graph, AllocError)>
-    ensures improved { IfOk result (IsImproved rewritings settings.levels graph) }
-    ensures refused { IfErr result (λ e. e.0 ≡ graph) }
+) -> Result<Option<Graph>, AllocError>
+    ensures some { IfOk result (λ made. IfSome made (IsImproved rewritings settings.levels graph.now)) }
+    ensures none { IfOk result (λ made. IfNone made (Closed graph.now.rows graph.now.observed (allowed settings.levels rewritings graph.now.rows))) }
 {
-    match CutPlans::new(alloc) {
-        Ok(proposer) => improve(rt, alloc, graph, proposer, settings, gate),
-        Err(error) => Err((graph, error)),
-    }
+    let proposer = CutPlans::new(alloc)?;
+    improve(rt, alloc, graph, proposer, settings, gate)
 }

@@ -15,7 +15,7 @@ use Rattle.syn_netlist.specs.Lists as lists
 use Rattle.syn_netlist.specs.Lists.{Netlist, control_of, latch_output, latch_reads, observed, sources}
 use Rattle.syn_netlist.specs.Words.{has_word}
 use Rattle.syn_netlist.proofs.Sets.{has_head, has_right, has_tail}
-use Rattle.syn_shapes.specs.Spelling.{NetworkOfGraph}
+use Rattle.syn_network.specs.Spelling.{NetworkOfGraph}
 use Rattle.syn_graph.specs.declared.Graph.{Graph}
 use Rattle.syn_graph.specs.Graphs.{network_of}
 use Rattle.syn_seq.specs.declared.keys.Key.{Key}

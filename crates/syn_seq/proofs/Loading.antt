@@ -16,9 +16,9 @@ use Rattle.syn_netlist.specs.Order.{Ordered}
 use Rattle.syn_netlist.specs.Words.{distinct, has_word}
 use Rattle.syn_netlist.proofs.Places.{below_parts, words_at-control}
 use Rattle.syn_netlist.proofs.Sets.{has_head, has_left, has_right, has_tail}
-use Rattle.syn_shapes.specs.GraphShape.{GraphHasFunction, GraphShape, and_tables, lit_of, node_names, place, shown}
-use Rattle.syn_shapes.proofs.Gates.{place_back}
-use Rattle.syn_shapes.proofs.Spelled.{half, place_in_front}
+use Rattle.syn_network.specs.GraphShape.{GraphHasFunction, GraphShape, and_tables, lit_of, node_names, place, shown}
+use Rattle.syn_network.proofs.Gates.{place_back}
+use Rattle.syn_network.proofs.Spelled.{half, place_in_front}
 use Rattle.syn_graph.specs.declared.Graph.{Graph}
 use Rattle.syn_graph.specs.Graphs.{network_of}
 use Rattle.syn_seq.specs.declared.keys.Key.{Key}

@@ -13,10 +13,10 @@ use Rattle.syn_netlist.specs.Lists.{Netlist, latch_reads, observed, sources}
 use Rattle.syn_netlist.specs.Numbers.{word_at}
 use Rattle.syn_netlist.specs.Values.{Consistent}
 use Rattle.syn_netlist.specs.Words.{has_word}
-use Rattle.syn_shapes.specs.GraphShape.{lit_of, place}
-use Rattle.syn_shapes.specs.Spelling.{NetworkOfGraph}
-use Rattle.syn_shapes.proofs.Ends.{firsts_distinct}
-use Rattle.syn_shapes.proofs.Gates.{place_back}
+use Rattle.syn_network.specs.GraphShape.{lit_of, place}
+use Rattle.syn_network.specs.Spelling.{NetworkOfGraph}
+use Rattle.syn_network.proofs.Ends.{firsts_distinct}
+use Rattle.syn_network.proofs.Gates.{place_back}
 use Rattle.syn_graph.specs.declared.Graph.{Graph}
 use Rattle.syn_graph.specs.Graphs.{network_of}
 use Rattle.syn_seq.specs.Code.{AreAlikeLits, AreLitsBy, AreTargets, is_kept, is_target, merged_from, merged_place, merged_places, moved, rows_left, up_to}

@@ -10,7 +10,7 @@ use Rattle.syn_netlist.specs.Numbers.{all_below, word_at, words_at}
 use Rattle.syn_netlist.specs.Words.{distinct, has_word}
 use Rattle.syn_netlist.proofs.Places.{below_at, below_parts, one_number}
 use Rattle.syn_netlist.proofs.Sets.{has_head, has_left, has_tail, same_word}
-use Rattle.syn_shapes.specs.GraphShape.{lit_of}
+use Rattle.syn_network.specs.GraphShape.{lit_of}
 use Rattle.syn_graph.specs.declared.Graph.{Graph}
 use Rattle.syn_graph.specs.Graphs.{network_of}
 use Rattle.syn_seq.specs.Code.{AreLits, AreLitsBy, lit_in}

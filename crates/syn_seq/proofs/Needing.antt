@@ -15,8 +15,8 @@ use Rattle.syn_netlist.specs.Numbers.{all_below, kind_at, word_at, words_at}
 use Rattle.syn_netlist.specs.Words.{has_word}
 use Rattle.syn_netlist.proofs.Places.{below_parts, words_at-control}
 use Rattle.syn_netlist.proofs.Sets.{has_head, has_left, has_right, has_tail}
-use Rattle.syn_shapes.specs.GraphShape.{and_tables, lit_of, node_names, row_of, source_row}
-use Rattle.syn_shapes.specs.Spelling.{NetworkOfGraph}
+use Rattle.syn_network.specs.GraphShape.{and_tables, lit_of, node_names, row_of, source_row}
+use Rattle.syn_network.specs.Spelling.{NetworkOfGraph}
 use Rattle.syn_graph.specs.declared.Graph.{Graph}
 use Rattle.syn_graph.specs.Graphs.{network_of}
 use Rattle.syn_seq.specs.Code.{AreLits, lit_in, needs_by, row_by}

@@ -22,11 +22,11 @@ use Rattle.syn_netlist.specs.Numbers.{all_below, word_at, words_at}
 use Rattle.syn_netlist.specs.Values.{Consistent}
 use Rattle.syn_netlist.specs.Words.{firsts, has_word, without}
 use Rattle.syn_netlist.proofs.Sets.{has_head, has_left, has_right, has_tail, has_word-append, same_word}
-use Rattle.syn_shapes.specs.GraphShape.{and_tables, lit_of, node_names, observed_of, place, rows_of, shown}
-use Rattle.syn_shapes.specs.Graphs.{source_lit}
-use Rattle.syn_shapes.specs.Spelling.{NetworkOfGraph}
-use Rattle.syn_shapes.proofs.Gates.{has_at, place_back}
-use Rattle.syn_shapes.proofs.Spelled.{in_rest, place_in_front, place_lt}
+use Rattle.syn_network.specs.GraphShape.{and_tables, lit_of, node_names, observed_of, place, rows_of, shown}
+use Rattle.syn_network.specs.NamedGraphs.{source_lit}
+use Rattle.syn_network.specs.Spelling.{NetworkOfGraph}
+use Rattle.syn_network.proofs.Gates.{has_at, place_back}
+use Rattle.syn_network.proofs.Spelled.{in_rest, place_in_front, place_lt}
 use Rattle.syn_graph.specs.declared.Graph.{Graph}
 use Rattle.syn_graph.specs.Graphs.{HasOwnSources, network_of}
 use Rattle.syn_seq.specs.Code.{AreLits, HasValues, SmallTargets, first_of, left_of, lit_in, lits_left, lits_of, moved, place_after, place_list, places_of, rows_left, rows_of_left, swept_of}

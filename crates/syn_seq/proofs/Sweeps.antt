@@ -10,9 +10,9 @@ use Rattle.syn_netlist.proofs.Functions.{same_from_function}
 use Rattle.syn_netlist.proofs.Evaluation.{ordered_has_one}
 use Rattle.syn_rows.proofs.Folds.{one_valuation_is}
 use Rattle.syn_rows.specs.Values.{rows_function}
-use Rattle.syn_shapes.specs.GraphShape.{GraphHasFunction, and_tables, observed_of, rows_of}
-use Rattle.syn_shapes.specs.Spelling.{NetworkOfGraph, NetworkSpells}
-use Rattle.syn_shapes.proofs.Spelled.{graph_has_function_is}
+use Rattle.syn_network.specs.GraphShape.{GraphHasFunction, and_tables, observed_of, rows_of}
+use Rattle.syn_network.specs.Spelling.{NetworkOfGraph, NetworkSpells}
+use Rattle.syn_network.proofs.Spelled.{graph_has_function_is}
 use Rattle.syn_graph.specs.declared.Graph.{Graph}
 use Rattle.syn_graph.specs.Graphs.{network_of}
 use Rattle.syn_seq.specs.Code.{Answers, HasValues, IsPartOf, IsRound, all_kept}

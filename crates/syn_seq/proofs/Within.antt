@@ -15,8 +15,8 @@ use Rattle.syn_netlist.specs.Lists as lists
 use Rattle.syn_netlist.specs.Lists.{Netlist, control_of, latch_output, latch_reads, observed, sources}
 use Rattle.syn_netlist.specs.Words.{has_word}
 use Rattle.syn_netlist.proofs.Sets.{has_head, has_left, has_right, has_tail, same_word}
-use Rattle.syn_shapes.specs.GraphShape.{and_tables, lit_of, node_names, row_of, source_row}
-use Rattle.syn_shapes.specs.Spelling.{NetworkOfGraph}
+use Rattle.syn_network.specs.GraphShape.{and_tables, lit_of, node_names, row_of, source_row}
+use Rattle.syn_network.specs.Spelling.{NetworkOfGraph}
 use Rattle.syn_graph.specs.declared.Graph.{Graph}
 use Rattle.syn_graph.specs.Graphs.{network_of}
 use Rattle.syn_seq.specs.Runs.{free_signals}

@@ -11,7 +11,7 @@ use Rattle.syn_netlist.specs.Kept.{control_number}
 use Rattle.syn_netlist.specs.Numbers.{word_at}
 use Rattle.syn_netlist.specs.Values.{Consistent}
 use Rattle.syn_netlist.specs.Words.{has_word}
-use Rattle.syn_shapes.specs.GraphShape.{and_tables, lit_of}
+use Rattle.syn_network.specs.GraphShape.{and_tables, lit_of}
 use Rattle.syn_graph.specs.declared.Graph.{Graph}
 use Rattle.syn_graph.specs.Graphs.{network_of}
 use Rattle.syn_seq.specs.Runs.{free_signals}

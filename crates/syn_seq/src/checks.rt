@@ -83,7 +83,7 @@ fn merged_literals(alloc: Global, graph: &Graph, fates: &[Fate]) -> Result<Vec<L
     ensures count { IfOk result (λ v. length v.items ≡ length graph.now.frame.names) }
     ensures alike { IfOk result (λ v. AreAlikeLits (network_of graph.now) fates.now graph.now.frame.names v.items) }
 {
-    syn_shapes::network_of_graph();
+    syn_network::network_of_graph();
     let first = graph.source_count + 1 - fates.len() as u32;
     let places = merged_places(alloc, first, fates)?;
     let rows = moved_rows(
@@ -118,7 +118,7 @@ fn is_right(lits: &[Lit], graph: &Graph, fates: &[Fate], needed: &[bool], number
     requires targets { AreTargets fates.now }
     ensures { result ≡ true → (d : Latch) → IsFateBy (λ j. value_in needed.now (graph.now.source_count + 1 - length graph.now.frame.latches + j)) (λ j. key_by lits.now (slice_index_or graph.now.frame.latches j d)) fates.now number (fate_at fates.now number) }
 {
-    syn_shapes::network_of_graph();
+    syn_network::network_of_graph();
     let latches = graph.frame.latches.as_slice();
     let first = graph.source_count as usize + 1 - latches.len();
     match fates[number] {
@@ -140,7 +140,7 @@ pub(crate) fn are_right(
     requires needed { IsReachedSet (needing_rows (network_of graph.now)) (output_lits (network_of graph.now)) (value_in needed.now) }
     ensures { IfOk result (λ b. b ≡ true → AreFates (network_of graph.now) fates.now) }
 {
-    syn_shapes::network_of_graph();
+    syn_network::network_of_graph();
     if !are_targets(fates) {
         return Ok(false);
     }

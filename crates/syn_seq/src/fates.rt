@@ -57,7 +57,7 @@ pub(crate) fn fates(
     ensures fates { IfOk result (λ v. AreFates (network_of graph.now) v.items) }
     ensures swept { IfOk result (λ v. all_kept v.items ≡ true → IsSwept (network_of graph.now)) }
 {
-    syn_shapes::network_of_graph();
+    syn_network::network_of_graph();
     let latches = graph.frame.latches.as_slice();
     let first = graph.source_count as usize + 1 - latches.len();
     let mut seen = HashMap::new(alloc);

@@ -5,7 +5,7 @@ ghost use Rattle.syn_netlist.specs.Frames.{frame_in};
 ghost use Rattle.syn_netlist.specs.Numbers.{all_below};
 ghost use Rattle.syn_rows.specs.declared.Row.{Row};
 ghost use Rattle.syn_graph.specs.Graphs.{network_of};
-ghost use Rattle.syn_shapes.specs.GraphShape.{and_tables};
+ghost use Rattle.syn_network.specs.GraphShape.{and_tables};
 ghost use Rattle.syn_seq.specs.Code.{AreLits, HasValues, SmallTargets, lit_in, lits_left, moved, moved_row, next_after, place_after, place_list, rows_of_left, swept_of};
 ghost use Rattle.syn_seq.specs.declared.Fate.{Fate};
 ghost use Rattle.syn_seq.specs.Rounds.{AreFates};
@@ -196,7 +196,7 @@ pub(crate) fn remade(
     ensures values { IfOk result (λ g. HasValues (network_of graph.now) (network_of g) fates.now) }
     ensures fewer { IfOk result (λ g. length (and_tables (network_of g)) ≤ length (and_tables (network_of graph.now))) }
 {
-    syn_shapes::network_of_graph();
+    syn_network::network_of_graph();
     let frame = swept_frame(alloc, &graph.frame, fates)?;
     let moved = moved_graph(alloc, graph, lits, fates, &frame)?;
     let next = compact(

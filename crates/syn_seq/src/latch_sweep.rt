@@ -50,7 +50,7 @@ fn further(
 fn round(alloc: Global, graph: &Graph) -> Result<Option<Graph>, AllocError>
     ensures { IfOk result (Answers graph.now) }
 {
-    syn_shapes::network_of_graph();
+    syn_network::network_of_graph();
     let lits = literals(alloc, graph)?;
     let needed = needed(alloc, graph, lits.as_slice())?;
     let fates = fates(alloc, graph, lits.as_slice(), needed.as_slice())?;
@@ -68,7 +68,7 @@ fn rounds(alloc: Global, graph: Graph) -> Result<Graph, AllocError>
     ensures part { IfOk result (λ g. IsPartOf graph g) }
     ensures swept { IfOk result (λ g. IsSwept (network_of g)) }
 {
-    syn_shapes::network_of_graph();
+    syn_network::network_of_graph();
     let mut graph = graph;
     while let Some(next) = round(alloc, &graph)? {
         graph = next;
@@ -115,7 +115,7 @@ pub fn sweep(alloc: Global, graph: Graph) -> Result<Graph, (Graph, AllocError)>
     ensures few { IfOk result (λ g. length g.frame.names ≤ length graph.frame.names) }
     ensures refused { IfErr result (λ e. e.0 ≡ graph) }
 {
-    syn_shapes::network_of_graph();
+    syn_network::network_of_graph();
     match round(alloc, &graph) {
         Ok(None) => Ok(graph),
         Ok(Some(next)) => match swept(alloc, next) {

@@ -65,7 +65,7 @@ pub(crate) fn needing_rows(
     requires lits { AreLits (network_of graph.now) graph.now.frame.names lits.now }
     ensures { IfOk result (λ v. v.items ≡ needing_rows (network_of graph.now)) }
 {
-    syn_shapes::network_of_graph();
+    syn_network::network_of_graph();
     let latches = graph.frame.latches.as_slice();
     let needs = latch_rows(alloc, lits, latches)?;
     let end = graph.source_count as usize + 1;
@@ -108,7 +108,7 @@ pub(crate) fn needed(alloc: Global, graph: &Graph, lits: &[Lit]) -> Result<Vec<b
     ensures length { IfOk result (λ v. length v.items ≡ length graph.now.rows) }
     ensures reached { IfOk result (λ v. IsReachedSet (needing_rows (network_of graph.now)) (output_lits (network_of graph.now)) (value_in v.items)) }
 {
-    syn_shapes::network_of_graph();
+    syn_network::network_of_graph();
     let rows = needing_rows(alloc, graph, lits)?;
     let outputs = output_lits(alloc, graph, lits)?;
     let marks = syn_rows::reached(alloc, rows.as_slice(), outputs.as_slice())?;

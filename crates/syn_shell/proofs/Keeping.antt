@@ -4,7 +4,7 @@ use Rattle.syn_io.specs.Outside.{Input}
 use Rattle.syn_netlist.specs.Lists.{Netlist}
 use Rattle.syn_netlist.specs.Meaning.{SameFromFunction, SameMeaning, SameIsTransitive}
 use Rattle.syn_netlist.specs.Order.{Ordered}
-use Rattle.syn_shapes.specs.GraphShape.{GraphHasFunction, GraphShape}
+use Rattle.syn_network.specs.GraphShape.{GraphHasFunction, GraphShape}
 use Rattle.syn_seq.specs.Laws.{SameMeaningIsSequential, SequentialIsTransitive}
 use Rattle.syn_aiger.specs.Writing.{aig_of}
 use Rattle.syn_refactor.specs.Refactoring.{refactorings}

@@ -9,10 +9,10 @@ use Rattle.syn_netlist.specs.Words.{distinct}
 use Rattle.syn_netlist.specs.Lists.{Frame, Netlist, sources}
 use Rattle.syn_netlist.specs.Values.{HasFunction}
 use Rattle.syn_netlist.specs.Meaning.{SameFromFunction, SameIsTransitive}
-use Rattle.syn_shapes.specs.GraphShape.{GraphHasFunction, and_tables}
-use Rattle.syn_shapes.specs.GraphShape as graph_shape
-use Rattle.syn_shapes.specs.Graphs.{IsGraph}
-use Rattle.syn_shapes.specs.Spelling.{NetworkOfGraph, NetworkSpells, network}
+use Rattle.syn_network.specs.GraphShape.{GraphHasFunction, and_tables}
+use Rattle.syn_network.specs.GraphShape as graph_shape
+use Rattle.syn_network.specs.NamedGraphs.{IsNamedGraph}
+use Rattle.syn_network.specs.Spelling.{NetworkOfGraph, NetworkSpells, network}
 use Rattle.syn_lutshapes.specs.Luts.{Lut, IsLutNet, greatest, luts_function, net_depth, none_exceeds}
 use Rattle.syn_lutshapes.specs.LutShape.{LutsHaveFunction, observed_of}
 use Rattle.syn_lutshapes.specs.LutSpelling.{NetworkOfLuts, NetworkSpellsLuts, lut_network}
@@ -42,7 +42,7 @@ pub record SpellingLaws : Type 0 where
 pub record AreLutsOf (k : ℕ) (frame : Frame) (rows : List Row) (lits : List Lit) (luts : List Lut) (outs : List Lit) : Type 0 where
   pub clocks : distinct frame.clocks ≡ true
   pub once : distinct (sources frame) ≡ true
-  pub graph : IsGraph frame rows lits
+  pub graph : IsNamedGraph frame rows lits
   pub net : IsLutNet frame luts outs
   pub small : none_exceeds k luts ≡ true
   pub same : (bits : List Bool) → length bits ≡ length (sources frame) → luts_function luts outs bits ≡ rows_function rows lits bits

@@ -9,9 +9,10 @@ use Rattle.syn_netlist.specs.Words.{distinct}
 use Rattle.syn_netlist.specs.Lists.{Frame, Netlist, sources}
 use Rattle.syn_netlist.specs.Values.{HasFunction}
 use Rattle.syn_netlist.specs.Meaning.{SameFromFunction}
-use Rattle.syn_shapes.specs.GraphShape.{GraphHasFunction, rows_of, observed_of}
-use Rattle.syn_shapes.specs.Graphs.{IsGraph, lit_at}
-use Rattle.syn_shapes.specs.Spelling.{NetworkOfGraph, NetworkSpells, network}
+use Rattle.syn_network.specs.GraphShape.{GraphHasFunction, rows_of, observed_of}
+use Rattle.syn_network.specs.NamedGraphs.{IsNamedGraph}
+use Rattle.syn_hashed.specs.Hashed.{lit_at}
+use Rattle.syn_network.specs.Spelling.{NetworkOfGraph, NetworkSpells, network}
 use Rattle.syn_hashed.specs.Growing.{level_by}
 use Rattle.syn_graph.specs.declared.Graph.{Graph}
 use Rattle.syn_graph.specs.Graphs as graphs
@@ -27,7 +28,7 @@ has_same_function m F G same h = record { total = h.total; value = λ v c. h.val
 
 -- rows and literals of the same function, and no more of them
 remade_in : NetworkOfGraph → GraphHasFunction → SameFromFunction → (frame : Frame) (rows new_rows : List Row) (lits new_lits : List Lit) → distinct frame.clocks ≡ true → distinct (sources frame) ≡ true
-    → IsGraph frame rows lits → IsGraph frame new_rows new_lits → ((bits : List Bool) → rows_function new_rows new_lits bits ≡ rows_function rows lits bits) → length new_rows ≤ length rows
+    → IsNamedGraph frame rows lits → IsNamedGraph frame new_rows new_lits → ((bits : List Bool) → rows_function new_rows new_lits bits ≡ rows_function rows lits bits) → length new_rows ≤ length rows
     → IsRemade (graph_network (network frame rows lits)) (graph_network (network frame new_rows new_lits))
 remade_in spells has_function same_meaning frame rows new_rows lits new_lits clocks once graph new_graph same fewer = record {
   same = same_meaning old new (rows_function rows lits) refl (has_same_function old (rows_function rows lits) (rows_function (rows_of old) (observed_of old)) old_equal (has_function old s.shape s.ordered).1)
@@ -58,7 +59,7 @@ remade_in spells has_function same_meaning frame rows new_rows lits new_lits clo
 
 -- the same, and no observed one higher
 rebalanced_in : NetworkOfGraph → GraphHasFunction → SameFromFunction → (frame : Frame) (rows new_rows : List Row) (lits new_lits : List Lit) → distinct frame.clocks ≡ true → distinct (sources frame) ≡ true
-    → IsGraph frame rows lits → IsGraph frame new_rows new_lits → ((bits : List Bool) → rows_function new_rows new_lits bits ≡ rows_function rows lits bits) → length new_rows ≤ length rows
+    → IsNamedGraph frame rows lits → IsNamedGraph frame new_rows new_lits → ((bits : List Bool) → rows_function new_rows new_lits bits ≡ rows_function rows lits bits) → length new_rows ≤ length rows
     → ((i : ℕ) → i < length lits → level_by new_rows (lit_at new_lits i) ≤ level_by rows (lit_at lits i)) → IsBalanced (graph_network (network frame rows lits)) (graph_network (network frame new_rows new_lits))
 rebalanced_in spells has_function same_meaning frame rows new_rows lits new_lits clocks once graph new_graph same fewer levels = record {
   remade = remade_in spells has_function same_meaning frame rows new_rows lits new_lits clocks once graph new_graph same fewer;
@@ -83,21 +84,21 @@ rebalanced_in spells has_function same_meaning frame rows new_rows lits new_lits
 
 -- the same, of a frame that is known to be the same
 pub rebalanced : NetworkOfGraph → GraphHasFunction → SameFromFunction → (frame new_frame : Frame) (rows new_rows : List Row) (lits new_lits : List Lit) → new_frame ≡ frame → distinct frame.clocks ≡ true → distinct (sources frame) ≡ true
-    → IsGraph frame rows lits → IsGraph new_frame new_rows new_lits → ((bits : List Bool) → rows_function new_rows new_lits bits ≡ rows_function rows lits bits) → length new_rows ≤ length rows
+    → IsNamedGraph frame rows lits → IsNamedGraph new_frame new_rows new_lits → ((bits : List Bool) → rows_function new_rows new_lits bits ≡ rows_function rows lits bits) → length new_rows ≤ length rows
     → ((i : ℕ) → i < length lits → level_by new_rows (lit_at new_lits i) ≤ level_by rows (lit_at lits i)) → IsBalanced (graph_network (network frame rows lits)) (graph_network (network new_frame new_rows new_lits))
 rebalanced spells has_function same_meaning frame new_frame rows new_rows lits new_lits same_frame clocks once graph new_graph same fewer levels =
-    subst (λ (f : Frame). IsGraph f new_rows new_lits → IsBalanced (graph_network (network frame rows lits)) (graph_network (network f new_rows new_lits))) (sym same_frame)
+    subst (λ (f : Frame). IsNamedGraph f new_rows new_lits → IsBalanced (graph_network (network frame rows lits)) (graph_network (network f new_rows new_lits))) (sym same_frame)
     (λ g. rebalanced_in spells has_function same_meaning frame rows new_rows lits new_lits clocks once graph g same fewer levels) new_graph
 
 -- a graph's netlist is what these commands may make of itself
-pub stays_balanced : NetworkOfGraph → GraphHasFunction → SameFromFunction → (frame : Frame) (rows : List Row) (lits : List Lit) → distinct frame.clocks ≡ true → distinct (sources frame) ≡ true → IsGraph frame rows lits
+pub stays_balanced : NetworkOfGraph → GraphHasFunction → SameFromFunction → (frame : Frame) (rows : List Row) (lits : List Lit) → distinct frame.clocks ≡ true → distinct (sources frame) ≡ true → IsNamedGraph frame rows lits
     → IsBalanced (graph_network (network frame rows lits)) (graph_network (network frame rows lits))
 stays_balanced spells has_function same_meaning frame rows lits clocks once graph =
     rebalanced_in spells has_function same_meaning frame rows rows lits lits clocks once graph graph (λ bits. refl) (omega arith) (λ i lt. omega arith)
 
 -- rows and literals of the same function, no more of them, on which no proposal saves
 closed_in : NetworkOfGraph → GraphHasFunction → SameFromFunction → (proposals : List Row → ℕ → List Replacement) (frame : Frame) (rows new_rows : List Row) (lits new_lits : List Lit) → distinct frame.clocks ≡ true → distinct (sources frame) ≡ true
-    → IsGraph frame rows lits → IsGraph frame new_rows new_lits → ((bits : List Bool) → rows_function new_rows new_lits bits ≡ rows_function rows lits bits) → length new_rows ≤ length rows
+    → IsNamedGraph frame rows lits → IsNamedGraph frame new_rows new_lits → ((bits : List Bool) → rows_function new_rows new_lits bits ≡ rows_function rows lits bits) → length new_rows ≤ length rows
     → Closed new_rows new_lits (proposals new_rows) → IsClosedFor proposals (graph_network (network frame rows lits)) (graph_network (network frame new_rows new_lits))
 closed_in spells has_function same_meaning proposals frame rows new_rows lits new_lits clocks once graph new_graph same fewer closed = record {
   remade = remade_in spells has_function same_meaning frame rows new_rows lits new_lits clocks once graph new_graph same fewer;
@@ -113,15 +114,15 @@ closed_in spells has_function same_meaning proposals frame rows new_rows lits ne
 
 -- the same, of a frame that is known to be the same
 pub closed_for : NetworkOfGraph → GraphHasFunction → SameFromFunction → (proposals : List Row → ℕ → List Replacement) (frame new_frame : Frame) (rows new_rows : List Row) (lits new_lits : List Lit) → new_frame ≡ frame → distinct frame.clocks ≡ true → distinct (sources frame) ≡ true
-    → IsGraph frame rows lits → IsGraph new_frame new_rows new_lits → ((bits : List Bool) → rows_function new_rows new_lits bits ≡ rows_function rows lits bits) → length new_rows ≤ length rows
+    → IsNamedGraph frame rows lits → IsNamedGraph new_frame new_rows new_lits → ((bits : List Bool) → rows_function new_rows new_lits bits ≡ rows_function rows lits bits) → length new_rows ≤ length rows
     → Closed new_rows new_lits (proposals new_rows) → IsClosedFor proposals (graph_network (network frame rows lits)) (graph_network (network new_frame new_rows new_lits))
 closed_for spells has_function same_meaning proposals frame new_frame rows new_rows lits new_lits same_frame clocks once graph new_graph same fewer closed =
-    subst (λ (f : Frame). IsGraph f new_rows new_lits → IsClosedFor proposals (graph_network (network frame rows lits)) (graph_network (network f new_rows new_lits))) (sym same_frame)
+    subst (λ (f : Frame). IsNamedGraph f new_rows new_lits → IsClosedFor proposals (graph_network (network frame rows lits)) (graph_network (network f new_rows new_lits))) (sym same_frame)
     (λ g. closed_in spells has_function same_meaning proposals frame rows new_rows lits new_lits clocks once graph g same fewer closed) new_graph
 
 -- the same of proposals that keep their roots' levels, where no observed one is higher
 pub closed_keeping_levels : NetworkOfGraph → GraphHasFunction → SameFromFunction → (proposals : List Row → ℕ → List Replacement) (frame new_frame : Frame) (rows new_rows : List Row) (lits new_lits : List Lit) → new_frame ≡ frame → distinct frame.clocks ≡ true → distinct (sources frame) ≡ true
-    → IsGraph frame rows lits → IsGraph new_frame new_rows new_lits → ((bits : List Bool) → rows_function new_rows new_lits bits ≡ rows_function rows lits bits) → length new_rows ≤ length rows
+    → IsNamedGraph frame rows lits → IsNamedGraph new_frame new_rows new_lits → ((bits : List Bool) → rows_function new_rows new_lits bits ≡ rows_function rows lits bits) → length new_rows ≤ length rows
     → ((i : ℕ) → level_by new_rows (lit_at new_lits i) ≤ level_by rows (lit_at lits i)) → Closed new_rows new_lits (keeping proposals new_rows)
     → IsClosedKeepingLevels proposals (graph_network (network frame rows lits)) (graph_network (network new_frame new_rows new_lits))
 closed_keeping_levels spells has_function same_meaning proposals frame new_frame rows new_rows lits new_lits same_frame clocks once graph new_graph same fewer levels closed = record {

@@ -4,7 +4,7 @@ use Rattle.syn_rows.specs.Rows.{node_of}
 use Rattle.syn_rows.specs.Reach.{Ands}
 use Rattle.syn_rows.specs.Levels.{level_in, levels_of}
 use Rattle.syn_netlist.specs.Lists.{Frame, Netlist}
-use Rattle.syn_shapes.specs.GraphShape.{rows_of, observed_of}
+use Rattle.syn_network.specs.GraphShape.{rows_of, observed_of}
 use Rattle.syn_lutshapes.specs.LutShape.{count_of, depth_of}
 use Rattle.syn_words.specs.declared.ScriptFault.{ScriptFault}
 use Rattle.syn_words.specs.declared.ScriptFault.TheVariants as script

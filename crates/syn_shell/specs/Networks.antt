@@ -2,7 +2,7 @@
 use Rattle.std.specs.Prelude.{ℕ, ◌≤◌, ◌<◌, ◌^◌, Bool, true, false, Option, option_map, length}
 use Rattle.syn_netlist.specs.Lists.{Netlist, sources}
 use Rattle.syn_reader.specs.Limits.{most_sources}
-use Rattle.syn_shapes.specs.GraphShape.{and_tables}
+use Rattle.syn_network.specs.GraphShape.{and_tables}
 use Rattle.syn_build.specs.BuildFaults.{most_gates}
 use Rattle.syn_graph.specs.Graphs as graphs
 use Rattle.syn_lutshapes.specs.LutShape.{gates_of}

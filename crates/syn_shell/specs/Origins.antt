@@ -5,7 +5,7 @@ use Rattle.syn_io.specs.Outside.{Disk, Input, Screen}
 use Rattle.syn_netlist.specs.Lists.{Netlist}
 use Rattle.syn_netlist.specs.Meaning.{SameMeaning}
 use Rattle.syn_netlist.specs.Order.{Ordered}
-use Rattle.syn_shapes.specs.Printed.{printed}
+use Rattle.syn_text.specs.Printed.{printed}
 use Rattle.syn_gen.specs.Generated.{generated}
 use Rattle.syn_reader.specs.Reading.{Reads}
 use Rattle.syn_seq.specs.Sequential.{SameSequentially}

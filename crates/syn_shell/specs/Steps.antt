@@ -7,9 +7,9 @@ use Rattle.syn_rows.specs.Levels.{level_in, levels_of}
 use Rattle.syn_netlist.specs.Lists.{Netlist}
 use Rattle.syn_netlist.specs.Meaning.{SameMeaning}
 use Rattle.syn_netlist.specs.Order.{Ordered}
-use Rattle.syn_shapes.specs.GraphShape.{GraphShape, and_tables, observed_of, rows_of}
-use Rattle.syn_shapes.specs.Graphs.{lit_at}
-use Rattle.syn_shapes.specs.Printed.{printed}
+use Rattle.syn_network.specs.GraphShape.{GraphShape, and_tables, observed_of, rows_of}
+use Rattle.syn_hashed.specs.Hashed.{lit_at}
+use Rattle.syn_text.specs.Printed.{printed}
 use Rattle.syn_lutshapes.specs.Luts.{greatest}
 use Rattle.syn_lutshapes.specs.LutShape.{LutShape, count_of, depth_of, gates_of}
 use Rattle.syn_map.specs.Labels.{label_of}

@@ -52,7 +52,7 @@ fn bytes_of(alloc: Global, graph: &Graph, ascii: bool) -> Result<Vec<u8>, Refusa
     ensures bytes { IfOk result (λ bytes. IsAigerOf ascii (graph_network (graphs.network_of graph.now)) bytes.items) }
     ensures refused { IfErr result (AigerRefused (graph_network (graphs.network_of graph.now))) }
 {
-    syn_shapes::network_of_graph();
+    syn_network::network_of_graph();
     match write_aig(alloc, graph, ascii) {
         Ok(bytes) => Ok(bytes),
         Err(AigWriteFault::Latch(latch)) => Err(Refusal::LatchType(latch)),

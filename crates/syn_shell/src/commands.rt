@@ -30,8 +30,8 @@ use syn_workers::Workers;
 fn hashed(graph: Graph) -> HeldNetwork
     ensures { IsRemade (graph_network (graphs.network_of graph)) (network_of result) }
 {
-    syn_shapes::network_of_graph();
-    syn_shapes::graph_has_function();
+    syn_network::network_of_graph();
+    syn_network::graph_has_function();
     syn_netlist::same_from_function();
     HeldNetwork::Graph(graph)
 }
@@ -41,8 +41,8 @@ fn balanced(alloc: Global, graph: Graph) -> Result<HeldNetwork, (Graph, Refusal)
     ensures balanced { IfOk result (λ new. IsBalanced (graph_network (graphs.network_of graph)) (network_of new)) }
     ensures refused { IfErr result (λ back. (graphs.network_of back.0 ≡ graphs.network_of graph) × (back.1 ≡ Refusal.NoMemory)) }
 {
-    syn_shapes::network_of_graph();
-    syn_shapes::graph_has_function();
+    syn_network::network_of_graph();
+    syn_network::graph_has_function();
     syn_netlist::same_from_function();
     match syn_balance::balance(alloc, graph) {
         Ok(new) => Ok(HeldNetwork::Graph(new)),
@@ -66,8 +66,8 @@ fn passed(left: Result<Graph, (Graph, AllocError)>) -> Result<HeldNetwork, (Grap
     ensures passed { (proposals : List Row → ℕ → List Replacement) (levels : Bool) (graph : Graph) → IfOk left (IsImproved proposals levels graph) → IfOk result (λ new. IsPassed levels proposals (graph_network (graphs.network_of graph)) (network_of new)) }
     ensures refused { (graph : Graph) → IfErr left (λ e. e.0 ≡ graph) → IfErr result (λ back. (graphs.network_of back.0 ≡ graphs.network_of graph) × (back.1 ≡ Refusal.NoMemory)) }
 {
-    syn_shapes::network_of_graph();
-    syn_shapes::graph_has_function();
+    syn_network::network_of_graph();
+    syn_network::graph_has_function();
     syn_netlist::same_from_function();
     match left {
         Ok(new) => Ok(HeldNetwork::Graph(new)),
@@ -86,8 +86,8 @@ fn mapped<R: Threads + Sync>(
     ensures mapped { IfOk result (λ new. IsMappedTo inputs.now (graph_network (graphs.network_of graph)) (network_of new)) }
     ensures refused { IfErr result (λ back. (graphs.network_of back.0 ≡ graphs.network_of graph) × (back.1 ≡ Refusal.NoMemory)) }
 {
-    syn_shapes::network_of_graph();
-    syn_shapes::graph_has_function();
+    syn_network::network_of_graph();
+    syn_network::graph_has_function();
     syn_lutshapes::network_of_luts();
     syn_lutshapes::luts_have_function();
     syn_netlist::same_from_function();
@@ -119,8 +119,8 @@ fn mapped_for_area<R: Threads + Sync>(
     ensures mapped { IfOk result (λ new. IsMappedForArea inputs.now (graph_network (graphs.network_of graph)) (network_of new)) }
     ensures refused { IfErr result (λ back. (graphs.network_of back.0 ≡ graphs.network_of graph) × (back.1 ≡ Refusal.NoMemory)) }
 {
-    syn_shapes::network_of_graph();
-    syn_shapes::graph_has_function();
+    syn_network::network_of_graph();
+    syn_network::graph_has_function();
     syn_lutshapes::network_of_luts();
     syn_lutshapes::luts_have_function();
     syn_netlist::same_from_function();
@@ -139,8 +139,8 @@ fn mapped_by_flow(
     ensures mapped { IfOk result (λ new. IsLeastMappedTo inputs.now (graph_network (graphs.network_of graph)) (network_of new)) }
     ensures refused { IfErr result (λ back. (graphs.network_of back.0 ≡ graphs.network_of graph) × (back.1 ≡ Refusal.NoMemory)) }
 {
-    syn_shapes::network_of_graph();
-    syn_shapes::graph_has_function();
+    syn_network::network_of_graph();
+    syn_network::graph_has_function();
     syn_lutshapes::network_of_luts();
     syn_lutshapes::luts_have_function();
     syn_netlist::same_from_function();

@@ -17,6 +17,6 @@ pub fn each_write_keeps()
     syn_netlist::same_is_transitive();
     syn_seq::sequential_is_transitive();
     syn_seq::same_meaning_is_sequential();
-    syn_shapes::graph_has_function();
+    syn_network::graph_has_function();
     syn_netlist::same_from_function();
 }

@@ -100,8 +100,8 @@ fn graph_line(alloc: Global, graph: &Graph) -> Result<Vec<u8>, AllocError>
 {
     let depth = depth(alloc, graph)?;
     let ands = graph.rows.as_slice().len() - graph.source_count as usize - 1;
-    syn_shapes::network_of_graph();
-    syn_shapes::graph_counts_ands();
+    syn_network::network_of_graph();
+    syn_network::graph_counts_ands();
     let line = numbers_line(alloc, &graph.frame, b" and = ", ands as u64, depth as u64)?;
     Ok(line)
 }

@@ -5,7 +5,7 @@ ghost use Rattle.syn_io.specs.Outside.{Rose};
 ghost use Rattle.syn_netlist.specs.Views.{netlist_in};
 ghost use Rattle.syn_reader.specs.Reading.{Reads};
 ghost use Rattle.syn_reader.specs.Limits.{Within};
-ghost use Rattle.syn_shapes.specs.Printed.{printed};
+ghost use Rattle.syn_text.specs.Printed.{printed};
 ghost use Rattle.syn_graph.specs.Graphs as graphs;
 ghost use Rattle.syn_build.specs.Building.{IsGraphOf};
 ghost use Rattle.syn_gen.specs.Generated.{generated};

@@ -13,7 +13,8 @@ use Rattle.syn_netlist.specs.Kept.{is_row_character, polarity_fits, row_fits, ro
 use Rattle.syn_netlist.specs.Lists.{Frame, Table, output_of, sources}
 use Rattle.syn_netlist.specs.Numbers.{word_at, words_at, all_below}
 use Rattle.syn_netlist.specs.Words.{distinct}
-use Rattle.syn_shapes.specs.Spelling.{numbers_from, ends_from}
+use Rattle.syn_network.specs.Spelling.{ends_from}
+use Rattle.syn_lists.specs.Numbers.{numbers_from}
 use Rattle.syn_truth.specs.declared.Truth.{Truth}
 use Rattle.syn_truth.specs.Truth.{value_at}
 use Rattle.syn_lutshapes.specs.Luts as spelled

@@ -8,7 +8,7 @@ use Rattle.syn_rows.specs.Rows.{node_of}
 use Rattle.syn_lutshapes.specs.Luts.{Lut}
 use Rattle.syn_netlist.specs.Lists.{Frame, sources, observed}
 use Rattle.syn_netlist.specs.Numbers.{words_at, all_below, Grows}
-use Rattle.syn_shapes.specs.Spelling.{inner_names}
+use Rattle.syn_network.specs.Spelling.{inner_names}
 
 -- the literal is one of so many named nodes
 abbrev pub is_named : ℕ → Lit → Bool

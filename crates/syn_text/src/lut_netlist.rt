@@ -22,7 +22,8 @@ use crate::graph_netlist::{NameSet, Naming, joined, name_nodes, push_ends};
 use std::alloc::{AllocError, Global};
 use syn_graph::frame_over;
 use syn_lutnet::{Lut, LutNet};
-use syn_netlist::{Frame, Items, Netlist, Table, Word};
+use syn_lists::Items;
+use syn_netlist::{Frame, Netlist, Table, Word};
 use syn_rows::Lit;
 
 // The character of a number's lowest bit.

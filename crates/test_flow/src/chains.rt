@@ -4,7 +4,7 @@ use std::alloc::{AllocError, Global};
 use syn_build::build_checked;
 use syn_flow::{FlowProof, Paths, check_paths};
 use syn_graph::Graph;
-use syn_netlist::Items;
+use syn_lists::Items;
 use syn_reader::read_checked;
 
 /// A node, and lists of nodes shown for it.

@@ -12,7 +12,7 @@ use crate::key_trials::fits;
 use std::alloc::Global;
 use syn_graph::Graph;
 use syn_hashed::compact_rows;
-use syn_keys::spread;
+use syn_table::spread;
 use syn_rows::{Lit, Row};
 use syn_table::{Seat, Shared};
 

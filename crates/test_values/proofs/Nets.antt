@@ -10,9 +10,10 @@ use Rattle.syn_rows.specs.Rows.{node_of}
 use Rattle.syn_netlist.specs.Words.{has_word}
 use Rattle.syn_netlist.specs.Lists.{Frame, sources, observed}
 use Rattle.syn_netlist.specs.Numbers.{word_at}
-use Rattle.syn_netlist.specs.Walk.{distinct_numbers}
-use Rattle.syn_shapes.specs.GraphShape.{place}
-use Rattle.syn_shapes.specs.Graphs.{lit_at, source_lit, IsGraph}
+use Rattle.syn_lists.specs.Numbers.{distinct_numbers}
+use Rattle.syn_network.specs.GraphShape.{place}
+use Rattle.syn_network.specs.NamedGraphs.{source_lit, IsNamedGraph}
+use Rattle.syn_hashed.specs.Hashed.{lit_at}
 use Rattle.syn_lutshapes.specs.Luts as spelled
 use Rattle.syn_lutshapes.specs.Luts.{IsLutNet, Reached, is_input, is_lut, lut_at, ones_of, rising}
 use Rattle.syn_lutshapes.proofs.Ones.{ones_give}
@@ -49,7 +50,7 @@ at_data P [] a j lt = absurd (omega arith)
 at_data P (l ∷ ls) a zero lt = All-head (λ (x : Lut). P (lut_data x)) l ls a
 at_data P (l ∷ ls) a (suc j) lt = at_data P ls (All-tail (λ (x : Lut). P (lut_data x)) l ls a) j (omega arith)
 
-pub parity_net : (frame : Frame) (rows : List Row) (constants lits : List Lit) (luts : List Lut) → IsGraph frame rows constants → length (sources frame) ≡ 6 → All (λ l. node_of l ≡ 0) constants
+pub parity_net : (frame : Frame) (rows : List Row) (constants lits : List Lit) (luts : List Lut) → IsNamedGraph frame rows constants → length (sources frame) ≡ 6 → All (λ l. node_of l ≡ 0) constants
     → length luts ≡ length constants → All (λ l. l.inputs.items ≡ six) luts → length lits ≡ length constants → ((j : ℕ) → (d : Lit) → j < length lits → node_of (get_or lits j d) ≡ 7 + j)
     → IsLutNet frame (luts_data luts) lits
 parity_net frame rows constants lits luts graph count none same_luts parity same_lits plain = record {

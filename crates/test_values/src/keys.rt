@@ -2,7 +2,7 @@
 
 use crate::samples::alone;
 use std::alloc::Global;
-use syn_keys::{between, spread};
+use syn_table::{between, spread};
 
 // Whether the nodes of `alone` have these keys.
 fn are_spread(alloc: Global, wanted: &[u64]) -> bool {

@@ -10,7 +10,7 @@ use std::test::Fail;
 use syn_build::{BuildFault, build_luts};
 use syn_graph::Graph;
 use syn_lutnet::{Lut, LutNet, MAX_INPUTS};
-use syn_netlist::Items;
+use syn_lists::Items;
 use syn_rows::Lit;
 use syn_truth::Truth;
 

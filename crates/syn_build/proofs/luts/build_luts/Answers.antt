@@ -3,9 +3,9 @@ use Rattle.syn_rows.specs.declared.Lit.{Lit}
 use Rattle.syn_rows.specs.Values.{rows_function}
 use Rattle.syn_netlist.specs.Frames.{frame_in}
 use Rattle.syn_netlist.specs.Lists as lists
-use Rattle.syn_shapes.specs.Graphs.{IsGraph}
-use Rattle.syn_shapes.specs.Spelling.{network}
-use Rattle.syn_graph.specs.Graphs.{HasOwnSources}
+use Rattle.syn_network.specs.NamedGraphs.{IsNamedGraph}
+use Rattle.syn_network.specs.Spelling.{network}
+use Rattle.syn_network.specs.Networks.{HasOwnSources}
 use Rattle.syn_lutnet.specs.Data.{luts_data}
 use Rattle.syn_lutnet.specs.Nets.{network_of}
 use Rattle.syn_build.specs.GraphOfLuts.{IsGraphOfLuts}
@@ -44,7 +44,7 @@ returns-clause-network c =
     let g = c.in_ok-graph.graph in
     let rows = c.in_ok-built.built.hashed.rows.items in
     let framed : frame_in g.frame ≡ frame_in net.frame = ap frame_in c.in_ok-graph.ensures.frame ∙ c.in_ok-frame.ensures.same in
-    subst (λ (f : lists.Frame). IsGraphOfLuts (network_of net) (network f g.rows g.observed)) (sym framed)
-    (graph_of_luts c.network_of_luts.ensures c.luts_have_function.ensures c.network_of_graph.ensures c.graph_has_function.ensures c.same_from_function.ensures (frame_in net.frame) (luts_data net.luts) net.observed g.rows g.observed
-    net.frame.clocks_once net.frame.sources_once net.net 8 (eight_exceeded_by_none net.luts) (subst (λ (f : lists.Frame). IsGraph f g.rows g.observed) framed g.graph)
+    subst (λ (f : lists.Frame). IsGraphOfLuts (network_of net) (network f g.body.rows g.body.observed)) (sym framed)
+    (graph_of_luts c.network_of_luts.ensures c.luts_have_function.ensures c.network_of_graph.ensures c.graph_has_function.ensures c.same_from_function.ensures (frame_in net.frame) (luts_data net.luts) net.observed g.body.rows g.body.observed
+    net.frame.clocks_once net.frame.sources_once net.net 8 (eight_exceeded_by_none net.luts) (subst (λ (f : lists.Frame). IsNamedGraph f g.body.rows g.body.observed) framed g.graph)
     (λ bits long. c.in_ok-graph.ensures.values bits ∙ ap (λ (ls : List Lit). rows_function rows ls bits) c.as_slice.ensures.value ∙ c.in_ok-built.ensures.function bits long) (omega (arith, c.in_ok-graph.ensures.fewer, c.in_ok-built.ensures.few)))

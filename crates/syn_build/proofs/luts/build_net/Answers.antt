@@ -9,7 +9,7 @@ use Rattle.syn_rows.specs.Values.{given_by}
 use Rattle.syn_hashed.specs.Growing.{value_by}
 use Rattle.syn_hashed.specs.Hashed.{IsHashed}
 use Rattle.syn_lutshapes.specs.Luts.{fold_luts, lut_value, net_gates}
-use Rattle.syn_shapes.specs.Graphs.{lit_at}
+use Rattle.syn_hashed.specs.Hashed.{lit_at}
 use Rattle.syn_lutnet.specs.declared.luts.Lut.{Lut}
 use Rattle.syn_lutnet.specs.Data.{lut_data, luts_data}
 use Rattle.syn_build.specs.Covering.{AllThere}

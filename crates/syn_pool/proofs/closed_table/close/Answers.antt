@@ -14,4 +14,4 @@ returns c =
     (closing_of (graph_of c.args.shared) c.args.graph.now (spare_of c.args.shared) (view_of c.args.seat).difference c.in-Ok.closed.rows.items c.in-Ok.closed.observed.items c.requires.graph c.in-Ok.ensures.closing)
     c.as_slice-rows.result.now c.as_slice-literals.result.now c.as_slice-rows.ensures.value c.as_slice-literals.ensures
     c.count-count.result c.count-count.ensures.ands c.count-count.ensures.rows
-    c.in_ok-next.next c.in_ok-next.ensures.frame c.in_ok-next.ensures.names c.in_ok-next.ensures.values c.in_ok-next.ensures.fewer
+    c.in_ok-next.next c.in_ok-next.ensures.sources c.in_ok-next.ensures.compacted

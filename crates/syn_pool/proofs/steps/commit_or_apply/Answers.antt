@@ -6,7 +6,7 @@ use Rattle.syn_pool.proofs.steps.commit_or_apply.Goals as goal
 pub returns : goal.returns
 returns g c =
     let f : Follows c.args.graph.now 1 c.in_ok-next.next = c.in_ok-next.ensures.follows in (
-      record { frame = f.frame; names = f.names; values = f.values; count = omega (arith, f.count) },
+      record { same = f.same; count = omega (arith, f.count) },
       omega (arith, f.count),
       λ _. omega arith,
       one_applied c.args.graph.now c.in_ok-next.next (record { done = 0; gained = 0 }) refl refl f c.in_ok-next.ensures.applied,

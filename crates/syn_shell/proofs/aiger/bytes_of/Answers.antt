@@ -3,8 +3,8 @@ use Rattle.std.proofs.lemmas.List.{length-drop}
 use Rattle.syn_netlist.specs.Frames.{frame_in}
 use Rattle.syn_netlist.specs.Lists.{sources}
 use Rattle.syn_reader.specs.Limits.{most_sources}
-use Rattle.syn_shapes.specs.GraphShape.{and_tables}
-use Rattle.syn_shapes.specs.Spelling.{NetworkSpells, network}
+use Rattle.syn_network.specs.GraphShape.{and_tables}
+use Rattle.syn_network.specs.Spelling.{NetworkSpells, network}
 use Rattle.syn_build.specs.BuildFaults.{most_gates}
 use Rattle.syn_shell.proofs.aiger.bytes_of.Goals as goal
 

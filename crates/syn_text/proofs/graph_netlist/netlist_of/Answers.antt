@@ -10,9 +10,9 @@ use Rattle.syn_netlist.specs.declared.netlists.Netlist.{Netlist}
 use Rattle.syn_graph.specs.declared.Graph.{Graph}
 use Rattle.syn_graph.specs.Graphs.{network_of}
 use Rattle.syn_netlist.specs.Frames.{frame_in}
-use Rattle.syn_shapes.specs.GraphShape.{GraphShape, observed_of, rows_of}
-use Rattle.syn_shapes.specs.Spelling.{NetworkSpells, network}
-use Rattle.syn_shapes.proofs.Networks.{network_spells}
+use Rattle.syn_network.specs.GraphShape.{GraphShape, observed_of, rows_of}
+use Rattle.syn_network.specs.Spelling.{NetworkSpells, network}
+use Rattle.syn_network.proofs.SpelledNetworks.{network_spells}
 use Rattle.syn_text.proofs.Shaped.{shaped_is_checked}
 use Rattle.syn_text.proofs.graph_netlist.netlist_of.Goals as goal
 

@@ -1,5 +1,5 @@
 use Rattle.std.proofs.Common.{◌≡◌, ◌-◌, ◌^◌, ◌++◌, filter, length, map}
-use Rattle.syn_shapes.specs.Spelling.{numbers_from}
+use Rattle.syn_lists.specs.Numbers.{numbers_from}
 use Rattle.syn_truth.specs.Truth.{value_at}
 use Rattle.syn_lutshapes.specs.Luts.{ones_of}
 use Rattle.syn_lutshapes.specs.LutSpelling.{minterm_row}
