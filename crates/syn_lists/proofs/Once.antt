@@ -12,14 +12,14 @@ has_number-append (x ∷ xs) ys i = ap (λ t. nat_eq x i || t) (has_number-appen
     or_assoc true b c = refl
     or_assoc false b c = refl
 
-or_none : (b : Bool) → (b || false) ≡ b
+pub or_none : (b : Bool) → (b || false) ≡ b
 or_none true = refl
 or_none false = refl
 
-number_same : (n : ℕ) → nat_eq n n ≡ true
+pub number_same : (n : ℕ) → nat_eq n n ≡ true
 number_same n = elim (eqb_tells n n) [ inl (t, e) ↦ t | inr (t, e) ↦ absurd (e refl) ]
 
-number_other : (n i : ℕ) → i ≢ n → nat_eq n i ≡ false
+pub number_other : (n i : ℕ) → i ≢ n → nat_eq n i ≡ false
 number_other n i ne = elim (eqb_tells n i) [ inl (t, e) ↦ absurd (ne (sym e)) | inr (t, e) ↦ t ]
 
 -- one more number at the end
@@ -29,7 +29,7 @@ has_last ns n = has_number-append ns (n ∷ []) n ∙ or_right (has_number ns n)
 pub has_other : (ns : List ℕ) (n i : ℕ) → i ≢ n → has_number (ns ++ n ∷ []) i ≡ has_number ns i
 has_other ns n i ne = has_number-append ns (n ∷ []) i ∙ ap (λ b. has_number ns i || (b || false)) (number_other n i ne) ∙ or_none (has_number ns i)
 
-same_number : (n i : ℕ) → nat_eq n i ≡ true → n ≡ i
+pub same_number : (n i : ℕ) → nat_eq n i ≡ true → n ≡ i
 same_number n i h = elim (eqb_tells n i) [ inl (t, e) ↦ e | inr (t, e) ↦ absurd (both_ways (nat_eq n i) t h) ]
 
 pub once_front : (front : List ℕ) (t : ℕ) → distinct_numbers (front ++ t ∷ []) ≡ true → (distinct_numbers front ≡ true) × (has_number front t ≡ false)

@@ -15,7 +15,7 @@ use Rattle.syn_netlist.specs.Numbers.{all_below}
 use Rattle.syn_netlist.specs.Tables.{tables_below}
 use Rattle.syn_netlist.specs.Walk.{AreDrivers, table_output, output_at, inputs_at, driver_at, stage_at, is_open, is_done, weight, driver_done, is_finished, driver_among, reads_made, seen_at, Leads, Linked, Begins, IsOrderWalk, IsNext, GoOn, Meets}
 use Rattle.syn_lists.specs.Numbers.{distinct_numbers}
-use Rattle.syn_lists.proofs.Once.{has_last, has_other, once_front, once_more}
+use Rattle.syn_lists.proofs.Once.{number_same, same_number, has_last, has_other, once_front, once_more}
 use Rattle.syn_netlist.proofs.Places.{below_parts, below_from, all_below-append}
 
 -- the last of a list
