@@ -8,7 +8,7 @@ use Rattle.syn_rows.specs.declared.Row.{Row}
 use Rattle.syn_rows.specs.declared.Row.TheVariants.{Free, Source, And, Alias}
 use Rattle.syn_rows.specs.Rows.{row_at, fold_rows}
 use Rattle.syn_rows.proofs.Folds.{length-fold, fold_kept}
-use Rattle.syn_lutshapes.specs.Luts.{greatest}
+use Rattle.syn_lutnet.specs.LutData.{greatest}
 use Rattle.syn_map.specs.Labels.{least, cuts_of, row_label, labels_of, label_of, LabelsAreLabels}
 use Rattle.syn_map.proofs.Listed.{below, In, cuts_in}
 

@@ -12,7 +12,7 @@ use Rattle.syn_cuts.specs.Cuts.{listed_cuts, row_cuts}
 use Rattle.syn_cuts.specs.Leaves.{leaves, leaves_of}
 use Rattle.syn_cuts.specs.Lists.{nontrivial}
 use Rattle.syn_cuts.proofs.Putting.{drop_leaves}
-use Rattle.syn_lutshapes.specs.Luts.{greatest}
+use Rattle.syn_lutnet.specs.LutData.{greatest}
 use Rattle.syn_lutnet.proofs.LutDepths.{depths_low}
 use Rattle.syn_map.specs.Labels.{choice, chosen, first_at, labels_of, least, row_label}
 
