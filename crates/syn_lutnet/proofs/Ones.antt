@@ -1,12 +1,12 @@
 -- The minterms of a table give its function.
-use Rattle.std.proofs.Common.{nat_lt, ◌≡◌, ℕ, zero, suc, ◌+◌, ◌^◌, ◌<◌, ◌≤◌, ◌||◌, nat_eq, Bool, true, false, List, [], ◌∷◌, filter, refl, sym, ap, ◌∙◌, eq-eqb, inl, inr, arith}
+use Rattle.std.proofs.Common.{nat_lt, ◌≡◌, ℕ, zero, suc, ◌+◌, ◌^◌, ◌<◌, ◌≤◌, ◌||◌, nat_eq, Bool, true, false, List, ◌∷◌, filter, refl, sym, ap, ◌∙◌, eq-eqb, inl, inr, arith}
 use Rattle.std.specs.List.{list_all}
 use Rattle.std.proofs.lemmas.Bool.{cases_Bool, cases_lt, cond-true, cond-false, and_from, or_left, or_from, eqb-true, lt-ltb, false_from_ne_true}
 use Rattle.syn_lists.specs.Numbers.{numbers_from}
 use Rattle.syn_truth.specs.declared.Truth.{Truth}
 use Rattle.syn_truth.specs.Truth.{AtEach, minterm_of, value_at, value_of}
 use Rattle.syn_truth.proofs.Minterms.{minterm_below}
-use Rattle.syn_lutshapes.specs.Luts.{has_one, ones_value, ones_of, rising, OnesGiveTable}
+use Rattle.syn_lutnet.specs.LutData.{has_one, ones_value, ones_of, rising, OnesGiveTable}
 
 has_none : (p : ℕ → Bool) (n a m : ℕ) → m < a → has_one (filter p (numbers_from a n)) m ≡ false
 has_none p zero a m lt = refl

@@ -1,18 +1,11 @@
--- LUT nets as data: signal 0 is the constant 0, then come the sources, then LUTs, each of which reads smaller signals.
-use Rattle.std.specs.Prelude.{◌≡◌, ℕ, zero, suc, ◌+◌, ◌^◌, ◌<◌, ◌==◌, ◌&&◌, not, max, nat_le, nat_lt, Bool, true, false, All, List, [], ◌∷◌, ◌++◌, length, map, filter, sum_by, slice_index_or, replicate}
+-- LUTs and nets of them as data, without names: signal 0 is the constant 0, then come the sources, then LUTs, each of which reads smaller signals.
+use Rattle.std.specs.Prelude.{◌≡◌, ℕ, suc, ◌+◌, ◌^◌, ◌<◌, ◌==◌, ◌&&◌, max, nat_le, nat_lt, Bool, true, false, All, List, [], ◌∷◌, ◌++◌, length, map, filter, sum_by, slice_index_or, replicate}
 use Rattle.std.specs.List.{list_any, list_all}
 use Rattle.syn_rows.specs.declared.Lit.{Lit}
 use Rattle.syn_rows.specs.Rows.{node_of}
 use Rattle.syn_rows.specs.Values.{lit_value, value_in}
 use Rattle.syn_rows.specs.Reach.{HasObserved}
-use Rattle.syn_netlist.specs.Words.{has_word}
-use Rattle.syn_netlist.specs.Lists.{Frame, sources, observed}
-use Rattle.syn_netlist.specs.Numbers.{word_at}
-use Rattle.syn_lists.specs.Numbers.{distinct_numbers}
-use Rattle.syn_network.specs.GraphShape.{place}
-use Rattle.syn_network.specs.NamedGraphs.{source_lit}
-use Rattle.syn_hashed.specs.Hashed.{lit_at}
-use Rattle.syn_lists.specs.Numbers.{numbers_from}
+use Rattle.syn_lists.specs.Numbers.{distinct_numbers, numbers_from}
 use Rattle.syn_truth.specs.declared.Truth.{Truth}
 use Rattle.syn_truth.specs.Truth.{AtEach, minterm_of, value_at, value_of}
 use Rattle.syn_plan.specs.Factoring.{factored, falling}
@@ -55,11 +48,6 @@ greatest f (x ∷ xs) = max (f x) (greatest f xs)
 -- a LUT lies one deeper than the deepest signal that it reads
 abbrev pub lut_depth : (ℕ → ℕ) → Lut → ℕ
 lut_depth depth l = greatest depth l.inputs + 1
-
--- so many zeros
-abbrev pub zeros : ℕ → List ℕ
-zeros zero = []
-zeros (suc n) = 0 ∷ zeros n
 
 -- the depths of all signals; those of the constant and of the sources, of which there are so many, are 0
 abbrev pub signal_depths : ℕ → List Lut → List ℕ
@@ -113,13 +101,11 @@ IsClosed first luts set = (j : ℕ) → j < length luts → set (first + j) ≡ 
 abbrev pub Reached : ℕ → List Lut → List Lit → ℕ → Type 0
 Reached first luts lits n = (set : ℕ → Bool) → IsClosed first luts set → HasObserved lits set → set n ≡ true
 
--- A LUT net of a frame: each LUT is one of its signal; one literal for each observed signal, in their order, of a signal that is there; an observed source has its own plain literal; every LUT is reached.
-pub record IsLutNet (frame : Frame) (luts : List Lut) (lits : List Lit) : Type 0 where
-  pub luts_fit : (j : ℕ) → j < length luts → is_lut (length (sources frame) + 1 + j) (lut_at luts j) ≡ true
-  pub count : length lits ≡ length (observed frame)
-  pub within : All (λ l. node_of l < length (sources frame) + 1 + length luts) lits
-  pub own : (i : ℕ) → i < length lits → has_word (sources frame) (word_at (observed frame) i) ≡ true → lit_at lits i ≡ source_lit (place (word_at (observed frame) i) (sources frame))
-  pub reached : (j : ℕ) → j < length luts → Reached (length (sources frame) + 1) luts lits (length (sources frame) + 1 + j)
+-- LUTs and observed literals are a LUT net over so many sources: each LUT is one of its signal, literals of signals that are there, and every LUT is reached.
+pub record IsLutNet (count : ℕ) (luts : List Lut) (lits : List Lit) : Type 0 where
+  pub luts_fit : (j : ℕ) → j < length luts → is_lut (count + 1 + j) (lut_at luts j) ≡ true
+  pub within : All (λ l. node_of l < count + 1 + length luts) lits
+  pub reached : (j : ℕ) → j < length luts → Reached (count + 1) luts lits (count + 1 + j)
 
 -- no LUT has more than k inputs
 abbrev pub none_exceeds : ℕ → List Lut → Bool
@@ -136,5 +122,4 @@ OnesGiveTable = (t : Truth) → AreOnesOf t (ones_of t)
 
 -- Where every LUT is reached, the depth of the net is that of its deepest observed signal.
 abbrev pub DeepestIsObserved : Type 0
-DeepestIsObserved = (frame : Frame) (luts : List Lut) (lits : List Lit) → IsLutNet frame luts lits
-    → net_depth (length (sources frame)) luts ≡ greatest (depth_in (signal_depths (length (sources frame)) luts)) (map node_of lits)
+DeepestIsObserved = (count : ℕ) (luts : List Lut) (lits : List Lit) → IsLutNet count luts lits → net_depth count luts ≡ greatest (depth_in (signal_depths count luts)) (map node_of lits)

@@ -20,10 +20,10 @@ use Rattle.syn_network.proofs.Spelled.{place_in_front}
 use Rattle.syn_network.proofs.Inner.{filtered, distinct-filter, length-inner_names, inner_names_distinct, inner_names_free}
 use Rattle.syn_network.proofs.Gates.{lit}
 use Rattle.syn_network.proofs.Ends.{firsts_distinct, AllWithin, end_outputs, ends_are_ends, ends_read, end_found, end_back}
-use Rattle.syn_lutshapes.specs.Luts.{Lut, IsClosed, Reached, none_exceeds, net_depth, net_gates}
-use Rattle.syn_lutshapes.specs.LutShape.{has_more, lut_tables, end_tables, signal_names, lut_of, luts_of, lit_of, observed_of, is_lut_table, LutShape}
-use Rattle.syn_lutshapes.specs.LutSpelling.{lut_tables_of, lut_names, lut_network, NetworkOfLuts}
-use Rattle.syn_lutshapes.proofs.LutTables.{AreLuts, luts_from_each, keeps_all, keeps_none, not_all, not_none, luts_have_more, lut_outputs, luts_spell, luts_are_tables, luts_read}
+use Rattle.syn_lutnet.specs.LutData.{Lut, IsClosed, Reached, none_exceeds, net_depth, net_gates}
+use Rattle.syn_network.specs.LutShape.{has_more, lut_tables, end_tables, signal_names, lut_of, luts_of, lit_of, observed_of, is_lut_table, LutShape}
+use Rattle.syn_network.specs.LutSpelling.{lut_tables_of, lut_names, lut_network, NetworkOfLuts}
+use Rattle.syn_network.proofs.LutTables.{AreLuts, luts_from_each, keeps_all, keeps_none, not_all, not_none, luts_have_more, lut_outputs, luts_spell, luts_are_tables, luts_read}
 
 distinct_append : (xs ys : List (List ℕ)) → distinct xs ≡ true → distinct ys ≡ true → ((w : List ℕ) → has_word xs w ≡ true → has_word ys w ≡ false) → distinct (xs ++ ys) ≡ true
 distinct_append [] ys d e away = e

@@ -15,44 +15,9 @@ use Rattle.syn_lists.specs.Numbers.{distinct_numbers}
 use Rattle.syn_netlist.proofs.Sets.{same_word}
 use Rattle.syn_truth.specs.Truth.{digit}
 use Rattle.syn_network.proofs.Gates.{has_at, place_back}
-use Rattle.syn_lutshapes.specs.Luts.{Lut, rising, is_input, is_lut, lut_at, none_exceeds}
-use Rattle.syn_lutshapes.specs.LutShape.{has_more, is_one, row_minterm, signal_of, lut_of, is_minterm_row, is_lut_table}
-use Rattle.syn_lutshapes.specs.LutSpelling.{minterm_row, signal_name, lut_table, lut_tables_of}
-
--- LUTs, the first of which is this signal's
-
-abbrev pub AreLuts : ℕ → List Lut → Type 0
-AreLuts n [] = ⊤
-AreLuts n (l ∷ ls) = (is_lut n l ≡ true) × AreLuts (suc n) ls
-
-pub luts_from_each : (n : ℕ) (luts : List Lut) → ((j : ℕ) → j < length luts → is_lut (n + j) (lut_at luts j) ≡ true) → AreLuts n luts
-luts_from_each n [] h = tt
-luts_from_each n (l ∷ ls) h = (
-  ap (λ k. is_lut k l) (let s : n ≡ n + 0 = omega arith in s) ∙ h 0 (omega arith),
-  luts_from_each (suc n) ls (λ j lt. ap (λ k. is_lut k (lut_at ls j)) (let s : suc n + j ≡ n + suc j = omega arith in s) ∙ h (suc j) (omega arith)),
-)
-
-pub record LutParts (n : ℕ) (l : Lut) : Type 0 where
-  pub many : nat_le 2 (length l.inputs) ≡ true
-  pub once : distinct_numbers l.inputs ≡ true
-  pub inside : list_all (is_input n) l.inputs ≡ true
-  pub rise : rising l.ones ≡ true
-  pub small : list_all (λ m. nat_lt m (2 ^ length l.inputs)) l.ones ≡ true
-
-pub lut_parts : (n : ℕ) (l : Lut) → is_lut n l ≡ true → LutParts n l
-lut_parts n l h =
-    let small : Bool = list_all (λ m. nat_lt m (2 ^ length l.inputs)) l.ones in
-    let p = and_parts (nat_le 2 (length l.inputs)) (distinct_numbers l.inputs && (list_all (is_input n) l.inputs && (rising l.ones && small))) h in
-    let q = and_parts (distinct_numbers l.inputs) (list_all (is_input n) l.inputs && (rising l.ones && small)) p.1 in
-    let r = and_parts (list_all (is_input n) l.inputs) (rising l.ones && small) q.1 in
-    let s = and_parts (rising l.ones) small r.1 in
-    record { many = p.0; once = q.0; inside = r.0; rise = s.0; small = s.1 }
-
-input_low : (n i : ℕ) → is_input n i ≡ true → 1 ≤ i
-input_low n i h = leb-true 1 i (and_parts (nat_le 1 i) (nat_lt i n) h).0
-
-input_high : (n i : ℕ) → is_input n i ≡ true → i < n
-input_high n i h = ltb-true i n (and_parts (nat_le 1 i) (nat_lt i n) h).1
+use Rattle.syn_lutnet.specs.LutData.{Lut, rising, is_input, is_lut, lut_at, none_exceeds}
+use Rattle.syn_network.specs.LutShape.{has_more, is_one, row_minterm, signal_of, lut_of, is_minterm_row, is_lut_table}
+use Rattle.syn_network.specs.LutSpelling.{minterm_row, signal_name, lut_table, lut_tables_of}
 
 -- filters that keep all or none
 

@@ -1,14 +1,13 @@
 -- The deepest signal of a LUT net is observed.
-use Rattle.std.proofs.Common.{replicate, ◌≡◌, ℕ, zero, suc, ◌+◌, ◌-◌, ◌<◌, ◌≤◌, ◌&&◌, max, nat_le, nat_lt, Bool, true, List, [], ◌∷◌, map, length, get_or, refl, sym, ap, ◌∙◌, inl, inr, arith}
+use Rattle.std.proofs.Common.{replicate, ◌≡◌, ℕ, zero, suc, ◌+◌, ◌-◌, ◌<◌, ◌≤◌, max, nat_le, nat_lt, Bool, true, List, [], ◌∷◌, map, length, get_or, refl, sym, ap, ◌∙◌, inl, inr, arith}
 use Rattle.std.specs.List.{list_all}
 use Rattle.std.proofs.lemmas.Bool.{cases_lt, and_parts, and_from, leb-true, le-leb}
 use Rattle.std.proofs.lemmas.List.{length-map, get_or-map}
 use Rattle.syn_rows.specs.Rows.{node_of}
 use Rattle.syn_rows.specs.Reach.{HasObserved}
-use Rattle.syn_netlist.specs.Lists.{sources}
-use Rattle.syn_lutshapes.specs.Luts.{lut_at, greatest, lut_depth, signal_depths, depth_in, is_input, IsClosed, DeepestIsObserved}
-use Rattle.syn_lutshapes.proofs.Folding.{below, In, IsLocal, length-luts, luts_kept, lut_step}
-use Rattle.syn_lutshapes.proofs.LutTables.{lut_parts}
+use Rattle.syn_lutnet.specs.LutData.{lut_at, greatest, lut_depth, signal_depths, depth_in, is_input, IsClosed, DeepestIsObserved}
+use Rattle.syn_lutnet.proofs.Folding.{below, In, IsLocal, length-luts, luts_kept, lut_step}
+use Rattle.syn_lutnet.proofs.LutParts.{lut_parts}
 
 -- the greatest of a list
 
@@ -52,13 +51,10 @@ inputs_in n (i ∷ is) h =
     and_from (below n i) (list_all (below n) is) (and_parts (nat_le 1 i) (nat_lt i n) parts.0).1 (inputs_in n is parts.1)
 
 pub deepest_is_observed : DeepestIsObserved
-deepest_is_observed frame luts lits net = omega (arith, low, high)
+deepest_is_observed count luts lits net = omega (arith, low, high)
   where
-    count : ℕ
-    count = length (sources frame)
-
     depths : List ℕ
-    depths = signal_depths (length (sources frame)) luts
+    depths = signal_depths count luts
 
     top : ℕ
     top = greatest (depth_in depths) (map node_of lits)

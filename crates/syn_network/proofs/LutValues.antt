@@ -16,8 +16,8 @@ use Rattle.syn_netlist.proofs.Sets.{same_word, has_head, has_tail, has_left}
 use Rattle.syn_truth.specs.Truth.{digit, minterm_of}
 use Rattle.syn_network.specs.GraphShape.{place, shown, lit_shown, lit_of_table, is_end_cover, is_end_table}
 use Rattle.syn_network.proofs.Spelled.{in_rest, place_in_front, has_without}
-use Rattle.syn_lutshapes.specs.Luts.{ones_value, lut_value, fold_luts, signal_values, rising, luts_function}
-use Rattle.syn_lutshapes.specs.LutShape.{lut_tables, end_tables, signal_names, row_minterm, signal_of, lut_of, luts_of, lit_of, observed_of, is_minterm_row, is_lut_table, LutShape, LutsHaveFunction}
+use Rattle.syn_lutnet.specs.LutData.{ones_value, lut_value, fold_luts, signal_values, rising, luts_function}
+use Rattle.syn_network.specs.LutShape.{lut_tables, end_tables, signal_names, row_minterm, signal_of, lut_of, luts_of, lit_of, observed_of, is_minterm_row, is_lut_table, LutShape, LutsHaveFunction}
 
 -- a row of signs matches the values of one minterm alone
 

@@ -9,7 +9,7 @@ use Rattle.syn_netlist.specs.Values.{HasFunction}
 use Rattle.syn_netlist.specs.Order.{Ordered}
 use Rattle.syn_truth.specs.Truth.{minterm_of}
 use Rattle.syn_network.specs.GraphShape.{place, shown, lit_of_table, is_end_table}
-use Rattle.syn_lutshapes.specs.Luts.{Lut, rising, luts_function, net_depth, net_gates, Reached}
+use Rattle.syn_lutnet.specs.LutData.{Lut, rising, luts_function, net_depth, net_gates, Reached}
 
 -- the table has two or more inputs
 abbrev pub has_more : Table → Bool
