@@ -9,12 +9,12 @@ use Rattle.syn_rows.specs.declared.Row.{Row}
 use Rattle.syn_rows.specs.declared.Row.TheVariants.{Free}
 use Rattle.syn_rows.specs.Rows.{node_of, row_at}
 use Rattle.syn_rows.specs.Reach.{is_and}
-use Rattle.syn_rows.specs.Values.{rows_function, value_in}
+use Rattle.syn_rows.specs.Values.{value_in}
 use Rattle.syn_graph.specs.Graphs.{IsGraph}
 use Rattle.syn_truth.specs.declared.Truth.{Truth}
 use Rattle.syn_rows.specs.Nodes.{has_node}
 use Rattle.syn_cones.specs.Cones.{IsTruthOver}
-use Rattle.syn_lutnet.specs.LutData.{Lut, greatest, IsLutNet, lut_at, luts_function, net_depth, no_lut, none_exceeds, ones_of, rising}
+use Rattle.syn_lutnet.specs.LutData.{Lut, IsLutNet, lut_at, no_lut, none_exceeds, ones_of, rising}
 use Rattle.syn_lutnet.proofs.Folding.{below, In}
 use Rattle.syn_lutnet.proofs.Ones.{ones_give}
 use Rattle.syn_graph.specs.declared.Graph.{Graph}
@@ -22,7 +22,7 @@ use Rattle.syn_lutnet.specs.declared.luts.Lut as code
 use Rattle.syn_lutnet.specs.declared.nets.LutNet.{LutNet}
 use Rattle.syn_lutnet.specs.Data.{lut_data, luts_data}
 use Rattle.syn_lutnet.specs.Nets.{HasFunctionOf}
-use Rattle.syn_covering.specs.Cuts.{AreLutCuts, AreDepths}
+use Rattle.syn_covering.specs.Cuts.{AreLutCuts}
 use Rattle.syn_covering.specs.Mappings.{HasSignal, IsNeeded, AreOnesOver, signal_of, signal_lit, node_at, IsMapping}
 use Rattle.syn_covering.specs.Making.{number_at, numbered_lit, AreLutsOf, HasDepthOver, IsMappedBy}
 use Rattle.syn_covering.specs.Needs.{IsSwept, IsGate, marked_from}

@@ -1,4 +1,4 @@
-use Rattle.std.proofs.Common.{◌≡◌, ◌+◌, ◌≤◌, ℕ, true, length}
+use Rattle.std.proofs.Common.{◌≡◌, ◌+◌, ◌≤◌, ℕ, List, true, length}
 use Rattle.std.proofs.lemmas.Result.{IfOk-weaker}
 use Rattle.syn_graph.specs.declared.Graph.{Graph}
 use Rattle.syn_lutnet.specs.LutData.{none_exceeds}
