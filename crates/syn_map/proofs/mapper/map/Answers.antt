@@ -1,4 +1,4 @@
-use Rattle.std.proofs.Common.{◌≡◌, ℕ, true, length, map}
+use Rattle.std.proofs.Common.{◌≡◌, ℕ, true, map}
 use Rattle.std.proofs.lemmas.Result.{IfOk-weaker}
 use Rattle.syn_rows.specs.Rows.{node_of}
 use Rattle.syn_truth.specs.declared.TheConstants.{MAX_VARS}
