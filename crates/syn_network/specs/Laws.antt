@@ -1,5 +1,5 @@
 -- What follows where one graph is put in place of another under the same names.
-use Rattle.std.specs.Prelude.{◌≡◌, true, length}
+use Rattle.std.specs.Prelude.{◌≡◌, true}
 use Rattle.syn_graph.specs.declared.Graph.{Graph}
 use Rattle.syn_graph.specs.Relations.{SameFunction}
 use Rattle.syn_netlist.specs.Lists.{Frame, sources}

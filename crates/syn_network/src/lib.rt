@@ -6,7 +6,7 @@ mod frames;
 mod laws;
 mod networks;
 
-pub use finished::finish;
+pub use finished::{compact, finish};
 pub use frames::{copy_frame, copy_names, few_observed, frame_over};
 pub use laws::{
     graph_counts_ands, graph_has_function, names_stay, network_of_graph,

@@ -1,11 +1,13 @@
 //! The type of networks.
 
-ghost use Rattle.std.specs.Prelude.{◌≡◌, ◌<◌, ◌^◌, length};
+ghost use Rattle.std.specs.Prelude.{◌≡◌, ◌<◌, ◌^◌, length, IfOk};
 ghost use Rattle.syn_netlist.specs.Frames.{frame_in};
 ghost use Rattle.syn_network.specs.NamedGraphs.{IsNamedGraph};
 ghost use Rattle.syn_graph.specs.Relations.{SameFunction};
 ghost use Rattle.syn_network.specs.Networks.{IsNamed};
 
+use crate::frames::copy_frame;
+use std::alloc::{AllocError, Global};
 use syn_graph::Graph;
 use syn_netlist::Frame;
 
@@ -39,5 +41,16 @@ impl Network {
         ensures body { self.new.body ≡ body }
     {
         self.body = body;
+    }
+
+    /// The same graph under the same names. The only error is want of memory.
+    pub fn copy(&self, alloc: Global) -> Result<Network, AllocError>
+        ensures frame { IfOk result (λ n. frame_in n.frame ≡ frame_in self.now.frame) }
+        ensures names { IfOk result (λ n. n.frame.names ≡ self.now.frame.names) }
+        ensures body { IfOk result (λ n. n.body ≡ self.now.body) }
+    {
+        let body = self.body.copy(alloc)?;
+        let frame = copy_frame(alloc, &self.frame)?;
+        Ok(Network::of(frame, body))
     }
 }
