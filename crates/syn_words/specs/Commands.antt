@@ -3,7 +3,6 @@ use Rattle.std.specs.Prelude.{â„•, Bool, true, false, min, max, option_map, ifâ—
 use Rattle.syn_words.specs.declared.words.Phrase.{Phrase}
 use Rattle.syn_words.specs.Forms.{and_then, given_by}
 use Rattle.syn_words.specs.declared.forms.Form.{Form}
-use Rattle.syn_words.specs.declared.forms.Operands.{Operands}
 use Rattle.syn_words.specs.declared.forms.Operands.TheVariants as operands
 use Rattle.syn_words.specs.declared.word_reader.Given.{Given}
 use Rattle.syn_words.specs.declared.table.Keyword.{Keyword}
