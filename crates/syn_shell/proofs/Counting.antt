@@ -1,7 +1,7 @@
 -- Refusals of the files, of the lines and of the sink, and their counts of faults.
 use Rattle.std.proofs.Common.{◌≡◌, ◌⊎◌, ℕ, ◌+◌, ◌-◌, ◌^◌, ◌<◌, ◌≤◌, Bool, List, [], ◌∷◌, ◌++◌, refl, sym, ap, subst, arith, inl, inr, Option, None, Some}
 use Rattle.syn_io.specs.Outside.{Rose, Disk, Screen, Input}
-use Rattle.syn_shell.specs.Networks.{Network}
+use Rattle.syn_shell.specs.Networks.{Written}
 use Rattle.syn_words.specs.declared.Command.{Command}
 use Rattle.syn_shell.specs.declared.refusal.Refusal.{Refusal}
 use Rattle.syn_shell.specs.declared.refusal.Refusal.TheVariants.{Words, Script, Read, ReadAiger, FileTooLong, LineTooLong, TooManyGates, LatchType, NoNetwork, GetFailed, PutFailed, LineFailed, SinkFailed, NoMemory}
@@ -62,24 +62,24 @@ aiger_read_counted : (file name : List ℕ) (cause : Refusal) (d d' : Disk) (s s
 aiger_read_counted file name (ReadAiger fault) d d' s s' why le e = record { files = covers_none d.faults d'.faults le; sink = sink_same s s' e; lines = refl }
 aiger_read_counted file name other d d' s s' why le e = get_counted file name other d d' s s' why le e
 
-print_counted : (m : Option Network) (name : List ℕ) (cause : Refusal) (d d' : Disk) (s s' : Screen) → PrintRefused m s s' cause → d' ≡ d → Counted (record { cause = cause; name = name } ∷ []) d s d' s'
+print_counted : (m : Option Written) (name : List ℕ) (cause : Refusal) (d d' : Disk) (s s' : Screen) → PrintRefused m s s' cause → d' ≡ d → Counted (record { cause = cause; name = name } ∷ []) d s d' s'
 print_counted m name NoNetwork d d' s s' (none, same) e = record { files = disk_same d d' e; sink = sink_same s s' same; lines = refl }
 print_counted m name SinkFailed d d' s s' (net, line, is, text, part) e = record { files = disk_same d d' e; sink = covers_one s.faults s'.faults part.later part.failed; lines = refl }
 print_counted m name NoMemory d d' s s' same e = record { files = disk_same d d' e; sink = sink_same s s' same; lines = refl }
 print_counted m name other d d' s s' why e = absurd why
 
-write_counted : (m : Option Network) (file name : List ℕ) (cause : Refusal) (d d' : Disk) (s s' : Screen) → WriteRefused m file d d' cause → s' ≡ s → Counted (record { cause = cause; name = name } ∷ []) d s d' s'
+write_counted : (m : Option Written) (file name : List ℕ) (cause : Refusal) (d d' : Disk) (s s' : Screen) → WriteRefused m file d d' cause → s' ≡ s → Counted (record { cause = cause; name = name } ∷ []) d s d' s'
 write_counted m file name NoNetwork d d' s s' (none, same) e = record { files = disk_same d d' same; sink = sink_same s s' e; lines = refl }
 write_counted m file name PutFailed d d' s s' (some, rose, others) e = record { files = covers_one d.faults d'.faults others.later rose; sink = sink_same s s' e; lines = refl }
 write_counted m file name NoMemory d d' s s' others e = record { files = covers_none d.faults d'.faults others.later; sink = sink_same s s' e; lines = refl }
 write_counted m file name other d d' s s' why e = absurd why
 
-aiger_write_counted : (m : Option Network) (file name : List ℕ) (cause : Refusal) (d d' : Disk) (s s' : Screen) → AigerWriteRefused m file d d' cause → s' ≡ s → Counted (record { cause = cause; name = name } ∷ []) d s d' s'
+aiger_write_counted : (m : Option Written) (file name : List ℕ) (cause : Refusal) (d d' : Disk) (s s' : Screen) → AigerWriteRefused m file d d' cause → s' ≡ s → Counted (record { cause = cause; name = name } ∷ []) d s d' s'
 aiger_write_counted m file name (TooManyGates gates) d d' s s' why e = record { files = disk_same d d' why.1; sink = sink_same s s' e; lines = refl }
 aiger_write_counted m file name (LatchType latch) d d' s s' why e = record { files = disk_same d d' why.1; sink = sink_same s s' e; lines = refl }
 aiger_write_counted m file name other d d' s s' why e = write_counted m file name other d d' s s' why e
 
-making_counted : (m : Option Network) (name : List ℕ) (cause : Refusal) (d d' : Disk) (s s' : Screen) → MakingRefused m cause → d' ≡ d → s' ≡ s → Counted (record { cause = cause; name = name } ∷ []) d s d' s'
+making_counted : (m : Option Written) (name : List ℕ) (cause : Refusal) (d d' : Disk) (s s' : Screen) → MakingRefused m cause → d' ≡ d → s' ≡ s → Counted (record { cause = cause; name = name } ∷ []) d s d' s'
 making_counted m name NoNetwork d d' s s' why e f = record { files = disk_same d d' e; sink = sink_same s s' f; lines = refl }
 making_counted m name (TooManyGates gates) d d' s s' why e f = record { files = disk_same d d' e; sink = sink_same s s' f; lines = refl }
 making_counted m name NoMemory d d' s s' why e f = record { files = disk_same d d' e; sink = sink_same s s' f; lines = refl }

@@ -13,7 +13,7 @@ use Rattle.syn_rewrite.specs.Rewriting.{rewritings}
 use Rattle.syn_words.specs.declared.Command.{Command}
 use Rattle.syn_words.specs.declared.Command.TheVariants as commands
 use Rattle.syn_shell.specs.declared.refusal.Refusal.{Refusal}
-use Rattle.syn_shell.specs.Networks.{Network, graph_network}
+use Rattle.syn_shell.specs.Networks.{Written, graph_network}
 use Rattle.syn_shell.specs.Outside.{State}
 use Rattle.syn_shell.specs.Steps.{Denied, IsPassed, IsSweptTo, Kind, Reading, ReadingAiger, Generating, Printing, Writing, WritingAiger, Making, Makes, OnGraph, Remakes, SessionStep, kind_of}
 use Rattle.syn_shell.specs.Scripts.{Refused, RunsCommands, RunsScript}
@@ -42,7 +42,7 @@ sweeps other = false
 
 -- what a command makes of a network is the same, by whether it sweeps, and reads only earlier signals
 
-abbrev IsKeptIn : Bool → Network → Network → Type 0
+abbrev IsKeptIn : Bool → Written → Written → Type 0
 IsKeptIn swept old new = IsSameBy swept old.netlist new.netlist × Ordered new.netlist
 
 -- the same behind one that means the same
@@ -60,11 +60,11 @@ both_same laws false after n m p ordered first second = subst (λ (swept : Bool)
 both_same laws true true n m p ordered first second = laws.runs n m p ordered.once first second
 both_same laws true false n m p ordered first second = laws.runs n m p ordered.once first (laws.weaker m p second)
 
-kept_on_graph : AreLaws → (swept : Bool) (makes : Network → Network → Type 0) → ((old new : Network) → makes old new → IsKeptIn swept old new) → (mark : Bool) (old new : Network) → OnGraph makes mark old new → IsKeptIn swept old new
+kept_on_graph : AreLaws → (swept : Bool) (makes : Written → Written → Type 0) → ((old new : Written) → makes old new → IsKeptIn swept old new) → (mark : Bool) (old new : Written) → OnGraph makes mark old new → IsKeptIn swept old new
 kept_on_graph laws swept makes kept false old new made = kept old new made
 kept_on_graph laws swept makes kept true old new (graph, is, made) = (same_then laws swept old.netlist graph.netlist new.netlist is.ordered is.same (kept graph new made).0, (kept graph new made).1)
 
-made_kept : AreLaws → (c : Command) (old new : Network) → kind_of c ≡ Making → Makes c old new → IsKeptIn (sweeps c) old new
+made_kept : AreLaws → (c : Command) (old new : Written) → kind_of c ≡ Making → Makes c old new → IsKeptIn (sweeps c) old new
 made_kept laws commands.Strash old new making made = (made.same, made.ordered)
 made_kept laws commands.Balance old new making made = kept_on_graph laws false _ (λ a b h. (h.remade.same, h.remade.ordered)) old.mapped old new made
 made_kept laws (commands.Rewrite options) old new making made =
@@ -85,11 +85,11 @@ made_kept laws commands.Stats old new making made = absurd (cc)
 made_kept laws (commands.Generate seed size) old new making made = absurd (cc)
 
 -- the network keeps what it came from; or there is neither
-abbrev IsKept : Option Origin → Option Network → Type 0
+abbrev IsKept : Option Origin → Option Written → Type 0
 IsKept None m = m ≡ None
-IsKept (Some origin) m = (net : Network) × (m ≡ Some net) × Keeps origin net.netlist
+IsKept (Some origin) m = (net : Written) × (m ≡ Some net) × Keeps origin net.netlist
 
-same_network : (a b : Network) (m : Option Network) → m ≡ Some a → m ≡ Some b → a ≡ b
+same_network : (a b : Written) (m : Option Written) → m ≡ Some a → m ≡ Some b → a ≡ b
 same_network a b m x y = cc
 
 stays_kept : (origin : Option Origin) (before after : State) → after.network ≡ before.network → IsKept origin before.network → IsKept origin after.network
@@ -99,14 +99,14 @@ stays_kept origin before after same kept = subst (IsKept origin) (sym same) kept
 abbrev origin_made : Command → Option Origin → Option Origin
 origin_made c origin = if sweeps c then swept_since origin else origin
 
-kept_by : AreLaws → (swept : Bool) (c : Command) (origin : Origin) (old new : Network) → sweeps c ≡ swept → IsKeptIn swept old new → Keeps origin old.netlist → IsKept (if swept then swept_since (Some origin) else Some origin) (Some new)
+kept_by : AreLaws → (swept : Bool) (c : Command) (origin : Origin) (old new : Written) → sweeps c ≡ swept → IsKeptIn swept old new → Keeps origin old.netlist → IsKept (if swept then swept_since (Some origin) else Some origin) (Some new)
 kept_by laws true c origin old new is (same, ordered) (n, from, first, above) = (new, refl, (n, from, both_same laws origin.swept true n old.netlist new.netlist above first same, ordered))
 kept_by laws false c origin old new is (same, ordered) (n, from, first, above) = (new, refl, (n, from, both_same laws origin.swept false n old.netlist new.netlist above first same, ordered))
 
-remade_kept : AreLaws → (c : Command) (origin : Option Origin) (m m' : Option Network) → kind_of c ≡ Making → Remakes c m m' → IsKept origin m → IsKept (origin_made c origin) m'
+remade_kept : AreLaws → (c : Command) (origin : Option Origin) (m m' : Option Written) → kind_of c ≡ Making → Remakes c m m' → IsKept origin m → IsKept (origin_made c origin) m'
 remade_kept laws c None m m' making (old, new, was, is, gates, made) none = absurd (cc)
 remade_kept laws c (Some origin) m m' making (old, new, was, is, gates, made) (net, there, keeps) =
-    let here : Keeps origin old.netlist = subst (λ (a : Network). Keeps origin a.netlist) (same_network net old m there was) keeps in
+    let here : Keeps origin old.netlist = subst (λ (a : Written). Keeps origin a.netlist) (same_network net old m there was) keeps in
     subst (IsKept (origin_made c (Some origin))) (sym is) (kept_by laws (sweeps c) c origin old new refl (made_kept laws c old new making made) here)
 
 denied_stays : (kind : Kind) (before : State) (cause : Refusal) (after : State) → Denied kind before cause after → after.network ≡ before.network
@@ -142,15 +142,15 @@ step_kept laws c before (Err cause) after origin step kept = stays_kept origin b
 
 -- the steps of a run lead from network to network
 
-abbrev Leads : Option Network → List Step → Option Network → Type 0
+abbrev Leads : Option Written → List Step → Option Written → Type 0
 Leads m [] m' = m' ≡ m
 Leads m (s ∷ ss) m' = (s.before.network ≡ m) × SessionStep s.command s.before s.answer s.after × Leads s.after.network ss m'
 
-leads_on : (m k m' : Option Network) (xs ys : List Step) → Leads m xs k → Leads k ys m' → Leads m (xs ++ ys) m'
-leads_on m k m' [] ys same more = subst (λ (x : Option Network). Leads x ys m') same more
+leads_on : (m k m' : Option Written) (xs ys : List Step) → Leads m xs k → Leads k ys m' → Leads m (xs ++ ys) m'
+leads_on m k m' [] ys same more = subst (λ (x : Option Written). Leads x ys m') same more
 leads_on m k m' (x ∷ xs) ys (from, step, rest) more = (from, step, leads_on x.after.network k m' xs ys rest more)
 
-leads_to : (m k m' : Option Network) (xs : List Step) → Leads m xs k → m' ≡ k → Leads m xs m'
+leads_to : (m k m' : Option Written) (xs : List Step) → Leads m xs k → m' ≡ k → Leads m xs m'
 leads_to m k m' xs leads same = subst (Leads m xs) (sym same) leads
 
 commands_lead : (cs : List Command) (before : State) (outcome : Option Refused) (after : State) (runs : RunsCommands cs before outcome after)
@@ -184,13 +184,13 @@ lines_lead (line ∷ lines) taken before i refusals after i' (j, outcome, done, 
     leads_to before.network done.network after.network _ (script_leads line before outcome done runs) (ends_stays outcome done after ends)
 
 usage_leads : (usage : Usage) (before : State) (i : Input) (refusals : List Refused) (after : State) (i' : Input) (runs : RunsUsage usage before i refusals after i')
-    → (m : Option Network) × Leads before.network (steps_of_usage usage before i refusals after i' runs) m
+    → (m : Option Written) × Leads before.network (steps_of_usage usage before i refusals after i' runs) m
 usage_leads (OneScript text) before i refusals after i' ((outcome, done, runs, is, ends), same) = (done.network, script_leads text before outcome done runs)
 usage_leads EachLine before i refusals after i' (lines, runs) = (after.network, lines_lead lines 0 before i refusals after i' runs)
 usage_leads Faulty before i refusals after i' runs = (before.network, refl)
 
 words_lead : (words : List (List ℕ)) (before : State) (i : Input) (refusals : List Refused) (after : State) (i' : Input) (runs : RunsWords words before i refusals after i')
-    → (m : Option Network) × Leads before.network (steps_of_words words before i refusals after i' runs) m
+    → (m : Option Written) × Leads before.network (steps_of_words words before i refusals after i' runs) m
 words_lead words before i refusals after i' (inl runs) = usage_leads (usage_of words) before i refusals after i' runs
 words_lead words before i refusals after i' (inr nothing) = (before.network, refl)
 
@@ -199,7 +199,7 @@ words_lead words before i refusals after i' (inr nothing) = (before.network, ref
 abbrev IsReachedFrom : Option Origin → List Step → Step → Type 0
 IsReachedFrom origin front s = IsKept (origin_after front origin) s.before.network × SessionStep s.command s.before s.answer s.after
 
-step_among : AreLaws → (front back : List Step) (s : Step) (origin : Option Origin) (m m' : Option Network) → IsKept origin m → Leads m (front ++ s ∷ back) m' → IsReachedFrom origin front s
+step_among : AreLaws → (front back : List Step) (s : Step) (origin : Option Origin) (m m' : Option Written) → IsKept origin m → Leads m (front ++ s ∷ back) m' → IsReachedFrom origin front s
 step_among laws [] back s origin m m' kept (from, step, rest) = (subst (IsKept origin) (sym from) kept, step)
 step_among laws (f ∷ front) back s origin m m' kept (from, step, rest) =
     let here : IsKept origin f.before.network = subst (IsKept origin) (sym from) kept in
@@ -210,10 +210,10 @@ Given found c after = (origin : Origin) × (m : Netlist) × (found ≡ Some orig
 
 -- what a write gives, where the netlist that it writes is that of the network
 
-given_of : (found : Option Origin) (c : Command) (net : Network) (before after : State) → before.network ≡ Some net → Gives c after.files net.netlist → IsKept found before.network → Given found c after
+given_of : (found : Option Origin) (c : Command) (net : Written) (before after : State) → before.network ≡ Some net → Gives c after.files net.netlist → IsKept found before.network → Given found c after
 given_of None c net before after is gives none = absurd (cc)
 given_of (Some origin) c net before after is gives (kept, there, keeps) =
-    (origin, net.netlist, refl, gives, subst (λ (a : Network). Keeps origin a.netlist) (same_network kept net before.network there is) keeps)
+    (origin, net.netlist, refl, gives, subst (λ (a : Written). Keeps origin a.netlist) (same_network kept net before.network there is) keeps)
 
 write_gives : (found : Option Origin) (c : Command) (before after : State) → writes c ≡ true → IsKept found before.network → SessionStep c before (Ok tt) after → Given found c after
 write_gives found (commands.Write name) before after writing kept (net, is, stays, file, reads, others, sink) = given_of found (commands.Write name) net before after is (file, reads) kept

@@ -26,7 +26,7 @@ use Rattle.syn_words.specs.declared.Command.{Command}
 use Rattle.syn_words.specs.declared.Command.TheVariants as commands
 use Rattle.syn_seq.proofs.Fewer.{fewer_sources}
 use Rattle.syn_build.specs.BuildFaults.{most_gates}
-use Rattle.syn_shell.specs.Networks.{Network, ands_by, gates_by, gates_in, graph_network, mapped_network, IsSmall}
+use Rattle.syn_shell.specs.Networks.{Written, ands_by, gates_by, gates_in, graph_network, mapped_network, IsSmall}
 use Rattle.syn_shell.specs.Steps.{IsInLuts, IsLeastMappedTo, IsMappedForArea, IsMappedTo, IsPassed, IsRemade, IsSweptTo, Makes, Making, NoMoreBy, OnGraph, kind_of}
 use Rattle.syn_shell.proofs.Staying.{passed_remade}
 
@@ -122,7 +122,7 @@ least_mapped_to laws k frame new_frame rows lits luts outs same_frame h least =
     })
 
 -- what a command makes of a net's graph it makes of the net
-pub behind_hashing : SameIsTransitive → (c : Command) → kind_of c ≡ Making → (m graph : Netlist) (new : Network) → IsRemade (mapped_network m) (graph_network graph) → Makes c (graph_network graph) new → Makes c (mapped_network m) new
+pub behind_hashing : SameIsTransitive → (c : Command) → kind_of c ≡ Making → (m graph : Netlist) (new : Written) → IsRemade (mapped_network m) (graph_network graph) → Makes c (graph_network graph) new → Makes c (mapped_network m) new
 behind_hashing transitive commands.Strash making m graph new is made = record {
   same = transitive m graph new.netlist is.same made.same;
   ordered = made.ordered;
@@ -147,7 +147,7 @@ behind_hashing transitive (commands.Generate seed size) making m graph new is ma
 
 -- what a command makes of a small network is small: the frame stays, or latches go, and no AND is added
 
-pub no_gates : (net : Network) → net.mapped ≡ false → gates_in net ≤ most_gates
+pub no_gates : (net : Written) → net.mapped ≡ false → gates_in net ≤ most_gates
 no_gates net graph = omega (arith, ap (λ (b : Bool). gates_by b net.netlist) graph)
 
 few_by : (mark : Bool) (m n : Netlist) → NoMoreBy mark m n → ands_by mark m ≤ most_gates → gates_by mark m ≤ most_gates → length (and_tables n) ≤ most_gates
@@ -155,21 +155,21 @@ few_by false m n fewer ands gates = omega (arith, fewer, ands)
 few_by true m n fewer ands gates = omega (arith, fewer, gates)
 
 -- of the same frame, with this many ANDs
-same_small : (old new : Network) (n : ℕ) → old.netlist.frame ≡ new.netlist.frame → ands_by new.mapped new.netlist ≡ n → n ≤ most_gates → IsSmall old → IsSmall new
+same_small : (old new : Written) (n : ℕ) → old.netlist.frame ≡ new.netlist.frame → ands_by new.mapped new.netlist ≡ n → n ≤ most_gates → IsSmall old → IsSmall new
 same_small old new n frame ands few small = record {
   sources = omega (arith, small.sources, ap (λ (f : Frame). length (sources f)) frame);
   outputs = omega (arith, small.outputs, ap (λ (f : Frame). length f.outputs) frame);
   ands = omega (arith, ands, few);
 }
 
-pub remade_small : (old new : Network) → IsRemade old new → gates_in old ≤ most_gates → IsSmall old → IsSmall new
+pub remade_small : (old new : Written) → IsRemade old new → gates_in old ≤ most_gates → IsSmall old → IsSmall new
 remade_small old new made gates small =
     same_small old new (length (and_tables new.netlist)) made.same.frame (ap (λ (b : Bool). ands_by b new.netlist) made.graph) (few_by old.mapped old.netlist new.netlist made.fewer small.ands gates) small
 
-luts_small : (inputs : ℕ) (old new : Network) → IsInLuts inputs old new → IsSmall old → IsSmall new
+luts_small : (inputs : ℕ) (old new : Written) → IsInLuts inputs old new → IsSmall old → IsSmall new
 luts_small inputs old new made small = same_small old new 0 made.same.frame (ap (λ (b : Bool). ands_by b new.netlist) made.mapped) (omega arith) small
 
-swept_small : (old new : Network) → old.mapped ≡ false → IsSweptTo old new → IsSmall old → IsSmall new
+swept_small : (old new : Written) → old.mapped ≡ false → IsSweptTo old new → IsSmall old → IsSmall new
 swept_small old new graph made small =
     let many : ands_by old.mapped old.netlist ≡ length (and_tables old.netlist) = ap (λ (b : Bool). ands_by b old.netlist) graph in
     let few : ands_by new.mapped new.netlist ≡ length (and_tables new.netlist) = ap (λ (b : Bool). ands_by b new.netlist) made.graph in
@@ -179,12 +179,12 @@ swept_small old new graph made small =
       ands = omega (arith, small.ands, many, few, made.sweep.fewer);
     }
 
-small_on_graph : (makes : Network → Network → Type 0) → ((old new : Network) → old.mapped ≡ false → makes old new → IsSmall old → IsSmall new) → (mark : Bool) (old new : Network) → old.mapped ≡ mark
+small_on_graph : (makes : Written → Written → Type 0) → ((old new : Written) → old.mapped ≡ false → makes old new → IsSmall old → IsSmall new) → (mark : Bool) (old new : Written) → old.mapped ≡ mark
     → OnGraph makes mark old new → gates_in old ≤ most_gates → IsSmall old → IsSmall new
 small_on_graph makes kept false old new is made gates small = kept old new is made small
 small_on_graph makes kept true old new is (graph, remade, made) gates small = kept graph new remade.graph made (remade_small old graph remade gates small)
 
-pub small_kept : (c : Command) (old new : Network) → Makes c old new → gates_in old ≤ most_gates → IsSmall old → IsSmall new
+pub small_kept : (c : Command) (old new : Written) → Makes c old new → gates_in old ≤ most_gates → IsSmall old → IsSmall new
 small_kept commands.Strash old new made = remade_small old new made
 small_kept commands.Balance old new made = small_on_graph _ (λ a b is h. remade_small a b h.remade (no_gates a is)) old.mapped old new refl made
 small_kept (commands.Rewrite options) old new made =

@@ -20,7 +20,7 @@ use Rattle.syn_proposals.specs.Closing.{Closed}
 use Rattle.syn_gain.specs.Replacements.{Replacement}
 use Rattle.syn_levels.specs.Levels.{keeping}
 use Rattle.syn_pool.specs.Improving.{IsImproved}
-use Rattle.syn_shell.specs.Networks.{Network, graph_network}
+use Rattle.syn_shell.specs.Networks.{Written, graph_network}
 use Rattle.syn_shell.specs.Steps.{IsBalanced, IsClosedFor, IsClosedKeepingLevels, IsPassed, IsRemade, level_at}
 
 has_same_function : (m : Netlist) (F G : List Bool → List Bool) → ((bits : List Bool) → G bits ≡ F bits) → HasFunction m G → HasFunction m F
@@ -141,6 +141,6 @@ passed_by spells has_function same_meaning proposals true was new h =
     was.frame.clocks_once was.frame.sources_once was.graph new.graph h.values h.count (h.levels refl) h.closed
 
 -- either is remade
-pub passed_remade : (levels : Bool) (proposals : List Row → ℕ → List Replacement) (old new : Network) → IsPassed levels proposals old new → IsRemade old new
+pub passed_remade : (levels : Bool) (proposals : List Row → ℕ → List Replacement) (old new : Written) → IsPassed levels proposals old new → IsRemade old new
 passed_remade false proposals old new passed = passed.remade
 passed_remade true proposals old new passed = passed.closed.remade

@@ -15,6 +15,7 @@ use Rattle.syn_aiger.specs.Networks.{IsGraphOfAig}
 use Rattle.syn_aiger.specs.Writing.{IsWrittenAs}
 use Rattle.syn_words.specs.declared.Command.{Command}
 use Rattle.syn_words.specs.declared.Command.TheVariants as commands
+use Rattle.syn_words.specs.declared.recipes.Recipe.TheVariants as recipes
 use Rattle.syn_shell.specs.declared.refusal.Refusal.{Refusal}
 use Rattle.syn_shell.specs.Outside.{State, FileIs}
 use Rattle.syn_shell.specs.Scripts.{Refused, RunsCommands, RunsScript}
@@ -89,7 +90,7 @@ abbrev pub origin_by : Command → Disk → Option Origin → Option Origin
 origin_by (commands.Read name) files origin = fresh (OfFile name files)
 origin_by (commands.ReadAiger name) files origin = fresh (OfAiger name files)
 origin_by (commands.Generate seed size) files origin = fresh (OfSeed seed size)
-origin_by commands.Sweep files origin = swept_since origin
+origin_by (commands.Make recipes.Sweep) files origin = swept_since origin
 origin_by other files origin = origin
 
 -- the same behind a command, accepted or refused: one that is refused leaves the network
