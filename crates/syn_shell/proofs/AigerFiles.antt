@@ -21,7 +21,8 @@ use Rattle.syn_aiger.specs.Values.{source_literals, source_variables}
 use Rattle.syn_aiger.specs.Writing.{IsWrittenAs, feed_of, first_typed, free_signals, init_again}
 use Rattle.syn_shell.specs.declared.refusal.Refusal.{Refusal}
 use Rattle.syn_shell.specs.Networks.{IsSmall, Written, gates_in, graph_network, mapped_network}
-use Rattle.syn_shell.specs.Steps.{IsAigerOf, IsRemade}
+use Rattle.syn_shell.specs.Makes.{IsRemade}
+use Rattle.syn_shell.specs.Steps.{IsAigerOf}
 
 -- bytes that are not there are not read, in either format
 

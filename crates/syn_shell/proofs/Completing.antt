@@ -14,6 +14,7 @@ use Rattle.syn_aiger.specs.Faults as aiger
 use Rattle.syn_aiger.specs.Laws as aiger_laws
 use Rattle.syn_aiger.specs.Writing.{first_typed}
 use Rattle.syn_words.specs.declared.Command.{Command}
+use Rattle.syn_words.specs.declared.Command.TheVariants as commands
 use Rattle.syn_words.specs.Scripts.{IsScript}
 use Rattle.syn_words.proofs.Deciding.{script_has_no_fault}
 use Rattle.syn_shell.specs.declared.refusal.Refusal.{Refusal}
@@ -22,7 +23,7 @@ use Rattle.syn_build.specs.BuildFaults.{most_gates}
 use Rattle.syn_shell.specs.Networks.{Written, gates_in}
 use Rattle.syn_shell.specs.Outside.{State, script_limit}
 use Rattle.syn_shell.specs.Lines.{refusal_status}
-use Rattle.syn_shell.specs.Steps.{Denied, Kind, Reading, ReadingAiger, Generating, Printing, Writing, WritingAiger, Making, kind_of, file_limit, AigerReadRefused, AigerRefused, AigerWriteRefused, GeneratingRefused, GetRefused, MakingRefused, PrintRefused, ReadRefused, WriteRefused}
+use Rattle.syn_shell.specs.Steps.{Denied, file_limit, AigerReadRefused, AigerRefused, AigerWriteRefused, GeneratingRefused, GetRefused, MakingRefused, PrintRefused, ReadRefused, WriteRefused}
 use Rattle.syn_shell.specs.Scripts.{Refused, RunsCommands, RunsScript, ScriptRefused, nameless}
 use Rattle.syn_shell.specs.LineMode.{LineRefused, NoFurther, RunsLines, listed, most_lines}
 use Rattle.syn_shell.specs.Usage.{Usage, OneScript, EachLine, Faulty, usage_of}
@@ -88,7 +89,7 @@ there_is_one : (m : Option Written) → IsSome m → m ≡ None → ⊥
 there_is_one None some none = cc
 there_is_one (Some net) some none = cc
 
--- a refused command whose needs are met, by its kind
+-- a refused command whose needs are met
 
 get_fine : (needed : List ℕ → Type 0) → ((b : List ℕ) → needed b → length b ≤ file_limit) → (name : List ℕ) (before after : Disk) (cause : Refusal)
     → IsSomeAnd before.told (λ list. IsSomeAnd (file_at name list) needed) → GetRefused name before after cause → IsFine (refusal_status cause)
@@ -167,14 +168,14 @@ generating_fine : (cause : Refusal) → GeneratingRefused cause → IsFine (refu
 generating_fine NoMemory why = no_memory
 generating_fine other why = absurd why
 
-denied_fine : NothingIsBoth → (kind : Kind) (before after : State) (cause : Refusal) → Needs kind before → Denied kind before cause after → IsFine (refusal_status cause)
-denied_fine not_both (Reading name) before after cause needs (stays, why, stand, same) = read_fine not_both name before.files after.files cause needs why
-denied_fine not_both (ReadingAiger name) before after cause needs (stays, why, stand, same) = aiger_read_fine not_both name before.files after.files cause needs why
-denied_fine not_both (Generating seed size) before after cause needs (stays, why, stand, same) = generating_fine cause why
-denied_fine not_both Printing before after cause needs (stays, why, same) = print_fine before.network before.sink after.sink cause needs why
-denied_fine not_both (Writing name) before after cause needs (stays, why, same) = write_fine before.network name before.files after.files cause needs why
-denied_fine not_both (WritingAiger ascii name) before after cause needs (stays, why, same) = aiger_write_fine before.network name before.files after.files cause needs why
-denied_fine not_both Making before after cause needs (stays, why, stand, same) = making_fine before.network cause needs why
+denied_fine : NothingIsBoth → (c : Command) (before after : State) (cause : Refusal) → Needs c before → Denied c before cause after → IsFine (refusal_status cause)
+denied_fine not_both (commands.Read name) before after cause needs (stays, why, stand, same) = read_fine not_both name before.files after.files cause needs why
+denied_fine not_both (commands.ReadAiger name) before after cause needs (stays, why, stand, same) = aiger_read_fine not_both name before.files after.files cause needs why
+denied_fine not_both (commands.Generate seed size) before after cause needs (stays, why, stand, same) = generating_fine cause why
+denied_fine not_both commands.Stats before after cause needs (stays, why, same) = print_fine before.network before.sink after.sink cause needs why
+denied_fine not_both (commands.Write name) before after cause needs (stays, why, same) = write_fine before.network name before.files after.files cause needs why
+denied_fine not_both (commands.WriteAiger ascii name) before after cause needs (stays, why, same) = aiger_write_fine before.network name before.files after.files cause needs why
+denied_fine not_both (commands.Make recipe) before after cause needs (stays, why, stand, same) = making_fine before.network cause needs why
 
 abbrev OutcomeFine : Option Refused → Type 0
 OutcomeFine outcome = IsFine (status_of (listed outcome))
@@ -185,7 +186,7 @@ outcome_as outcome other is fine = subst OutcomeFine (sym is) fine
 commands_fine : NothingIsBoth → (cs : List Command) (before after : State) (outcome : Option Refused) (runs : RunsCommands cs before outcome after) → CommandsReady cs before outcome after runs → OutcomeFine outcome
 commands_fine not_both [] before after outcome (none, same) ready = outcome_as outcome None none (inl refl)
 commands_fine not_both (c ∷ cs) before after outcome (inl (between, step, more)) (needs, ready) = commands_fine not_both cs between after outcome more ready
-commands_fine not_both (c ∷ cs) before after outcome (inr (cause, is, step)) needs = outcome_as outcome _ is (denied_fine not_both (kind_of c) before after cause needs step)
+commands_fine not_both (c ∷ cs) before after outcome (inr (cause, is, step)) needs = outcome_as outcome _ is (denied_fine not_both c before after cause needs step)
 
 unrun_fine : (text : List ℕ) (cause : Refusal) → (length text ≤ script_limit) × (commands : List Command) × IsScript text commands → ScriptRefused text cause → IsFine (refusal_status cause)
 unrun_fine text LineTooLong (short, commands, script) why = absurd (omega (arith, short, why))

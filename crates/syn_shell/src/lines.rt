@@ -114,7 +114,13 @@ fn luts_line(alloc: Global, network: &LutNetwork) -> Result<Vec<u8>, AllocError>
     syn_network::network_of_luts();
     let depth = network.body.depth(alloc)?;
     let count = network.body.count();
-    let line = numbers_line(alloc, &network.frame, b" lut = ", count as u64, depth as u64)?;
+    let line = numbers_line(
+        alloc,
+        &network.frame,
+        b" lut = ",
+        count as u64,
+        depth as u64,
+    )?;
     Ok(line)
 }
 
