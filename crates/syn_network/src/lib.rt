@@ -8,7 +8,7 @@ mod laws;
 mod lut_networks;
 mod networks;
 
-pub use finished::finish;
+pub use finished::{compact, finish};
 pub use frames::{copy_frame, copy_names, few_observed, frame_over};
 pub use laws::{
     graph_counts_ands, graph_has_function, luts_have_function, mapped_keeps_meaning, names_stay,

@@ -66,4 +66,15 @@ impl Network {
         let frame = copy_frame(alloc, &self.frame)?;
         Ok(LutNetwork::of(frame, net))
     }
+
+    /// The same graph under the same names. The only error is want of memory.
+    pub fn copy(&self, alloc: Global) -> Result<Network, AllocError>
+        ensures frame { IfOk result (λ n. frame_in n.frame ≡ frame_in self.now.frame) }
+        ensures names { IfOk result (λ n. n.frame.names ≡ self.now.frame.names) }
+        ensures body { IfOk result (λ n. n.body ≡ self.now.body) }
+    {
+        let body = self.body.copy(alloc)?;
+        let frame = copy_frame(alloc, &self.frame)?;
+        Ok(Network::of(frame, body))
+    }
 }

@@ -1,24 +1,17 @@
--- The LUTs of cuts are a LUT net of the graph's frame.
+-- The LUTs of cuts are a LUT net over the graph's sources, and a literal of a source stays.
 use Rattle.std.proofs.Common.{◌≡◌, ℕ, ◌+◌, ◌*◌, ◌/◌, ◌%◌, ◌^◌, ◌<◌, ◌&&◌, nat_lt, nat_le, nat_eq, not, Bool, true, false, All, List, [], ◌∷◌, length, map, get_or, refl, sym, ap, ◌∙◌, subst, inl, inr, arith}
 use Rattle.std.specs.List.{list_all, AllByRecursion}
 use Rattle.std.proofs.lemmas.Bool.{and_parts, and_from, not_from_false, or_from, le-leb, lt-ltb, ltb-true, false_from_ne_true, eqb-true}
 use Rattle.std.proofs.lemmas.List.{length-map, get_or-map}
 use Rattle.syn_rows.specs.declared.Lit.{Lit}
 use Rattle.syn_rows.specs.Rows.{node_of}
-use Rattle.syn_netlist.specs.Words.{has_word}
-use Rattle.syn_netlist.specs.Lists.{sources, observed}
-use Rattle.syn_netlist.specs.Numbers.{word_at}
-use Rattle.syn_lists.specs.Numbers.{has_number}
-use Rattle.syn_lists.specs.Numbers.{distinct_numbers}
-use Rattle.syn_network.specs.GraphShape.{place}
-use Rattle.syn_network.specs.NamedGraphs.{source_lit}
-use Rattle.syn_hashed.specs.Hashed.{lit_at}
-use Rattle.syn_network.proofs.Spelled.{place_lt}
-use Rattle.syn_lutshapes.specs.Luts.{Lut, lut_at, rising, is_input, is_lut, Reached}
+use Rattle.syn_lists.specs.Numbers.{distinct_numbers, has_number}
+use Rattle.syn_graph.specs.Graphs.{SourcesStay}
+use Rattle.syn_lutnet.specs.LutData.{Lut, lut_at, rising, is_input, is_lut, Reached}
 use Rattle.syn_rows.specs.Nodes.{has_node}
 use Rattle.syn_cones.specs.Leaves.{rise_above}
-use Rattle.syn_covering.specs.Mappings.{HasSignal, node_at, place_of, signal_of, signal_lit, HasLeaves, HasObservedAnds, MappingIsNet}
-use Rattle.syn_lutshapes.proofs.Folding.{below, In}
+use Rattle.syn_covering.specs.Mappings.{HasSignal, node_at, place_of, signal_of, signal_lit, HasLeaves, HasObservedAnds, MappingIsNet, MappingKeepsSources}
+use Rattle.syn_lutnet.proofs.Folding.{below, In}
 use Rattle.syn_covering.proofs.Matching.{AreMade, place_inside, place_of_at, has_node_at, signal_source, signal_node, place_rises, inputs_below}
 use Rattle.syn_covering.proofs.Mapped.{node_is_and, observed_signal, luts_made}
 
@@ -100,64 +93,65 @@ no_lit = record { 0 = 0 }
 abbrev lit : ℕ → Lit
 lit n = record { 0 = n }
 
-pub mapping_net : MappingIsNet
-mapping_net frame k cut rows lits nodes luts outs fit graph mapping = record { luts_fit = luts_fit; count = long ∙ graph.count; within = within; own = own; reached = reached }
-  where
-    count : ℕ
-    count = length (sources frame)
+-- the observed literals
 
-    are : AreMade count (cut) nodes luts
-    are = luts_made frame k cut rows lits nodes luts outs fit graph mapping
+pub out_count : (count : ℕ) (nodes : List ℕ) (lits outs : List Lit) → outs ≡ map (signal_lit count nodes) lits → length outs ≡ length lits
+out_count count nodes lits outs are = ap (λ (ls : List Lit). length ls) are ∙ length-map lits (signal_lit count nodes)
+
+out_at : (count : ℕ) (nodes : List ℕ) (lits outs : List Lit) → outs ≡ map (signal_lit count nodes) lits → (i : ℕ) (d : Lit) → i < length lits → get_or outs i d ≡ signal_lit count nodes (get_or lits i no_lit)
+out_at count nodes lits outs are i d lt = ap (λ (ls : List Lit). get_or ls i d) are ∙ get_or-map (signal_lit count nodes) lits i no_lit d lt
+
+source_stays : (count : ℕ) (nodes : List ℕ) (l : Lit) → node_of l < count + 1 → signal_lit count nodes l ≡ l
+source_stays count nodes l low =
+    let same = signal_source count nodes (node_of l) low in
+    ap lit (let s : 2 * signal_of count nodes (node_of l) + l.0 % 2 ≡ l.0 = omega (arith, same) in s)
+
+pub outs_stay : (count : ℕ) (nodes : List ℕ) (lits outs : List Lit) → outs ≡ map (signal_lit count nodes) lits → SourcesStay count lits outs
+outs_stay count nodes lits outs are i l lt low at =
+    out_at count nodes lits outs are i no_lit lt ∙ ap (signal_lit count nodes) at ∙ source_stays count nodes l low
+
+pub mapping_stays : MappingKeepsSources
+mapping_stays cut count rows lits nodes luts outs mapping = outs_stay count nodes lits outs mapping.outs_are
+
+pub mapping_net : MappingIsNet
+mapping_net count k cut rows lits nodes luts outs fit graph mapping = record { luts_fit = luts_fit; within = within; reached = reached }
+  where
+    are : AreMade count cut nodes luts
+    are = luts_made count k cut rows lits nodes luts outs fit graph mapping
 
     long : length outs ≡ length lits
-    long = ap (λ (ls : List Lit). length ls) mapping.outs_are ∙ length-map lits (signal_lit count nodes)
-
-    out_at : (i : ℕ) (d : Lit) → i < length lits → get_or outs i d ≡ signal_lit count nodes (get_or lits i no_lit)
-    out_at i d lt = ap (λ (ls : List Lit). get_or ls i d) mapping.outs_are ∙ get_or-map (signal_lit count nodes) lits i no_lit d lt
+    long = out_count count nodes lits outs mapping.outs_are
 
     out_node : (i : ℕ) (d : Lit) → i < length lits → node_of (get_or outs i d) ≡ signal_of count nodes (node_of (get_or lits i no_lit))
-    out_node i d lt = ap node_of (out_at i d lt) ∙ half_of (signal_of count nodes (node_of (get_or lits i no_lit))) ((get_or lits i no_lit).0 % 2) (omega arith)
+    out_node i d lt = ap node_of (out_at count nodes lits outs mapping.outs_are i d lt) ∙ half_of (signal_of count nodes (node_of (get_or lits i no_lit))) ((get_or lits i no_lit).0 % 2) (omega arith)
 
     within : All (λ l. node_of l < count + 1 + length luts) outs
     within i d lt =
         let inside : i < length lits = omega (arith, lt, long) in
-        elim (observed_signal frame k cut rows lits nodes luts outs fit graph mapping i no_lit inside) [
+        elim (observed_signal count k cut rows lits nodes luts outs fit graph mapping i no_lit inside) [
           | inl a ↦ omega (arith, out_node i d inside, signal_source count nodes (node_of (get_or lits i no_lit)) a, a)
           | inr b ↦ omega (arith, out_node i d inside, signal_node count nodes (node_of (get_or lits i no_lit)) (are.high (node_of (get_or lits i no_lit)) b), place_inside (node_of (get_or lits i no_lit)) nodes b, mapping.long)
         ]
-
-    own : (i : ℕ) → i < length outs → has_word (sources frame) (word_at (observed frame) i) ≡ true → lit_at outs i ≡ source_lit (place (word_at (observed frame) i) (sources frame))
-    own i lt s =
-        let inside : i < length lits = omega (arith, lt, long) in
-        let p : ℕ = place (word_at (observed frame) i) (sources frame) in
-        let low = place_lt (sources frame) (word_at (observed frame) i) s in
-        out_at i no_lit inside ∙ ap (signal_lit count nodes) (graph.own i inside s) ∙ back (place (word_at (observed frame) i) (sources frame)) (omega (arith, low))
-      where
-        back : (p : ℕ) → p < count → signal_lit count nodes (source_lit p) ≡ source_lit p
-        back p lt =
-            let node : 2 * (p + 1) / 2 ≡ p + 1 = omega arith in
-            let same : signal_of count nodes (2 * (p + 1) / 2) ≡ p + 1 = ap (signal_of count nodes) node ∙ signal_source count nodes (p + 1) (omega (arith, lt)) in
-            ap lit (let s : 2 * signal_of count nodes (2 * (p + 1) / 2) + 2 * (p + 1) % 2 ≡ 2 * (p + 1) = omega (arith, same) in s)
 
     luts_fit : (j : ℕ) → j < length luts → is_lut (count + 1 + j) (lut_at luts j) ≡ true
     luts_fit j lt =
         let inside : j < length nodes = omega (arith, lt, mapping.long) in
         let n : ℕ = node_at nodes j in
         let h = has_node_at nodes j inside in
-        let gate = node_is_and frame k cut rows lits nodes luts outs fit graph mapping (node_at nodes j) h in
+        let gate = node_is_and count k cut rows lits nodes luts outs fit graph mapping (node_at nodes j) h in
         let is = fit (node_at nodes j) gate in
         let rise = rises 0 (cut (node_at nodes j)) is.rising in
         let e = mapping.inputs j inside in
         let l : Lut = lut_at luts j in
         let small : Bool = list_all (λ m. nat_lt m (2 ^ length (lut_at luts j).inputs)) (lut_at luts j).ones in
         let low : In (count + 1 + j) (map (signal_of count nodes) (cut (node_at nodes j))) =
-        subst (λ p. In (count + 1 + p) (map (signal_of count nodes) (cut (node_at nodes j)))) (place_of_at nodes mapping.rise j inside) (inputs_below count (cut) nodes luts are (node_at nodes j) h (cut (node_at nodes j)) (are.leaves (node_at nodes j) h)) in
+        subst (λ p. In (count + 1 + p) (map (signal_of count nodes) (cut (node_at nodes j)))) (place_of_at nodes mapping.rise j inside) (inputs_below count cut nodes luts are (node_at nodes j) h (cut (node_at nodes j)) (are.leaves (node_at nodes j) h)) in
         and_from (nat_le 2 (length l.inputs)) (distinct_numbers l.inputs && (list_all (is_input (count + 1 + j)) l.inputs && (rising l.ones && small)))
         (ap (λ (xs : List ℕ). nat_le 2 (length xs)) e ∙ ap (nat_le 2) (length-map (cut (node_at nodes j)) (signal_of count nodes)) ∙ le-leb 2 (length (cut (node_at nodes j))) is.two)
         (and_from (distinct_numbers l.inputs) (list_all (is_input (count + 1 + j)) l.inputs && (rising l.ones && small))
-        (ap distinct_numbers e ∙ rising_once (map (signal_of count nodes) (cut (node_at nodes j))) (signals_rise count (cut) nodes luts are (node_at nodes j) (cut (node_at nodes j)) rise.1 (are.leaves (node_at nodes j) h)))
+        (ap distinct_numbers e ∙ rising_once (map (signal_of count nodes) (cut (node_at nodes j))) (signals_rise count cut nodes luts are (node_at nodes j) (cut (node_at nodes j)) rise.1 (are.leaves (node_at nodes j) h)))
         (and_from (list_all (is_input (count + 1 + j)) l.inputs) (rising l.ones && small)
-        (ap (list_all (is_input (count + 1 + j))) e ∙ inputs_fit count (cut) nodes luts are (node_at nodes j) (count + 1 + j) (cut (node_at nodes j)) rise.0 (are.leaves (node_at nodes j) h) low)
+        (ap (list_all (is_input (count + 1 + j))) e ∙ inputs_fit count cut nodes luts are (node_at nodes j) (count + 1 + j) (cut (node_at nodes j)) rise.0 (are.leaves (node_at nodes j) h) low)
         (and_from (rising l.ones) small (mapping.rising_ones j inside) (mapping.small_ones j inside))))
 
     reached : (j : ℕ) → j < length luts → Reached (count + 1) luts outs (count + 1 + j)
