@@ -6,7 +6,7 @@ use Rattle.std.proofs.lemmas.List.{length-map}
 use Rattle.syn_rows.specs.Nodes.{has_node}
 use Rattle.syn_rows.proofs.Nodes.{has_here, has_there}
 use Rattle.syn_graph.specs.declared.Graph.{Graph}
-use Rattle.syn_lutshapes.specs.Luts.{rising}
+use Rattle.syn_lutnet.specs.LutData.{rising}
 use Rattle.syn_lutnet.specs.declared.nets.LutNet.{LutNet}
 use Rattle.syn_lutnet.specs.Data.{lut_data}
 use Rattle.syn_covering.specs.Making.{IsMappedBy}

@@ -1,7 +1,7 @@
 pub mod Matching
 pub mod Mapped
 pub mod Depths
-pub mod Framed
+pub mod LutNets
 pub mod Fitting
 pub mod Counting
 pub mod Swept

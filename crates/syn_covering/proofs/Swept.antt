@@ -9,7 +9,7 @@ use Rattle.syn_rows.specs.Rows.{node_of, row_at}
 use Rattle.syn_rows.specs.Reach.{is_and}
 use Rattle.syn_rows.specs.Values.{value_in}
 use Rattle.syn_rows.specs.Nodes.{has_node}
-use Rattle.syn_lutshapes.proofs.Folding.{below, In}
+use Rattle.syn_lutnet.proofs.Folding.{below, In}
 use Rattle.syn_covering.specs.Mappings.{HasObservedAnds, IsNeeded}
 use Rattle.syn_covering.specs.Needs.{IsSwept}
 use Rattle.syn_covering.proofs.Matching.{has_node_at, has_fact}

@@ -17,11 +17,12 @@ use Rattle.syn_network.specs.Spelling.{ends_from}
 use Rattle.syn_lists.specs.Numbers.{numbers_from}
 use Rattle.syn_truth.specs.declared.Truth.{Truth}
 use Rattle.syn_truth.specs.Truth.{value_at}
-use Rattle.syn_lutshapes.specs.Luts as spelled
-use Rattle.syn_lutshapes.specs.Luts.{is_input, is_lut, lut_at, IsLutNet, none_exceeds}
-use Rattle.syn_lutshapes.specs.LutSpelling.{minterm_row, signal_name, lut_table, lut_tables_of, lut_network}
-use Rattle.syn_lutshapes.proofs.LutTables.{lut_parts, length-minterm_row, signs_row}
-use Rattle.syn_lutshapes.proofs.LutNetworks.{network_spells_luts}
+use Rattle.syn_lutnet.specs.LutData as spelled
+use Rattle.syn_lutnet.specs.LutData.{is_input, is_lut, lut_at, IsLutNet, none_exceeds}
+use Rattle.syn_network.specs.LutSpelling.{minterm_row, signal_name, lut_table, lut_tables_of, lut_network}
+use Rattle.syn_lutnet.proofs.LutParts.{lut_parts}
+use Rattle.syn_network.proofs.LutTables.{length-minterm_row, signs_row}
+use Rattle.syn_network.proofs.LutNetworks.{network_spells_luts}
 use Rattle.syn_lutnet.specs.declared.luts.Lut.{Lut}
 use Rattle.syn_lutnet.specs.Data.{lut_data, luts_data}
 use Rattle.syn_text.specs.Numbered.{signal_number, is_signal, is_within, reads_named, IsNumbered}

@@ -11,11 +11,11 @@ ghost use Rattle.syn_netlist.specs.Views.{frame_in, netlist_in, table_in};
 ghost use Rattle.syn_netlist.specs.Faults.{IsChecked};
 ghost use Rattle.syn_netlist.specs.Order.{Ordered};
 ghost use Rattle.syn_truth.specs.Truth.{value_at};
-ghost use Rattle.syn_lutshapes.specs.Luts.{IsLutNet, luts_function, net_depth, net_gates, none_exceeds, ones_of};
-ghost use Rattle.syn_lutshapes.specs.LutShape.{depth_of, gates_of, LutShape, luts_of, observed_of};
-ghost use Rattle.syn_lutshapes.specs.LutSpelling.{lut_network, lut_table, lut_tables_of, minterm_row};
+ghost use Rattle.syn_lutnet.specs.LutData.{IsLutNet, luts_function, net_depth, net_gates, none_exceeds, ones_of};
+ghost use Rattle.syn_network.specs.LutShape.{depth_of, gates_of, LutShape, luts_of, observed_of};
+ghost use Rattle.syn_network.specs.LutSpelling.{lut_network, lut_table, lut_tables_of, minterm_row};
 ghost use Rattle.syn_lutnet.specs.Data.{lut_data, luts_data};
-ghost use Rattle.syn_lutnet.specs.Nets.{network_of};
+ghost use Rattle.syn_network.specs.WrittenLuts.{network_of};
 ghost use Rattle.syn_text.specs.Numbered.{IsNumbered, is_signal, reads_named, signal_number};
 
 use crate::graph_netlist::{NameSet, Naming, joined, name_nodes, push_ends};
@@ -205,8 +205,8 @@ pub fn netlist_of_luts(alloc: Global, net: &LutNet) -> Result<Netlist, AllocErro
     ensures function { IfOk result (λ n. HasFunction (netlist_in n) (luts_function (luts_data net.now.luts) net.now.observed)) }
     ensures checked { IfOk result (λ n. IsChecked (netlist_in n)) }
 {
-    syn_lutshapes::network_of_luts();
-    syn_lutshapes::luts_have_function();
+    syn_network::network_of_luts();
+    syn_network::luts_have_function();
     netlist_over(
         alloc,
         &net.frame,

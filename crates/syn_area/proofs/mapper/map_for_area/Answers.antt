@@ -2,10 +2,8 @@ use Rattle.std.proofs.Common.{◌≡◌, ◌⊎◌, ℕ, ◌+◌, ◌≤◌, Boo
 use Rattle.std.proofs.lemmas.Result.{IfOk-weaker}
 use Rattle.syn_rows.specs.Rows.{node_of}
 use Rattle.syn_rows.specs.Values.{rows_function}
-use Rattle.syn_netlist.specs.Frames.{frame_in}
-use Rattle.syn_netlist.specs.Lists.{Frame, sources}
 use Rattle.syn_truth.specs.declared.TheConstants.{MAX_VARS}
-use Rattle.syn_lutshapes.specs.Luts.{greatest, luts_function, net_depth, none_exceeds}
+use Rattle.syn_lutnet.specs.LutData.{greatest, luts_function, net_depth, none_exceeds}
 use Rattle.syn_lutnet.specs.declared.nets.LutNet.{LutNet}
 use Rattle.syn_lutnet.specs.Data.{luts_data}
 use Rattle.syn_covering.proofs.Assembled.{more_leaves}
@@ -34,7 +32,7 @@ returns-clause-frame g c =
 pub returns-clause-function : goal.returns-clause-function
 returns-clause-function g c =
     let gr = c.args.graph.now in
-    let P : LutNet → Type 0 = λ n. (bits : List Bool) → length bits ≡ length (sources (frame_in gr.frame)) → luts_function (luts_data n.luts) n.observed bits ≡ rows_function gr.rows gr.observed bits in
+    let P : LutNet → Type 0 = λ n. (bits : List Bool) → length bits ≡ gr.source_count → luts_function (luts_data n.luts) n.observed bits ≡ rows_function gr.rows gr.observed bits in
     IfOk-weaker c.better.result (λ kept. (kept ≡ c.in_ok-net.net) ⊎ (kept ≡ c.in_ok-plain.plain)) P
     (λ kept h. either P kept c.in_ok-net.net c.in_ok-plain.plain h c.in_ok-net.ensures.function c.in_ok-plain.ensures.function) c.better.ensures.either
 
@@ -47,7 +45,7 @@ returns-clause-inputs g c =
 pub returns-clause-count : goal.returns-clause-count
 returns-clause-count g c =
     let gr = c.args.graph.now in
-    let P : LutNet → Type 0 = λ n. length n.luts + (length (sources (frame_in gr.frame)) + 1) ≤ length gr.rows in
+    let P : LutNet → Type 0 = λ n. length n.luts + (gr.source_count + 1) ≤ length gr.rows in
     IfOk-weaker c.better.result (λ kept. (kept ≡ c.in_ok-net.net) ⊎ (kept ≡ c.in_ok-plain.plain)) P
     (λ kept h. either P kept c.in_ok-net.net c.in_ok-plain.plain h c.in_ok-net.ensures.count c.in_ok-plain.ensures.count) c.better.ensures.either
 
@@ -75,7 +73,7 @@ returns-clause-depth g c =
     let P : LutNet → Type 0 = λ n. frame_in n.frame ≡ frame_in gr.frame in
     both c.better.result
     (λ kept. (kept ≡ net) ⊎ (kept ≡ plain)) (λ kept. net_depth (length (sources (frame_in kept.frame))) (luts_data kept.luts) ≤ net_depth (length (sources (frame_in plain.frame))) (luts_data plain.luts))
-    (λ kept. net_depth (length (sources (frame_in gr.frame))) (luts_data kept.luts) ≤ greatest (label_of c.args.k gr.rows) (map node_of gr.observed))
+    (λ kept. net_depth gr.source_count (luts_data kept.luts) ≤ greatest (label_of c.args.k gr.rows) (map node_of gr.observed))
     (λ kept h low.
     let own = either P kept net plain h c.in_ok-net.ensures.frame c.in_ok-plain.ensures.frame in
     let a = same_depth (frame_in kept.frame) (frame_in gr.frame) kept own in

@@ -8,13 +8,13 @@ use Rattle.syn_netlist.specs.Values.{HasFunction}
 use Rattle.syn_netlist.specs.Views.{netlist_in}
 use Rattle.syn_netlist.specs.declared.netlists.Netlist.{Netlist}
 use Rattle.syn_netlist.specs.Frames.{frame_in}
-use Rattle.syn_lutshapes.specs.Luts.{luts_function, net_depth, net_gates, none_exceeds}
-use Rattle.syn_lutshapes.specs.LutShape.{LutShape, LutsHaveFunction, luts_of, observed_of, depth_of, gates_of}
-use Rattle.syn_lutshapes.specs.LutSpelling.{NetworkSpellsLuts, NetworkOfLuts, lut_network}
+use Rattle.syn_lutnet.specs.LutData.{luts_function, net_depth, net_gates, none_exceeds}
+use Rattle.syn_network.specs.LutShape.{LutShape, LutsHaveFunction, luts_of, observed_of, depth_of, gates_of}
+use Rattle.syn_network.specs.LutSpelling.{NetworkSpellsLuts, NetworkOfLuts, lut_network}
 use Rattle.syn_lutnet.specs.declared.luts.Lut.{Lut}
 use Rattle.syn_lutnet.specs.declared.nets.LutNet.{LutNet}
 use Rattle.syn_lutnet.specs.Data.{luts_data}
-use Rattle.syn_lutnet.specs.Nets.{network_of}
+use Rattle.syn_network.specs.WrittenLuts.{network_of}
 use Rattle.syn_text.proofs.LutWhole.{eight_exceeded_by_none}
 use Rattle.syn_text.proofs.Shaped.{luts_are_checked}
 use Rattle.syn_text.proofs.lut_netlist.netlist_of_luts.Goals as goal
