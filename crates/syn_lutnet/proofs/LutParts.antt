@@ -1,10 +1,12 @@
 -- What the LUTs of signals are, one by one and part by part.
-use Rattle.std.proofs.Common.{◌≡◌, ℕ, suc, ◌+◌, ◌^◌, ◌<◌, ◌≤◌, ◌&&◌, nat_lt, nat_le, Bool, true, List, [], ◌∷◌, length, ap, ◌∙◌, arith}
+use Rattle.std.proofs.Common.{◌≡◌, ℕ, suc, ◌+◌, ◌^◌, ◌<◌, ◌≤◌, ◌&&◌, nat_lt, nat_le, Bool, true, List, [], ◌∷◌, length, refl, ap, ◌∙◌, arith}
 use Rattle.std.specs.Prelude.{⊤}
 use Rattle.std.specs.List.{list_all}
-use Rattle.std.proofs.lemmas.Bool.{and_parts, ltb-true, leb-true}
+use Rattle.std.proofs.lemmas.Bool.{and_parts, and_from, ltb-true, leb-true, le-leb}
 use Rattle.syn_lists.specs.Numbers.{distinct_numbers}
-use Rattle.syn_lutnet.specs.LutData.{Lut, rising, is_input, is_lut, lut_at}
+use Rattle.syn_lutnet.specs.LutData.{Lut, rising, is_input, is_lut, lut_at, none_exceeds}
+use Rattle.syn_lutnet.specs.Data.{luts_data}
+use Rattle.syn_lutnet.specs.declared.luts.Lut as code
 
 -- LUTs, the first of which is this signal's
 
@@ -40,3 +42,8 @@ input_low n i h = leb-true 1 i (and_parts (nat_le 1 i) (nat_lt i n) h).0
 
 pub input_high : (n i : ℕ) → is_input n i ≡ true → i < n
 input_high n i h = ltb-true i n (and_parts (nat_le 1 i) (nat_lt i n) h).1
+
+-- no LUT has more than 8 inputs
+pub eight_exceeded_by_none : (luts : List code.Lut) → none_exceeds 8 (luts_data luts) ≡ true
+eight_exceeded_by_none [] = refl
+eight_exceeded_by_none (l ∷ ls) = and_from (nat_le (length l.inputs.items) 8) (none_exceeds 8 (luts_data ls)) (le-leb (length l.inputs.items) 8 (omega (arith, l.vars, l.truth.few))) (eight_exceeded_by_none ls)

@@ -1,8 +1,8 @@
 -- The netlist of a LUT net is ordered, has LUT shape, and spells the net.
-use Rattle.std.proofs.Common.{◌≡◌, ℕ, ◌+◌, ◌-◌, ◌*◌, ◌<◌, ◌≤◌, nat_le, not, Bool, true, false, All, List, [], ◌∷◌, ◌++◌, map, length, find, bytes_eq, refl, sym, ap, ap₂, ◌∙◌, subst, inl, inr, append-nil, arith}
+use Rattle.std.proofs.Common.{◌≡◌, ℕ, ◌+◌, ◌*◌, ◌<◌, ◌≤◌, nat_le, not, Bool, true, false, All, List, [], ◌∷◌, ◌++◌, map, length, find, bytes_eq, refl, sym, ap, ap₂, ◌∙◌, subst, inl, inr, append-nil, arith}
 use Rattle.std.specs.Prelude.{flat_map}
 use Rattle.std.specs.List.{AllByRecursion}
-use Rattle.std.proofs.lemmas.Bool.{and_parts, and_from, or_from, or_parts, not-true, not_from_false, cases_Bool, both_ways, cond-true, cond-false, false_from_ne_true}
+use Rattle.std.proofs.lemmas.Bool.{or_from, or_parts, not-true, cases_Bool, both_ways, cond-true, cond-false, false_from_ne_true}
 use Rattle.std.proofs.lemmas.List.{length-map, length-append, get_or-map, get_or_default, map-append, same_lists}
 use Rattle.std.proofs.lemmas.List.Elements.{filter-append, All-from_recursion, recursion_from_All}
 use Rattle.syn_rows.specs.declared.Lit.{Lit}
@@ -12,26 +12,20 @@ use Rattle.syn_netlist.specs.Words.{has_word, distinct, without}
 use Rattle.syn_netlist.specs.Lists.{Table, Netlist, output_of, latch_reads, sources, observed}
 use Rattle.syn_netlist.specs.Numbers.{word_at}
 use Rattle.syn_netlist.specs.Order.{Ordered}
-use Rattle.syn_netlist.proofs.Sets.{has_word-append, has_head, has_tail}
+use Rattle.syn_netlist.proofs.Sets.{has_word-append}
 use Rattle.syn_network.specs.GraphShape.{place, shown, lit_of_table, is_end_cover, is_end_table}
 use Rattle.syn_hashed.specs.Hashed.{lit_at}
 use Rattle.syn_network.specs.Spelling.{ends_from}
 use Rattle.syn_network.proofs.Spelled.{place_in_front}
+use Rattle.syn_network.proofs.SpelledNetworks.{distinct_append}
 use Rattle.syn_network.proofs.Inner.{filtered, distinct-filter, length-inner_names, inner_names_distinct, inner_names_free}
 use Rattle.syn_network.proofs.Gates.{lit}
 use Rattle.syn_network.proofs.Ends.{firsts_distinct, AllWithin, end_outputs, ends_are_ends, ends_read, end_found, end_back}
+use Rattle.syn_lutnet.proofs.LutParts.{AreLuts, luts_from_each}
 use Rattle.syn_lutnet.specs.LutData.{Lut, IsClosed, Reached, none_exceeds, net_depth, net_gates}
 use Rattle.syn_network.specs.LutShape.{has_more, lut_tables, end_tables, signal_names, lut_of, luts_of, lit_of, observed_of, is_lut_table, LutShape}
 use Rattle.syn_network.specs.LutSpelling.{lut_tables_of, lut_names, lut_network, NetworkOfLuts}
-use Rattle.syn_network.proofs.LutTables.{AreLuts, luts_from_each, keeps_all, keeps_none, not_all, not_none, luts_have_more, lut_outputs, luts_spell, luts_are_tables, luts_read}
-
-distinct_append : (xs ys : List (List ℕ)) → distinct xs ≡ true → distinct ys ≡ true → ((w : List ℕ) → has_word xs w ≡ true → has_word ys w ≡ false) → distinct (xs ++ ys) ≡ true
-distinct_append [] ys d e away = e
-distinct_append (x ∷ xs) ys d e away =
-    let parts = and_parts (not (has_word xs x)) (distinct xs) d in
-    and_from (not (has_word (xs ++ ys) x)) (distinct (xs ++ ys))
-    (not_from_false (has_word (xs ++ ys) x) (has_word-append xs ys x ∙ or_from (has_word xs x) (has_word ys x) (not-true (has_word xs x) parts.0) (away x (has_head x xs))))
-    (distinct_append xs ys parts.1 e (λ w h. away w (has_tail x w xs h)))
+use Rattle.syn_network.proofs.LutTables.{keeps_all, keeps_none, not_all, not_none, luts_have_more, lut_outputs, luts_spell, luts_are_tables, luts_read}
 
 -- a table of an observed signal has at most one input
 end_not_more : (names inputs rows : List (List ℕ)) (on : Bool) → is_end_cover names inputs rows on ≡ true → nat_le 2 (length inputs) ≡ false

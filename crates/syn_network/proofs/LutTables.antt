@@ -1,9 +1,8 @@
 -- The tables of LUTs: their outputs, what they read, and the LUTs that they spell.
-use Rattle.std.proofs.Common.{◌≡◌, ℕ, zero, suc, ◌+◌, ◌-◌, ◌*◌, ◌/◌, ◌%◌, ◌^◌, ◌<◌, ◌≤◌, ◌&&◌, if◌then◌else◌, nat_eq, nat_lt, nat_le, not, Bool, true, false, List, [], ◌∷◌, ◌++◌, map, length, filter, bytes_eq, refl, sym, ap, ap₂, ◌∙◌, append_assoc, append-nil, eq-eqb, inl, inr, arith}
-use Rattle.std.specs.Prelude.{⊤}
+use Rattle.std.proofs.Common.{◌≡◌, ℕ, zero, suc, ◌+◌, ◌-◌, ◌/◌, ◌%◌, ◌^◌, ◌<◌, ◌≤◌, ◌&&◌, if◌then◌else◌, nat_eq, nat_lt, nat_le, not, Bool, true, false, List, [], ◌∷◌, ◌++◌, map, length, filter, bytes_eq, refl, sym, ap, ap₂, ◌∙◌, append_assoc, append-nil, eq-eqb, inl, inr, arith}
 use Rattle.std.specs.List.{list_all, AllByRecursion}
 use Rattle.std.proofs.Math.Nat.{pow-suc}
-use Rattle.std.proofs.lemmas.Bool.{and_parts, and_from, or_from, or_parts, not-true, not_from_false, not_from_true, cases_Bool, cond-true, cond-false, false_from_ne_true, ltb-true, leb-true, eqb-false}
+use Rattle.std.proofs.lemmas.Bool.{and_parts, and_from, or_from, or_parts, not-true, not_from_false, not_from_true, cases_Bool, cond-true, cond-false, false_from_ne_true, ltb-true, eqb-false}
 use Rattle.std.proofs.lemmas.List.{length-map, length_push, get_or_append_left}
 use Rattle.syn_netlist.specs.Words.{has_word, distinct}
 use Rattle.syn_netlist.specs.Costs.{is_sign}
@@ -15,7 +14,8 @@ use Rattle.syn_lists.specs.Numbers.{distinct_numbers}
 use Rattle.syn_netlist.proofs.Sets.{same_word}
 use Rattle.syn_truth.specs.Truth.{digit}
 use Rattle.syn_network.proofs.Gates.{has_at, place_back}
-use Rattle.syn_lutnet.specs.LutData.{Lut, rising, is_input, is_lut, lut_at, none_exceeds}
+use Rattle.syn_lutnet.specs.LutData.{Lut, rising, is_input, is_lut, none_exceeds}
+use Rattle.syn_lutnet.proofs.LutParts.{AreLuts, input_high, input_low, lut_parts}
 use Rattle.syn_network.specs.LutShape.{has_more, is_one, row_minterm, signal_of, lut_of, is_minterm_row, is_lut_table}
 use Rattle.syn_network.specs.LutSpelling.{minterm_row, signal_name, lut_table, lut_tables_of}
 

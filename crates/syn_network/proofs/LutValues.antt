@@ -1,39 +1,24 @@
 -- The LUTs that a netlist of LUT shape spells have the values of its names.
-use Rattle.std.proofs.Common.{if◌then◌else◌, ◌≡◌, ℕ, suc, ◌+◌, ◌*◌, ◌/◌, ◌%◌, ◌<◌, ◌&&◌, ◌||◌, nat_eq, nat_le, not, Bool, true, false, All, List, [], ◌∷◌, ◌++◌, map, length, get_or, find, Some, bytes_eq, refl, sym, ap, ap₂, ◌∙◌, subst, inl, inr, append_assoc, append-nil, add-one, eq-eqb, arith}
+use Rattle.std.proofs.Common.{if◌then◌else◌, ◌≡◌, ℕ, ◌+◌, ◌*◌, ◌&&◌, ◌||◌, nat_eq, nat_le, not, Bool, true, false, All, List, [], ◌∷◌, ◌++◌, map, length, get_or, find, bytes_eq, refl, sym, ap, ap₂, ◌∙◌, subst, inl, inr, append_assoc, append-nil, add-one, eq-eqb, arith}
 use Rattle.std.specs.List.{list_all, AllByRecursion}
-use Rattle.std.proofs.lemmas.Bool.{and_parts, or_cases, cases_Bool, both_ways, cond-true, cond-false, eqb-true, false_from_ne_true}
+use Rattle.std.proofs.lemmas.Bool.{and_parts, cases_Bool, cond-true, cond-false, eqb-true, false_from_ne_true}
 use Rattle.std.proofs.lemmas.List.{map-append, length-map, length-append, get_or_append_left, get_or-append-add}
 use Rattle.std.proofs.lemmas.List.Elements.{All-same, recursion_from_All}
-use Rattle.syn_rows.specs.declared.Lit.{Lit}
 use Rattle.syn_rows.specs.Values.{lit_value, value_in}
 use Rattle.syn_netlist.specs.Words.{has_word, distinct}
 use Rattle.syn_netlist.specs.Costs.{is_sign}
 use Rattle.syn_netlist.specs.Lists.{Table, Netlist, output_of, sources, observed}
-use Rattle.syn_netlist.specs.Covers.{fits_bit, matches, cover_value}
+use Rattle.syn_netlist.specs.Covers.{matches, cover_value}
 use Rattle.syn_netlist.specs.Values.{table_value, Consistent}
 use Rattle.syn_netlist.specs.Order.{Ordered, reads_known, OrderedHasOne}
-use Rattle.syn_netlist.proofs.Sets.{same_word, has_head, has_tail, has_left}
+use Rattle.syn_netlist.proofs.Sets.{has_left}
 use Rattle.syn_truth.specs.Truth.{digit, minterm_of}
-use Rattle.syn_network.specs.GraphShape.{place, shown, lit_shown, lit_of_table, is_end_cover, is_end_table}
-use Rattle.syn_network.proofs.Spelled.{in_rest, place_in_front, has_without}
+use Rattle.syn_network.specs.GraphShape.{place, shown, lit_of_table, is_end_table}
+use Rattle.syn_network.proofs.Spelled.{Names, end_value, find_end, fits_sign, has_without, map_through, place_in_front, place_value, signed_value}
 use Rattle.syn_lutnet.specs.LutData.{ones_value, lut_value, fold_luts, signal_values, rising, luts_function}
 use Rattle.syn_network.specs.LutShape.{lut_tables, end_tables, signal_names, row_minterm, signal_of, lut_of, luts_of, lit_of, observed_of, is_minterm_row, is_lut_table, LutShape, LutsHaveFunction}
 
 -- a row of signs matches the values of one minterm alone
-
-fits_at_zero : (b : Bool) → fits_bit 48 b ≡ (if nat_eq 48 49 then b else not b)
-fits_at_zero true = refl
-fits_at_zero false = refl
-
-fits_at_one : (b : Bool) → fits_bit 49 b ≡ (if nat_eq 49 49 then b else not b)
-fits_at_one true = refl
-fits_at_one false = refl
-
-fits_sign : (c : ℕ) (b : Bool) → is_sign c ≡ true → fits_bit c b ≡ (if nat_eq c 49 then b else not b)
-fits_sign c b h = elim (or_cases (nat_eq c 48) (nat_eq c 49) h) [
-  | inl e ↦ subst (λ k. fits_bit k b ≡ (if nat_eq k 49 then b else not b)) (sym (eqb-true c 48 e)) (fits_at_zero b)
-  | inr e ↦ subst (λ k. fits_bit k b ≡ (if nat_eq k 49 then b else not b)) (sym (eqb-true c 49 e)) (fits_at_one b)
-]
 
 same_tests : (a b : Bool) → (a ≡ true → b ≡ true) → (b ≡ true → a ≡ true) → a ≡ b
 same_tests true b f g = sym (f refl)
@@ -80,13 +65,6 @@ lut_gives k t h v =
 
 -- the values of the signals are those of their names
 
-place_value : (v : List ℕ → Bool) (ws : List (List ℕ)) (word : List ℕ) → has_word ws word ≡ true → get_or (map v ws) (place word ws) false ≡ v word
-place_value v [] word h = absurd (both_ways false refl h)
-place_value v (w ∷ ws) word h = elim (cases_Bool (bytes_eq w word)) [
-  | inl e ↦ ap (λ k. get_or (v w ∷ map v ws) k false) (cond-true (bytes_eq w word) 0 (suc (place word ws)) e) ∙ ap v (same_word w word e)
-  | inr e ↦ ap (λ k. get_or (v w ∷ map v ws) k false) (cond-false (bytes_eq w word) 0 (suc (place word ws)) e) ∙ place_value v ws word (in_rest w ws word e h)
-]
-
 inputs_are : (v : List ℕ → Bool) (names known rest : List (List ℕ)) → names ≡ known ++ rest → (ws : List (List ℕ)) → list_all (has_word known) ws ≡ true
     → map (value_in (false ∷ map v known)) (map (signal_of names) ws) ≡ map v ws
 inputs_are v names known rest same [] h = refl
@@ -124,52 +102,6 @@ values_are n k shape order v c =
     signals_are k v (signal_names n) (sources n.frame) (lut_tables n) (end_tables n) refl (ap (reads_known (sources n.frame)) (sym shape.split) ∙ order.above) (consistent_luts n k shape v c)
 
 -- observed signals
-
--- the valuation of signals gives each name's signal the name's value
-abbrev Names : List (List ℕ) → (ℕ → Bool) → (List ℕ → Bool) → Type 0
-Names names u v = (word : List ℕ) → has_word names word ≡ true → u (place word names + 1) ≡ v word
-
-signed_value : (u : ℕ → Bool) (p : ℕ) (b : Bool) → lit_value u (record { 0 = 2 * p + (if b then 0 else 1) }) ≡ (if b then u p else not (u p))
-signed_value u p true =
-    let even : (2 * p + 0) % 2 ≡ 0 = omega arith in
-    let middle : (2 * p + 0) / 2 ≡ p = omega arith in
-    ap₂ (λ (r h : ℕ). if nat_eq r 0 then u h else not (u h)) even middle
-signed_value u p false =
-    let odd : (2 * p + 1) % 2 ≡ 1 = omega arith in
-    let middle : (2 * p + 1) / 2 ≡ p = omega arith in
-    ap₂ (λ (r h : ℕ). if nat_eq r 0 then u h else not (u h)) odd middle
-
-shown_value : (names : List (List ℕ)) (u : ℕ → Bool) (v : List ℕ → Bool) → Names names u v → (word : List ℕ) (c : ℕ) → has_word names word ≡ true → is_sign c ≡ true → fits_bit c (v word) ≡ lit_value u (shown names word c)
-shown_value names u v same word c h s =
-    fits_sign c (v word) s ∙ ap (λ (b : Bool). if nat_eq c 49 then b else not b) (sym (same word h)) ∙ sym (signed_value u (place word names + 1) (nat_eq c 49))
-
-one_matches : (x : Bool) → ((x && true) || false) ≡ x
-one_matches true = refl
-one_matches false = refl
-
-end_value : (names : List (List ℕ)) (u : ℕ → Bool) (v : List ℕ → Bool) → u 0 ≡ false → Names names u v → (inputs rows : List (List ℕ)) (on : Bool) → is_end_cover names inputs rows on ≡ true
-    → cover_value rows on (map v inputs) ≡ lit_value u (lit_shown names inputs rows)
-end_value names u v at_0 same [] [] on h = ap (λ o. cover_value [] o []) h ∙ sym at_0
-end_value names u v at_0 same [] ([] ∷ []) on h = ap (λ o. cover_value ([] ∷ []) o []) h ∙ sym (ap not at_0)
-end_value names u v at_0 same (a ∷ []) ((c ∷ []) ∷ []) on h =
-    let p = and_parts (has_word names a) (is_sign c && on) h in
-    let q = and_parts (is_sign c) on p.1 in
-    ap (λ o. cover_value ((c ∷ []) ∷ []) o (v a ∷ [])) q.1 ∙ one_matches (fits_bit c (v a)) ∙ shown_value names u v same a c p.0 q.0
-end_value names u v at_0 same inputs rows on h = absurd (both_ways false refl h)
-
-find_end : (P : Table → Type 0) (ts : List Table) (word : List ℕ) → has_word (map output_of ts) word ≡ true → AllByRecursion P ts
-    → (t : Table) × (find (λ s. bytes_eq s.output word) ts ≡ Some t) × (t.output ≡ word) × P t
-find_end P [] word h all = absurd (both_ways false refl h)
-find_end P (t ∷ ts) word h all = elim (cases_Bool (bytes_eq t.output word)) [
-  | inl e ↦ (t, cond-true (bytes_eq t.output word) (Some t) (find (λ s. bytes_eq s.output word) ts) e, same_word t.output word e, all.0)
-  | inr e ↦
-      let (s, f, o, p) = find_end P ts word (in_rest t.output (map output_of ts) word e h) all.1 in
-      (s, cond-false (bytes_eq t.output word) (Some t) (find (λ s. bytes_eq s.output word) ts) e ∙ f, o, p)
-]
-
-map_through : (v : List ℕ → Bool) (u : Lit → Bool) (f : List ℕ → Lit) (ws : List (List ℕ)) → ((word : List ℕ) → has_word ws word ≡ true → v word ≡ u (f word)) → map v ws ≡ map u (map f ws)
-map_through v u f [] h = refl
-map_through v u f (w ∷ ws) h = ap₂ (λ (b : Bool) (bs : List Bool). b ∷ bs) (h w (has_head w ws)) (map_through v u f ws (λ x t. h x (has_tail w x ws t)))
 
 ends_give : (n : Netlist) (k : ℕ) → LutShape n k → (v : List ℕ → Bool) → Consistent n v → AllByRecursion (λ t. (is_end_table (signal_names n) t ≡ true) × (v t.output ≡ table_value t v)) (end_tables n)
 ends_give n k shape v c = recursion_from_All (λ t. (is_end_table (signal_names n) t ≡ true) × (v t.output ≡ table_value t v)) (end_tables n) (λ j d lt. (shape.ends j d lt, given j d lt))

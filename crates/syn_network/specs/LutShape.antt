@@ -1,5 +1,5 @@
 -- Netlists that have the shape of a LUT net, and the LUTs that their tables spell.
-use Rattle.std.specs.Prelude.{◌≡◌, ℕ, ◌+◌, ◌<◌, ◌==◌, ◌&&◌, not, nat_le, if◌then◌else◌, Bool, true, All, List, [], ◌∷◌, ◌++◌, length, map, filter, find, bytes_eq}
+use Rattle.std.specs.Prelude.{◌≡◌, ℕ, ◌+◌, ◌<◌, ◌==◌, ◌&&◌, not, nat_le, if◌then◌else◌, Bool, true, All, List, ◌++◌, length, map, filter, find, bytes_eq}
 use Rattle.std.specs.List.{list_all}
 use Rattle.syn_rows.specs.declared.Lit.{Lit}
 use Rattle.syn_netlist.specs.Words.{has_word, distinct, without}
