@@ -1,4 +1,4 @@
-use Rattle.std.proofs.Common.{◌^◌, length, map, ◌∙◌, arith}
+use Rattle.std.proofs.Common.{◌^◌, length, map, arith}
 use Rattle.syn_lutnet.specs.LutData.{ones_of}
 use Rattle.syn_network.specs.LutSpelling.{minterm_row}
 use Rattle.syn_text.proofs.LutWhole.{ones_next}
