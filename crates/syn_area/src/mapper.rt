@@ -1,6 +1,6 @@
 //! From a graph to a LUT net.
 
-ghost use Rattle.std.specs.Prelude.{◌≡◌, ◌⊎◌, ◌×◌, ℕ, ◌+◌, ◌≤◌, true, List, IfOk, IsTrue, length, map};
+ghost use Rattle.std.specs.Prelude.{◌≡◌, ◌⊎◌, ℕ, ◌+◌, ◌≤◌, true, List, IfOk, IsTrue, length, map};
 ghost use Rattle.syn_rows.specs.Rows.{node_of};
 ghost use Rattle.syn_truth.specs.declared.TheConstants.{MAX_VARS};
 ghost use Rattle.syn_lutnet.specs.LutData.{greatest, net_depth, none_exceeds};
