@@ -20,10 +20,9 @@ use Rattle.syn_network.specs.Networks.{HasOwnSources, IsNamed}
 use Rattle.syn_network.specs.Written.{network_of}
 use Rattle.syn_network.proofs.Naming.{own_stays}
 use Rattle.syn_graph.specs.declared.Graph.{Graph}
-use Rattle.syn_aiger_files.specs.declared.fault.TheConstants.{MAX_GATES}
 use Rattle.syn_aiger_files.specs.declared.files.Aig.{Aig}
 use Rattle.syn_aiger_files.specs.Spelling.{most_variables}
-use Rattle.syn_aiger.specs.Faults.{Within}
+use Rattle.syn_aiger.specs.Faults.{Within, most_ands}
 use Rattle.syn_aiger.specs.Framing.{IsBodyOf}
 use Rattle.syn_aiger.specs.Naming.{literal_named, name_of, outputs_of, sources_of}
 use Rattle.syn_aiger.specs.Networks.{IsGraphOfAig, frame_of, observed_literals}
@@ -119,7 +118,7 @@ module _ (g : Aig) (sound : IsSound g) (defined : ReadsDefined g) (rank : HasRan
       fewer = omega (arith, spells.ands, length-drop (length (sources (frame_in graph.frame)) + 1) graph.body.rows, few_graph, ap (λ (f : Frame). length (sources f)) framed);
     }
 
-    pub few_nodes : Within g → length graph.body.rows ≤ graph.body.source_count + 1 + MAX_GATES
+    pub few_nodes : Within g → length graph.body.rows ≤ graph.body.source_count + 1 + most_ands
     few_nodes w = omega (arith, few_graph, w.gates, graph.named.sources_are, ap (λ (f : Frame). length (sources f)) framed)
 
     pub few_outputs : length graph.frame.outputs ≤ most_variables

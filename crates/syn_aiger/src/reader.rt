@@ -4,10 +4,9 @@ ghost use Rattle.std.specs.Prelude.{◌≡◌, ◌+◌, ◌<◌, ◌≤◌, ◌^
 ghost use Rattle.std.specs.List.{list_all};
 ghost use Rattle.syn_netlist.specs.Frames.{frame_in};
 ghost use Rattle.syn_network.specs.Written.{network_of};
-ghost use Rattle.syn_aiger_files.specs.declared.fault.TheConstants.{MAX_GATES};
 ghost use Rattle.syn_aiger_files.specs.declared.files.Aig.{Aig};
 ghost use Rattle.syn_aiger_files.specs.Spelling.{most_variables, spelled};
-ghost use Rattle.syn_aiger.specs.Faults.{NamesFirstFault, Spells, Within};
+ghost use Rattle.syn_aiger.specs.Faults.{NamesFirstFault, Spells, Within, most_ands};
 ghost use Rattle.syn_aiger.specs.Framing.{AllDefined, AreLiterals, IsBodyOf};
 ghost use Rattle.syn_aiger.specs.Networks.{IsGraphOfAig, frame_of, observed_literals};
 ghost use Rattle.syn_aiger.specs.Placing.{ReadsDefined, is_defined, lit_in};
@@ -78,7 +77,7 @@ fn network_over(file: &Numbered, framed: Framed, body: Graph) -> Network
     requires body { IsBodyOf file.now.aig body.rows body.observed }
     requires observed { list_all (is_defined file.now.aig) (observed_literals file.now.aig) ≡ true }
     ensures graph { IsGraphOfAig file.now.aig (network_of result) }
-    ensures few { length result.body.rows ≤ result.body.source_count + 1 + MAX_GATES }
+    ensures few { length result.body.rows ≤ result.body.source_count + 1 + most_ands }
     ensures outputs { length result.frame.outputs ≤ most_variables }
 {
     syn_network::network_of_graph();
@@ -94,7 +93,7 @@ fn graph_of(alloc: Global, file: &Numbered) -> Result<Network, AllocError>
     requires rank { HasRank file.now.aig }
     requires within { Within file.now.aig }
     ensures graph { IfOk result (λ graph. IsGraphOfAig file.now.aig (network_of graph)) }
-    ensures few { IfOk result (λ graph. length graph.body.rows ≤ graph.body.source_count + 1 + MAX_GATES) }
+    ensures few { IfOk result (λ graph. length graph.body.rows ≤ graph.body.source_count + 1 + most_ands) }
     ensures outputs { IfOk result (λ graph. length graph.frame.outputs ≤ most_variables) }
 {
     let given = names_of(alloc, file)?;
@@ -112,7 +111,7 @@ fn graph_of(alloc: Global, file: &Numbered) -> Result<Network, AllocError>
 fn graph_within(alloc: Global, bytes: &[u8], file: &Numbered) -> Result<Network, AigFault>
     requires { spelled bytes.now ≡ Ok file.now.aig }
     ensures graph { IfOk result (λ graph. (g : Aig) × Spells bytes.now g × Within g × IsGraphOfAig g (network_of graph)) }
-    ensures few { IfOk result (λ graph. length graph.body.rows ≤ graph.body.source_count + 1 + MAX_GATES) }
+    ensures few { IfOk result (λ graph. length graph.body.rows ≤ graph.body.source_count + 1 + most_ands) }
     ensures outputs { IfOk result (λ graph. length graph.frame.outputs ≤ most_variables) }
     ensures fault { IfErr result (NamesFirstFault bytes.now) }
 {
@@ -139,7 +138,7 @@ fn graph_within(alloc: Global, bytes: &[u8], file: &Numbered) -> Result<Network,
 pub fn read_aig(alloc: Global, bytes: &[u8]) -> Result<Network, AigFault>
     requires { length bytes.now < 2 ^ 32 }
     ensures graph { IfOk result (λ graph. (g : Aig) × Spells bytes.now g × Within g × IsGraphOfAig g (network_of graph)) }
-    ensures few { IfOk result (λ graph. length graph.body.rows ≤ graph.body.source_count + 1 + MAX_GATES) }
+    ensures few { IfOk result (λ graph. length graph.body.rows ≤ graph.body.source_count + 1 + most_ands) }
     ensures outputs { IfOk result (λ graph. length graph.frame.outputs ≤ most_variables) }
     ensures fault { IfErr result (NamesFirstFault bytes.now) }
 {
