@@ -13,9 +13,8 @@ use crate::visits::is_gate;
 use std::alloc::{AllocError, Global};
 use syn_commit::Hints;
 use syn_graph::Graph;
-use syn_table::spread;
 use syn_rows::Row;
-use syn_table::{Seat, Shared};
+use syn_table::{Seat, Shared, spread};
 use syn_workers::Workers;
 
 /// Which nodes come later on a round's table: a commit uses rows that come before its root.
