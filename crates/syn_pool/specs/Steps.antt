@@ -3,8 +3,8 @@ use Rattle.std.specs.Prelude.{◌<◌, ℕ, Bool, true, List, length}
 use Rattle.syn_rows.specs.declared.Row.{Row}
 use Rattle.syn_graph.specs.declared.Graph.{Graph}
 use Rattle.syn_gain.specs.Replacements.{Replacement}
-use Rattle.syn_pool.specs.declared.steps.Step.{Step}
-use Rattle.syn_pool.specs.declared.steps.Step.TheVariants.{Stays, Ends, GoesOn}
+use Rattle.syn_pool.specs.declared.passes.steps.Step.{Step}
+use Rattle.syn_pool.specs.declared.passes.steps.Step.TheVariants.{Stays, Ends, GoesOn}
 use Rattle.syn_proposals.specs.declared.gains.Report.{Report}
 use Rattle.syn_proposals.specs.Closing.{Closed}
 use Rattle.syn_proposals.specs.Following.{Follows}

@@ -8,7 +8,7 @@ use Rattle.syn_table.specs.declared.Shared.{Shared}
 use Rattle.syn_table.specs.Seating.{IsOf, graph_of, known_of, view_of}
 use Rattle.syn_table.specs.Steps.{with_view}
 use Rattle.syn_commit.specs.Giving.{HoldsAlone, IsAtRest}
-use Rattle.syn_pool.specs.declared.workers.Worker.{Worker}
+use Rattle.syn_pool.specs.declared.rounds.workers.Worker.{Worker}
 use Rattle.syn_pool.specs.Closing.{IsLeft}
 use Rattle.syn_pool.specs.Reports.{HasTriedAll, IsSum, Sweep, all_answers, reported}
 
