@@ -6,7 +6,7 @@ ghost use Rattle.syn_rows.specs.Rows.{row_at};
 ghost use Rattle.syn_gain.specs.Proposals.{replacement};
 ghost use Rattle.syn_proposals.specs.Closing.{Closed, SavesSome};
 ghost use Rattle.syn_proposals.specs.Sound.{IsLeftover, IsSound};
-ghost use Rattle.syn_pool.specs.Steps.{IsFewer};
+ghost use Rattle.syn_pool.specs.Steps.{IsCheck, IsFewer};
 ghost use Rattle.syn_pool.specs.Views.{IsViewed};
 
 use crate::looks::neighbourhoods::Neighbourhoods;
@@ -174,8 +174,7 @@ pub(crate) fn check<R: Threads + Sync, P: Proposer, H: CommitHook>(
 ) -> Result<Option<Improved>, AllocError>
     requires viewed { IsViewed P.is_lists_of pass.now.proposer.now viewed.now }
     requires own { viewed.now.listed ≡ true }
-    ensures some { IfOk result (λ made. IfSome made (λ m. IsFewer viewed.now.graph.now m.report m.graph)) }
-    ensures none { IfOk result (λ made. IfNone made (Closed viewed.now.graph.now.rows viewed.now.graph.now.observed (P.proposals pass.now.proposer.now viewed.now.graph.now.rows))) }
+    ensures { IfOk result (IsCheck viewed.now.graph.now (P.proposals pass.now.proposer.now)) }
 {
     let found = left(pass, viewed, clean)?;
     if found.len() == 0 {

@@ -11,7 +11,7 @@ use crate::looks::neighbourhoods::Neighbourhoods;
 use crate::passes::checks::{commit_or_apply, left};
 use crate::passes::closed;
 use crate::rounds::contexts::PassContext;
-use crate::rounds::views::{Viewed, viewed};
+use crate::rounds::views::{Viewed, view};
 use std::alloc::{AllocError, Global};
 use std::thread::Threads;
 use syn_commit::CommitHook;
@@ -72,12 +72,12 @@ fn checked<R: Threads + Sync, K: Proposer, H: CommitHook>(
     ensures levels { IfOk result (λ made. IfSome made (IsNoDeeper graph.now)) }
     ensures none { IfOk result (λ made. IfNone made (Closed graph.now.rows graph.now.observed (K.proposals pass.now.proposer.now graph.now.rows))) }
 {
-    let view = viewed(pass, graph, None)?;
-    let found = left(pass, &view, clean)?;
+    let viewed = view(pass, graph, None)?;
+    let found = left(pass, &viewed, clean)?;
     if found.len() == 0 {
         return Ok(None);
     }
-    let made = kept_or_first(pass, &view, found.as_slice())?;
+    let made = kept_or_first(pass, &viewed, found.as_slice())?;
     Ok(Some(made))
 }
 

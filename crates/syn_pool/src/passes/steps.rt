@@ -4,7 +4,7 @@ ghost use Rattle.std.specs.Prelude.{◌≡◌, ◌<◌, Bool, not, true, IfOk, l
 ghost use Rattle.syn_proposals.specs.Following.{Follows};
 ghost use Rattle.syn_proposals.specs.Gains.{IsGain};
 ghost use Rattle.syn_pool.specs.Turns.{IsPassReport};
-ghost use Rattle.syn_pool.specs.Steps.{IsStepOf};
+ghost use Rattle.syn_pool.specs.Steps.{IsCheck, IsStepOf};
 ghost use Rattle.syn_pool.specs.Views.{IsViewed};
 
 use crate::looks::neighbourhoods::{Neighbourhoods, Seen};
@@ -12,7 +12,7 @@ use crate::passes::checks::check;
 use crate::rounds::contexts::PassContext;
 use crate::rounds::reports::both;
 use crate::rounds::round;
-use crate::rounds::views::{Viewed, viewed, viewed_for_round, with_own_lists};
+use crate::rounds::views::{Viewed, view, view_for_round, with_own_lists};
 use std::alloc::AllocError;
 use std::thread::Threads;
 use syn_commit::CommitHook;
@@ -34,18 +34,46 @@ pub(crate) enum Step<L> {
 // Gains of 0 are worth another round where the last one took away one in so many of the ANDs.
 const MIN_SHARE: usize = 1024;
 
-// The check of the given graph, with its lists.
-fn check_given<R: Threads + Sync, P: Proposer, H: CommitHook>(
+// The check of a graph: what it makes, and the lists that it went by.
+fn check_viewed<R: Threads + Sync, P: Proposer, H: CommitHook>(
     pass: &PassContext<'_, R, P, H>,
-    view: Viewed<'_, P::Lists>,
+    viewed: Viewed<'_, P::Lists>,
+    clean: &mut Neighbourhoods,
+) -> Result<(Option<Improved>, P::Lists), AllocError>
+    requires viewed { IsViewed P.is_lists_of pass.now.proposer.now viewed }
+    requires own { viewed.listed ≡ true }
+    ensures { IfOk result (λ r. IsCheck viewed.entry.graph.now (P.proposals pass.now.proposer.now) r.0) }
+{
+    let made = check(pass, &viewed, clean)?;
+    Ok((made, viewed.lists))
+}
+
+// The same, where these are the lists of a graph before it, if there was one.
+fn check_listed<R: Threads + Sync, P: Proposer, H: CommitHook>(
+    pass: &PassContext<'_, R, P, H>,
+    graph: &Graph,
+    before: Option<P::Lists>,
+    clean: &mut Neighbourhoods,
+) -> Result<(Option<Improved>, P::Lists), AllocError>
+    ensures { IfOk result (λ r. IsCheck graph.now (P.proposals pass.now.proposer.now) r.0) }
+{
+    let viewed = view(pass, graph, before)?;
+    check_viewed(pass, viewed, clean)
+}
+
+// The check of a graph as a step.
+fn check_step<R: Threads + Sync, P: Proposer, H: CommitHook>(
+    pass: &PassContext<'_, R, P, H>,
+    viewed: Viewed<'_, P::Lists>,
     clean: &mut Neighbourhoods,
 ) -> Result<Step<P::Lists>, AllocError>
-    requires viewed { IsViewed P.is_lists_of pass.now.proposer.now view }
-    requires own { view.listed ≡ true }
-    ensures { (strict : Bool) → IfOk result (IsStepOf view.graph.now (P.proposals pass.now.proposer.now) strict) }
+    requires viewed { IsViewed P.is_lists_of pass.now.proposer.now viewed }
+    requires own { viewed.listed ≡ true }
+    ensures { (strict : Bool) → IfOk result (IsStepOf viewed.entry.graph.now (P.proposals pass.now.proposer.now) strict) }
 {
-    match check(pass, &view, clean)? {
-        Some(next) => Ok(Step::GoesOn(next.graph, next.report, view.lists, false)),
+    let (made, lists) = check_viewed(pass, viewed, clean)?;
+    match made {
+        Some(next) => Ok(Step::GoesOn(next.graph, next.report, lists, false)),
         None => Ok(Step::Stays),
     }
 }
@@ -63,9 +91,9 @@ fn check_improved<R: Threads + Sync, P: Proposer, H: CommitHook>(
     ensures { (strict : Bool) → IsGain strict improved.report → IfOk result (IsStepOf graph.now (P.proposals pass.now.proposer.now) strict) }
 {
     let report = improved.report;
-    let view = viewed(pass, &improved.graph, Some(lists))?;
-    match check(pass, &view, clean)? {
-        Some(next) => Ok(Step::GoesOn(next.graph, both(report, next.report), view.lists, false)),
+    let (made, lists) = check_listed(pass, &improved.graph, Some(lists), clean)?;
+    match made {
+        Some(next) => Ok(Step::GoesOn(next.graph, both(report, next.report), lists, false)),
         None => Ok(Step::Ends(improved.graph, report)),
     }
 }
@@ -96,9 +124,26 @@ fn goes_on<R: Threads + Sync, P: Proposer, H: CommitHook>(
     check_improved(pass, graph, improved, lists, clean)
 }
 
+// A step in which workers commit. Where nothing was done, the graph has no room for them, or the proposer wouldn't take what they
+// leave, the graph is checked.
+fn round_step<R: Threads + Sync, P: Proposer, H: CommitHook>(
+    pass: &PassContext<'_, R, P, H>,
+    viewed: Viewed<'_, P::Lists>,
+    seen: &mut Seen,
+) -> Result<Step<P::Lists>, AllocError>
+    requires { IsViewed P.is_lists_of pass.now.proposer.now viewed }
+    ensures { IfOk result (IsStepOf viewed.entry.graph.now (P.proposals pass.now.proposer.now) (not pass.now.zero_gain)) }
+{
+    if let Some(improved) = round(pass, &viewed, &mut seen.visited)? {
+        return goes_on(pass, viewed.graph, improved, viewed.lists, &mut seen.clean);
+    }
+    let own = with_own_lists(pass, viewed)?;
+    check_step(pass, own, &mut seen.clean)
+}
+
 /// One step on a graph: workers commit, if they are to, and the graph that they leave is checked, unless they are to commit again
-/// first. Where they are not to, the graph has no room for them, nothing was done, or the proposer wouldn't take what they
-/// leave, the given graph is checked. The lists are those of a graph before it, if there was one.
+/// first. Where they are not to, or do nothing, the graph itself is checked. The lists are those of a graph before it, if there was
+/// one. The only error is want of memory.
 pub(crate) fn one_step<R: Threads + Sync, P: Proposer, H: CommitHook>(
     pass: &PassContext<'_, R, P, H>,
     graph: &Graph,
@@ -108,16 +153,11 @@ pub(crate) fn one_step<R: Threads + Sync, P: Proposer, H: CommitHook>(
 ) -> Result<Step<P::Lists>, AllocError>
     ensures { IfOk result (IsStepOf graph.now (P.proposals pass.now.proposer.now) (not pass.now.zero_gain)) }
 {
-    if !commits {
-        let view = viewed(pass, graph, before)?;
-        return check_given(pass, view, &mut seen.clean);
-    }
-    let view = viewed_for_round(pass, graph, before)?;
-    match round(pass, &view, &mut seen.visited)? {
-        Some(improved) => goes_on(pass, graph, improved, view.lists, &mut seen.clean),
-        None => {
-            let own = with_own_lists(pass, view)?;
-            check_given(pass, own, &mut seen.clean)
-        }
+    if commits {
+        let viewed = view_for_round(pass, graph, before)?;
+        round_step(pass, viewed, seen)
+    } else {
+        let viewed = view(pass, graph, before)?;
+        check_step(pass, viewed, &mut seen.clean)
     }
 }

@@ -43,7 +43,7 @@ fn listed<R: Threads + Sync, P: Proposer, H: CommitHook>(
 }
 
 /// A graph with its own lists, where these are those of one before it, if there was one.
-pub(crate) fn viewed<'a, R: Threads + Sync, P: Proposer, H: CommitHook>(
+pub(crate) fn view<'a, R: Threads + Sync, P: Proposer, H: CommitHook>(
     pass: &PassContext<'_, R, P, H>,
     graph: &'a Graph,
     before: Option<P::Lists>,
@@ -72,7 +72,7 @@ pub(crate) fn looks<R: Threads + Sync, P: Proposer, H: CommitHook>(
 
 /// A graph as a round goes by it: with its own lists, but where workers look at the table's cuts alone, for which those of a graph
 /// before it serve.
-pub(crate) fn viewed_for_round<'a, R: Threads + Sync, P: Proposer, H: CommitHook>(
+pub(crate) fn view_for_round<'a, R: Threads + Sync, P: Proposer, H: CommitHook>(
     pass: &PassContext<'_, R, P, H>,
     graph: &'a Graph,
     before: Option<P::Lists>,
@@ -90,29 +90,29 @@ pub(crate) fn viewed_for_round<'a, R: Threads + Sync, P: Proposer, H: CommitHook
                 listed: false,
             })
         }
-        before => viewed(pass, graph, before),
+        before => view(pass, graph, before),
     }
 }
 
 /// The same graph with its own lists.
 pub(crate) fn with_own_lists<'a, R: Threads + Sync, P: Proposer, H: CommitHook>(
     pass: &PassContext<'_, R, P, H>,
-    view: Viewed<'a, P::Lists>,
+    viewed: Viewed<'a, P::Lists>,
 ) -> Result<Viewed<'a, P::Lists>, AllocError>
-    requires { IsViewed P.is_lists_of pass.now.proposer.now view }
-    ensures graph { IfOk result (λ v. v.graph.now ≡ view.graph.now) }
+    requires { IsViewed P.is_lists_of pass.now.proposer.now viewed }
+    ensures graph { IfOk result (λ v. v.graph.now ≡ viewed.entry.graph.now) }
     ensures viewed { IfOk result (IsViewed P.is_lists_of pass.now.proposer.now) }
     ensures own { IfOk result (λ v. v.listed ≡ true) }
 {
-    if view.listed {
-        return Ok(view);
+    if viewed.listed {
+        return Ok(viewed);
     }
     let Viewed {
         graph,
         uses,
         lists,
         ..
-    } = view;
+    } = viewed;
     let lists = listed(pass, graph, Some(lists))?;
     Ok(Viewed {
         graph,
