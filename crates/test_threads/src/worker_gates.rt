@@ -1,6 +1,6 @@
 //! Passes under gates that hold workers up.
 
-use crate::harness::{cones, graph_of};
+use crate::harness::{cones, graph_of, passed};
 use std::alloc::{AllocError, Global};
 use std::sync::atomic::{AtomicU64, Ordering};
 use std::test::Fail;
@@ -9,10 +9,7 @@ use syn_build::build;
 use syn_commit::{Gate, Moment};
 use syn_gen::generate;
 use syn_graph::Graph;
-use syn_pool::pass;
-use syn_proposals::Report;
-use syn_rewrite::CutPlans;
-use syn_rows::{Lit, Row};
+use syn_network::Network;
 use syn_workers::Workers;
 
 // How often a held worker looks at most.
@@ -91,121 +88,101 @@ impl Gate for Yields {
     }
 }
 
-// What a pass of rewriting with so many workers on a graph reports, and the graph that comes.
-fn passed<R: Threads + Sync, G: Gate>(
-    rt: &R,
-    alloc: Global,
-    graph: Graph,
-    gate: &G,
-    workers: Workers,
-    zero_gain: bool,
-) -> Option<(Report, Graph)> {
-    let proposer = CutPlans::new(alloc).ok()?;
-    match pass(rt, alloc, graph, &proposer, workers, zero_gain, gate) {
-        Ok((graph, report)) => Some((report, graph)),
-        Err(_) => None,
-    }
-}
-
 // The graph of the netlist of a seed and a size.
 fn generated(alloc: Global, seed: u64, size: u16) -> Result<Graph, AllocError> {
     syn_gen::generated_is_checked();
     syn_gen::generated_costs();
     let netlist = generate(alloc, seed, size as u32)?;
-    let graph = build(alloc, &netlist)?;
-    Ok(graph)
+    let Network { body, .. } = build(alloc, &netlist)?;
+    Ok(body)
 }
 
-// The value of a literal, false past the end.
-fn literal_value(values: &[bool], lit: Lit) -> bool {
-    let plain = match values.get(lit.node() as usize) {
-        Some(value) => *value,
-        None => false,
-    };
-    plain != lit.complemented()
-}
-
-// The value of the row of a node, where the sources have the bits of a number.
-fn row_value(values: &[bool], node: usize, row: Row, bits: u64) -> bool {
-    match row {
-        Row::Source => node > 0 && (bits >> ((node - 1) % 64)) % 2 == 1,
-        Row::And(a, b) => literal_value(values, a) && literal_value(values, b),
-        Row::Alias(a) => literal_value(values, a),
-        Row::Free => false,
-    }
-}
-
-// The values of the nodes of a graph, where the sources have the bits of a number.
-fn node_values(alloc: Global, graph: &Graph, bits: u64) -> Result<Vec<bool>, AllocError> {
+// The values of so many sources, which are bits of a number.
+fn source_values(alloc: Global, count: u32, bits: u64) -> Result<Vec<bool>, AllocError> {
     let mut values = Vec::new(alloc);
-    for (node, row) in graph.rows.as_slice().iter().enumerate() {
-        let value = row_value(values.as_slice(), node, *row, bits);
-        values.push(value)?;
+    for source in 0..count {
+        values.push((bits >> (source % 64)) % 2 == 1)?;
     }
     Ok(values)
 }
 
-// The observed values of a graph, where the sources have the bits of a number.
-fn observed_values(alloc: Global, graph: &Graph, bits: u64) -> Result<Vec<bool>, AllocError> {
-    let values = node_values(alloc, graph, bits)?;
-    let mut observed = Vec::new(alloc);
-    for lit in graph.observed.as_slice() {
-        observed.push(literal_value(values.as_slice(), *lit))?;
-    }
-    Ok(observed)
+// Whether two graphs have the same observed values where the sources' are bits of a number.
+fn are_equal_at(
+    alloc: Global,
+    first: &Graph,
+    second: &Graph,
+    bits: u64,
+) -> Result<bool, AllocError> {
+    let sources = source_values(alloc, first.source_count, bits)?;
+    let values = first.eval(alloc, sources.as_slice())?;
+    let others = second.eval(alloc, sources.as_slice())?;
+    Ok(values.as_slice() == others.as_slice())
 }
 
 // Whether two graphs have the same observed values at 256 choices of their sources.
 fn are_equal(alloc: Global, first: &Graph, second: &Graph) -> Result<bool, AllocError> {
     for i in 0..256u64 {
         let bits = i.wrapping_mul(0x9e37_79b9_7f4a_7c15) >> 13;
-        let values = observed_values(alloc, first, bits)?;
-        let others = observed_values(alloc, second, bits)?;
-        if values.as_slice() != others.as_slice() {
+        if !are_equal_at(alloc, first, second, bits)? {
             return Ok(false);
         }
     }
     Ok(true)
 }
 
+// Whether a pass of eight workers on a graph gains no more than it reports, and keeps the values.
+fn keeps<R: Threads + Sync>(
+    rt: &R,
+    alloc: Global,
+    graph: &Graph,
+    zero_gain: bool,
+) -> Result<bool, AllocError> {
+    let gate = Yields {
+        seen: AtomicU64::new(0),
+    };
+    match passed(rt, alloc, graph, &gate, Workers::new(8), zero_gain)? {
+        Some((next, report)) => {
+            let fewer = u64::from(graph.count().saturating_sub(next.count()));
+            Ok(report.gained <= fewer && are_equal(alloc, graph, &next)?)
+        }
+        None => Ok(false),
+    }
+}
+
+// Whether a pass of two workers on a hundred cones does what the gate is told, and gains one of each three ANDs.
+fn gains<R: Threads + Sync>(
+    rt: &R,
+    alloc: Global,
+    gate: &HoldsTheFirst,
+) -> Result<bool, AllocError> {
+    let text = cones(alloc, 100)?;
+    let Some(graph) = graph_of(alloc, text.as_str().as_bytes()) else {
+        return Ok(false);
+    };
+    match passed(rt, alloc, &graph, gate, Workers::new(2), false)? {
+        Some((next, report)) => {
+            let told = gate.told.load(Ordering::SeqCst);
+            Ok(report.done == told && told > 0 && next.count() == 200)
+        }
+        None => Ok(false),
+    }
+}
+
 // The worker that first claims goes on only once another one has done a commit. Of each cone the root alone has a proposal
 // that saves, and one worker visits it. What is left, the check takes.
 #[test]
 fn two_workers_work_at_the_same_time(rt: HostRuntime) -> Result<(), Fail> {
-    let alloc = rt.alloc();
-    let text = cones(alloc, 100)?;
     let gate = HoldsTheFirst::new();
-    let found = match graph_of(alloc, text.as_str().as_bytes()) {
-        Some(graph) => passed(&rt, alloc, graph, &gate, Workers::new(2), false),
-        None => None,
-    };
-    assert_eq!(rt; gate.given_up.load(Ordering::SeqCst), 0);
-    let told = gate.told.load(Ordering::SeqCst);
-    let is_well = match found {
-        Some((report, graph)) => report.done == told && told > 0 && graph.count() == 200,
-        None => false,
-    };
-    assert!(rt; is_well);
+    assert!(rt; gains(&rt, rt.alloc(), &gate)?);
+    assert!(rt; gate.given_up.load(Ordering::SeqCst) == 0);
     Ok(())
 }
 
 #[test]
 fn eight_workers_keep_the_values(rt: HostRuntime) -> Result<(), Fail> {
-    let alloc = rt.alloc();
-    let graph = generated(alloc, 1, 300)?;
+    let graph = generated(rt.alloc(), 1, 300)?;
     for zero_gain in [false, true] {
-        let gate = Yields {
-            seen: AtomicU64::new(0),
-        };
-        let given = graph.copy(alloc)?;
-        let is_well = match passed(&rt, alloc, given, &gate, Workers::new(8), zero_gain) {
-            Some((report, next)) => {
-                let fewer = u64::from(graph.count().saturating_sub(next.count()));
-                report.gained <= fewer && are_equal(alloc, &graph, &next)?
-            }
-            None => false,
-        };
-        assert!(rt; is_well, "{zero_gain}");
+        assert!(rt; keeps(&rt, rt.alloc(), &graph, zero_gain)?, "{zero_gain}");
     }
     Ok(())
 }

@@ -3,7 +3,7 @@ use Rattle.std.proofs.Math.ListN.{get_or-map}
 use Rattle.std.proofs.lemmas.List.{length-map}
 use Rattle.syn_cones.specs.Cones.{IsCut}
 use Rattle.syn_cuts.specs.Leaves.{leaves, leaves_of}
-use Rattle.test_values.proofs.proposals.cut_at.Goals as goal
+use Rattle.test_values.proofs.cuts.cut_at.Goals as goal
 
 pub returns : goal.returns
 returns c =

@@ -9,7 +9,7 @@ use Rattle.syn_gain.specs.declared.proposals.Proposal.{Proposal}
 use Rattle.syn_gain.specs.Proposals.{replacement}
 use Rattle.syn_gain.specs.Replacements.{leaf_values}
 use Rattle.syn_apply.specs.Sound.{IsSoundBy, PlanComputes}
-use Rattle.test_values.proofs.proposals.factored.Goals as goal
+use Rattle.test_values.proofs.saved.factored.Goals as goal
 
 -- a proposal of a plan that has a function's values, over the leaves of a cut
 sound_over : (rows : List Row) (p : Proposal) (node : ℕ) (cut : List ℕ) (t : Truth) (plan : Plan) → ((xs : List Bool) → leaf_values (length xs) xs ≡ xs)
