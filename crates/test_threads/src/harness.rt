@@ -1,10 +1,10 @@
-//! Small texts and their graphs, what workers tell, and a gate that counts.
+//! Small texts and their graphs, what workers tell, and a hook that counts.
 
 use std::alloc::{AllocError, Global};
 use std::sync::atomic::{AtomicU64, Ordering};
 use std::thread::Threads;
 use syn_build::build_checked;
-use syn_commit::{Gate, Moment};
+use syn_commit::{CommitHook, Moment};
 use syn_graph::Graph;
 use syn_network::Network;
 use syn_pool::pass;
@@ -13,7 +13,7 @@ use syn_reader::read_checked;
 use syn_rewrite::CutPlans;
 use syn_workers::{MAX_WORKERS, Workers};
 
-/// A gate that counts the commits that were done.
+/// A hook that counts the commits that were done.
 #[derive(Drop)]
 pub struct Counting {
     done: AtomicU64,
@@ -33,7 +33,7 @@ impl Counting {
     }
 }
 
-impl Gate for Counting {
+impl CommitHook for Counting {
     fn at(&self, _worker: u8, moment: Moment) {
         if moment == Moment::Answered(true) {
             let _before = self.done.fetch_add(1, Ordering::SeqCst);
@@ -51,7 +51,7 @@ pub fn graph_of(alloc: Global, text: &[u8]) -> Option<Graph> {
     Some(body)
 }
 
-/// What is told of workers: their report, how many ANDs are left, and how many done commits their gate was told.
+/// What is told of workers: their report, how many ANDs are left, and how many done commits their hook was told.
 pub type Told = (Report, u32, u64);
 
 /// So many commits done, and ANDs gained.
@@ -60,16 +60,16 @@ pub fn report(done: u64, gained: u64) -> Report {
 }
 
 /// What a pass of rewriting with so many workers on a graph reports, and the graph that comes; none where none does.
-pub fn passed<R: Threads + Sync, G: Gate>(
+pub fn passed<R: Threads + Sync, G: CommitHook>(
     rt: &R,
     alloc: Global,
     graph: &Graph,
-    gate: &G,
+    hook: &G,
     workers: Workers,
     zero_gain: bool,
 ) -> Result<Option<(Graph, Report)>, AllocError> {
     let proposer = CutPlans::new(alloc)?;
-    pass(rt, alloc, graph, &proposer, workers, zero_gain, gate)
+    pass(rt, alloc, graph, &proposer, workers, zero_gain, hook)
 }
 
 /// The text of so many cones, each over three inputs of its own.

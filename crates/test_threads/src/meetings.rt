@@ -9,7 +9,7 @@ use crate::fresh::committed;
 use crate::harness::CONE;
 use crate::tables::{ands_left, opened_as, opened_twice};
 use std::alloc::Global;
-use syn_commit::{Hints, OpenGate, Tools};
+use syn_commit::{Hints, NoHook, Tools};
 use syn_decide::Outcome;
 use syn_gain::Proposal;
 use syn_rows::Row;
@@ -34,7 +34,7 @@ fn is_alias(shared: &Shared, seat: &mut Seat) -> bool
 
 // The second seat tries the proposal while the first one holds the root.
 fn turned_away(
-    tools: &Tools<'_, OpenGate>,
+    tools: &Tools<'_, NoHook>,
     first: &mut Seat,
     second: &mut Seat,
     proposal: &Proposal,
@@ -62,7 +62,7 @@ fn turned_away(
 
 // The second seat is turned away, then it commits, and then the first one gains nothing.
 fn both_try(
-    tools: &Tools<'_, OpenGate>,
+    tools: &Tools<'_, NoHook>,
     first: &mut Seat,
     second: &mut Seat,
     proposal: &Proposal,
@@ -107,7 +107,7 @@ fn key_at(shared: &Shared, seat: &mut Seat, node: u32) -> Option<u64>
 }
 
 // The keys of the last two of the pool's nodes, once the seat has made rows there.
-fn keys_after(tools: &Tools<'_, OpenGate>, seat: &mut Seat) -> Option<(u64, u64)>
+fn keys_after(tools: &Tools<'_, NoHook>, seat: &mut Seat) -> Option<(u64, u64)>
     requires table { IsOf seat.old tools.now.shared.now }
     requires nodes { nodes_of tools.now.shared.now ≡ 1031 }
     requires resting { IsAtRest (view_of seat.old) }
@@ -127,7 +127,7 @@ fn made_keys(alloc: Global) -> Option<(u64, u64)> {
     let tools = Tools {
         shared: &shared,
         hints: &hints,
-        gate: &OpenGate,
+        hook: &NoHook,
         worker: 0,
     };
     if spare == 7 {
@@ -144,7 +144,7 @@ fn two_seats(alloc: Global) -> Option<(bool, u32)> {
     let tools = Tools {
         shared: &shared,
         hints: &hints,
-        gate: &OpenGate,
+        hook: &NoHook,
         worker: 0,
     };
     let as_worked = both_try(&tools, &mut first, &mut second, &factored(true));

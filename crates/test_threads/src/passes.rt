@@ -19,10 +19,10 @@ fn told<R: Threads + Sync>(
     workers: Workers,
     zero_gain: bool,
 ) -> Result<Told, AllocError> {
-    let gate = Counting::new();
-    match passed(rt, alloc, graph, &gate, workers, zero_gain)? {
-        Some((next, report)) => Ok((report, next.count(), gate.told())),
-        None => Ok((report(0, 0), graph.count(), gate.told())),
+    let hook = Counting::new();
+    match passed(rt, alloc, graph, &hook, workers, zero_gain)? {
+        Some((next, report)) => Ok((report, next.count(), hook.told())),
+        None => Ok((report(0, 0), graph.count(), hook.told())),
     }
 }
 
@@ -50,7 +50,7 @@ fn gains_each<R: Threads + Sync>(rt: &R, alloc: Global, count: u32) -> Result<bo
     Ok(found == report(all, all) && left == 2 * count && done == all)
 }
 
-// Whether a pass of so many workers leaves two ANDs of each cone, and tells as many commits as the gate was told. Where commits
+// Whether a pass of so many workers leaves two ANDs of each cone, and tells as many commits as the hook was told. Where commits
 // meet, some fail, and the check takes their gains.
 fn leaves_two<R: Threads + Sync>(
     rt: &R,

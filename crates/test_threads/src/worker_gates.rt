@@ -6,7 +6,7 @@ use std::sync::atomic::{AtomicU64, Ordering};
 use std::test::Fail;
 use std::thread::{Threads, yield_now};
 use syn_build::build;
-use syn_commit::{Gate, Moment};
+use syn_commit::{CommitHook, Moment};
 use syn_gen::generate;
 use syn_graph::Graph;
 use syn_network::Network;
@@ -50,7 +50,7 @@ impl HoldsTheFirst {
     }
 }
 
-impl Gate for HoldsTheFirst {
+impl CommitHook for HoldsTheFirst {
     fn at(&self, worker: u8, moment: Moment) {
         let own = u64::from(worker) + 1;
         match moment {
@@ -79,7 +79,7 @@ struct Yields {
     seen: AtomicU64,
 }
 
-impl Gate for Yields {
+impl CommitHook for Yields {
     fn at(&self, worker: u8, _moment: Moment) {
         let seen = self.seen.fetch_add(1, Ordering::SeqCst);
         if (seen ^ u64::from(worker)) % 4 == 0 {
