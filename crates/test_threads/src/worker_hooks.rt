@@ -1,4 +1,4 @@
-//! Passes under gates that hold workers up.
+//! Passes under hooks that hold workers up.
 
 use crate::harness::{cones, graph_of, passed};
 use std::alloc::{AllocError, Global};
@@ -15,7 +15,7 @@ use syn_workers::Workers;
 // How often a held worker looks at most.
 const MAX_LOOKS: u32 = 1_000_000;
 
-// A gate that holds the worker that first claims until another one has done a commit.
+// A hook that holds the worker that first claims until another one has done a commit.
 #[derive(Drop)]
 struct HoldsTheFirst {
     // 1 more than the number of the worker that is held, 0 while there is none.
@@ -73,7 +73,7 @@ impl CommitHook for HoldsTheFirst {
     }
 }
 
-// A gate that lets other threads run at some of the moments.
+// A hook that lets other threads run at some of the moments.
 #[derive(Drop)]
 struct Yields {
     seen: AtomicU64,
@@ -137,10 +137,10 @@ fn keeps<R: Threads + Sync>(
     graph: &Graph,
     zero_gain: bool,
 ) -> Result<bool, AllocError> {
-    let gate = Yields {
+    let hook = Yields {
         seen: AtomicU64::new(0),
     };
-    match passed(rt, alloc, graph, &gate, Workers::new(8), zero_gain)? {
+    match passed(rt, alloc, graph, &hook, Workers::new(8), zero_gain)? {
         Some((next, report)) => {
             let fewer = u64::from(graph.count().saturating_sub(next.count()));
             Ok(report.gained <= fewer && are_equal(alloc, graph, &next)?)
@@ -149,19 +149,19 @@ fn keeps<R: Threads + Sync>(
     }
 }
 
-// Whether a pass of two workers on a hundred cones does what the gate is told, and gains one of each three ANDs.
+// Whether a pass of two workers on a hundred cones does what the hook is told, and gains one of each three ANDs.
 fn gains<R: Threads + Sync>(
     rt: &R,
     alloc: Global,
-    gate: &HoldsTheFirst,
+    hook: &HoldsTheFirst,
 ) -> Result<bool, AllocError> {
     let text = cones(alloc, 100)?;
     let Some(graph) = graph_of(alloc, text.as_str().as_bytes()) else {
         return Ok(false);
     };
-    match passed(rt, alloc, &graph, gate, Workers::new(2), false)? {
+    match passed(rt, alloc, &graph, hook, Workers::new(2), false)? {
         Some((next, report)) => {
-            let told = gate.told.load(Ordering::SeqCst);
+            let told = hook.told.load(Ordering::SeqCst);
             Ok(report.done == told && told > 0 && next.count() == 200)
         }
         None => Ok(false),
@@ -172,9 +172,9 @@ fn gains<R: Threads + Sync>(
 // that saves, and one worker visits it. What is left, the check takes.
 #[test]
 fn two_workers_work_at_the_same_time(rt: HostRuntime) -> Result<(), Fail> {
-    let gate = HoldsTheFirst::new();
-    assert!(rt; gains(&rt, rt.alloc(), &gate)?);
-    assert!(rt; gate.given_up.load(Ordering::SeqCst) == 0);
+    let hook = HoldsTheFirst::new();
+    assert!(rt; gains(&rt, rt.alloc(), &hook)?);
+    assert!(rt; hook.given_up.load(Ordering::SeqCst) == 0);
     Ok(())
 }
 
