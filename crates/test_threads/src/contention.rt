@@ -7,7 +7,7 @@ ghost use Rattle.syn_commit.specs.Giving.{IsAtRest};
 use crate::commits::factored;
 use crate::fresh::committed;
 use crate::pins::{pin_inner, unpin_inner};
-use crate::tables::{ands_compacted, opened};
+use crate::tables::{ands_compacted, opened_twice};
 use std::alloc::Global;
 use syn_commit::{Hints, NoHook, Tools};
 use syn_decide::Outcome;
@@ -146,9 +146,8 @@ fn both_try(
 // Whether the second seat is answered as worked by hand, how many `And` rows are left, and how many of them compaction
 // leaves.
 fn contended(alloc: Global, meanwhile: Meanwhile) -> Option<(bool, (u32, u32))> {
-    let (shared, mut first) = opened(alloc)?;
     let hints = Hints::new(alloc, 1024).ok()?;
-    let mut second = shared.split(&mut first).ok()?;
+    let (shared, mut first, mut second) = opened_twice(alloc)?;
     let tools = Tools {
         shared: &shared,
         hints: &hints,

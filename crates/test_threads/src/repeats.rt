@@ -53,12 +53,7 @@ fn over_inputs(plan: Plan) -> Proposal
 }
 
 // Commits, with no gain let through, unless the root is in the pool: 1 where the commit is done, else 0.
-fn done_by(
-    tools: &Tools<'_, NoHook>,
-    seat: &mut Seat,
-    pool: &mut Pool,
-    proposal: &Proposal,
-) -> u32
+fn done_by(tools: &Tools<'_, NoHook>, seat: &mut Seat, pool: &mut Pool, proposal: &Proposal) -> u32
     requires table { IsOf seat.old tools.now.shared.now }
     requires alone { HoldsAlone pool.old (view_of seat.old) }
     requires root { proposal.now.root < nodes_of tools.now.shared.now }
@@ -122,18 +117,19 @@ fn done_in(tools: &Tools<'_, NoHook>, seat: &mut Seat, first: u32, rounds: u32) 
 
 // How many of the commits are done on a table of its own, and how many `And` rows are left.
 fn repeated(alloc: Global, rounds: u32) -> Option<(u32, u32)> {
-    let (shared, mut seat, first) = opened_as(alloc, FOUR.as_bytes(), None)?;
-    if first != 8 {
-        return None;
-    }
     let hints = Hints::new(alloc, 1024).ok()?;
+    let (shared, mut seat, first) = opened_as(alloc, FOUR.as_bytes(), None)?;
     let tools = Tools {
         shared: &shared,
         hints: &hints,
         hook: &NoHook,
         worker: 0,
     };
-    let done = done_in(&tools, &mut seat, first, rounds);
+    let done = if first == 8 {
+        done_in(&tools, &mut seat, first, rounds)
+    } else {
+        0
+    };
     let ands = ands_left(alloc, shared, seat)?;
     Some((done, ands))
 }
