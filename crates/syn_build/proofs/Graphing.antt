@@ -1,5 +1,5 @@
 -- From built rows to a graph: what is kept of them is a graph, and the netlist that it is written as means the same.
-use Rattle.std.proofs.Common.{◌≡◌, ◌+◌, ◌≤◌, Bool, true, List, map, length, refl, sym, ap₂, ◌∙◌, arith}
+use Rattle.std.proofs.Common.{◌≡◌, ◌+◌, ◌≤◌, Bool, true, List, length, refl, sym, ap₂, ◌∙◌, arith}
 use Rattle.std.proofs.lemmas.List.{length-drop}
 use Rattle.syn_rows.specs.declared.Lit.{Lit}
 use Rattle.syn_rows.specs.declared.Row.{Row}
@@ -12,10 +12,8 @@ use Rattle.syn_netlist.specs.Meaning.{SameFromFunction}
 use Rattle.syn_network.specs.GraphShape.{GraphHasFunction, rows_of, observed_of}
 use Rattle.syn_network.specs.NamedGraphs.{IsNamedGraph}
 use Rattle.syn_network.specs.Spelling.{NetworkOfGraph, NetworkSpells, network}
+use Rattle.syn_network.proofs.Meaning.{has_same_function}
 use Rattle.syn_build.specs.Building.{IsGraphOf}
-
-has_same_function : (m : Netlist) (F G : List Bool → List Bool) → ((bits : List Bool) → G bits ≡ F bits) → HasFunction m G → HasFunction m F
-has_same_function m F G same h = record { total = h.total; value = λ v c. h.value v c ∙ same (map v (sources m.frame)) }
 
 -- the network of a graph with the function of the rows that were built, and no more rows, is the graph of the netlist
 pub graph_of_netlist : NetworkOfGraph → GraphHasFunction → SameFromFunction → (n : Netlist) (rows new_rows : List Row) (lits new_lits : List Lit) → distinct n.frame.clocks ≡ true → distinct (sources n.frame) ≡ true

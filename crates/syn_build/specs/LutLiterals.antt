@@ -6,7 +6,7 @@ use Rattle.syn_rows.specs.Joining.{complement, lit_of}
 use Rattle.syn_rows.specs.Rows.{node_of}
 use Rattle.syn_hashed.specs.Hashed.{lit_at}
 use Rattle.syn_lists.specs.Numbers.{numbers_from}
-use Rattle.syn_lutshapes.specs.Luts.{Lut, lut_at}
+use Rattle.syn_lutnet.specs.LutData.{Lut, lut_at}
 
 -- the signal is one of the first so many
 abbrev pub reads_below : ℕ → ℕ → Bool

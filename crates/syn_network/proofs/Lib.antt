@@ -10,3 +10,8 @@ pub mod Meaning
 pub mod Copying
 pub mod Framing
 pub mod Observing
+pub mod LutTables
+pub mod LutNetworks
+pub mod LutValues
+pub mod LutNaming
+pub mod LutMeaning

@@ -14,7 +14,7 @@ use Rattle.syn_network.specs.Networks.{IsNamed}
 use Rattle.syn_network.specs.Laws.{SameFunctionKeepsMeaning}
 use Rattle.syn_network.proofs.Naming.{named_graph, names_stay}
 
-has_same_function : (m : Netlist) (F G : List Bool → List Bool) → ((bits : List Bool) → G bits ≡ F bits) → HasFunction m G → HasFunction m F
+pub has_same_function : (m : Netlist) (F G : List Bool → List Bool) → ((bits : List Bool) → G bits ≡ F bits) → HasFunction m G → HasFunction m F
 has_same_function m F G same h = record { total = h.total; value = λ v c. h.value v c ∙ same (map v (sources m.frame)) }
 
 -- the netlist of a graph has the graph's function

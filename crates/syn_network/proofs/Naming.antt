@@ -1,9 +1,7 @@
 -- Names that fit a graph.
-use Rattle.std.proofs.Common.{◌≡◌, ℕ, ◌+◌, ◌<◌, List, length, ◌∙◌, sym, subst, arith}
+use Rattle.std.proofs.Common.{◌≡◌, ℕ, ◌<◌, List, length, ◌∙◌, subst, arith}
 use Rattle.syn_rows.specs.declared.Lit.{Lit}
-use Rattle.syn_rows.specs.declared.Row.{Row}
 use Rattle.syn_hashed.specs.Hashed.{IsHashed}
-use Rattle.syn_hashed.specs.Compacting.{IsCompaction}
 use Rattle.syn_netlist.specs.Lists.{Frame, sources, observed}
 use Rattle.syn_netlist.specs.Numbers.{word_at}
 use Rattle.syn_network.specs.GraphShape.{place}
@@ -37,10 +35,10 @@ named_graph frame g n = record {
 }
 
 -- the names of rows that were compacted
-pub named_compaction : (frame : Frame) (count : ℕ) (rows : List Row) (lits : List Lit) (g : Graph) → count ≡ length (sources frame) → length lits ≡ length (observed frame) → HasOwnSources frame lits
-    → g.source_count ≡ count → IsCompaction count rows lits g.rows g.observed → IsNamed frame g.source_count g.observed
-named_compaction frame count rows lits g sources observed own same c = record {
+pub named_compaction : (frame : Frame) (count : ℕ) (lits : List Lit) (g : Graph) → count ≡ length (sources frame) → length lits ≡ length (observed frame) → HasOwnSources frame lits
+    → g.source_count ≡ count → length g.observed ≡ length lits → SourcesStay count lits g.observed → IsNamed frame g.source_count g.observed
+named_compaction frame count lits g sources observed own same same_count stay = record {
   sources_are = same ∙ sources;
-  observed_are = c.same_count ∙ observed;
-  own = own_stays frame count lits g.observed sources c.same_count c.sources_stay own;
+  observed_are = same_count ∙ observed;
+  own = own_stays frame count lits g.observed sources same_count stay own;
 }

@@ -30,7 +30,7 @@ place_lt (w ∷ ws) word h = elim (cases_Bool (bytes_eq w word)) [
   | inr e ↦ omega (arith, cond-false (bytes_eq w word) 0 (suc (place word ws)) e, place_lt ws word (in_rest w ws word e h))
 ]
 
-place_value : (v : List ℕ → Bool) (ws : List (List ℕ)) (word : List ℕ) → has_word ws word ≡ true → get_or (map v ws) (place word ws) false ≡ v word
+pub place_value : (v : List ℕ → Bool) (ws : List (List ℕ)) (word : List ℕ) → has_word ws word ≡ true → get_or (map v ws) (place word ws) false ≡ v word
 place_value v [] word h = absurd (both_ways false refl h)
 place_value v (w ∷ ws) word h = elim (cases_Bool (bytes_eq w word)) [
   | inl e ↦ ap (λ k. get_or (v w ∷ map v ws) k false) (cond-true (bytes_eq w word) 0 (suc (place word ws)) e) ∙ ap v (same_word w word e)
@@ -50,7 +50,7 @@ pub half : (p : ℕ) (b : Bool) → (2 * p + (if b then 0 else 1)) / 2 ≡ p
 half p true = omega arith
 half p false = omega arith
 
-signed_value : (u : ℕ → Bool) (p : ℕ) (b : Bool) → lit_value u (record { 0 = 2 * p + (if b then 0 else 1) }) ≡ (if b then u p else not (u p))
+pub signed_value : (u : ℕ → Bool) (p : ℕ) (b : Bool) → lit_value u (record { 0 = 2 * p + (if b then 0 else 1) }) ≡ (if b then u p else not (u p))
 signed_value u p true =
     let even : (2 * p + 0) % 2 ≡ 0 = omega arith in
     let middle : (2 * p + 0) / 2 ≡ p = omega arith in
@@ -68,17 +68,17 @@ fits_at_one : (b : Bool) → fits_bit 49 b ≡ (if nat_eq 49 49 then b else not 
 fits_at_one true = refl
 fits_at_one false = refl
 
-fits_sign : (c : ℕ) (b : Bool) → is_sign c ≡ true → fits_bit c b ≡ (if nat_eq c 49 then b else not b)
+pub fits_sign : (c : ℕ) (b : Bool) → is_sign c ≡ true → fits_bit c b ≡ (if nat_eq c 49 then b else not b)
 fits_sign c b h = elim (or_cases (nat_eq c 48) (nat_eq c 49) h) [
   | inl e ↦ subst (λ k. fits_bit k b ≡ (if nat_eq k 49 then b else not b)) (sym (eqb-true c 48 e)) (fits_at_zero b)
   | inr e ↦ subst (λ k. fits_bit k b ≡ (if nat_eq k 49 then b else not b)) (sym (eqb-true c 49 e)) (fits_at_one b)
 ]
 
--- the valuation of nodes gives each name's node the name's value
-abbrev Names : List (List ℕ) → (ℕ → Bool) → (List ℕ → Bool) → Type 0
+-- the valuation of nodes, or of signals, gives each name's the name's value
+abbrev pub Names : List (List ℕ) → (ℕ → Bool) → (List ℕ → Bool) → Type 0
 Names names u v = (word : List ℕ) → has_word names word ≡ true → u (place word names + 1) ≡ v word
 
-shown_value : (names : List (List ℕ)) (u : ℕ → Bool) (v : List ℕ → Bool) → Names names u v → (word : List ℕ) (c : ℕ) → has_word names word ≡ true → is_sign c ≡ true → fits_bit c (v word) ≡ lit_value u (shown names word c)
+pub shown_value : (names : List (List ℕ)) (u : ℕ → Bool) (v : List ℕ → Bool) → Names names u v → (word : List ℕ) (c : ℕ) → has_word names word ≡ true → is_sign c ≡ true → fits_bit c (v word) ≡ lit_value u (shown names word c)
 shown_value names u v same word c h s =
     fits_sign c (v word) s ∙ ap (λ (b : Bool). if nat_eq c 49 then b else not b) (sym (same word h)) ∙ sym (signed_value u (place word names + 1) (nat_eq c 49))
 
@@ -120,7 +120,7 @@ and_closed : (names inputs rows : List (List ℕ)) (on : Bool) → is_and_cover 
 and_closed names (a ∷ b ∷ []) ((c ∷ d ∷ []) ∷ []) on h = refl
 and_closed names inputs rows on h = absurd (both_ways false refl h)
 
-end_value : (names : List (List ℕ)) (u : ℕ → Bool) (v : List ℕ → Bool) → u 0 ≡ false → Names names u v → (inputs rows : List (List ℕ)) (on : Bool) → is_end_cover names inputs rows on ≡ true
+pub end_value : (names : List (List ℕ)) (u : ℕ → Bool) (v : List ℕ → Bool) → u 0 ≡ false → Names names u v → (inputs rows : List (List ℕ)) (on : Bool) → is_end_cover names inputs rows on ≡ true
     → cover_value rows on (map v inputs) ≡ lit_value u (lit_shown names inputs rows)
 end_value names u v at_0 same [] [] on h = ap (λ o. cover_value [] o []) h ∙ sym at_0
 end_value names u v at_0 same [] ([] ∷ []) on h = ap (λ o. cover_value ([] ∷ []) o []) h ∙ sym (ap not at_0)
@@ -270,7 +270,7 @@ names_given n shape v m inside = each_row n (λ k row. k < length (rows_of n) �
 
 -- observed signals
 
-find_end : (P : Table → Type 0) (ts : List Table) (word : List ℕ) → has_word (map output_of ts) word ≡ true → AllByRecursion P ts
+pub find_end : (P : Table → Type 0) (ts : List Table) (word : List ℕ) → has_word (map output_of ts) word ≡ true → AllByRecursion P ts
     → (t : Table) × (find (λ s. bytes_eq s.output word) ts ≡ Some t) × (t.output ≡ word) × P t
 find_end P [] word h all = absurd (both_ways false refl h)
 find_end P (t ∷ ts) word h all = elim (cases_Bool (bytes_eq t.output word)) [
@@ -294,7 +294,7 @@ has_without others (w ∷ ws) word h o = elim (cases_Bool (bytes_eq w word)) [
       ]
 ]
 
-map_through : (v : List ℕ → Bool) (u : Lit → Bool) (f : List ℕ → Lit) (ws : List (List ℕ)) → ((word : List ℕ) → has_word ws word ≡ true → v word ≡ u (f word)) → map v ws ≡ map u (map f ws)
+pub map_through : (v : List ℕ → Bool) (u : Lit → Bool) (f : List ℕ → Lit) (ws : List (List ℕ)) → ((word : List ℕ) → has_word ws word ≡ true → v word ≡ u (f word)) → map v ws ≡ map u (map f ws)
 map_through v u f [] h = refl
 map_through v u f (w ∷ ws) h = ap₂ (λ (b : Bool) (bs : List Bool). b ∷ bs) (h w (has_head w ws)) (map_through v u f ws (λ x t. h x (has_tail w x ws t)))
 

@@ -22,7 +22,7 @@ use Rattle.syn_network.proofs.Inner.{filtered, distinct-filter, length-inner_nam
 use Rattle.syn_network.proofs.Gates.{AreGates, hashed_gates, lit, gates_have_two, no_gate_ends, gate_outputs, length-gate_tables, gates_spell, gates_are_ands, gates_read, other_pairs}
 use Rattle.syn_network.proofs.Ends.{firsts_distinct, AllWithin, no_end_has_two, ends_are_others, end_outputs, ends_are_ends, ends_read, end_found, end_back}
 
-distinct_append : (xs ys : List (List ℕ)) → distinct xs ≡ true → distinct ys ≡ true → ((w : List ℕ) → has_word xs w ≡ true → has_word ys w ≡ false) → distinct (xs ++ ys) ≡ true
+pub distinct_append : (xs ys : List (List ℕ)) → distinct xs ≡ true → distinct ys ≡ true → ((w : List ℕ) → has_word xs w ≡ true → has_word ys w ≡ false) → distinct (xs ++ ys) ≡ true
 distinct_append [] ys d e away = e
 distinct_append (x ∷ xs) ys d e away =
     let parts = and_parts (not (has_word xs x)) (distinct xs) d in

@@ -1,5 +1,5 @@
 -- The netlist that a graph is written as: a table for each AND, then one for each observed signal that is no source.
-use Rattle.std.specs.Prelude.{◌≡◌, ℕ, zero, suc, ◌+◌, ◌-◌, ◌%◌, ◌==◌, not, if◌then◌else◌, true, List, [], ◌∷◌, ◌++◌, length, map, filter, take, drop}
+use Rattle.std.specs.Prelude.{◌≡◌, ℕ, ◌+◌, ◌-◌, ◌%◌, ◌==◌, not, if◌then◌else◌, true, List, [], ◌∷◌, ◌++◌, length, map, filter, take, drop}
 use Rattle.std.specs.Int.Digits.{digits_of}
 use Rattle.syn_rows.specs.declared.Lit.{Lit}
 use Rattle.syn_rows.specs.declared.Row.{Row}

@@ -1,7 +1,8 @@
-//! Frames: copies, and how many signals they observe.
+//! Frames: copies, and how many sources and observed signals they have.
 
-ghost use Rattle.std.specs.Prelude.{◌≡◌, ◌≤◌, length, IfOk};
-ghost use Rattle.syn_netlist.specs.Lists.{observed};
+ghost use Rattle.std.specs.Prelude.{◌≡◌, ◌<◌, ◌≤◌, length, IfOk};
+ghost use Rattle.syn_rows.specs.declared.TheConstants.{NODE_LIMIT};
+ghost use Rattle.syn_netlist.specs.Lists.{observed, sources};
 ghost use Rattle.syn_netlist.specs.Numbers.{Grows};
 ghost use Rattle.syn_netlist.specs.Views.{frame_in};
 
@@ -55,6 +56,15 @@ pub fn copy_frame(alloc: Global, frame: &Frame) -> Result<Frame, AllocError>
 {
     let names = copy_names(alloc, &frame.names)?;
     frame_over(alloc, frame, names)
+}
+
+/// The number of the frame's sources.
+pub(crate) fn count_sources(alloc: Global, frame: &Frame) -> Result<u32, AllocError>
+    requires { length (sources (frame_in frame.now)) < NODE_LIMIT }
+    ensures { IfOk result (λ n. n ≡ length (sources (frame_in frame.now))) }
+{
+    let numbers = frame.sources(alloc)?;
+    Ok(numbers.len() as u32)
 }
 
 /// There are no more observed signals than names: a law, which computes nothing.

@@ -3,8 +3,12 @@ use Rattle.std.specs.Prelude.{◌≡◌, [], ◌∷◌, codes, refl}
 use Rattle.syn_rows.specs.declared.Row.TheVariants.{Source, And}
 use Rattle.syn_netlist.specs.Lists.{Netlist}
 use Rattle.syn_network.specs.Spelling.{network}
-use Rattle.syn_network.proofs.Samples.{nand}
 use Rattle.syn_text.specs.Printed.{printed}
+
+-- not (a and b)
+nand : Netlist
+nand = network (record { model = codes "m"; inputs = codes "a" ∷ codes "b" ∷ []; clocks = []; outputs = codes "y" ∷ []; latches = [] })
+    (Source ∷ Source ∷ Source ∷ And (record { 0 = 2 }) (record { 0 = 4 }) ∷ []) (record { 0 = 7 } ∷ [])
 
 nand_printed : printed nand ≡ codes ".model m\n.inputs a b\n.outputs y\n.names a b n1\n11 1\n.names n1 y\n0 1\n.end\n"
 unfolding nand

@@ -21,7 +21,7 @@ use Rattle.syn_network.proofs.Inner.{length-inner_names}
 use Rattle.syn_network.proofs.Gates.{AreGates, hashed_gates, gate_parts, first_there, first_below, second_there}
 use Rattle.syn_network.proofs.SpelledNetworks.{network_spells}
 use Rattle.syn_text.specs.Numbered.{is_named, is_within, is_named_gate, IsNumbered}
-use Rattle.syn_graph.proofs.Observing.{few_signals}
+use Rattle.syn_network.proofs.Observing.{few_signals}
 
 -- what the parts have of a graph
 

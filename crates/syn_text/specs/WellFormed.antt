@@ -7,7 +7,7 @@ use Rattle.syn_netlist.specs.Kept.{nil_word, rows_fit, polarity_fits}
 use Rattle.syn_netlist.specs.Order.{DefinedOnce, Ordered}
 use Rattle.syn_netlist.specs.Faults.{IsChecked}
 use Rattle.syn_network.specs.GraphShape.{GraphShape}
-use Rattle.syn_lutshapes.specs.LutShape.{LutShape}
+use Rattle.syn_network.specs.LutShape.{LutShape}
 use Rattle.syn_text.specs.Printed.{printed}
 use Rattle.syn_reader.specs.Reading.{Reads}
 

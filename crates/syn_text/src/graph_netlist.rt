@@ -14,15 +14,15 @@ ghost use Rattle.syn_netlist.specs.Faults.{IsChecked};
 ghost use Rattle.syn_netlist.specs.Order.{Ordered};
 ghost use Rattle.syn_network.specs.GraphShape.{GraphShape, observed_of, rows_of};
 ghost use Rattle.syn_network.specs.NamedGraphs.{IsNamedGraph};
-ghost use Rattle.syn_graph.specs.Graphs.{network_of};
 ghost use Rattle.syn_network.specs.Spelling.{output_table, ends_from, gate_table, gate_tables, gates_of, inner_names, inner_word, network, sign_of};
+ghost use Rattle.syn_network.specs.Written.{network_of};
 ghost use Rattle.syn_text.specs.Numbered.{IsNumbered, is_named, is_named_gate, is_within, number_of};
 
 use itoa::Buffer;
 use std::alloc::{AllocError, Global};
-use syn_graph::{Graph, copy_names, frame_over};
 use syn_lists::Items;
 use syn_netlist::{Frame, Names, Netlist, Table, Word, marks_of};
+use syn_network::{Network, copy_names, frame_over};
 use syn_rows::{Lit, Row};
 
 /// Some of the names, by their numbers.
@@ -416,16 +416,16 @@ fn tables_of(
 
 /// The netlist of a graph: a table for each AND, then one for each observed signal that is no source. The names of the
 /// frame keep their numbers. The only error is want of memory.
-pub fn netlist_of(alloc: Global, graph: &Graph) -> Result<Netlist, AllocError>
+pub fn netlist_of(alloc: Global, graph: &Network) -> Result<Netlist, AllocError>
     ensures network { IfOk result (λ n. netlist_in n ≡ network_of graph.now) }
     ensures ordered { IfOk result (λ n. Ordered (netlist_in n)) }
     ensures shape { IfOk result (λ n. GraphShape (netlist_in n)) }
-    ensures rows { IfOk result (λ n. rows_of (netlist_in n) ≡ graph.now.rows) }
-    ensures literals { IfOk result (λ n. observed_of (netlist_in n) ≡ graph.now.observed) }
+    ensures rows { IfOk result (λ n. rows_of (netlist_in n) ≡ graph.now.body.rows) }
+    ensures literals { IfOk result (λ n. observed_of (netlist_in n) ≡ graph.now.body.observed) }
     ensures checked { IfOk result (λ n. IsChecked (netlist_in n)) }
 {
-    let rows = graph.rows.as_slice();
-    netlist_over(alloc, &graph.frame, rows, graph.observed.as_slice())
+    let rows = graph.body.rows.as_slice();
+    netlist_over(alloc, &graph.frame, rows, graph.body.observed.as_slice())
 }
 
 // The netlist of a graph's parts.

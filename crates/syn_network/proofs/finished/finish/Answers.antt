@@ -7,7 +7,8 @@ use Rattle.syn_network.proofs.finished.finish.Goals as goal
 
 pub of-requires-clause-named : goal.of-requires-clause-named
 of-requires-clause-named c =
-    named_compaction (frame_in c.args.frame) c.args.hashed.source_count c.args.hashed.rows.items c.args.lits.now c.in_ok-body.body c.requires.sources c.requires.count c.requires.own c.in_ok-body.ensures.sources c.in_ok-body.ensures.compact
+    named_compaction (frame_in c.args.frame) c.args.hashed.source_count c.args.lits.now c.in_ok-body.body c.requires.sources c.requires.count c.requires.own c.in_ok-body.ensures.sources c.in_ok-body.ensures.compact.same_count
+    c.in_ok-body.ensures.compact.sources_stay
 
 pub finish-requires-clause-lits : goal.finish-requires-clause-lits
 finish-requires-clause-lits c = omega (arith, c.few_observed.ensures, c.requires.count, c.requires.names)

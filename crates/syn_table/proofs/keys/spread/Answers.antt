@@ -2,7 +2,7 @@ use Rattle.std.proofs.Common.{ℕ, List, length, map, get_or, sym, ap, ◌∙◌
 use Rattle.syn_rows.specs.Rows.{Rises}
 use Rattle.syn_table.specs.Keys.{key_of_level}
 use Rattle.syn_table.proofs.Spreading.{spread_length, source_keys, keys_rise}
-use Rattle.syn_table.proofs.spread.Goals as goal
+use Rattle.syn_table.proofs.keys.spread.Goals as goal
 
 pub returns-clause-keys : goal.returns-clause-keys
 returns-clause-keys c = c.in_ok-keys.ensures ∙ ap (map key_of_level) (c.as_slice.ensures.value ∙ c.in_ok-levels.ensures)
