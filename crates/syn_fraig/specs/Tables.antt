@@ -3,6 +3,7 @@ use Rattle.std.specs.Prelude.{◌≡◌, ◌==◌, ℕ, zero, suc, ◌-◌, ◌<
 use Rattle.std.specs.Int.{bit_at}
 use Rattle.syn_rows.specs.declared.Lit.{Lit}
 use Rattle.syn_rows.specs.declared.Row.{Row}
+use Rattle.syn_rows.specs.Rows.{node_of}
 use Rattle.syn_rows.specs.Values.{lit_value, value_in, values_of}
 use Rattle.syn_hashed.specs.Hashed.{lit_at}
 use Rattle.syn_truth.specs.declared.Truth.{Truth}
@@ -27,6 +28,7 @@ pub record HasTables (rows : List Row) (round : ℕ) (tables : List Truth) : Typ
   pub vars : All (λ t. t.vars ≡ 8) tables
   pub values : (xs : List Bool) → length xs ≡ 8 → AreTables tables (nodes_at rows round xs) xs
 
--- in a round each node has the value of its literal
+-- in a round each node has the value of its literal, whose node is there
 abbrev pub AreAlike : List Row → ℕ → List Lit → Type 0
-AreAlike rows round alike = (xs : List Bool) (n : ℕ) → length xs ≡ 8 → n < length rows → nodes_at rows round xs n ≡ lit_value (nodes_at rows round xs) (lit_at alike n)
+AreAlike rows round alike =
+    (xs : List Bool) (n : ℕ) → length xs ≡ 8 → n < length rows → (node_of (lit_at alike n) < length rows) × (nodes_at rows round xs n ≡ lit_value (nodes_at rows round xs) (lit_at alike n))

@@ -4,6 +4,7 @@ ghost use Rattle.std.specs.Prelude.{◌≡◌, ℕ, ◌-◌, ◌^◌, ◌<◌, �
 ghost use Rattle.syn_rows.specs.declared.Row.{Row};
 ghost use Rattle.syn_rows.specs.declared.TheConstants.{NODE_LIMIT};
 ghost use Rattle.syn_rows.specs.Joining.{lit_of};
+ghost use Rattle.syn_rows.specs.Rows.{node_of};
 ghost use Rattle.syn_rows.specs.Values.{lit_value};
 ghost use Rattle.syn_hashed.specs.Hashed.{IsHashed, lit_at};
 ghost use Rattle.syn_fraig.specs.Merging.{IsMerged, SameBy};
@@ -20,19 +21,26 @@ use syn_truth::Truth;
 /// Graphs of at most so many sources are swept this way.
 pub(crate) const FEW: u32 = 12;
 
-// Whether a node's table is that of a literal.
-fn is_alike(tables: &[Truth], node: u32, lit: Lit) -> bool
+// A node's candidate where their tables are the same, else the node's own literal.
+fn judged(tables: &[Truth], node: u32, lit: Lit) -> Lit
     requires there { node < length tables.now }
     requires few { length tables.now < NODE_LIMIT }
     requires vars { All (λ t. t.vars ≡ 8) tables.now }
-    ensures { result ≡ true → (v : ℕ → Bool) (xs : List Bool) → length xs ≡ 8 → AreTables tables.now v xs → v node ≡ lit_value v lit }
+    ensures there { node_of result < length tables.now }
+    ensures values { (v : ℕ → Bool) (xs : List Bool) → length xs ≡ 8 → AreTables tables.now v xs → v node ≡ lit_value v result }
+    ensures kept { (v : ℕ → Bool) → v node ≡ lit_value v lit → v node ≡ lit_value v result }
 {
+    let own = Lit::of(node, false);
     if lit.node() as usize >= tables.len() {
-        return false;
+        return own;
     }
-    let own = tables[node as usize];
+    let table = tables[node as usize];
     let other = literal_table(tables, lit);
-    own.low == other.low && own.high == other.high
+    if table.low == other.low && table.high == other.high {
+        lit
+    } else {
+        own
+    }
 }
 
 // Leaves out the candidates whose tables differ from their nodes'.
@@ -41,13 +49,10 @@ fn compare(tables: &[Truth], alike: &mut [Lit])
     requires few { length tables.now < NODE_LIMIT }
     requires vars { All (λ t. t.vars ≡ 8) tables.now }
     ensures here { (rows : List Row) (round : ℕ) → HasTables rows round tables.now → AreAlike rows round alike.new }
-    ensures kept { (rows : List Row) (round : ℕ) → AreAlike rows round alike.old → AreAlike rows round alike.new }
+    ensures kept { (rows : List Row) (round : ℕ) → length rows ≡ length tables.now → AreAlike rows round alike.old → AreAlike rows round alike.new }
 {
     for node in 0..alike.len() as u32 {
-        let lit = alike[node as usize];
-        if !is_alike(tables, node, lit) {
-            alike[node as usize] = Lit::of(node, false);
-        }
+        alike[node as usize] = judged(tables, node, alike[node as usize]);
     }
 }
 
@@ -60,12 +65,7 @@ fn round_count(count: u32) -> u32
 }
 
 // Leaves out the candidates that differ from their nodes for some values of the sources.
-fn settle(
-    alloc: Global,
-    count: u32,
-    rows: &[Row],
-    alike: &mut [Lit],
-) -> Result<(), AllocError>
+fn settle(alloc: Global, count: u32, rows: &[Row], alike: &mut [Lit]) -> Result<(), AllocError>
     requires hashed { IsHashed count rows.now }
     requires few { count ≤ 12 }
     requires limit { length rows.now < NODE_LIMIT }
@@ -81,12 +81,7 @@ fn settle(
 }
 
 // The candidate of each node, itself where it has none; where levels are kept none that lies deeper.
-fn candidates(
-    alloc: Global,
-    count: u32,
-    rows: &[Row],
-    levels: bool,
-) -> Result<Vec<Lit>, AllocError>
+fn candidates(alloc: Global, count: u32, rows: &[Row], levels: bool) -> Result<Vec<Lit>, AllocError>
     requires { length rows.now < NODE_LIMIT }
     ensures { IfOk result (λ v. length v.items ≡ length rows.now) }
 {

@@ -3,9 +3,12 @@
 //! stands for its two literals, or an alias of a literal of a smaller node. One fact carries all: each valuation that fits the
 //! graph's rows fits `now`. `gates` are the ANDs of `now` before any becomes an alias; a solver of `syn_sat` gets the clauses of
 //! those below a question. Which nodes are asked about comes from simulation (`Classes`, of which nothing is promised); a node
-//! is merged only where the solver refutes that the two differ. At the end `now` is compacted.
+//! is merged only where the solver refutes that the two differ. In graphs of few sources tables of all values (`tables`) stand
+//! in place of the solver. At the end `now` is compacted.
 #![tactic(auto)]
 
+mod by_search;
+mod by_values;
 mod classes;
 mod finished;
 mod merging;
@@ -13,6 +16,7 @@ mod pairs;
 mod questions;
 mod simulation;
 mod sweep;
+mod tables;
 
 pub use questions::{equal, load_cones};
 pub use simulation::Random;

@@ -3,7 +3,7 @@
 ghost use Rattle.std.specs.Prelude.{◌≡◌, ◌==◌, ℕ, ◌+◌, ◌<◌, ◌≤◌, All, Bool, List, true, length, OnOk};
 ghost use Rattle.std.specs.Int.{bit_at};
 ghost use Rattle.syn_rows.specs.declared.TheConstants.{NODE_LIMIT};
-ghost use Rattle.syn_rows.specs.Rows.{node_of, refs_below};
+ghost use Rattle.syn_rows.specs.Rows.{AllRefs, node_of};
 ghost use Rattle.syn_rows.specs.Values.{is_open, lit_value, row_value};
 ghost use Rattle.syn_hashed.specs.Hashed.{IsHashed};
 ghost use Rattle.syn_truth.specs.Truth.{AtEach, value_of};
@@ -66,7 +66,7 @@ fn open_table(node: u32, round: u32) -> Truth
 
 // The table of a row, from those of the nodes before it.
 fn row_table(row: Row, node: u32, round: u32, tables: &[Truth]) -> Truth
-    requires refs { refs_below (length tables.now) row ≡ true }
+    requires refs { AllRefs (λ m. m < length tables.now) row }
     requires vars { All (λ t. t.vars ≡ 8) tables.now }
     ensures vars { result.vars ≡ 8 }
     ensures values { (v : ℕ → Bool) (xs : List Bool) → length xs ≡ 8 → AreTables tables.now v xs → (is_open row ≡ true → node < 41) → value_of result xs ≡ row_value (sources_at round xs) v node row }
