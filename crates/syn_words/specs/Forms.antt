@@ -35,43 +35,71 @@ number_behind (Some numbered) text = if is_option numbered.letter text then Some
 
 -- Nothing was given yet.
 abbrev pub nothing_given : Given
-nothing_given = record { flags = (false, false); number = None; name = []; numbers = (0, 0) }
+nothing_given = record { flags = (false, false, false); number = None; further = None; name = []; numbers = (0, 0) }
 
 -- The words behind a name are read from here.
 abbrev pub from_the_name : Progress
 from_the_name = record { given = nothing_given; awaits = awaits.Options }
 
 -- An option without a number, once: by it these are given.
-abbrev pub with_flag : Bool → Bool × Bool → Given → Word → Result Progress ScriptFault
-with_flag given_before flags given word =
-    if given_before then Err (ExtraWord word.at) else Ok (record { given = record { flags = flags; number = given.number; name = given.name; numbers = given.numbers }; awaits = awaits.Options })
+abbrev pub with_flag : Bool → Bool × Bool × Bool → Given → Word → Result Progress ScriptFault
+with_flag given_before flags given word = if given_before
+    then Err (ExtraWord word.at)
+    else Ok (record { given = record { flags = flags; number = given.number; further = given.further; name = given.name; numbers = given.numbers }; awaits = awaits.Options })
 
--- The option with a number, once.
-abbrev pub with_numbered : NumberRange → Given → Word → Result Progress ScriptFault
-with_numbered range given word = if is_some given.number then Err (ExtraWord word.at) else Ok (record { given = given; awaits = awaits.OptionNumber range })
+-- An option with a number, once: its number is awaited.
+abbrev pub with_numbered : Option ℕ → Awaits → Given → Word → Result Progress ScriptFault
+with_numbered given_before awaited given word = if is_some given_before then Err (ExtraWord word.at) else Ok (record { given = given; awaits = awaited })
 
 -- The first word that is no option.
 abbrev pub with_first : Operands → Given → Word → Result Progress ScriptFault
 with_first operands.Nothing given word = Err (ExtraWord word.at)
-with_first operands.Name given word = Ok (record { given = record { flags = given.flags; number = given.number; name = word.text; numbers = given.numbers }; awaits = awaits.Nothing })
-with_first (operands.TwoNumbers first second) given word =
-    and_then (number_at first word) (λ n. Ok (record { given = record { flags = given.flags; number = given.number; name = given.name; numbers = (n, 0) }; awaits = awaits.SecondNumber second }))
+with_first operands.Name given word =
+    Ok (record { given = record { flags = given.flags; number = given.number; further = given.further; name = word.text; numbers = given.numbers }; awaits = awaits.Nothing })
+with_first (operands.TwoNumbers first second) given word = and_then (number_at first word) (λ n.
+    Ok (record { given = record { flags = given.flags; number = given.number; further = given.further; name = given.name; numbers = (n, 0) }; awaits = awaits.SecondNumber second }))
+
+-- Of a word that may be the second option with a number: it is that, or the first word that is none.
+abbrev pub with_second : Option NumberRange → Form → Given → Word → Result Progress ScriptFault
+with_second (Some range) form given word = with_numbered given.further (awaits.FurtherNumber range) given word
+with_second None form given word = with_first form.operands given word
+
+-- Of a word that may be the first: it is that, or else.
+abbrev pub with_either : Option NumberRange → Form → Given → Word → Result Progress ScriptFault
+with_either (Some range) form given word = with_numbered given.number (awaits.OptionNumber range) given word
+with_either None form given word = with_second (number_behind form.numbered.1 word.text) form given word
 
 -- Of a word that may be an option with a number: it is one, or the first word that is none.
-abbrev pub with_further : Option NumberRange → Form → Given → Word → Result Progress ScriptFault
-with_further (Some range) form given word = with_numbered range given word
-with_further None form given word = with_first form.operands given word
+abbrev pub with_further : Form → Given → Word → Result Progress ScriptFault
+with_further form given word = with_either (number_behind form.numbered.0 word.text) form given word
+
+-- The options without a number, once one is given.
+abbrev pub first_given : Given → Bool × Bool × Bool
+first_given given = (true, given.flags.1, given.flags.2)
+
+abbrev pub second_given : Given → Bool × Bool × Bool
+second_given given = (given.flags.0, true, given.flags.2)
+
+abbrev pub third_given : Given → Bool × Bool × Bool
+third_given given = (given.flags.0, given.flags.1, true)
+
+-- A word where an option may stand.
+abbrev pub with_option : Form → Given → Word → Result Progress ScriptFault
+with_option form given word =
+    if is_flag form.flags.0 word.text then with_flag given.flags.0 (first_given given) given word
+    else (if is_flag form.flags.1 word.text then with_flag given.flags.1 (second_given given) given word
+    else (if is_flag form.flags.2 word.text then with_flag given.flags.2 (third_given given) given word
+    else with_further form given word))
 
 -- One word further, by what is awaited.
 abbrev pub after_word : Form → Awaits → Given → Word → Result Progress ScriptFault
-after_word form awaits.Options given word =
-    if is_flag form.flags.0 word.text
-    then with_flag given.flags.0 (true, given.flags.1) given word
-    else (if is_flag form.flags.1 word.text then with_flag given.flags.1 (given.flags.0, true) given word else with_further (number_behind form.numbered word.text) form given word)
-after_word form (awaits.OptionNumber range) given word =
-    and_then (number_at range word) (λ n. Ok (record { given = record { flags = given.flags; number = Some n; name = given.name; numbers = given.numbers }; awaits = awaits.Options }))
-after_word form (awaits.SecondNumber range) given word =
-    and_then (number_at range word) (λ n. Ok (record { given = record { flags = given.flags; number = given.number; name = given.name; numbers = (given.numbers.0, n) }; awaits = awaits.Nothing }))
+after_word form awaits.Options given word = with_option form given word
+after_word form (awaits.OptionNumber range) given word = and_then (number_at range word) (λ n.
+    Ok (record { given = record { flags = given.flags; number = Some n; further = given.further; name = given.name; numbers = given.numbers }; awaits = awaits.Options }))
+after_word form (awaits.FurtherNumber range) given word = and_then (number_at range word) (λ n.
+    Ok (record { given = record { flags = given.flags; number = given.number; further = Some n; name = given.name; numbers = given.numbers }; awaits = awaits.Options }))
+after_word form (awaits.SecondNumber range) given word = and_then (number_at range word) (λ n.
+    Ok (record { given = record { flags = given.flags; number = given.number; further = given.further; name = given.name; numbers = (given.numbers.0, n) }; awaits = awaits.Nothing }))
 after_word form awaits.Nothing given word = Err (ExtraWord word.at)
 
 -- No further word, where a first one may be awaited.
@@ -84,6 +112,7 @@ without_first (operands.TwoNumbers first second) end given = Err (MissingWord en
 abbrev pub at_end : Form → ℕ → Awaits → Given → Result Given ScriptFault
 at_end form end awaits.Options given = without_first form.operands end given
 at_end form end (awaits.OptionNumber range) given = Err (MissingWord end)
+at_end form end (awaits.FurtherNumber range) given = Err (MissingWord end)
 at_end form end (awaits.SecondNumber range) given = Err (MissingWord end)
 at_end form end awaits.Nothing given = Ok given
 

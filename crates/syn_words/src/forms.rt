@@ -28,8 +28,8 @@ pub enum Operands {
 #[derive(Clone, Copy, Debug, PartialEq, Eq)]
 pub struct Form {
     /// The letters of the options without a number.
-    pub flags: (Option<u8>, Option<u8>),
-    /// The option with a number.
-    pub numbered: Option<Numbered>,
+    pub flags: (Option<u8>, Option<u8>, Option<u8>),
+    /// The options with a number.
+    pub numbered: (Option<Numbered>, Option<Numbered>),
     pub operands: Operands,
 }

@@ -26,12 +26,19 @@ pub enum Keyword {
     Resubstitute,
     ResubstituteZero,
     MapByFlow,
+    Merge,
+    ReplaceEqual,
+    Resyn,
+    Compress2,
     ReadAiger,
     WriteAiger,
 }
 
 // A row of the table: a name, what may stand behind it, and its keyword.
 type Row = (&'static [u8], Form, Keyword);
+
+/// At most so many conflicts a question.
+pub const MAX_CONFLICTS: u32 = 1_000_000;
 
 /// So many generated tables at most.
 pub const MAX_TABLES: u16 = 32_768;
@@ -51,6 +58,21 @@ const INPUTS: Numbered = Numbered {
     range: NumberRange { least: 2, most: 8 },
 };
 
+// The option with a number of conflicts.
+const CONFLICTS: Numbered = Numbered {
+    letter: b'C',
+    range: NumberRange {
+        least: 0,
+        most: MAX_CONFLICTS as u64,
+    },
+};
+
+// The option with a number of ANDs.
+const GATES: Numbered = Numbered {
+    letter: b'N',
+    range: NumberRange { least: 0, most: 2 },
+};
+
 // A seed.
 const SEEDS: NumberRange = NumberRange {
     least: 0,
@@ -65,62 +87,76 @@ const SIZES: NumberRange = NumberRange {
 
 // No word.
 const NOTHING: Form = Form {
-    flags: (None, None),
-    numbered: None,
+    flags: (None, None, None),
+    numbered: (None, None),
     operands: Operands::Nothing,
 };
 
 // A file's name.
 const NAME: Form = Form {
-    flags: (None, None),
-    numbered: None,
+    flags: (None, None, None),
+    numbered: (None, None),
     operands: Operands::Name,
 };
 
 // `-a`, and then a file's name.
 const ASCII_AND_NAME: Form = Form {
-    flags: (Some(b'a'), None),
-    numbered: None,
+    flags: (Some(b'a'), None, None),
+    numbered: (None, None),
     operands: Operands::Name,
 };
 
-// `-z`, `-l`, and a number of workers.
+// `-z`, `-L`, `-l`, which means nothing, and a number of workers.
 const PASS: Form = Form {
-    flags: (Some(b'z'), Some(b'l')),
-    numbered: Some(WORKERS),
+    flags: (Some(b'z'), Some(b'L'), Some(b'l')),
+    numbered: (Some(WORKERS), None),
     operands: Operands::Nothing,
 };
 
 // The same without `-z`, which is set already.
 const ZERO_PASS: Form = Form {
-    flags: (None, Some(b'l')),
-    numbered: Some(WORKERS),
+    flags: (None, Some(b'L'), Some(b'l')),
+    numbered: (Some(WORKERS), None),
     operands: Operands::Nothing,
 };
 
 // `-a`, and a number of inputs.
 const AREA_AND_INPUTS: Form = Form {
-    flags: (Some(b'a'), None),
-    numbered: Some(INPUTS),
+    flags: (Some(b'a'), None, None),
+    numbered: (Some(INPUTS), None),
     operands: Operands::Nothing,
 };
 
 // A number of inputs.
 const ONLY_INPUTS: Form = Form {
-    flags: (None, None),
-    numbered: Some(INPUTS),
+    flags: (None, None, None),
+    numbered: (Some(INPUTS), None),
+    operands: Operands::Nothing,
+};
+
+// `-L`, and a number of conflicts.
+const SEARCH: Form = Form {
+    flags: (None, Some(b'L'), None),
+    numbered: (Some(CONFLICTS), None),
+    operands: Operands::Nothing,
+};
+
+// The same, and a number of ANDs.
+const GATE_SEARCH: Form = Form {
+    flags: (None, Some(b'L'), None),
+    numbered: (Some(CONFLICTS), Some(GATES)),
     operands: Operands::Nothing,
 };
 
 // A seed, and a number of generated tables.
 const SEED_AND_SIZE: Form = Form {
-    flags: (None, None),
-    numbered: None,
+    flags: (None, None, None),
+    numbered: (None, None),
     operands: Operands::TwoNumbers(SEEDS, SIZES),
 };
 
 // The names, long and short.
-const TABLE: [Row; 25] = [
+const TABLE: [Row; 30] = [
     (b"read_blif", NAME, Keyword::ReadBlif),
     (b"write_blif", NAME, Keyword::WriteBlif),
     (b"print_stats", NOTHING, Keyword::PrintStats),
@@ -144,6 +180,11 @@ const TABLE: [Row; 25] = [
     (b"rs", PASS, Keyword::Resubstitute),
     (b"rsz", ZERO_PASS, Keyword::ResubstituteZero),
     (b"flowmap", ONLY_INPUTS, Keyword::MapByFlow),
+    (b"fraig", SEARCH, Keyword::Merge),
+    (b"sresub", GATE_SEARCH, Keyword::ReplaceEqual),
+    (b"srs", GATE_SEARCH, Keyword::ReplaceEqual),
+    (b"resyn", NOTHING, Keyword::Resyn),
+    (b"compress2", NOTHING, Keyword::Compress2),
     (b"read_aiger", NAME, Keyword::ReadAiger),
     (b"write_aiger", ASCII_AND_NAME, Keyword::WriteAiger),
 ];

@@ -1,7 +1,7 @@
 //! Reading the words behind a command's name by what may stand there.
 
 ghost use Rattle.std.specs.Prelude.{◌≡◌};
-ghost use Rattle.syn_words.specs.Forms.{after_word, at_end, given_by, is_flag, is_option, nothing_given, number_behind, with_first, with_flag};
+ghost use Rattle.syn_words.specs.Forms.{after_word, at_end, given_by, is_flag, is_option, nothing_given, number_behind, with_first, with_flag, with_further};
 
 use crate::ScriptFault;
 use crate::forms::{Form, NumberRange, Numbered, Operands};
@@ -13,9 +13,11 @@ use crate::words::{CommandWords, Word, next_word};
 #[derive(Debug, Drop)]
 pub struct Given<'a> {
     /// Whether each option without a number was given.
-    pub flags: (bool, bool),
-    /// The number of the option with one, where it was given.
+    pub flags: (bool, bool, bool),
+    /// The number of the first option with one, where it was given.
     pub number: Option<u64>,
+    /// That of the second.
+    pub further: Option<u64>,
     /// The file's name, empty where none is expected.
     pub name: WordText<'a>,
     /// The numbers, 0 where none are expected.
@@ -27,8 +29,10 @@ pub struct Given<'a> {
 pub enum Awaits {
     /// An option, or the first word that is none.
     Options,
-    /// The number of an option.
+    /// The number of the first option with one.
     OptionNumber(NumberRange),
+    /// The number of the second.
+    FurtherNumber(NumberRange),
     /// The second of two numbers.
     SecondNumber(NumberRange),
     /// No word.
@@ -75,8 +79,9 @@ impl<'a> Given<'a> {
         ensures { result ≡ nothing_given }
     {
         Given {
-            flags: (false, false),
+            flags: (false, false, false),
             number: None,
+            further: None,
             name: WordText::empty(),
             numbers: (0, 0),
         }
@@ -113,7 +118,7 @@ impl<'a> Given<'a> {
     fn with_flag(
         mut self,
         given_before: bool,
-        flags: (bool, bool),
+        flags: (bool, bool, bool),
         word: Word<'a>,
     ) -> Result<Progress<'a>, ScriptFault>
         ensures { result ≡ with_flag given_before flags self.entry word.entry }
@@ -125,22 +130,38 @@ impl<'a> Given<'a> {
         Ok(self.before(Awaits::Options))
     }
 
+    // With an option with a number, or with the first word that is none.
+    fn with_further(self, form: Form, word: Word<'a>) -> Result<Progress<'a>, ScriptFault>
+        ensures { result ≡ with_further form self.entry word.entry }
+    {
+        if let Some(range) = number_behind(form.numbered.0, word.text.as_slice()) {
+            if self.number.is_some() {
+                return Err(ScriptFault::ExtraWord(word.at));
+            }
+            return Ok(self.before(Awaits::OptionNumber(range)));
+        }
+        match number_behind(form.numbered.1, word.text.as_slice()) {
+            None => self.with_first(form.operands, word),
+            Some(_) if self.further.is_some() => Err(ScriptFault::ExtraWord(word.at)),
+            Some(range) => Ok(self.before(Awaits::FurtherNumber(range))),
+        }
+    }
+
     // With an option, or with the first word that is none.
     fn with_option(self, form: Form, word: Word<'a>) -> Result<Progress<'a>, ScriptFault>
         ensures { result ≡ after_word form Awaits.Options self.entry word.entry }
     {
-        let (first, second) = self.flags;
+        let (first, second, third) = self.flags;
         if is_flag(form.flags.0, word.text.as_slice()) {
-            return self.with_flag(first, (true, second), word);
+            return self.with_flag(first, (true, second, third), word);
         }
         if is_flag(form.flags.1, word.text.as_slice()) {
-            return self.with_flag(second, (first, true), word);
+            return self.with_flag(second, (first, true, third), word);
         }
-        match number_behind(form.numbered, word.text.as_slice()) {
-            None => self.with_first(form.operands, word),
-            Some(_) if self.number.is_some() => Err(ScriptFault::ExtraWord(word.at)),
-            Some(range) => Ok(self.before(Awaits::OptionNumber(range))),
+        if is_flag(form.flags.2, word.text.as_slice()) {
+            return self.with_flag(third, (first, second, true), word);
         }
+        self.with_further(form, word)
     }
 
     // What was given, where no word is left.
@@ -150,7 +171,7 @@ impl<'a> Given<'a> {
         let complete = match awaits {
             Awaits::Nothing => true,
             Awaits::Options => form.operands == Operands::Nothing,
-            Awaits::OptionNumber(_) | Awaits::SecondNumber(_) => false,
+            Awaits::OptionNumber(_) | Awaits::FurtherNumber(_) | Awaits::SecondNumber(_) => false,
         };
         if complete {
             Ok(self)
@@ -170,6 +191,10 @@ impl<'a> Progress<'a> {
             Awaits::Options => given.with_option(form, word),
             Awaits::OptionNumber(range) => {
                 given.number = Some(number_at(range, &word)?);
+                Ok(given.before(Awaits::Options))
+            }
+            Awaits::FurtherNumber(range) => {
+                given.further = Some(number_at(range, &word)?);
                 Ok(given.before(Awaits::Options))
             }
             Awaits::SecondNumber(range) => {
