@@ -23,7 +23,7 @@ one name l = record { name = name; literal = l }
 given_more : (given : List Named) (n : Named) (w : List ℕ) → is_given (given ++ n ∷ []) w ≡ (is_given given w || (bytes_eq n.name w || false))
 given_more given n w = list_any-append (λ (m : Named). bytes_eq m.name w) given (n ∷ [])
 
-all_more : {X : Type 0} (P : X → Type 0) (xs : List X) (x : X) → AllByRecursion P xs → P x → AllByRecursion P (xs ++ x ∷ [])
+pub all_more : {X : Type 0} (P : X → Type 0) (xs : List X) (x : X) → AllByRecursion P xs → P x → AllByRecursion P (xs ++ x ∷ [])
 all_more P [] x h p = (p, tt)
 all_more P (y ∷ xs) x h p = (h.0, all_more P xs x h.1 p)
 

@@ -172,7 +172,7 @@ module _ (g : Aig) where
   sources_stand : Stands (sources_of g)
   sources_stand = stand_literals (sources_of g) (ap (list_all (is_defined g)) source_literals_are ∙ source_defined (source_literals g) (λ v h. h))
 
-  outputs_literals : (symbols : List Symbol) (i : ℕ) (ls : List ℕ) (given : List Named) → map literal_of (outputs_named symbols i ls given) ≡ ls
+  pub outputs_literals : (symbols : List Symbol) (i : ℕ) (ls : List ℕ) (given : List Named) → map literal_of (outputs_named symbols i ls given) ≡ ls
   outputs_literals symbols i [] given = refl
   outputs_literals symbols i (l ∷ ls) given = ap (λ (rest : List ℕ). l ∷ rest) (outputs_literals symbols (suc i) ls _)
 

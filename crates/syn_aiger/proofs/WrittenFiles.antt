@@ -27,8 +27,8 @@ use Rattle.syn_aiger_files.specs.Laws.{IsNormal}
 use Rattle.syn_aiger_files.specs.Literals.{literals_from}
 use Rattle.syn_aiger.specs.Laws.{written_names}
 use Rattle.syn_aiger.specs.WrittenLists.{HaveLiterals, latches_at, literal_at, typed_output}
-use Rattle.syn_aiger.specs.Writing.{IsWrittenAs, aig_of, ands_by, first_typed, free_signals, has_type, latches_by, literal_in, symbols_by, symbols_in}
-use Rattle.syn_aiger.proofs.Frames.{aig_of_keeps}
+use Rattle.syn_aiger.specs.Writing.{IsWrittenAs, aig_of, ands_by, first_typed, free_signals, has_type, latches_by, literal_in, symbols_by, symbols_in, without_types}
+use Rattle.syn_aiger.proofs.Frames.{aig_of_keeps, aig_of_leaves_types}
 use Rattle.syn_aiger.proofs.Normal.{aig_of_is_normal, length-sources}
 use Rattle.syn_aiger.proofs.WrittenLiterals.{feeds_have, outputs_have, read_latches, read_outputs, spells}
 
@@ -188,6 +188,9 @@ graph_is_normal g rows outputs words =
     (subst (λ (k : List Row). length k ≤ 2 ^ 28) (sym (spells g).same_rows) rows)
     (subst (λ (k : ℕ). k < 2 ^ 28) (sym (length-map g.frame.outputs (word_at g.frame.names))) outputs)
     words
+
+pub graph_leaves_types : (g : Network) → list_all is_word (written_names (frame_in g.frame)) ≡ true → IsWrittenAs (without_types (network_of g)) (aig_of (network_of g))
+graph_leaves_types g words = aig_of_leaves_types (network_of g) (spells g).ordered (spells g).shape words
 
 pub graph_is_kept : (g : Network) → first_typed (frame_in g.frame) ≡ None → list_all is_word (written_names (frame_in g.frame)) ≡ true → IsWrittenAs (network_of g) (aig_of (network_of g))
 graph_is_kept g untyped words = aig_of_keeps (network_of g) (spells g).ordered (spells g).shape untyped words

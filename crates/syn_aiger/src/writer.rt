@@ -15,7 +15,7 @@ ghost use Rattle.syn_aiger.specs.Faults.{Spells};
 ghost use Rattle.syn_aiger.specs.Laws.{written_names};
 ghost use Rattle.syn_aiger.specs.WrittenLists.{ArePlaced, HaveLiterals, latch_at, latches_at, literal_at, typed_output};
 ghost use Rattle.syn_aiger_files.specs.Printed.{printed};
-ghost use Rattle.syn_aiger.specs.Writing.{aig_of, and_by, ands_by, first_typed, IsWrittenAs, NamesTyped, reset_by, symbols_by, symbols_in};
+ghost use Rattle.syn_aiger.specs.Writing.{aig_of, and_by, ands_by, first_typed, IsWrittenAs, NamesTyped, reset_by, symbols_by, symbols_in, without_types};
 
 use std::alloc::{AllocError, Global};
 use syn_aiger_files::{Aig, AigAnd, AigLatch, Inputs, Place, Symbol, print};
@@ -56,8 +56,21 @@ pub fn write_aig(alloc: Global, graph: &Network, ascii: bool) -> Result<Vec<u8>,
 {
     refuse_types(alloc, &graph.frame)?;
     are_words(&graph.frame);
+    Ok(write_untyped_aig(alloc, graph, ascii)?)
+}
+
+/// The bytes of the AIGER file of a graph, in the ASCII or in the binary format, with the types of latches left out. The only error is want of memory.
+pub fn write_untyped_aig(alloc: Global, graph: &Network, ascii: bool) -> Result<Vec<u8>, AllocError>
+    requires rows { length graph.now.body.rows ≤ 2 ^ 28 }
+    requires outputs { length graph.now.frame.outputs < 2 ^ 28 }
+    ensures bytes { IfOk result (λ bytes. bytes.items ≡ printed ascii (aig_of (network_of graph.now))) }
+    ensures spells { IfOk result (λ bytes. Spells bytes.items (aig_of (network_of graph.now))) }
+    ensures written { IfOk result (λ bytes. IsWrittenAs (without_types (network_of graph.now)) (aig_of (network_of graph.now))) }
+{
+    are_words(&graph.frame);
     let file = file_of(alloc, graph)?;
-    Ok(print(alloc, &file, ascii)?)
+    let bytes = print(alloc, &file, ascii)?;
+    Ok(bytes)
 }
 
 // The written names are words.

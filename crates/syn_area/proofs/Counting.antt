@@ -57,4 +57,4 @@ no_longer (x ∷ xs) (y ∷ ys) r s h =
 -- a net of the chosen cuts has no more LUTs than nodes need one
 pub plain_fewest : (k : ℕ) (graph : Graph) (net : LutNet) (nodes : List ℕ) → IsMapped k graph net → AreNeeded k graph.rows graph.observed nodes → length net.luts ≤ length nodes
 unfolding IsMappedBy
-plain_fewest k graph net nodes (own, is) all = omega (arith, no_longer own nodes is.rise all.rise (λ n h. all.all n (is.needed n h)), is.long, length-map net.luts lut_data)
+plain_fewest k graph net nodes (own, is) all = omega (arith, no_longer own nodes is.nodes_are.rise all.rise (λ n h. all.all n (is.nodes_are.needed n h)), is.long, length-map net.luts lut_data)

@@ -14,7 +14,7 @@ use Rattle.syn_graph.specs.Graphs.{IsGraph}
 use Rattle.syn_truth.specs.declared.Truth.{Truth}
 use Rattle.syn_rows.specs.Nodes.{has_node}
 use Rattle.syn_cones.specs.Cones.{IsTruthOver}
-use Rattle.syn_lutnet.specs.LutData.{Lut, IsLutNet, lut_at, no_lut, none_exceeds, ones_of, rising}
+use Rattle.syn_lutnet.specs.LutData.{Lut, IsLutNet, lut_at, no_lut, none_exceeds, ones_of}
 use Rattle.syn_lutnet.proofs.Folding.{below, In}
 use Rattle.syn_lutnet.proofs.Ones.{ones_give}
 use Rattle.syn_graph.specs.declared.Graph.{Graph}
@@ -23,7 +23,7 @@ use Rattle.syn_lutnet.specs.declared.nets.LutNet.{LutNet}
 use Rattle.syn_lutnet.specs.Data.{lut_data, luts_data}
 use Rattle.syn_lutnet.specs.Nets.{HasFunctionOf}
 use Rattle.syn_covering.specs.Cuts.{AreLutCuts}
-use Rattle.syn_covering.specs.Mappings.{HasSignal, IsNeeded, AreOnesOver, signal_of, signal_lit, node_at, IsMapping}
+use Rattle.syn_covering.specs.Mappings.{HasSignal, AreNeeded, IsNeeded, AreOnesOver, signal_of, signal_lit, node_at, IsMapping}
 use Rattle.syn_covering.specs.Making.{number_at, numbered_lit, AreLutsOf, HasDepthOver, IsMappedBy}
 use Rattle.syn_covering.specs.Needs.{IsSwept, IsGate, marked_from}
 use Rattle.syn_covering.proofs.Counting.{nodes_fit}
@@ -59,6 +59,14 @@ pub more_leaves : (k j : ℕ) (cut : ℕ → List ℕ) (rows : List Row) → k �
 more_leaves k j cut rows le fit n gate =
     let is = fit n gate in
     record { cut = is.cut; rising = is.rising; below = is.below; two = is.two; few = omega (arith, is.few, le) }
+
+-- the marked nodes are those that need LUTs
+pub marked_needed : (cut : ℕ → List ℕ) (rows : List Row) (lits : List Lit) (marks : List Bool) → IsSwept cut rows lits marks 0 → AreNeeded cut rows lits (marked_from 0 marks)
+marked_needed cut rows lits marks swept = record {
+  rise = marked_rise 0 marks;
+  needed = λ n h. swept.needed n (sym (marked_has marks n) ∙ h);
+  all = λ n need. marked_has marks n ∙ need (value_in marks) (λ m t. swept.done m (omega arith) t) swept.seen;
+}
 
 -- the minterms of a node's function over leaves
 pub ones_over : (rows : List Row) (leaves : List ℕ) (root : ℕ) (t : Truth) → IsTruthOver rows leaves root t → AreOnesOver rows leaves root (ones_of t)
@@ -107,9 +115,7 @@ module _ (count k : ℕ) (cut : ℕ → List ℕ) (rows : List Row) (lits : List
 
   pub assembled : IsMapping cut count rows lits nodes luts outs
   assembled = record {
-    rise = ap rising nodes_are ∙ marked_rise 0 marks;
-    needed = λ n h. swept.needed n (sym (has_is n) ∙ h);
-    all = λ n need. has_is n ∙ need (value_in marks) (λ m t. swept.done m (omega arith) t) swept.seen;
+    nodes_are = subst (AreNeeded cut rows lits) (sym nodes_are) (marked_needed cut rows lits marks swept);
     long = made.long;
     inputs = λ j lt. (made.each j lt).inputs ∙ inputs_at j lt;
     ones = λ j lt. (made.each j lt).ones;

@@ -40,7 +40,7 @@ in_range low high (m ∷ ms) le r f g = omega (arith, f 0 (omega arith), rising_
 pub nodes_fit : (count k : ℕ) (cut : ℕ → List ℕ) (rows : List Row) (lits : List Lit) (nodes : List ℕ) (luts : List Lut) (outs : List Lit) → AreLutCuts k rows cut → IsGraph count rows lits → IsMapping cut count rows lits nodes luts outs
     → count + 1 + length nodes ≤ length rows
 nodes_fit count k cut rows lits nodes luts outs fit graph mapping =
-    in_range (count + 1) (length rows) nodes (omega (arith, graph.hashed.there)) mapping.rise
+    in_range (count + 1) (length rows) nodes (omega (arith, graph.hashed.there)) mapping.nodes_are.rise
     (λ j lt. node_high count k cut rows lits nodes luts outs fit graph mapping (node_at nodes j) (has_node_at nodes j lt))
     (λ j lt. node_there count k cut rows lits nodes luts outs fit graph mapping (node_at nodes j) (has_node_at nodes j lt))
 

@@ -37,7 +37,7 @@ module _ (count k : ℕ) (cut : ℕ → List ℕ) (rows : List Row) (lits : List
   top = greatest label (map node_of lits)
 
   node_low : (n : ℕ) → has_node nodes n ≡ true → label n ≤ top
-  node_low n h = leb-true (label n) top (and_parts (nat_le (label n) top) (is_and (row_at rows n)) (mapping.needed n h set closed seen)).0
+  node_low n h = leb-true (label n) top (and_parts (nat_le (label n) top) (is_and (row_at rows n)) (mapping.nodes_are.needed n h set closed seen)).0
     where
       set : ℕ → Bool
       set m = nat_le (label m) top && is_and (row_at rows m)
@@ -68,7 +68,7 @@ module _ (count k : ℕ) (cut : ℕ → List ℕ) (rows : List Row) (lits : List
         let h = has_node_at nodes (i - (count + 1)) inside in
         let n : ℕ = node_at nodes (i - (count + 1)) in
         let at : signal_of count nodes (node_at nodes (i - (count + 1))) ≡ i =
-        omega (arith, ge, signal_node count nodes (node_at nodes (i - (count + 1))) (node_high count k cut rows lits nodes luts outs fit graph mapping (node_at nodes (i - (count + 1))) h), place_of_at nodes mapping.rise (i - (count + 1)) inside) in
+        omega (arith, ge, signal_node count nodes (node_at nodes (i - (count + 1))) (node_high count k cut rows lits nodes luts outs fit graph mapping (node_at nodes (i - (count + 1))) h), place_of_at nodes mapping.nodes_are.rise (i - (count + 1)) inside) in
         let here : depth_in depths i ≡ label (node_at nodes (i - (count + 1))) = ap (depth_in depths) (sym at) ∙ depth_is (node_at nodes (i - (count + 1))) (inr h) in
         omega (arith, here, node_low (node_at nodes (i - (count + 1))) h)
   ]

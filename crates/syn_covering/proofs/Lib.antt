@@ -7,3 +7,4 @@ pub mod Counting
 pub mod Swept
 pub mod Numbered
 pub mod Assembled
+pub mod NeededNodes

@@ -145,7 +145,7 @@ mapping_net count k cut rows lits nodes luts outs fit graph mapping = record { l
         let l : Lut = lut_at luts j in
         let small : Bool = list_all (λ m. nat_lt m (2 ^ length (lut_at luts j).inputs)) (lut_at luts j).ones in
         let low : In (count + 1 + j) (map (signal_of count nodes) (cut (node_at nodes j))) =
-        subst (λ p. In (count + 1 + p) (map (signal_of count nodes) (cut (node_at nodes j)))) (place_of_at nodes mapping.rise j inside) (inputs_below count cut nodes luts are (node_at nodes j) h (cut (node_at nodes j)) (are.leaves (node_at nodes j) h)) in
+        subst (λ p. In (count + 1 + p) (map (signal_of count nodes) (cut (node_at nodes j)))) (place_of_at nodes mapping.nodes_are.rise j inside) (inputs_below count cut nodes luts are (node_at nodes j) h (cut (node_at nodes j)) (are.leaves (node_at nodes j) h)) in
         and_from (nat_le 2 (length l.inputs)) (distinct_numbers l.inputs && (list_all (is_input (count + 1 + j)) l.inputs && (rising l.ones && small)))
         (ap (λ (xs : List ℕ). nat_le 2 (length xs)) e ∙ ap (nat_le 2) (length-map (cut (node_at nodes j)) (signal_of count nodes)) ∙ le-leb 2 (length (cut (node_at nodes j))) is.two)
         (and_from (distinct_numbers l.inputs) (list_all (is_input (count + 1 + j)) l.inputs && (rising l.ones && small))
@@ -158,8 +158,8 @@ mapping_net count k cut rows lits nodes luts outs fit graph mapping = record { l
     reached j lt set closed seen =
         let inside : j < length nodes = omega (arith, lt, mapping.long) in
         let h = has_node_at nodes j inside in
-        let found = (and_parts (set (signal_of count nodes (node_at nodes j))) (has_node nodes (node_at nodes j)) (mapping.needed (node_at nodes j) h (λ m. set (signal_of count nodes m) && has_node nodes m) leaves observes)).0 in
-        let at : signal_of count nodes (node_at nodes j) ≡ count + 1 + j = omega (arith, signal_node count nodes (node_at nodes j) (are.high (node_at nodes j) h), place_of_at nodes mapping.rise j inside) in
+        let found = (and_parts (set (signal_of count nodes (node_at nodes j))) (has_node nodes (node_at nodes j)) (mapping.nodes_are.needed (node_at nodes j) h (λ m. set (signal_of count nodes m) && has_node nodes m) leaves observes)).0 in
+        let at : signal_of count nodes (node_at nodes j) ≡ count + 1 + j = omega (arith, signal_node count nodes (node_at nodes j) (are.high (node_at nodes j) h), place_of_at nodes mapping.nodes_are.rise j inside) in
         ap set (sym at) ∙ found
       where
         leaves : HasLeaves cut rows (λ m. set (signal_of count nodes m) && has_node nodes m)
@@ -170,7 +170,7 @@ mapping_net count k cut rows lits nodes luts outs fit graph mapping = record { l
             let long_inputs : length (lut_at luts (place_of n nodes)).inputs ≡ length (cut n) = ap (λ (xs : List ℕ). length xs) (are.inputs n parts.1) ∙ length-map (cut n) (signal_of count nodes) in
             and_from (set (signal_of count nodes (get_or (cut n) i d))) (has_node nodes (get_or (cut n) i d))
             (ap set (sym (ap (λ (xs : List ℕ). get_or xs i 0) (are.inputs n parts.1) ∙ get_or-map (signal_of count nodes) (cut n) i d 0 l)) ∙ closed (place_of n nodes) there here i 0 (omega (arith, l, long_inputs)))
-            (mapping.all (get_or (cut n) i d) (λ other l2 o2. l2 n (mapping.needed n parts.1 other l2 o2) i d l a))
+            (mapping.nodes_are.all (get_or (cut n) i d) (λ other l2 o2. l2 n (mapping.nodes_are.needed n parts.1 other l2 o2) i d l a))
 
         observes : HasObservedAnds rows lits (λ m. set (signal_of count nodes m) && has_node nodes m)
         observes i d l a =
@@ -178,4 +178,4 @@ mapping_net count k cut rows lits nodes luts outs fit graph mapping = record { l
             let node : node_of (get_or outs i no_lit) ≡ signal_of count nodes (node_of (get_or lits i d)) = ap node_of out ∙ half_of (signal_of count nodes (node_of (get_or lits i d))) ((get_or lits i d).0 % 2) (omega arith) in
             and_from (set (signal_of count nodes (node_of (get_or lits i d)))) (has_node nodes (node_of (get_or lits i d)))
             (ap set (sym node) ∙ seen i no_lit (omega (arith, l, long)))
-            (mapping.all (node_of (get_or lits i d)) (λ other l2 o2. o2 i d l a))
+            (mapping.nodes_are.all (node_of (get_or lits i d)) (λ other l2 o2. o2 i d l a))

@@ -58,7 +58,7 @@ module _ (count k : ℕ) (cut : ℕ → List ℕ) (rows : List Row) (lits : List
   order = hashed_in_order count rows graph.hashed
 
   pub node_is_and : (n : ℕ) → has_node nodes n ≡ true → is_and (row_at rows n) ≡ true
-  node_is_and n h = mapping.needed n h (λ m. is_and (row_at rows m)) (λ m t j d lt a. a) (λ j d lt a. a)
+  node_is_and n h = mapping.nodes_are.needed n h (λ m. is_and (row_at rows m)) (λ m t j d lt a. a) (λ j d lt a. a)
 
   pub node_high : (n : ℕ) → has_node nodes n ≡ true → count + 1 ≤ n
   node_high n h = elim (cases_lt n (count + 1)) [
@@ -79,7 +79,7 @@ module _ (count k : ℕ) (cut : ℕ → List ℕ) (rows : List Row) (lits : List
   ]
 
   leaves_needed : (n : ℕ) → has_node nodes n ≡ true → All (λ m. is_and (row_at rows m) ≡ true → has_node nodes m ≡ true) (cut n)
-  leaves_needed n h j d lt a = mapping.all (get_or (cut n) j d) (λ set leaves seen. leaves n (mapping.needed n h set leaves seen) j d lt a)
+  leaves_needed n h j d lt a = mapping.nodes_are.all (get_or (cut n) j d) (λ set leaves seen. leaves n (mapping.nodes_are.needed n h set leaves seen) j d lt a)
 
   leaves_ready : (n : ℕ) → n < length rows → (c : List ℕ) → In n c → AllByRecursion (λ m. is_and (row_at rows m) ≡ true → has_node nodes m ≡ true) c → AllByRecursion (λ m. (m < n) × HasSignal count nodes m) c
   leaves_ready n there [] h all = tt
@@ -90,7 +90,7 @@ module _ (count k : ℕ) (cut : ℕ → List ℕ) (rows : List Row) (lits : List
 
   pub luts_made : AreMade count cut nodes luts
   luts_made = record {
-    rise = mapping.rise;
+    rise = mapping.nodes_are.rise;
     high = node_high;
     leaves = λ n h. leaves_ready n (node_there n h) (cut n) (fit n (node_is_and n h)).below
         (recursion_from_All (λ m. is_and (row_at rows m) ≡ true → has_node nodes m ≡ true) (cut n) (leaves_needed n h));
@@ -99,7 +99,7 @@ module _ (count k : ℕ) (cut : ℕ → List ℕ) (rows : List Row) (lits : List
   }
 
   pub observed_signal : (i : ℕ) (d : Lit) → i < length lits → HasSignal count nodes (node_of (get_or lits i d))
-  observed_signal i d lt = has_signal (node_of (get_or lits i d)) (graph.within i d lt) (λ a. mapping.all (node_of (get_or lits i d)) (λ set leaves seen. seen i d lt a))
+  observed_signal i d lt = has_signal (node_of (get_or lits i d)) (graph.within i d lt) (λ a. mapping.nodes_are.all (node_of (get_or lits i d)) (λ set leaves seen. seen i d lt a))
 
   -- values
 

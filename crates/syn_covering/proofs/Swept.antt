@@ -21,7 +21,7 @@ joined false true true false = refl
 joined false true false false = refl
 joined false false h a = refl
 
-none_marked : (count m : ℕ) → value_in (replicate count false) m ≡ false
+pub none_marked : (count m : ℕ) → value_in (replicate count false) m ≡ false
 none_marked zero m = refl
 none_marked (suc n) zero = refl
 none_marked (suc n) (suc m) = none_marked n m

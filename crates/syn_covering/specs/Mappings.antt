@@ -25,6 +25,12 @@ HasLeaves cut rows set = (n : ℕ) → set n ≡ true → All (λ m. is_and (row
 abbrev pub IsNeeded : (ℕ → List ℕ) → List Row → List Lit → ℕ → Type 0
 IsNeeded cut rows lits n = (set : ℕ → Bool) → HasLeaves cut rows set → HasObservedAnds rows lits set → set n ≡ true
 
+-- The nodes that need LUTs, each once, in order.
+pub record AreNeeded (cut : ℕ → List ℕ) (rows : List Row) (lits : List Lit) (nodes : List ℕ) : Type 0 where
+  pub rise : rising nodes ≡ true
+  pub needed : (n : ℕ) → has_node nodes n ≡ true → IsNeeded cut rows lits n
+  pub all : (n : ℕ) → IsNeeded cut rows lits n → has_node nodes n ≡ true
+
 -- the node at a place
 abbrev pub node_at : List ℕ → ℕ → ℕ
 node_at nodes j = slice_index_or nodes j 0
@@ -52,15 +58,17 @@ AreOnesOver rows leaves node ones = AtEach (length leaves) (λ xs. (v : ℕ → 
 
 -- The LUTs of a graph over so many sources: one for each node that needs one, in node order, of the node's function over its cut.
 pub record IsMapping (cut : ℕ → List ℕ) (count : ℕ) (rows : List Row) (lits : List Lit) (nodes : List ℕ) (luts : List Lut) (outs : List Lit) : Type 0 where
-  pub rise : rising nodes ≡ true
-  pub needed : (n : ℕ) → has_node nodes n ≡ true → IsNeeded cut rows lits n
-  pub all : (n : ℕ) → IsNeeded cut rows lits n → has_node nodes n ≡ true
+  pub nodes_are : AreNeeded cut rows lits nodes
   pub long : length luts ≡ length nodes
   pub inputs : (j : ℕ) → j < length nodes → (lut_at luts j).inputs ≡ map (signal_of count nodes) (cut (node_at nodes j))
   pub ones : (j : ℕ) → j < length nodes → AreOnesOver rows (cut (node_at nodes j)) (node_at nodes j) (lut_at luts j).ones
   pub rising_ones : (j : ℕ) → j < length nodes → rising (lut_at luts j).ones ≡ true
   pub small_ones : (j : ℕ) → j < length nodes → list_all (λ m. nat_lt m (2 ^ length (lut_at luts j).inputs)) (lut_at luts j).ones ≡ true
   pub outs_are : outs ≡ map (signal_lit count nodes) lits
+
+-- Over cuts that LUTs may read there are nodes that need LUTs.
+abbrev pub NeededExist : Type 0
+NeededExist = (k : ℕ) (cut : ℕ → List ℕ) (rows : List Row) (lits : List Lit) → AreLutCuts k rows cut → (nodes : List ℕ) × AreNeeded cut rows lits nodes
 
 -- An observed literal of a source stays.
 abbrev pub MappingKeepsSources : Type 0

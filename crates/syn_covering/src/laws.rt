@@ -1,6 +1,6 @@
 //! Laws of LUT nets over cuts. Each function's clause is the law; it computes nothing.
 
-ghost use Rattle.syn_covering.specs.Mappings.{MappingFits, MappingHasDepth, MappingIsNet, MappingIsSmall, MappingKeepsFunction, MappingKeepsSources};
+ghost use Rattle.syn_covering.specs.Mappings.{MappingFits, MappingHasDepth, MappingIsNet, MappingIsSmall, MappingKeepsFunction, MappingKeepsSources, NeededExist};
 
 /// The LUTs of a graph's cuts have the graph's function.
 pub fn mapping_keeps_function()
@@ -30,4 +30,9 @@ pub fn mapping_is_small()
 /// They are a LUT net over the graph's sources.
 pub fn mapping_is_net()
     ensures { MappingIsNet }
+{}
+
+/// Over cuts that LUTs may read there are nodes that need LUTs, in order.
+pub fn needed_exist()
+    ensures { NeededExist }
 {}

@@ -11,7 +11,7 @@ use Rattle.syn_hashed.specs.Hashed.{IsHashed, lit_at}
 use Rattle.syn_lutnet.specs.LutData.{depth_in, greatest, is_input, IsLutNet, Lut, lut_at, lut_depth, net_depth, none_exceeds, signal_depths}
 use Rattle.syn_covering.specs.Mappings.{node_at}
 use Rattle.syn_flow.specs.Witness.{AreBorneOut, Shown}
-use Rattle.syn_flow.specs.Coverings.{BorneOutBoundCoverings, IsCovering, IsLeastDepth, lit_for, stands_for}
+use Rattle.syn_flow.specs.Coverings.{BorneOutBoundCoverings, BorneOutBoundLuts, IsCovering, IsLeastDepth, lit_for, stands_for}
 use Rattle.syn_lutnet.proofs.Folding.{below, In, lut_step}
 use Rattle.syn_lutnet.proofs.Deepest.{all_zero, depth_local, greatest_any, greatest_le, length-all_zero}
 use Rattle.syn_lutnet.proofs.LutParts.{lut_parts}
@@ -79,6 +79,9 @@ covered k count rows lits label shown hashed out nodes luts outs cover (suc limi
       greatest_below label (stands_for count nodes) depth (count + 1 + j) low inputs (inputs_of count luts outs cover.net j there),
     )
 
+pub bound_luts : BorneOutBoundLuts
+bound_luts k count rows lits label shown hashed out nodes luts outs cover j there = covered k count rows lits label shown hashed out nodes luts outs cover (suc j) j (omega arith) there
+
 -- an observed literal's node is what the net's literal stands for
 
 node_for : (count : ℕ) (nodes : List ℕ) (l : Lit) → node_of (lit_for count nodes l) ≡ stands_for count nodes (node_of l)
@@ -92,7 +95,7 @@ bound_coverings k count rows lits label shown hashed out nodes luts outs cover i
     let is : lit_at lits i ≡ lit_for count nodes (lit_at outs i) = ap (λ (ls : List Lit). lit_at ls i) (sym cover.stand) ∙ get_or-map (lit_for count nodes) outs i (record { 0 = 0 }) (record { 0 = 0 }) here in
     let node : node_of (lit_at lits i) ≡ stands_for count nodes (node_of (lit_at outs i)) = ap node_of is ∙ node_for count nodes (lit_at outs i) in
     let low = signal_deep count rows label depth nodes (length luts) (λ n small. out.others n (ap is_and (hashed.front n small)))
-    (λ j less. covered k count rows lits label shown hashed out nodes luts outs cover (suc j) j (omega arith) less) (node_of (lit_at outs i)) (cover.net.within i (record { 0 = 0 }) here) in
+    (bound_luts k count rows lits label shown hashed out nodes luts outs cover) (node_of (lit_at outs i)) (cover.net.within i (record { 0 = 0 }) here) in
     let same = ap label node in
     omega (arith, low, same, greatest_any (signal_depths count luts) (node_of (lit_at outs i)))
 

@@ -5,9 +5,11 @@ use Rattle.syn_rows.specs.declared.Row.{Row}
 use Rattle.syn_rows.specs.Rows.{node_of, row_at}
 use Rattle.syn_rows.specs.Reach.{is_and}
 use Rattle.syn_hashed.specs.Hashed.{IsHashed, lit_at}
+use Rattle.syn_graph.specs.Graphs.{IsGraph}
 use Rattle.syn_cones.specs.Cones.{IsCut}
-use Rattle.syn_lutnet.specs.LutData.{IsLutNet, Lut, lut_at, net_depth, none_exceeds}
-use Rattle.syn_covering.specs.Mappings.{node_at}
+use Rattle.syn_lutnet.specs.LutData.{depth_in, IsLutNet, Lut, lut_at, net_depth, none_exceeds, signal_depths}
+use Rattle.syn_covering.specs.Cuts.{AreLutCuts}
+use Rattle.syn_covering.specs.Mappings.{IsMapping, node_at}
 use Rattle.syn_flow.specs.Witness.{AreBorneOut, Shown}
 
 -- the node that a signal stands for: the constant and the sources for themselves, a LUT for its node
@@ -31,7 +33,17 @@ pub record IsCovering (k count : ℕ) (rows : List Row) (lits : List Lit) (nodes
 abbrev pub IsLeastDepth : ℕ → ℕ → List Row → List Lit → ℕ → Type 0
 IsLeastDepth k count rows lits depth = (nodes : List ℕ) (luts : List Lut) (outs : List Lit) → IsCovering k count rows lits nodes luts outs → depth ≤ net_depth count luts
 
--- Labels that paths bear out undercut no covering: no covering of the graph is shallower than the label of an observed node.
+-- The LUTs of cuts of at most k leaves are a covering.
+abbrev pub MappingIsCovering : Type 0
+MappingIsCovering = (count k : ℕ) (cut : ℕ → List ℕ) (rows : List Row) (lits : List Lit) (nodes : List ℕ) (luts : List Lut) (outs : List Lit) → AreLutCuts k rows cut → IsGraph count rows lits
+    → IsMapping cut count rows lits nodes luts outs → IsCovering k count rows lits nodes luts outs
+
+-- Labels that paths bear out undercut no covering: no LUT of a covering lies less deep than the label of its node,
+abbrev pub BorneOutBoundLuts : Type 0
+BorneOutBoundLuts = (k count : ℕ) (rows : List Row) (lits : List Lit) (label : ℕ → ℕ) (shown : List Shown) → IsHashed count rows → AreBorneOut k rows label shown
+    → (nodes : List ℕ) (luts : List Lut) (outs : List Lit) → IsCovering k count rows lits nodes luts outs → (j : ℕ) → j < length luts → label (node_at nodes j) ≤ depth_in (signal_depths count luts) (count + 1 + j)
+
+-- and no covering is shallower than the label of an observed node.
 abbrev pub BorneOutBoundCoverings : Type 0
 BorneOutBoundCoverings = (k count : ℕ) (rows : List Row) (lits : List Lit) (label : ℕ → ℕ) (shown : List Shown) → IsHashed count rows → AreBorneOut k rows label shown
     → (nodes : List ℕ) (luts : List Lut) (outs : List Lit) → IsCovering k count rows lits nodes luts outs → (i : ℕ) → i < length lits → label (node_of (lit_at lits i)) ≤ net_depth count luts

@@ -11,7 +11,7 @@ use Rattle.syn_covering.specs.Making.{IsMappedBy}
 use Rattle.syn_flow.specs.declared.witness.FlowProof.{FlowProof}
 use Rattle.syn_flow.specs.declared.witness.Paths.{Paths}
 use Rattle.syn_paths.specs.Tops.{label_in}
-use Rattle.syn_flow.specs.Coverings.{IsLeastDepth}
+use Rattle.syn_flow.specs.Coverings.{IsCovering, IsLeastDepth}
 use Rattle.syn_flow.specs.Witness.{AreBorneOut, Shown}
 use Rattle.syn_flow.specs.Labels.{AreFlowLabels, IsChosenCut}
 
@@ -34,3 +34,8 @@ pub record IsFlowMapping (k : ℕ) (graph : Graph) (net : LutNet) (proof : FlowP
 -- no covering of the graph by LUTs of at most k inputs is shallower than the net
 abbrev pub HasLeastDepth : ℕ → Graph → LutNet → Type 0
 HasLeastDepth k graph net = IsLeastDepth k graph.source_count graph.rows graph.observed (net_depth graph.source_count (luts_data net.luts))
+
+-- The net is a covering of the graph by LUTs of at most k inputs, with some choice of the nodes that they stand for.
+pub record IsCoveredBy (k : ℕ) (graph : Graph) (net : LutNet) : Type 0 where
+  pub nodes : List ℕ
+  pub covering : IsCovering k graph.source_count graph.rows graph.observed nodes (luts_data net.luts) net.observed

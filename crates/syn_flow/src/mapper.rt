@@ -7,7 +7,7 @@ ghost use Rattle.syn_lutnet.specs.LutData.{greatest, net_depth, none_exceeds};
 ghost use Rattle.syn_lutnet.specs.Data.{luts_data};
 ghost use Rattle.syn_lutnet.specs.Nets.{HasFunctionOf};
 ghost use Rattle.syn_paths.specs.Tops.{label_in};
-ghost use Rattle.syn_flow.specs.Flows.{HasLeastDepth, IsFlowMapping, IsWitness};
+ghost use Rattle.syn_flow.specs.Flows.{HasLeastDepth, IsCoveredBy, IsFlowMapping, IsWitness};
 
 use crate::labels::{Labelling, label_all};
 use crate::witness::FlowProof;
@@ -29,6 +29,7 @@ pub fn flow(alloc: Global, graph: &Graph, k: u8) -> Result<(LutNet, FlowProof), 
     ensures mapping { IfOk result (λ r. IsFlowMapping k graph.now r.0 r.1) }
     ensures function { IfOk result (λ r. HasFunctionOf graph.now r.0) }
     ensures depth { IfOk result (λ r. net_depth graph.now.source_count (luts_data r.0.luts) ≡ greatest (label_in r.1.labels) (map node_of graph.now.observed)) }
+    ensures covering { IfOk result (λ r. IsCoveredBy k graph.now r.0) }
     ensures least { IfOk result (λ r. HasLeastDepth k graph.now r.0) }
     ensures witness { IfOk result (λ r. IsWitness k graph.now.rows r.1) }
     ensures inputs { IfOk result (λ r. none_exceeds k (luts_data r.0.luts) ≡ true) }

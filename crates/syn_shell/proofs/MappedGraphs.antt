@@ -96,7 +96,7 @@ mapped_to laws k was net made h (nodes, mapping) depth = record {
   luts = in_luts laws k was net made h;
   depth = deep_luts laws k was net made h ∙ depth ∙ sym (same_greatest laws.graphs k was);
   nodes = nodes;
-  needed = needed_there laws.graphs k was nodes (record { rise = mapping.rise; needed = mapping.needed; all = mapping.all });
+  needed = needed_there laws.graphs k was nodes mapping.nodes_are;
   count = many_luts laws.luts made net h.body ∙ sym (length-map net.luts lut_data) ∙ mapping.long;
 }
 

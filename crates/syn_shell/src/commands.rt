@@ -16,7 +16,7 @@ use std::thread::Threads;
 use syn_area::map_for_area;
 use syn_balance::balance;
 use syn_build::{BuildFault, build_luts};
-use syn_commit::Gate;
+use syn_commit::CommitHook;
 use syn_flow::flow;
 use syn_graph::Graph;
 use syn_map::map;
@@ -53,13 +53,13 @@ fn put(network: &mut Network, new: Option<Graph>)
 
 /// Makes a graph anew by a recipe, under its names; or gives the LUTs that the recipe makes of it, under these names too. So
 /// many workers do it where the recipe names none. Refused, for want of memory alone, the graph stays.
-pub(crate) fn remake_graph<R: Threads + Sync, G: Gate>(
+pub(crate) fn remake_graph<R: Threads + Sync, G: CommitHook>(
     rt: &R,
     alloc: Global,
     recipe: &Recipe,
     network: &mut Network,
     workers: Workers,
-    gate: &G,
+    hook: &G,
 ) -> Result<Option<LutNetwork>, AllocError>
     ensures made { IfOk result (λ made. MakesOfGraph recipe.now (graph_network (graphs.network_of network.old)) (made_in network.new made)) }
     ensures refused { IfErr result (λ error. network.new ≡ network.old) }
@@ -77,19 +77,19 @@ pub(crate) fn remake_graph<R: Threads + Sync, G: Gate>(
         }
         Recipe::Rewrite(options) => {
             let settings = settings_of(options, workers);
-            let new = rewrite(rt, alloc, &network.body, settings, gate)?;
+            let new = rewrite(rt, alloc, &network.body, settings, hook)?;
             put(network, new);
             Ok(None)
         }
         Recipe::Refactor(options) => {
             let settings = settings_of(options, workers);
-            let new = refactor(rt, alloc, &network.body, settings, gate)?;
+            let new = refactor(rt, alloc, &network.body, settings, hook)?;
             put(network, new);
             Ok(None)
         }
         Recipe::Resubstitute(options) => {
             let settings = settings_of(options, workers);
-            let new = resub(rt, alloc, &network.body, settings, gate)?;
+            let new = resub(rt, alloc, &network.body, settings, hook)?;
             put(network, new);
             Ok(None)
         }
@@ -132,13 +132,13 @@ pub(crate) fn graph_of(alloc: Global, net: &LutNetwork) -> Result<Network, Refus
 }
 
 /// What a recipe makes of a net of LUTs: what it makes of its graph.
-pub(crate) fn remade_luts<R: Threads + Sync, G: Gate>(
+pub(crate) fn remade_luts<R: Threads + Sync, G: CommitHook>(
     rt: &R,
     alloc: Global,
     recipe: &Recipe,
     net: &LutNetwork,
     workers: Workers,
-    gate: &G,
+    hook: &G,
 ) -> Result<HeldNetwork, Refusal>
     requires small { IsSmall (mapped_network (luts.network_of net.now)) }
     ensures made { IfOk result (λ new. Makes recipe.now (mapped_network (luts.network_of net.now)) (network_of new)) }
@@ -147,7 +147,7 @@ pub(crate) fn remade_luts<R: Threads + Sync, G: Gate>(
 {
     syn_netlist::same_is_transitive();
     let mut graph = graph_of(alloc, net)?;
-    match remake_graph(rt, alloc, recipe, &mut graph, workers, gate) {
+    match remake_graph(rt, alloc, recipe, &mut graph, workers, hook) {
         Ok(None) => Ok(HeldNetwork::Graph(graph)),
         Ok(Some(luts)) => {
             drop(graph);

@@ -12,7 +12,7 @@ use crate::commands::{remade_luts, remake_graph};
 use crate::refusal::Refusal;
 use std::alloc::{AllocError, Global};
 use std::thread::Threads;
-use syn_commit::Gate;
+use syn_commit::CommitHook;
 use syn_netlist::Netlist;
 use syn_network::{LutNetwork, Network};
 use syn_text::{netlist_of, netlist_of_luts};
@@ -39,13 +39,13 @@ impl HeldNetwork {
     }
 
     /// Makes it anew by a recipe, with so many workers where this names none. Refused, it stays.
-    pub(crate) fn remake<R: Threads + Sync, G: Gate>(
+    pub(crate) fn remake<R: Threads + Sync, G: CommitHook>(
         &mut self,
         rt: &R,
         alloc: Global,
         recipe: &Recipe,
         workers: Workers,
-        gate: &G,
+        hook: &G,
     ) -> Result<(), Refusal>
         requires { IsSmall (network_of self.old) }
         ensures made { OnOk result (Makes recipe.now (network_of self.old) (network_of self.new)) }
@@ -56,7 +56,7 @@ impl HeldNetwork {
     {
         match self {
             HeldNetwork::Graph(network) => {
-                match remake_graph(rt, alloc, recipe, network, workers, gate)? {
+                match remake_graph(rt, alloc, recipe, network, workers, hook)? {
                     None => Ok(()),
                     Some(luts) => {
                         *self = HeldNetwork::Luts(luts);
@@ -65,7 +65,7 @@ impl HeldNetwork {
                 }
             }
             HeldNetwork::Luts(net) => {
-                *self = remade_luts(rt, alloc, recipe, net, workers, gate)?;
+                *self = remade_luts(rt, alloc, recipe, net, workers, hook)?;
                 Ok(())
             }
         }

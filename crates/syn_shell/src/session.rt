@@ -22,7 +22,7 @@ use std::alloc::{AllocError, Global};
 use std::marker::Model;
 use std::thread::Threads;
 use syn_build::{build, build_checked};
-use syn_commit::Gate;
+use syn_commit::CommitHook;
 use syn_io::{Files, Sink};
 use syn_netlist::CheckedNetlist;
 use syn_network::Network;
@@ -130,32 +130,32 @@ impl Session {
     }
 
     // Makes the network anew by a recipe.
-    fn make<R: Threads + Sync, G: Gate>(
+    fn make<R: Threads + Sync, G: CommitHook>(
         &mut self,
         rt: &R,
         alloc: Global,
         recipe: &Recipe,
-        gate: &G,
+        hook: &G,
     ) -> Result<(), Refusal>
         ensures made { OnOk result (Remakes recipe.now self.old self.new) }
         ensures refused { IfErr result (λ cause. MakingRefused self.old cause × (self.new ≡ self.old)) }
     {
         match &mut self.network {
             None => Err(Refusal::NoNetwork),
-            Some(network) => network.remake(rt, alloc, recipe, self.workers, gate),
+            Some(network) => network.remake(rt, alloc, recipe, self.workers, hook),
         }
     }
 
-    /// Does one command. Refused, it leaves the network. The gate is told of each commit of rewriting, refactoring
+    /// Does one command. Refused, it leaves the network. The hook is told of each commit of rewriting, refactoring
     /// and resubstitution.
-    pub fn step<R: Threads + Sync, F: Files, O: Sink, G: Gate>(
+    pub fn step<R: Threads + Sync, F: Files, O: Sink, G: CommitHook>(
         &mut self,
         rt: &R,
         alloc: Global,
         command: &Command,
         files: &mut F,
         out: &mut O,
-        gate: &G,
+        hook: &G,
     ) -> Result<(), Refusal>
         ensures { SessionStep command.now (state self.old (F.disk files.old) (O.screen out.old)) result (state self.new (F.disk files.new) (O.screen out.new)) }
     {
@@ -187,7 +187,7 @@ impl Session {
                 None => Err(Refusal::NoNetwork),
                 Some(network) => aiger::write(alloc, network, *ascii, name.as_str(), files),
             },
-            Command::Make(recipe) => self.make(rt, alloc, recipe, gate),
+            Command::Make(recipe) => self.make(rt, alloc, recipe, hook),
         }
     }
 }

@@ -7,7 +7,7 @@ ghost use Rattle.syn_commit.specs.Giving.{IsAtRest};
 
 use crate::tables::{ands_left, opened_as};
 use std::alloc::Global;
-use syn_commit::{Hints, OpenGate, Pool, Tools, try_commit};
+use syn_commit::{Hints, NoHook, Pool, Tools, try_commit};
 use syn_decide::Outcome;
 use syn_gain::Proposal;
 use syn_rows::Lit;
@@ -16,7 +16,7 @@ use syn_table::Seat;
 /// Fills a pool with so many nodes from the first spare one on, tries the proposal, with no gain let through or not, and lets
 /// the pool go: the answer.
 pub fn committed(
-    tools: &Tools<'_, OpenGate>,
+    tools: &Tools<'_, NoHook>,
     seat: &mut Seat,
     proposal: &Proposal,
     first: u32,
@@ -61,7 +61,7 @@ pub fn answered(
     let tools = Tools {
         shared: &shared,
         hints: &hints,
-        gate: &OpenGate,
+        hook: &NoHook,
         worker: 0,
     };
     let answer = committed(&tools, &mut seat, proposal, first, spare, false);

@@ -3,7 +3,7 @@
 use std::alloc::{AllocError, Global};
 use std::sync::atomic::{AtomicU64, Ordering};
 use syn_build::build_checked;
-use syn_commit::{Gate, Moment};
+use syn_commit::{CommitHook, Moment};
 use syn_graph::Graph;
 use syn_proposals::Report;
 use syn_reader::read_checked;
@@ -29,7 +29,7 @@ impl Counting {
     }
 }
 
-impl Gate for Counting {
+impl CommitHook for Counting {
     fn at(&self, _worker: u8, moment: Moment) {
         if moment == Moment::Answered(true) {
             let _before = self.done.fetch_add(1, Ordering::SeqCst);

@@ -9,7 +9,7 @@ use crate::fresh::committed;
 use crate::harness::CONE;
 use crate::tables::{ands_left, opened, opened_as};
 use std::alloc::Global;
-use syn_commit::{Hints, OpenGate, Tools};
+use syn_commit::{Hints, NoHook, Tools};
 use syn_decide::Outcome;
 use syn_gain::Proposal;
 use syn_rows::Row;
@@ -34,7 +34,7 @@ fn is_alias(shared: &Shared, seat: &mut Seat) -> bool
 
 // The second seat tries the proposal while the first one holds the root.
 fn turned_away(
-    tools: &Tools<'_, OpenGate>,
+    tools: &Tools<'_, NoHook>,
     first: &mut Seat,
     second: &mut Seat,
     proposal: &Proposal,
@@ -62,7 +62,7 @@ fn turned_away(
 
 // The second seat is turned away, then it commits, and then the first one gains nothing.
 fn both_try(
-    tools: &Tools<'_, OpenGate>,
+    tools: &Tools<'_, NoHook>,
     first: &mut Seat,
     second: &mut Seat,
     proposal: &Proposal,
@@ -117,7 +117,7 @@ fn made_keys(alloc: Global) -> Option<(u64, u64)> {
     let tools = Tools {
         shared: &shared,
         hints: &hints,
-        gate: &OpenGate,
+        hook: &NoHook,
         worker: 0,
     };
     let _answer = committed(&tools, &mut seat, &factored(true), 7, 512, false);
@@ -134,7 +134,7 @@ fn two_seats(alloc: Global) -> Option<(bool, u32)> {
     let tools = Tools {
         shared: &shared,
         hints: &hints,
-        gate: &OpenGate,
+        hook: &NoHook,
         worker: 0,
     };
     let as_worked = both_try(&tools, &mut first, &mut second, &factored(true));

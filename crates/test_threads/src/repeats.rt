@@ -9,7 +9,7 @@ ghost use Rattle.syn_commit.specs.Giving.{IsAtRest};
 use crate::tables::{ands_left, opened_as};
 use arrayvec::ArrayVec;
 use std::alloc::Global;
-use syn_commit::{Hints, OpenGate, Pool, Tools, try_commit};
+use syn_commit::{Hints, NoHook, Pool, Tools, try_commit};
 use syn_decide::Outcome;
 use syn_gain::Proposal;
 use syn_plan::{PLit, Plan};
@@ -54,7 +54,7 @@ fn over_inputs(plan: Plan) -> Proposal
 
 // Commits, with no gain let through, unless the root is in the pool: 1 where the commit is done, else 0.
 fn done_by(
-    tools: &Tools<'_, OpenGate>,
+    tools: &Tools<'_, NoHook>,
     seat: &mut Seat,
     pool: &mut Pool,
     proposal: &Proposal,
@@ -77,7 +77,7 @@ fn done_by(
 
 // Commits both proposals in turn, so many times: how many of these commits are done.
 fn there_and_back(
-    tools: &Tools<'_, OpenGate>,
+    tools: &Tools<'_, NoHook>,
     seat: &mut Seat,
     pool: &mut Pool,
     there: &Proposal,
@@ -102,7 +102,7 @@ fn there_and_back(
 
 // Fills a pool from the first spare node on, commits so many times there and back, and lets the pool go: how many of the
 // commits are done.
-fn done_in(tools: &Tools<'_, OpenGate>, seat: &mut Seat, first: u32, rounds: u32) -> u32
+fn done_in(tools: &Tools<'_, NoHook>, seat: &mut Seat, first: u32, rounds: u32) -> u32
     requires table { IsOf seat.old tools.now.shared.now }
     requires resting { IsAtRest (view_of seat.old) }
     requires nodes { first + 16 ≤ nodes_of tools.now.shared.now }
@@ -130,7 +130,7 @@ fn repeated(alloc: Global, rounds: u32) -> Option<(u32, u32)> {
     let tools = Tools {
         shared: &shared,
         hints: &hints,
-        gate: &OpenGate,
+        hook: &NoHook,
         worker: 0,
     };
     let done = done_in(&tools, &mut seat, first, rounds);

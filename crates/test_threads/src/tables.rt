@@ -12,9 +12,8 @@ use crate::key_trials::fits;
 use std::alloc::Global;
 use syn_graph::Graph;
 use syn_hashed::compact_rows;
-use syn_table::spread;
 use syn_rows::{Lit, Row};
-use syn_table::{Seat, Shared};
+use syn_table::{Seat, Shared, spread};
 
 /// The rows that the cone's table has at first.
 pub const CONE_ROWS: [Row; 7] = [

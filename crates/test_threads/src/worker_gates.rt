@@ -6,7 +6,7 @@ use std::sync::atomic::{AtomicU64, Ordering};
 use std::test::Fail;
 use std::thread::{Threads, yield_now};
 use syn_build::build;
-use syn_commit::{Gate, Moment};
+use syn_commit::{CommitHook, Moment};
 use syn_gen::generate;
 use syn_graph::Graph;
 use syn_pool::pass;
@@ -53,7 +53,7 @@ impl HoldsTheFirst {
     }
 }
 
-impl Gate for HoldsTheFirst {
+impl CommitHook for HoldsTheFirst {
     fn at(&self, worker: u8, moment: Moment) {
         let own = u64::from(worker) + 1;
         match moment {
@@ -82,7 +82,7 @@ struct Yields {
     seen: AtomicU64,
 }
 
-impl Gate for Yields {
+impl CommitHook for Yields {
     fn at(&self, worker: u8, _moment: Moment) {
         let seen = self.seen.fetch_add(1, Ordering::SeqCst);
         if (seen ^ u64::from(worker)) % 4 == 0 {
@@ -92,16 +92,16 @@ impl Gate for Yields {
 }
 
 // What a pass of rewriting with so many workers on a graph reports, and the graph that comes.
-fn passed<R: Threads + Sync, G: Gate>(
+fn passed<R: Threads + Sync, G: CommitHook>(
     rt: &R,
     alloc: Global,
     graph: Graph,
-    gate: &G,
+    hook: &G,
     workers: Workers,
     zero_gain: bool,
 ) -> Option<(Report, Graph)> {
     let proposer = CutPlans::new(alloc).ok()?;
-    match pass(rt, alloc, graph, &proposer, workers, zero_gain, gate) {
+    match pass(rt, alloc, graph, &proposer, workers, zero_gain, hook) {
         Ok((graph, report)) => Some((report, graph)),
         Err(_) => None,
     }

@@ -9,8 +9,8 @@ use std::alloc::{AllocError, Global};
 use std::test::Fail;
 use syn_build::{BuildFault, build_luts};
 use syn_graph::Graph;
-use syn_lutnet::{Lut, LutNet, MAX_INPUTS};
 use syn_lists::Items;
+use syn_lutnet::{Lut, LutNet, MAX_INPUTS};
 use syn_rows::Lit;
 use syn_truth::Truth;
 

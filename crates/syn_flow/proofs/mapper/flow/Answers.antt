@@ -5,6 +5,7 @@ use Rattle.syn_paths.specs.Tops.{label_in}
 use Rattle.syn_flow.specs.Coverings.{IsLeastDepth}
 use Rattle.syn_flow.specs.Flows.{shown_of}
 use Rattle.syn_flow.specs.Labelling.{cut_at, leaves_of}
+use Rattle.syn_flow.proofs.Attained.{mapped_covers}
 use Rattle.syn_flow.proofs.Covered.{labels_least}
 use Rattle.syn_flow.proofs.Labelled.{borne_out, chosen_cuts, depths, flow_labels, lut_cuts}
 use Rattle.syn_flow.proofs.mapper.flow.Goals as goal
@@ -46,6 +47,14 @@ returns-clause-depth c =
     let l = c.in_ok-labelling.labelling in
     let a = rw c.as_slice.ensures at c.in_ok-labelling.ensures in
     rw c.of.ensures (c.in_ok-net.ensures.depth (label_in l.labels.items) (depths c.args.k gr.source_count gr.rows l.labels.items (leaves_of l.cuts.items) (map shown_of l.paths.items) gr.graph.hashed a))
+
+pub returns-clause-covering : goal.returns-clause-covering
+returns-clause-covering c =
+    let gr = c.args.graph.now in
+    let l = c.in_ok-labelling.labelling in
+    let a = rw c.as_slice.ensures at c.in_ok-labelling.ensures in
+    let le : c.args.k ≤ c.args.k = omega arith in
+    mapped_covers c.args.k (cut_at (leaves_of l.cuts.items)) gr c.in_ok-net.net (lut_cuts c.args.k gr.source_count gr.rows l.labels.items (leaves_of l.cuts.items) (map shown_of l.paths.items) gr.graph.hashed a c.args.k le) c.in_ok-net.ensures.mapping
 
 pub returns-clause-least : goal.returns-clause-least
 returns-clause-least c =
