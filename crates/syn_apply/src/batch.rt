@@ -44,8 +44,8 @@ fn and(hashed: &mut HashedRows, a: Lit, b: Lit) -> Result<Lit, AllocError>
     }
 }
 
-// The literal that stands for an old one.
-fn moved(literals: &[Lit], lit: Lit) -> Lit
+/// The literal that stands for an old one.
+pub fn moved(literals: &[Lit], lit: Lit) -> Lit
     ensures { result ≡ moved literals.now lit }
 {
     let plain = literal_at(literals, lit.node() as usize);
@@ -56,8 +56,8 @@ fn moved(literals: &[Lit], lit: Lit) -> Lit
     }
 }
 
-// The literal of an AND of old nodes before it.
-fn joined(
+/// The literal of an AND of old nodes before it. The only error is want of memory, or of room.
+pub fn joined(
     hashed: &mut HashedRows,
     rows: &[Row],
     literals: &[Lit],
@@ -145,8 +145,8 @@ fn place_after(proposals: &[Proposal], place: usize, node: u32) -> usize
     place
 }
 
-// The fan-ins of an AND.
-fn fan_ins(row: Row) -> Option<(Lit, Lit)>
+/// The fan-ins of an AND.
+pub fn fan_ins(row: Row) -> Option<(Lit, Lit)>
     ensures some { IfSome result (λ both. row ≡ Row.And both.0 both.1) }
     ensures none { IfNone result (is_and row ≡ false) }
 {
@@ -222,8 +222,8 @@ fn remade(
     Ok(literals)
 }
 
-// The literals that stand for old ones.
-fn all_moved(alloc: Global, literals: &[Lit], lits: &[Lit]) -> Result<Vec<Lit>, AllocError>
+/// The literals that stand for old ones. The only error is want of memory.
+pub fn all_moved(alloc: Global, literals: &[Lit], lits: &[Lit]) -> Result<Vec<Lit>, AllocError>
     ensures { IfOk result (λ v. v.items ≡ map (moved literals.now) lits.now) }
 {
     let mut found = Vec::with_capacity(alloc, lits.len())?;

@@ -14,7 +14,7 @@ ghost use Rattle.syn_levels.specs.Levels.{IsNoDeeper, keeps_level};
 ghost use Rattle.syn_apply.specs.Applied.{IsAppliedAlone};
 ghost use Rattle.syn_apply.specs.Sound.{IsSoundBy};
 
-pub use batch::applied_together;
+pub use batch::{all_moved, applied_together, fan_ins, joined, moved};
 use std::alloc::{AllocError, Global};
 use syn_gain::{Candidate, place, replaced_rows};
 use syn_graph::{Graph, compact};
