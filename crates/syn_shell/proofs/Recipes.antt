@@ -12,7 +12,7 @@ use Rattle.syn_seq.proofs.Fewer.{fewer_sources}
 use Rattle.syn_words.specs.declared.recipes.Recipe.{Recipe}
 use Rattle.syn_words.specs.declared.recipes.Recipe.TheVariants as recipes
 use Rattle.syn_shell.specs.Networks.{IsSmall, Written, ands_by, gates_by, gates_in, graph_network, mapped_network}
-use Rattle.syn_shell.specs.Makes.{IsInLuts, IsRemade, IsSweptTo, Makes, MakesOfGraph, NoMoreBy, OnGraph}
+use Rattle.syn_shell.specs.Makes.{IsInLuts, IsRemade, IsRemadeBy, IsSweptTo, Makes, MakesOfGraph, NoMoreBy, OnGraph}
 use Rattle.syn_shell.specs.Origins.{IsSameBy}
 use Rattle.syn_shell.proofs.RemadeGraphs.{passed_remade}
 
@@ -83,12 +83,18 @@ luts_of_it inputs old new made = record {
   small = same_small old new 0 made.same.frame (ap (λ (b : Bool). ands_by b new.netlist) made.mapped) (omega arith);
 }
 
+remade_by : (levels : Bool) (old new : Written) → IsRemadeBy levels old new → IsRemade old new
+remade_by false old new made = made
+remade_by true old new made = made.remade
+
 pub kept_of : (r : Recipe) (old new : Written) → old.mapped ≡ false → MakesOfGraph r old new → IsKeptOf (sweeps r) old new
 kept_of recipes.Strash old new graph made = remade_of_it old new graph made
 kept_of recipes.Balance old new graph made = remade_of_it old new graph made.remade
 kept_of (recipes.Rewrite options) old new graph made = remade_of_it old new graph (passed_remade options.levels rewritings old new made)
 kept_of (recipes.Refactor options) old new graph made = remade_of_it old new graph (passed_remade options.levels refactorings old new made)
 kept_of (recipes.Resubstitute options) old new graph made = remade_of_it old new graph (passed_remade options.levels resubstitutions old new made)
+kept_of (recipes.Merge limits) old new graph made = remade_of_it old new graph (remade_by limits.levels old new made)
+kept_of (recipes.ReplaceEqual gates limits) old new graph made = remade_of_it old new graph (remade_by limits.levels old new made)
 kept_of (recipes.Map false inputs) old new graph made = luts_of_it inputs old new made.luts
 kept_of (recipes.Map true inputs) old new graph made = luts_of_it inputs old new made.luts
 kept_of (recipes.MapByFlow inputs) old new graph made = luts_of_it inputs old new made.luts

@@ -18,6 +18,7 @@ use syn_balance::balance;
 use syn_build::{BuildFault, build_luts};
 use syn_commit::CommitHook;
 use syn_flow::flow;
+use syn_fraig::fraig;
 use syn_graph::Graph;
 use syn_map::map;
 use syn_network::{LutNetwork, Network};
@@ -26,7 +27,8 @@ use syn_refactor::refactor;
 use syn_resub::resub;
 use syn_rewrite::rewrite;
 use syn_seq::sweep;
-use syn_words::{PassOptions, Recipe};
+use syn_sresub::sresub;
+use syn_words::{PassOptions, Recipe, SearchLimits};
 use syn_workers::Workers;
 
 // How a pass is to go: as the options say, with so many workers where these name none.
@@ -37,6 +39,27 @@ fn settings_of(options: &PassOptions, workers: Workers) -> PassSettings
         workers: options.workers.unwrap_or(workers),
         zero_gain: options.zero,
         levels: options.levels,
+    }
+}
+
+// How far a search for equal nodes goes.
+fn merge_limits(limits: &SearchLimits) -> syn_fraig::Limits
+    ensures levels { result.levels ≡ limits.now.levels }
+{
+    syn_fraig::Limits {
+        conflicts: limits.conflicts,
+        levels: limits.levels,
+    }
+}
+
+// The same of a search for replacements of so many ANDs.
+fn replace_limits(gates: u32, limits: &SearchLimits) -> syn_sresub::Limits
+    ensures levels { result.levels ≡ limits.now.levels }
+{
+    syn_sresub::Limits {
+        gates,
+        conflicts: limits.conflicts,
+        levels: limits.levels,
     }
 }
 
@@ -91,6 +114,16 @@ pub(crate) fn remake_graph<R: Threads + Sync, G: CommitHook>(
             let settings = settings_of(options, workers);
             let new = resub(rt, alloc, &network.body, settings, hook)?;
             put(network, new);
+            Ok(None)
+        }
+        Recipe::Merge(limits) => {
+            let new = fraig(alloc, &network.body, &merge_limits(limits))?;
+            network.put(new);
+            Ok(None)
+        }
+        Recipe::ReplaceEqual { gates, limits } => {
+            let new = sresub(alloc, &network.body, &replace_limits(*gates, limits))?;
+            network.put(new);
             Ok(None)
         }
         Recipe::Map {
