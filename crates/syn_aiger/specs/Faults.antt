@@ -7,18 +7,23 @@ use Rattle.syn_reader.specs.Limits.{most_sources}
 use Rattle.syn_aiger_files.specs.declared.fault.AigFault.{AigFault}
 use Rattle.syn_aiger_files.specs.declared.fault.AigFault.TheVariants as faults
 use Rattle.syn_aiger_files.specs.declared.files.Aig.{Aig}
-use Rattle.syn_aiger_files.specs.Spelling.{spelled}
+use Rattle.syn_aiger_files.specs.Files.{Properties, Refused}
+use Rattle.syn_aiger_files.specs.Spelling.{spelled_with}
 use Rattle.syn_aiger.specs.Values.{NoCircle, and_tables, and_variable, first_undefined, source_literals, variable_word}
 
 -- The most ANDs of a file that is read.
 abbrev pub most_ands : ℕ
 most_ands = 4194304
 
--- The bytes spell the file: they say it, each variable that it reads is defined, and no ANDs read each other in a circle. There are no limits in this.
-pub record Spells (bytes : List ℕ) (g : Aig) : Type 0 where
-  pub says : spelled bytes ≡ Ok g
+-- The bytes spell the file: they say it, each variable that it reads is defined, and no ANDs read each other in a circle. There are no limits in this. Bad states and constraints are refused, or outputs behind the file's own.
+pub record SpellsBy (properties : Properties) (bytes : List ℕ) (g : Aig) : Type 0 where
+  pub says : spelled_with properties bytes ≡ Ok g
   pub defined : first_undefined g ≡ None
   pub acyclic : NoCircle g
+
+-- The same where they are refused.
+abbrev pub Spells : List ℕ → Aig → Type 0
+Spells bytes g = SpellsBy Refused bytes g
 
 -- The file has few enough sources, and few enough ANDs.
 pub record Within (g : Aig) : Type 0 where
@@ -34,15 +39,22 @@ IsAigFault g (faults.TooManyGates n) = (first_undefined g ≡ None) × NoCircle 
 IsAigFault g other = ⊥
 
 -- The first fault of a file: one of its first line, a line, a pair or a symbol; where there is none, one of what it says.
-abbrev pub IsFirstFault : List ℕ → AigFault → Type 0
-IsFirstFault bytes faults.NoMemory = ⊥
-IsFirstFault bytes (faults.Undefined v) = (g : Aig) × (spelled bytes ≡ Ok g) × IsAigFault g (faults.Undefined v)
-IsFirstFault bytes (faults.Cycle vs) = (g : Aig) × (spelled bytes ≡ Ok g) × IsAigFault g (faults.Cycle vs)
-IsFirstFault bytes (faults.TooManySources n) = (g : Aig) × (spelled bytes ≡ Ok g) × IsAigFault g (faults.TooManySources n)
-IsFirstFault bytes (faults.TooManyGates n) = (g : Aig) × (spelled bytes ≡ Ok g) × IsAigFault g (faults.TooManyGates n)
-IsFirstFault bytes fault = spelled bytes ≡ Err fault
+abbrev pub IsFirstFaultBy : Properties → List ℕ → AigFault → Type 0
+IsFirstFaultBy properties bytes faults.NoMemory = ⊥
+IsFirstFaultBy properties bytes (faults.Undefined v) = (g : Aig) × (spelled_with properties bytes ≡ Ok g) × IsAigFault g (faults.Undefined v)
+IsFirstFaultBy properties bytes (faults.Cycle vs) = (g : Aig) × (spelled_with properties bytes ≡ Ok g) × IsAigFault g (faults.Cycle vs)
+IsFirstFaultBy properties bytes (faults.TooManySources n) = (g : Aig) × (spelled_with properties bytes ≡ Ok g) × IsAigFault g (faults.TooManySources n)
+IsFirstFaultBy properties bytes (faults.TooManyGates n) = (g : Aig) × (spelled_with properties bytes ≡ Ok g) × IsAigFault g (faults.TooManyGates n)
+IsFirstFaultBy properties bytes fault = spelled_with properties bytes ≡ Err fault
 
 -- An answer names the first fault, or it is want of memory.
+abbrev pub NamesFirstFaultBy : Properties → List ℕ → AigFault → Type 0
+NamesFirstFaultBy properties bytes faults.NoMemory = ⊤
+NamesFirstFaultBy properties bytes fault = IsFirstFaultBy properties bytes fault
+
+-- The same where bad states and constraints are refused.
+abbrev pub IsFirstFault : List ℕ → AigFault → Type 0
+IsFirstFault bytes fault = IsFirstFaultBy Refused bytes fault
+
 abbrev pub NamesFirstFault : List ℕ → AigFault → Type 0
-NamesFirstFault bytes faults.NoMemory = ⊤
-NamesFirstFault bytes fault = IsFirstFault bytes fault
+NamesFirstFault bytes fault = NamesFirstFaultBy Refused bytes fault

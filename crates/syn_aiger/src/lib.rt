@@ -1,6 +1,7 @@
 //! AIGER files as networks, both ways.
 //!
-//! `read_aig` takes the bytes of a file and gives its network, or the first fault; `write_aig` takes
+//! `read_aig` takes the bytes of a file and gives its network, or the first fault; `read_aig_with`
+//! may take bad states and constraints, which become outputs. `write_aig` takes
 //! a network and gives the bytes of its file, or names the first latch with a type, which
 //! `write_untyped_aig` leaves out.
 //! What bytes say, and the bytes of what is to be said, are those of `syn_aiger_files`.
@@ -8,7 +9,6 @@
 
 mod circles;
 mod file_numbers;
-mod first_names;
 mod frame;
 mod given;
 mod laws;
@@ -24,6 +24,6 @@ pub use laws::{
     one_aig, one_fault, order_has_no_circle, printed_spells, spelled_defines_once,
     written_reads_back,
 };
-pub use reader::read_aig;
-pub use syn_aiger_files::{AigFault, MAX_GATES};
+pub use reader::{read_aig, read_aig_with};
+pub use syn_aiger_files::{AigFault, MAX_GATES, Properties};
 pub use writer::{AigWriteFault, write_aig, write_untyped_aig};

@@ -5,8 +5,8 @@ ghost use Rattle.std.specs.List.{list_all};
 ghost use Rattle.syn_netlist.specs.Frames.{frame_in};
 ghost use Rattle.syn_network.specs.Written.{network_of};
 ghost use Rattle.syn_aiger_files.specs.declared.files.Aig.{Aig};
-ghost use Rattle.syn_aiger_files.specs.Spelling.{most_variables, spelled};
-ghost use Rattle.syn_aiger.specs.Faults.{NamesFirstFault, Spells, Within, most_ands};
+ghost use Rattle.syn_aiger_files.specs.Spelling.{most_variables, spelled_with};
+ghost use Rattle.syn_aiger.specs.Faults.{NamesFirstFault, NamesFirstFaultBy, Spells, SpellsBy, Within, most_ands};
 ghost use Rattle.syn_aiger.specs.Framing.{AllDefined, AreLiterals, IsBodyOf};
 ghost use Rattle.syn_aiger.specs.Networks.{IsGraphOfAig, frame_of, observed_literals};
 ghost use Rattle.syn_aiger.specs.Placing.{ReadsDefined, is_defined, lit_in};
@@ -20,7 +20,7 @@ use crate::names::names_of;
 use crate::rows::rows;
 use crate::undefined::first_undefined;
 use std::alloc::{AllocError, Global};
-use syn_aiger_files::{AigFault, MAX_GATES, parse};
+use syn_aiger_files::{AigFault, MAX_GATES, Properties, parse_with};
 use syn_graph::{Graph, compact};
 use syn_network::{Network, few_observed};
 use syn_reader::MAX_SOURCES;
@@ -108,14 +108,19 @@ fn graph_of(alloc: Global, file: &Numbered) -> Result<Network, AllocError>
 }
 
 // The network of the file that the bytes spell, within the limits; or their first fault.
-fn graph_within(alloc: Global, bytes: &[u8], file: &Numbered) -> Result<Network, AigFault>
-    requires { spelled bytes.now ≡ Ok file.now.aig }
-    ensures graph { IfOk result (λ graph. (g : Aig) × Spells bytes.now g × Within g × IsGraphOfAig g (network_of graph)) }
+fn graph_within(
+    alloc: Global,
+    properties: Properties,
+    bytes: &[u8],
+    file: &Numbered,
+) -> Result<Network, AigFault>
+    requires { spelled_with properties bytes.now ≡ Ok file.now.aig }
+    ensures graph { IfOk result (λ graph. (g : Aig) × SpellsBy properties bytes.now g × Within g × IsGraphOfAig g (network_of graph)) }
     ensures few { IfOk result (λ graph. length graph.body.rows ≤ graph.body.source_count + 1 + most_ands) }
     ensures outputs { IfOk result (λ graph. length graph.frame.outputs ≤ most_variables) }
-    ensures fault { IfErr result (NamesFirstFault bytes.now) }
+    ensures fault { IfErr result (NamesFirstFaultBy properties bytes.now) }
 {
-    let _ = bytes;
+    let _ = (properties, bytes);
     if let Some(v) = first_undefined(file) {
         return Err(AigFault::Undefined(v));
     }
@@ -134,7 +139,23 @@ fn graph_within(alloc: Global, bytes: &[u8], file: &Numbered) -> Result<Network,
     Ok(graph)
 }
 
-/// The graph of the file that the bytes spell, within the limits; or their first fault. `NoMemory` may come for any bytes.
+/// The network of the file that the bytes spell, within the limits, with bad states and constraints as outputs or refused; or their first fault. `NoMemory` may come for any bytes.
+pub fn read_aig_with(
+    alloc: Global,
+    bytes: &[u8],
+    properties: Properties,
+) -> Result<Network, AigFault>
+    requires { length bytes.now < 2 ^ 32 }
+    ensures graph { IfOk result (λ graph. (g : Aig) × SpellsBy properties bytes.now g × Within g × IsGraphOfAig g (network_of graph)) }
+    ensures few { IfOk result (λ graph. length graph.body.rows ≤ graph.body.source_count + 1 + most_ands) }
+    ensures outputs { IfOk result (λ graph. length graph.frame.outputs ≤ most_variables) }
+    ensures fault { IfErr result (NamesFirstFaultBy properties bytes.now) }
+{
+    let file = Numbered::of(alloc, parse_with(alloc, bytes, properties)?)?;
+    graph_within(alloc, properties, bytes, &file)
+}
+
+/// The network of the file that the bytes spell, within the limits; or their first fault. `NoMemory` may come for any bytes.
 pub fn read_aig(alloc: Global, bytes: &[u8]) -> Result<Network, AigFault>
     requires { length bytes.now < 2 ^ 32 }
     ensures graph { IfOk result (λ graph. (g : Aig) × Spells bytes.now g × Within g × IsGraphOfAig g (network_of graph)) }
@@ -142,6 +163,5 @@ pub fn read_aig(alloc: Global, bytes: &[u8]) -> Result<Network, AigFault>
     ensures outputs { IfOk result (λ graph. length graph.frame.outputs ≤ most_variables) }
     ensures fault { IfErr result (NamesFirstFault bytes.now) }
 {
-    let file = Numbered::of(alloc, parse(alloc, bytes)?)?;
-    graph_within(alloc, bytes, &file)
+    read_aig_with(alloc, bytes, Properties::Refused)
 }

@@ -13,3 +13,5 @@ pub mod Naming
 pub mod Pushing
 pub mod Pairing
 pub mod Spelled
+pub mod Called
+pub mod AsOutputs

@@ -95,7 +95,7 @@ module _ {X : Type 0} (f : X → Entry) where
 
 -- the first line of a file
 abbrev pub header_for : Bool → Aig → Header
-header_for ascii g = record { ascii = ascii; variables = g.variables; inputs = length g.inputs; latches = length g.latches; outputs = length g.outputs; ands = length g.ands }
+header_for ascii g = record { ascii = ascii; variables = g.variables; inputs = length g.inputs; latches = length g.latches; outputs = length g.outputs; ands = length g.ands; further = record { bad = 0; constraints = 0; justice = 0; fairness = 0 } }
 
 pub wanted_entries : (ascii : Bool) (g : Aig) → IsNormal g → map entry_wanted (entries ascii g) ≡ wanted_by ascii (header_for ascii g)
 wanted_entries true g n =

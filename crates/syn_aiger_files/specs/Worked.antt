@@ -1,8 +1,8 @@
 -- Worked files, computed from the definitions.
 use Rattle.std.specs.Prelude.{◌≡◌, [], ◌∷◌, ◌++◌, codes, Ok, Err}
 use Rattle.syn_aiger_files.specs.declared.fault.AigFault.TheVariants as faults
-use Rattle.syn_aiger_files.specs.Files.{Aig, OfInput, OfOutput}
-use Rattle.syn_aiger_files.specs.Spelling.{spelled}
+use Rattle.syn_aiger_files.specs.Files.{Aig, AsOutputs, OfBad, OfConstraint, OfInput, OfOutput}
+use Rattle.syn_aiger_files.specs.Spelling.{spelled, spelled_with}
 
 -- the three ANDs of `a b or a c`
 abbrev pub or_of_ands : Aig
@@ -43,3 +43,22 @@ pub record WorkedPairs : Type 0 where
   pub above : spelled (codes "aig 1 0 0 0 1\n" ++ (3 ∷ 0 ∷ [])) ≡ Err (faults.Pair 14)
   pub cut : spelled (codes "aig 1 0 0 0 1\n" ++ (1 ∷ 129 ∷ [])) ≡ Err (faults.Pair 14)
   pub long : spelled (codes "aig 1 0 0 0 1\n" ++ (129 ∷ 128 ∷ 128 ∷ 128 ∷ 128 ∷ 0 ∷ 0 ∷ [])) ≡ Err (faults.Pair 14)
+
+-- an output, and a bad state and a constraint as outputs behind it
+abbrev pub with_property_outputs : Aig
+with_property_outputs = record {
+  variables = 1;
+  inputs = 2 ∷ [];
+  latches = [];
+  outputs = 2 ∷ 3 ∷ 0 ∷ [];
+  ands = [];
+  symbols = record { place = OfOutput; index = 1; name = codes "x" } ∷ record { place = OfOutput; index = 2; name = codes "y" } ∷ record { place = OfConstraint; index = 0; name = codes "y" } ∷ record { place = OfBad; index = 0; name = codes "x" } ∷ [];
+}
+
+-- Bad states and constraints are outputs with their symbols, or a fault of the first line; justice properties are a fault of their own, and a tenth count is one of the first line.
+pub record WorkedProperties : Type 0 where
+  pub ascii : spelled_with AsOutputs (codes "aag 1 1 0 1 0 1 1\n2\n2\n3\n0\nc0 y\nb0 x\n") ≡ Ok with_property_outputs
+  pub binary : spelled_with AsOutputs (codes "aig 1 1 0 1 0 1 1 0 0\n2\n3\n0\nc0 y\nb0 x\nc\n") ≡ Ok with_property_outputs
+  pub refused : spelled (codes "aag 1 1 0 1 0 1 1\n2\n2\n3\n0\nc0 y\nb0 x\n") ≡ Err faults.Header
+  pub liveness : spelled_with AsOutputs (codes "aag 1 1 0 0 0 0 0 1\n2\n0\n") ≡ Err faults.Liveness
+  pub tenth : spelled_with AsOutputs (codes "aag 1 1 0 0 0 0 0 0 0 0\n2\n") ≡ Err faults.Header

@@ -11,5 +11,5 @@ returns-then-k-h-2-clause-next c = by_next (wanted_by false c.args.h.now) c.args
 
 pub returns-clause-next : goal.returns-clause-next
 returns-clause-next c =
-    by_next (wanted_by false c.args.h.now) c.args.k (PairOf (2 * (c.args.h.now.inputs + c.args.h.now.latches + 1 + (c.args.k - c.args.h.now.latches - c.args.h.now.outputs))))
-    (binary_pair c.args.h.now c.args.k (2 * (c.args.h.now.inputs + c.args.h.now.latches + 1 + (c.args.k - c.args.h.now.latches - c.args.h.now.outputs))) (omega (arith, c.if-k-h-2.false)) (omega (arith, c.requires.within)) refl)
+    by_next (wanted_by false c.args.h.now) c.args.k (PairOf (2 * (c.args.h.now.inputs + c.args.h.now.latches + 1 + (c.args.k - c.args.h.now.latches - all_outputs c.args.h.now))))
+    (binary_pair c.args.h.now c.args.k (2 * (c.args.h.now.inputs + c.args.h.now.latches + 1 + (c.args.k - c.args.h.now.latches - all_outputs c.args.h.now))) (omega (arith, c.if-k-h-2.false)) (omega (arith, c.requires.within)) refl)
