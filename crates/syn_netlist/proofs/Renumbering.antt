@@ -9,7 +9,7 @@ use Rattle.std.proofs.lemmas.List.{get_or-set_other, length-replicate}
 use Rattle.std.proofs.lemmas.List.Sums.{sum_by-cons, sum_by-set}
 use Rattle.syn_netlist.specs.declared.frames.Frame.{Frame}
 use Rattle.syn_netlist.specs.declared.Latch.{Latch}
-use Rattle.syn_netlist.specs.Choosing.{ArePlaces, filled, IsPlace}
+use Rattle.syn_netlist.specs.Choosing.{ArePlaces, filled, IsPlace, SaysSame}
 use Rattle.syn_netlist.specs.Frames.{frame_in}
 use Rattle.syn_netlist.specs.Kept.{frame_of, latch_in, nil_word, no_nil_control}
 use Rattle.syn_netlist.specs.Lists as lists
@@ -114,14 +114,6 @@ word_passes test names (n ∷ ns) zero h lt = (and_parts (test (word_at names n)
 word_passes test names (n ∷ ns) (suc i) h lt = word_passes test names ns i (and_parts (test (word_at names n)) (list_all test (words_at names ns)) h).1 (omega arith)
 
 -- frames
-
--- These parts by numbers of other names say what the frame says.
-pub record SaysSame (f : Frame) (names : List (List ℕ)) (model : List ℕ) (inputs clocks outputs : List ℕ) (latches : List Latch) : Type 0 where
-  pub same_model : model ≡ f.model
-  pub same_inputs : words_at names inputs ≡ words_at f.names f.inputs
-  pub same_clocks : words_at names clocks ≡ words_at f.names f.clocks
-  pub same_outputs : words_at names outputs ≡ words_at f.names f.outputs
-  pub same_latches : map (latch_in names) latches ≡ map (latch_in f.names) f.latches
 
 pub same_in_words : (f : Frame) (names : List (List ℕ)) (model : List ℕ) (inputs clocks outputs : List ℕ) (latches : List Latch) → SaysSame f names model inputs clocks outputs latches → frame_of names model inputs clocks outputs latches ≡ frame_in f
 same_in_words f names model inputs clocks outputs latches s =

@@ -1,8 +1,8 @@
 -- The steps of the walk keep its state.
-use Rattle.std.proofs.Common.{◌≡◌, ◌≢◌, ℕ, zero, suc, ◌+◌, ◌<◌, ◌≤◌, ◌&&◌, ◌||◌, not, nat_eq, nat_lt, Bool, true, false, List, [], ◌∷◌, ◌++◌, length, map, take, get_or, refl, sym, ap, ◌∙◌, subst, inl, inr, arith, Option, Some, None, MatchOption, sum_by}
+use Rattle.std.proofs.Common.{◌≡◌, ◌≢◌, ℕ, zero, suc, ◌<◌, ◌≤◌, ◌&&◌, nat_eq, nat_lt, true, false, List, [], ◌∷◌, ◌++◌, length, map, take, get_or, refl, sym, ap, ◌∙◌, subst, inl, inr, arith, Option, Some, None, MatchOption, sum_by}
 use Rattle.std.proofs.Math.ListN.{set, length-set}
 use Rattle.std.specs.List.{list_all}
-use Rattle.std.proofs.lemmas.Bool.{ltb-true, and_parts, and_from, or_left, or_right, or_parts, or_from, both_ways, not-true, not_from_false, false_from_ne_true, cases_lt}
+use Rattle.std.proofs.lemmas.Bool.{ltb-true, and_parts, and_from, or_parts, both_ways, cases_lt}
 use Rattle.std.proofs.lemmas.Bool.Decides.{eqb_tells}
 use Rattle.std.proofs.lemmas.Grind.{get_or-set_at}
 use Rattle.std.proofs.lemmas.List.{get_or-set_other, get_or_past}
@@ -14,8 +14,7 @@ use Rattle.syn_lists.specs.Numbers.{has_number}
 use Rattle.syn_netlist.specs.Numbers.{all_below}
 use Rattle.syn_netlist.specs.Tables.{tables_below}
 use Rattle.syn_netlist.specs.Walk.{AreDrivers, table_output, output_at, inputs_at, driver_at, stage_at, is_open, is_done, weight, driver_done, is_finished, driver_among, reads_made, seen_at, Leads, Linked, Begins, IsOrderWalk, IsNext, GoOn, Meets}
-use Rattle.syn_lists.specs.Numbers.{distinct_numbers}
-use Rattle.syn_lists.proofs.Once.{number_same, same_number, has_last, has_other, once_front, once_more}
+use Rattle.syn_lists.proofs.Once.{number_same, has_last, has_other, once_front, once_more}
 use Rattle.syn_netlist.proofs.Places.{below_parts, below_from, all_below-append}
 
 -- the last of a list

@@ -29,11 +29,16 @@ impl CheckedNetlist {
         ensures netlist { IfOk result (λ checked. checked.netlist ≡ netlist) }
         ensures fault { IfErr result (IsFault (netlist_in netlist)) }
     {
-        let order = order_driven(alloc, &netlist)?;
-        Ok(CheckedNetlist {
-            netlist,
-            order: Items::of(order),
-        })
+        match order_driven(alloc, &netlist) {
+            Ok(order) => Ok(CheckedNetlist {
+                netlist,
+                order: Items::of(order),
+            }),
+            Err(fault) => {
+                drop(netlist);
+                Err(fault)
+            }
+        }
     }
 
     /// The order puts the tables in order.

@@ -1,8 +1,8 @@
 //! A frame over its own names alone.
 
-ghost use Rattle.std.specs.Prelude.{◌≡◌, ◌≤◌, ◌<◌, ◌++◌, IfOk, OnOk, None, length, map, replicate, true};
+ghost use Rattle.std.specs.Prelude.{◌≡◌, ◌≤◌, ◌<◌, ◌++◌, IfOk, OnOk, None, [], length, map, replicate, true};
 ghost use Rattle.std.specs.List.{list_all};
-ghost use Rattle.syn_netlist.specs.Choosing.{ArePlaces};
+ghost use Rattle.syn_netlist.specs.Choosing.{ArePlaces, SaysSame};
 ghost use Rattle.syn_netlist.specs.Frames.{frame_in};
 ghost use Rattle.syn_netlist.specs.Kept.{control_number, latch_in, latch_numbers, latches_below};
 ghost use Rattle.syn_netlist.specs.Lists.{observed, own_names, sources};
@@ -23,6 +23,16 @@ struct Chosen<'a> {
     names: Names,
     places: Vec<Option<u32>>,
     ghost placed: { ArePlaces all.now names places.items },
+}
+
+// What a frame has beside its names.
+#[derive(Drop)]
+struct Lists {
+    model: Word,
+    inputs: Items<u32>,
+    clocks: Items<u32>,
+    outputs: Items<u32>,
+    latches: Items<Latch>,
 }
 
 // So many names without a place.
@@ -57,19 +67,41 @@ fn choose(
     }
 }
 
+// Puts the names of these numbers behind those that are chosen, each where it isn't among them.
+fn choose_each(
+    alloc: Global,
+    all: &Names,
+    numbers: &[u32],
+    names: &mut Names,
+    places: &mut [Option<u32>],
+) -> Result<(), AllocError>
+    requires below { all_below (length all.now) numbers.now ≡ true }
+    requires placed { ArePlaces all.now names.old places.old }
+    requires none { names.old ≡ [] }
+    ensures names { OnOk result (names.new ≡ firsts (words_at all.now numbers.now)) }
+    ensures placed { OnOk result (ArePlaces all.now names.new places.new) }
+{
+    for number in numbers {
+        choose(alloc, all, *number, names, places)?;
+    }
+    Ok(())
+}
+
 // The names of these numbers, each once.
 fn choose_all<'a>(alloc: Global, all: &'a Names, numbers: &[u32]) -> Result<Chosen<'a>, AllocError>
     requires { all_below (length all.now) numbers.now ≡ true }
     ensures all { IfOk result (λ c. c.all.now ≡ all.now) }
     ensures names { IfOk result (λ c. c.names ≡ firsts (words_at all.now numbers.now)) }
 {
-    let mut names = Names::new(alloc);
     let mut places = no_places(alloc, all.len())?;
-    let slots = places.as_mut_slice();
-    for number in numbers {
-        choose(alloc, all, *number, &mut names, slots)?;
+    let mut names = Names::new(alloc);
+    match choose_each(alloc, all, numbers, &mut names, places.as_mut_slice()) {
+        Ok(()) => Ok(Chosen { all, names, places }),
+        Err(error) => {
+            drop(names);
+            Err(error)
+        }
     }
-    Ok(Chosen { all, names, places })
 }
 
 impl<'a> Chosen<'a> {
@@ -144,6 +176,30 @@ impl<'a> Chosen<'a> {
         Ok(Items::of(found))
     }
 
+    // What the frame has beside its names, where its own are chosen, by the numbers that they have now.
+    fn lists(&self, alloc: Global, frame: &Frame) -> Result<Lists, AllocError>
+        requires all { self.now.all.now ≡ frame.now.names }
+        requires own { self.now.names ≡ own_names (frame_in frame.now) }
+        ensures same { IfOk result (λ l. SaysSame frame.now self.now.names l.model l.inputs l.clocks l.outputs l.latches) }
+        ensures inputs { IfOk result (λ l. all_below (length self.now.names) l.inputs ≡ true) }
+        ensures clocks { IfOk result (λ l. all_below (length self.now.names) l.clocks ≡ true) }
+        ensures outputs { IfOk result (λ l. all_below (length self.now.names) l.outputs ≡ true) }
+        ensures latches { IfOk result (λ l. latches_below (length self.now.names) l.latches ≡ true) }
+    {
+        let model = Word::of(frame.model.as_slice().to_vec(alloc)?);
+        let inputs = self.numbers(alloc, frame.inputs.as_slice())?;
+        let clocks = self.numbers(alloc, frame.clocks.as_slice())?;
+        let outputs = self.numbers(alloc, frame.outputs.as_slice())?;
+        let latches = self.latches(alloc, frame.latches.as_slice())?;
+        Ok(Lists {
+            model,
+            inputs,
+            clocks,
+            outputs,
+            latches,
+        })
+    }
+
     // The frame over the chosen names, which are its own.
     fn frame(self, alloc: Global, frame: &Frame) -> Result<Frame, AllocError>
         requires all { self.all.now ≡ frame.now.names }
@@ -151,24 +207,28 @@ impl<'a> Chosen<'a> {
         ensures same { IfOk result (λ f. frame_in f ≡ frame_in frame.now) }
         ensures names { IfOk result (λ f. f.names ≡ self.entry.names) }
     {
-        let model = Word::of(frame.model.as_slice().to_vec(alloc)?);
-        let inputs = self.numbers(alloc, frame.inputs.as_slice())?;
-        let clocks = self.numbers(alloc, frame.clocks.as_slice())?;
-        let outputs = self.numbers(alloc, frame.outputs.as_slice())?;
-        let latches = self.latches(alloc, frame.latches.as_slice())?;
-        let Chosen {
-            all: _,
-            names,
-            places: _,
-        } = self;
-        Ok(Frame {
-            names,
-            model,
-            inputs,
-            clocks,
-            outputs,
-            latches,
-        })
+        match self.lists(alloc, frame) {
+            Ok(lists) => {
+                let Chosen {
+                    all: _,
+                    names,
+                    places,
+                } = self;
+                drop(places);
+                Ok(Frame {
+                    names,
+                    model: lists.model,
+                    inputs: lists.inputs,
+                    clocks: lists.clocks,
+                    outputs: lists.outputs,
+                    latches: lists.latches,
+                })
+            }
+            Err(error) => {
+                drop(self);
+                Err(error)
+            }
+        }
     }
 }
 

@@ -1,19 +1,16 @@
-use Rattle.std.proofs.Common.{◌≡◌, ℕ, ◌+◌, ◌<◌, [], List, length, drop, get_or, replicate, Option, None, sym, ap, subst, ◌∙◌, arith, rules}
+use Rattle.std.proofs.Common.{ℕ, ◌+◌, ◌<◌, List, length, drop, get_or, sym, ap, ◌∙◌, arith}
 use Rattle.std.proofs.lemmas.List.{drop_more}
-use Rattle.syn_netlist.specs.Choosing.{ArePlaces}
 use Rattle.syn_netlist.specs.Numbers.{word_at, words_at}
 use Rattle.syn_netlist.specs.Words.{firsts}
-use Rattle.syn_netlist.proofs.Renumbering.{none_placed}
 use Rattle.syn_netlist.proofs.Sets.{firsts_after, firsts_more, without_none}
-use Rattle.syn_netlist.proofs.frame_names.choose_all.Goals as goal
+use Rattle.syn_netlist.proofs.frame_names.choose_each.Goals as goal
 
 pub loop-number-init : goal.loop-number-init
 loop-number-init c =
     let all = c.args.all.now in
-    let slots : c.as_mut_slice-slots.result.now ≡ replicate {A = Option ℕ} (length all) None = search rules in
     record {
-      rest = ap (λ (own : List (List ℕ)). firsts_after own (words_at all c.args.numbers.now)) c.new-names.ensures ∙ without_none (firsts (words_at all c.args.numbers.now));
-      placed = subst (λ (own : List (List ℕ)). ArePlaces all own c.as_mut_slice-slots.result.now) (sym c.new-names.ensures) (subst (λ (places : List (Option ℕ)). ArePlaces all [] places) (sym slots) (none_placed all));
+      rest = ap (λ (own : List (List ℕ)). firsts_after own (words_at all c.args.numbers.now)) c.requires.none ∙ without_none (firsts (words_at all c.args.numbers.now));
+      placed = c.requires.placed;
     }
 
 pub loop-number-preserved : goal.loop-number-preserved
