@@ -4,6 +4,7 @@ ghost use Rattle.std.specs.Prelude.{◌≡◌, ◌+◌, ◌^◌, ◌<◌, ◌++�
 ghost use Rattle.syn_models.specs.Answers.{IsFirst, IsFlatFault, frame_with, models_in};
 ghost use Rattle.syn_models.specs.Calling.{inner_count};
 ghost use Rattle.syn_models.specs.FlatFaults.{Flattens, WithinWords, first_fault_of_models};
+ghost use Rattle.syn_models.specs.Files.{IsFile};
 ghost use Rattle.syn_models.specs.Flattening.{IsFlattening};
 ghost use Rattle.syn_models.specs.Models.{clocks_of};
 ghost use Rattle.syn_models.specs.Views.{model_in};
@@ -17,7 +18,7 @@ ghost use Rattle.syn_netlist.specs.Words.{distinct};
 use crate::FlatFault;
 use crate::checks::file_fault;
 use crate::containment::{all_contained, model_order, total_words};
-use crate::files::file_of;
+use crate::files::{File, file_of};
 use crate::hierarchy::Model;
 use crate::instance_calls::call_names;
 use crate::instance_copies::{all_latches, all_tables};
@@ -91,6 +92,30 @@ fn flat_netlist(
     })
 }
 
+// The netlist that the models of a file stand for, or else their first fault.
+fn flat_of(alloc: Global, models: &Models, file: &File<'_>) -> Result<Netlist, FlatFault>
+    requires file { IsFile file.now }
+    requires same { file.now.models.now ≡ models.now.models }
+    ensures netlist { IfOk result (λ n. Flattens (models_in models.now.models) (netlist_in n)) }
+    ensures within { OnOk result (WithinWords (models_in models.now.models)) }
+    ensures names { IfOk result (λ n. length n.frame.names < 2 ^ 31) }
+    ensures fault { IfErr result (IsFlatFault (models_in models.now.models)) }
+{
+    let _ = models;
+    if let Some(fault) = file_fault(alloc, file)? {
+        return Err(fault);
+    }
+    let inner = all_contained(alloc, file)?;
+    let order = model_order(alloc, file, inner.as_slice())?;
+    let words = total_words(alloc, file.models, inner.as_slice(), order.as_slice())?;
+    if words > MAX_WORDS {
+        return Err(FlatFault::TooManyWords(words));
+    }
+    let main = &file.models[0];
+    let walked = walk(alloc, file, main)?;
+    Ok(flat_netlist(alloc, file.models, main, &walked)?)
+}
+
 /// The netlist that models stand for: the main model's lists, and the latches and tables of the main model and of all its
 /// instances, in order. An instance's bound formals are called as their actuals are; any other name x of instance k is
 /// called `k`, slashes, `x`, with the fewest slashes, at least one, for which no such name is a name of the main model.
@@ -104,16 +129,5 @@ pub fn flatten(models: &Models, alloc: Global) -> Result<Netlist, FlatFault>
     ensures fault { IfErr result (IsFlatFault (models_in models.now.models)) }
 {
     let file = file_of(alloc, models.models.as_slice())?;
-    if let Some(fault) = file_fault(alloc, &file)? {
-        return Err(fault);
-    }
-    let inner = all_contained(alloc, &file)?;
-    let order = model_order(alloc, &file, inner.as_slice())?;
-    let words = total_words(alloc, file.models, inner.as_slice(), order.as_slice())?;
-    if words > MAX_WORDS {
-        return Err(FlatFault::TooManyWords(words));
-    }
-    let main = &file.models[0];
-    let walked = walk(alloc, &file, main)?;
-    Ok(flat_netlist(alloc, file.models, main, &walked)?)
+    flat_of(alloc, models, &file)
 }
