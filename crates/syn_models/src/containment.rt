@@ -163,9 +163,9 @@ fn containing(alloc: Global, file: &File<'_>, inner: &[Items<u32>]) -> Result<Ne
     requires words { map (words_at (names_of file.now)) inner.now ≡ map (λ m. flat_map contained_by m.statements) file.now.models.now }
     ensures { IfOk result (λ n. netlist_in n ≡ containing (models_in file.now.models.now)) }
 {
-    let names = model_names(alloc, file.models)?;
     let model = copied(alloc, file.models[0].name.as_slice())?;
     let tables = model_tables(alloc, file, inner)?;
+    let names = model_names(alloc, file.models)?;
     Ok(Netlist {
         frame: bare_frame(alloc, names, model),
         tables: Items::of(tables),
@@ -191,7 +191,9 @@ pub(crate) fn model_order(
     ensures fault { IfErr result (IsFlatFault (models_in file.now.models.now)) }
 {
     let netlist = containing(alloc, file, inner)?;
-    match table_order(&netlist, alloc) {
+    let order = table_order(&netlist, alloc);
+    drop(netlist);
+    match order {
         Ok(order) => Ok(order),
         Err(NetFault::Cycle(names)) => Err(FlatFault::Recursion(names)),
         Err(NetFault::Undriven(_)) => unreachable!(),
