@@ -1,6 +1,6 @@
 //! The generated netlist.
 
-ghost use Rattle.std.specs.Prelude.{◌≡◌, ◌+◌, ◌<◌, ◌≤◌, ◌^◌, true, [], IfOk, codes, length, map};
+ghost use Rattle.std.specs.Prelude.{◌≡◌, ◌+◌, ◌-◌, ◌<◌, ◌≤◌, ◌^◌, true, [], IfOk, codes, length, map};
 ghost use Rattle.syn_netlist.specs.Numbers.{words_at};
 ghost use Rattle.syn_netlist.specs.Tables.{table_in, tables_below};
 ghost use Rattle.syn_netlist.specs.Views.{netlist_in};
@@ -10,17 +10,12 @@ use crate::names::{INPUTS, input_numbers, signal_names};
 use crate::tables::{draw_tables, signals_read, unmarked_outputs};
 use std::alloc::{AllocError, Global};
 use syn_lists::Items;
-use syn_netlist::{Frame, Names, Netlist, Table, Word, marks_of};
+use syn_netlist::{Frame, Netlist, Table, Word, marks_of};
 
 // The frame over so many signals, with the outputs of the tables that none of them reads.
-fn frame_over(
-    alloc: Global,
-    names: Names,
-    count: u32,
-    tables: &[Table],
-) -> Result<Frame, AllocError>
+fn frame_over(alloc: Global, count: u32, tables: &[Table]) -> Result<Frame, AllocError>
     requires inputs { 16 ≤ count }
-    requires names { names ≡ signals count }
+    requires few { count < 2 ^ 32 - 1 }
     requires below { tables_below count tables.now ≡ true }
     ensures names { IfOk result (λ frame. frame.names ≡ signals count) }
     ensures model { IfOk result (λ frame. frame.model ≡ codes "gen") }
@@ -32,10 +27,13 @@ fn frame_over(
     let read = signals_read(alloc, tables)?;
     let marks = marks_of(alloc, count, read.as_slice())?;
     let outputs = unmarked_outputs(alloc, tables, marks.as_slice())?;
+    let inputs = input_numbers(alloc)?;
+    let model = Vec::from_slice(alloc, b"gen")?;
+    let names = signal_names(alloc, count)?;
     Ok(Frame {
         names,
-        model: Word::of(Vec::from_slice(alloc, b"gen")?),
-        inputs: Items::of(input_numbers(alloc)?),
+        model: Word::of(model),
+        inputs: Items::of(inputs),
         clocks: Items::of(Vec::new(alloc)),
         outputs: Items::of(outputs),
         latches: Items::of(Vec::new(alloc)),
@@ -50,8 +48,7 @@ pub fn generate(alloc: Global, seed: u64, size: u32) -> Result<Netlist, AllocErr
     ensures names { IfOk result (λ netlist. length netlist.frame.names ≡ 16 + size) }
 {
     let tables = draw_tables(alloc, seed, size)?;
-    let names = signal_names(alloc, INPUTS + size)?;
-    let frame = frame_over(alloc, names, INPUTS + size, tables.as_slice())?;
+    let frame = frame_over(alloc, INPUTS + size, tables.as_slice())?;
     Ok(Netlist {
         frame,
         tables: Items::of(tables),
