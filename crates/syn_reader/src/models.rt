@@ -1,7 +1,8 @@
 //! Reading the models of a text.
 
-ghost use Rattle.std.specs.Prelude.{◌≡◌, ◌+◌, ◌^◌, ◌<◌, ℕ, List, [], ◌∷◌, ◌++◌, length, map, false, true, IfErr, IfOk, IfSome, OnOk, Some, None};
-ghost use Rattle.syn_models.specs.Views.{model_in};
+ghost use Rattle.std.specs.Prelude.{◌≡◌, ◌+◌, ◌^◌, ◌<◌, ◌≤◌, ℕ, List, [], ◌∷◌, ◌++◌, length, map, false, true, IfErr, IfOk, IfSome, OnOk, Some, None};
+ghost use Rattle.syn_models.specs.Models.{name_of};
+ghost use Rattle.syn_models.specs.Views.{all_counted, model_in};
 ghost use Rattle.syn_netlist.specs.Words.{distinct, has_word, is_word};
 ghost use Rattle.syn_lex.specs.Words.{text_of};
 ghost use Rattle.syn_reader.specs.Heard.{all_words, statement, word_count};
@@ -21,8 +22,8 @@ use crate::statements::Statements;
 use crate::{Kind, ReadFault};
 use std::alloc::Global;
 use syn_lex::LineWords;
-use syn_models::{Model, Models};
 use syn_lists::Items;
+use syn_models::{Model, Models};
 use syn_netlist::{Names, Word};
 
 // A model of which the statements are to be gathered: its name, and what its `.model` line counts.
@@ -131,6 +132,35 @@ fn gather_model(
     Ok(finish(begun.name, gathering))
 }
 
+// Gathers all models of a file behind none, and their names; or else answers the first fault of a line.
+fn gather_each(
+    alloc: Global,
+    statements: Statements<'_>,
+    names: &mut Names,
+    models: &mut Vec<Model>,
+) -> Result<(), ReadFault>
+    requires names { names.old ≡ [] }
+    requires models { models.old.items ≡ [] }
+    requires words { word_count statements < 2 ^ 32 }
+    requires total { words_of statements < 2 ^ 62 }
+    requires lines { length statements + 1 < 2 ^ 32 }
+    ensures spelled { OnOk result (SpellAll (by_model statements.entry) (map model_in models.new.items)) }
+    ensures faultless { OnOk result (first_fault_of_models [] (by_model statements.entry) ≡ None) }
+    ensures names { OnOk result (names.new ≡ map name_of (map model_in models.new.items)) }
+    ensures some { OnOk result (1 ≤ length models.new.items) }
+    ensures few { OnOk result (length models.new.items < 2 ^ 32) }
+    ensures counted { OnOk result (all_counted models.new.items ≡ true) }
+    ensures fault { IfErr result (λ e. IfSome (fault_in e) (λ f. first_fault_of_models [] (by_model statements.entry) ≡ Some f)) }
+{
+    let mut statements = statements;
+    let many = statements.begins_model();
+    models.push(gather_model(alloc, &mut statements, many, names)?)?;
+    while statements.begins_model() {
+        models.push(gather_model(alloc, &mut statements, many, names)?)?;
+    }
+    Ok(())
+}
+
 // Gathers all models of a file; or else answers the first fault of a line.
 fn gather_models(alloc: Global, statements: Statements<'_>) -> Result<Models, ReadFault>
     requires words { word_count statements < 2 ^ 32 }
@@ -140,18 +170,20 @@ fn gather_models(alloc: Global, statements: Statements<'_>) -> Result<Models, Re
     ensures faultless { OnOk result (first_fault_of_models [] (by_model statements.entry) ≡ None) }
     ensures fault { IfErr result (λ e. IfSome (fault_in e) (λ f. first_fault_of_models [] (by_model statements.entry) ≡ Some f)) }
 {
-    let mut statements = statements;
-    let many = statements.begins_model();
     let mut names = Names::new(alloc);
     let mut models = Vec::new(alloc);
-    models.push(gather_model(alloc, &mut statements, many, &mut names)?)?;
-    while statements.begins_model() {
-        models.push(gather_model(alloc, &mut statements, many, &mut names)?)?;
-    }
+    let gathered = gather_each(alloc, statements, &mut names, &mut models);
     let _count = names.len();
-    Ok(Models {
-        models: Items::of(models),
-    })
+    drop(names);
+    match gathered {
+        Ok(()) => Ok(Models {
+            models: Items::of(models),
+        }),
+        Err(fault) => {
+            drop(models);
+            Err(fault)
+        }
+    }
 }
 
 /// Reads the models that the bytes of a text spell, or names the first disallowed byte or fault of a line.

@@ -4,7 +4,7 @@ use Rattle.syn_models.specs.Views.{all_counted, model_in}
 use Rattle.syn_reader.specs.Heard.{word_count}
 use Rattle.syn_reader.specs.Parted.{by_model, parted, words_of}
 use Rattle.syn_reader.proofs.Parting.{GoesOn, IsSettled}
-use Rattle.syn_reader.proofs.models.gather_models.Given as goal
+use Rattle.syn_reader.proofs.models.gather_each.Given as goal
 
 abbrev pub invariant-loop-statements : goal.invariant-loop-statements
 invariant-loop-statements l = record {

@@ -12,7 +12,7 @@ use Rattle.syn_reader.specs.Saying.{SpellAll}
 use Rattle.syn_reader.proofs.Counting.{others_few, others_shorter, totals_first, words_first}
 use Rattle.syn_reader.proofs.FaultLaws.{passes_fault}
 use Rattle.syn_reader.proofs.Parting.{all_read, begins_all, by_first, counted_more, has_words, in_words, moves, names_more, one_more, parted_by, settles, still_many, stops_here}
-use Rattle.syn_reader.proofs.models.gather_models.Goals as goal
+use Rattle.syn_reader.proofs.models.gather_each.Goals as goal
 
 pub gather_model-requires-clause-words : goal.gather_model-requires-clause-words
 gather_model-requires-clause-words c = let a = words_first c.begins_model-many.result c.args.statements in let w = c.requires.words in omega (arith, a, w)
@@ -26,8 +26,8 @@ returns-in_err-gather_model-clause-fault c =
     let many = c.begins_model-many.result in
     let ss = c.args.statements in
     let all = by_model ss in
-    passes_fault c.from_residual.result p.0 c.in_err-gather_model.field-0.0 (λ f. first_fault_of_lines (model_checks c.new-names.result) [] (first many ss) ≡ Some f) (λ f. first_fault_of_models [] all ≡ Some f) p.1 p.2
-    (λ f h. stops_here all all (parted (others many ss)) [] [] (first many ss) f (begins_all all) (by_first many ss (sym c.begins_model-many.ensures)) (ap (λ n. first_fault_of_lines (model_checks n) [] (first many ss)) (sym c.new-names.ensures) ∙ h)) c.in_err-gather_model.ensures.fault
+    passes_fault c.from_residual.result p.0 c.in_err-gather_model.field-0.0 (λ f. first_fault_of_lines (model_checks c.args.names.now) [] (first many ss) ≡ Some f) (λ f. first_fault_of_models [] all ≡ Some f) p.1 p.2
+    (λ f h. stops_here all all (parted (others many ss)) [] [] (first many ss) f (begins_all all) (by_first many ss (sym c.begins_model-many.ensures)) (ap (λ n. first_fault_of_lines (model_checks n) [] (first many ss)) (sym c.requires.names) ∙ h)) c.in_err-gather_model.ensures.fault
 
 pub loop-statements-init : goal.loop-statements-init
 loop-statements-init c =
@@ -39,9 +39,9 @@ loop-statements-init c =
     let items = c.push.new.self.items in
     let left = c.gather_model.new.statements in
     let name = name_in (first many ss) in
-    let pushed : items ≡ m ∷ [] = c.in_ok-push.ensures.items ∙ ap (λ (l : List Model). l ++ m ∷ []) c.new-models.ensures.items in
-    let names : c.gather_model.new.names ≡ name ∷ [] = one.names ∙ ap (λ (n : List (List ℕ)). n ++ name ∷ []) c.new-names.ensures in
-    let faultless = ap (λ n. first_fault_of_lines (model_checks n) [] (first many ss)) (sym c.new-names.ensures) ∙ one.faultless in
+    let pushed : items ≡ m ∷ [] = c.in_ok-push.ensures.items ∙ ap (λ (l : List Model). l ++ m ∷ []) c.requires.models in
+    let names : c.gather_model.new.names ≡ name ∷ [] = one.names ∙ ap (λ (n : List (List ℕ)). n ++ name ∷ []) c.requires.names in
+    let faultless = ap (λ n. first_fault_of_lines (model_checks n) [] (first many ss)) (sym c.requires.names) ∙ one.faultless in
     let step = one_more all all (parted (others many ss)) [] [] (first many ss) (model_in m) (begins_all all) (by_first many ss (sym c.begins_model-many.ensures)) faultless one.spelled in
     let few = others_few many ss in
     let some = ap length pushed in
@@ -136,5 +136,5 @@ returns-clause-spelled c =
     let ss = c.loop-statements.statements in
     let done : ss ≡ [] = all_read c.begins_model-many.result ss before.settled (sym c.begins_model.ensures ∙ c.loop-statements-test.false) in
     let items = c.loop-statements.models.items in
-    subst (SpellAll (by_model c.args.statements)) (append-nil (map model_in items) ∙ ap (map model_in) (sym c.of.ensures))
+    subst (SpellAll (by_model c.args.statements)) (append-nil (map model_in items))
     (before.goes.1 [] (subst (λ (l : List Statement). SpellAll (parted l) []) (sym done) tt))
