@@ -23,7 +23,7 @@ use Rattle.syn_fanout_free.proofs.Replaced.{lits_from, within_from}
 use Rattle.syn_graph.specs.declared.Graph.{Graph}
 use Rattle.syn_gain.proofs.Owning.{graph_within}
 use Rattle.syn_core_laws.specs.Sound.{Agree}
-use Rattle.syn_proposals.specs.Following.{Follows, SameFunction}
+use Rattle.syn_proposals.specs.Following.{Follows}
 use Rattle.syn_table.specs.Closing.{IsClosing}
 use Rattle.syn_table.specs.Openings.{with_spare}
 use Rattle.syn_pool.specs.Closing.{IsLeft}

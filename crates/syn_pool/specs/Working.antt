@@ -1,5 +1,6 @@
 -- Workers at a table, and what their commits leave.
-use Rattle.std.specs.Prelude.{◌≡◌, ◌≤◌, Bool, false, List, [], ◌∷◌, pos, ◌+ℤ◌, ◌≤ℤ◌}
+use Rattle.std.specs.Prelude.{◌≡◌, ◌⊎◌, ℕ, ◌+◌, ◌*◌, ◌^◌, ◌≤◌, Bool, false, List, [], ◌∷◌, length, pos, ◌+ℤ◌, ◌≤ℤ◌}
+use Rattle.syn_rows.specs.declared.TheConstants.{NODE_LIMIT}
 use Rattle.syn_graph.specs.declared.Graph.{Graph}
 use Rattle.syn_decide.specs.Decided.{Answer}
 use Rattle.syn_proposals.specs.declared.gains.Report.{Report}
@@ -58,3 +59,7 @@ pub record NothingDone (was : Graph) (zero_gain : Bool) : Type 0 where
   pub report : Report
   pub round : IsRoundReport was zero_gain report
   pub none : report.done ≡ 0
+
+-- A graph has no room for a table of so many workers: of their spare nodes below the limit of nodes, or of its observed signals.
+abbrev pub HasNoRoom : Graph → ℕ → Type 0
+HasNoRoom was workers = (NODE_LIMIT ≤ length was.rows + 512 * workers) ⊎ (2 ^ 30 ≤ length was.observed)

@@ -7,6 +7,7 @@ ghost use Rattle.syn_proposals.specs.Gains.{IsGain};
 ghost use Rattle.syn_pool.specs.Turns.{IsPassReport};
 ghost use Rattle.syn_pool.specs.Steps.{IsStepOf};
 
+pub(crate) mod checks;
 pub(crate) mod improvement;
 pub(crate) mod kept_levels;
 pub(crate) mod steps;

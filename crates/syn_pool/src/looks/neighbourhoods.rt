@@ -116,8 +116,8 @@ impl Seen {
 }
 
 impl Neighbourhoods {
-    // None, with room for those of this graph and of graphs made of it.
-    fn new(alloc: Global, graph: &Graph) -> Result<Neighbourhoods, AllocError> {
+    /// None, with room for those of this graph and of graphs made of it. The only error is want of memory.
+    pub(crate) fn new(alloc: Global, graph: &Graph) -> Result<Neighbourhoods, AllocError> {
         let _count = graph.count();
         let count = PLACES * graph.rows.as_slice().len();
         let marks = vec![in alloc; 0; count]?;

@@ -42,7 +42,7 @@ pub(crate) struct RoundTask<'a> {
     pub looks: bool,
 }
 
-/// What all workers of a round use beside the graph and the proposer. It owns all that it has: of a value whose type names a
+/// What all workers of a round use beside the graph, what is known of it, and the proposer. It owns all that it has: of a value whose type names a
 /// lifetime, closures that call one another by turns in threads learn nothing.
 #[derive(Drop)]
 pub(crate) struct RoundShared {
@@ -52,8 +52,6 @@ pub(crate) struct RoundShared {
     pub shared: Shared,
     /// Where a pair of literals may stand.
     pub hints: Hints,
-    /// What is looked up in the graph to tell what a proposal saves.
-    pub uses: Uses,
     /// The graph's fan-outs, none where workers don't look around their commits.
     pub fan_outs: FanOuts,
     /// The far ends of the workers' queues.
@@ -91,6 +89,8 @@ pub(crate) struct WorkerContext<'a, P, L, H> {
     pub shared_state: &'a RoundShared,
     /// The graph that the table was opened with.
     pub graph: &'a Graph,
+    /// Its pairs and its references.
+    pub uses: &'a Uses,
     /// What proposes.
     pub proposer: &'a P,
     /// What the proposer listed for the graph.

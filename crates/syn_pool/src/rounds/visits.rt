@@ -56,18 +56,12 @@ fn visit_for_gain<P: Proposer, H: CommitHook>(
     let WorkerContext {
         shared_state,
         graph,
+        uses,
         proposer,
         lists,
         tools,
     } = context;
-    let saving = proposer.commit_candidates(
-        shared_state.alloc,
-        graph,
-        &shared_state.uses,
-        lists,
-        node,
-        false,
-    )?;
+    let saving = proposer.commit_candidates(shared_state.alloc, graph, uses, lists, node, false)?;
     let done = try_each(graph, tools, worker, saving.as_slice(), false, true);
     if done && !shared_state.fan_outs.is_empty() {
         revisit_fanouts(context, worker, scratch, node);
@@ -96,18 +90,12 @@ fn visit_for_any<P: Proposer, H: CommitHook>(
     let WorkerContext {
         shared_state,
         graph,
+        uses,
         proposer,
         lists,
         tools,
     } = context;
-    let proposals = proposer.commit_candidates(
-        shared_state.alloc,
-        graph,
-        &shared_state.uses,
-        lists,
-        node,
-        true,
-    )?;
+    let proposals = proposer.commit_candidates(shared_state.alloc, graph, uses, lists, node, true)?;
     try_from_some_place(graph, tools, worker, node, proposals.as_slice(), true);
     Ok(())
 }

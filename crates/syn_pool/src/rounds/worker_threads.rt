@@ -17,6 +17,7 @@ use crate::rounds::workers::Worker;
 use std::alloc::AllocError;
 use std::thread::{Threads, join};
 use syn_commit::{CommitHook, Tools};
+use syn_gain::Uses;
 use syn_graph::Graph;
 use syn_proposals::{Proposer, Report};
 use syn_table::{Seat, Shared};
@@ -69,12 +70,13 @@ fn no_work(seat: Seat, memory: Result<(), AllocError>) -> WorkerResult
 fn run_worker<P: Proposer, H: CommitHook>(
     shared_state: &RoundShared,
     graph: &Graph,
+    uses: &Uses,
     proposer: &P,
     lists: &P::Lists,
     hook: &H,
     start: WorkerStart,
 ) -> WorkerResult
-    requires uses { IsUsesOf shared_state.now.uses graph.now }
+    requires uses { IsUsesOf uses.now graph.now }
     requires lists { shared_state.now.looks ≡ false → P.is_lists_of proposer.now lists.now graph.now.rows }
     requires nodes { length graph.now.rows + 512 * (start.number + 1) ≤ nodes_of shared_state.now.shared }
     requires table { IsOf start.seat shared_state.now.shared }
@@ -92,6 +94,7 @@ fn run_worker<P: Proposer, H: CommitHook>(
     let context = WorkerContext {
         shared_state,
         graph,
+        uses,
         proposer,
         lists,
         tools: Tools {
@@ -117,12 +120,13 @@ pub(crate) fn run_workers<R: Threads + Sync, P: Proposer, H: CommitHook>(
     rt: &R,
     shared_state: &RoundShared,
     graph: &Graph,
+    uses: &Uses,
     proposer: &P,
     lists: &P::Lists,
     hook: &H,
     waiting: WorkerQueues,
 ) -> WorkerResult
-    requires uses { IsUsesOf shared_state.now.uses graph.now }
+    requires uses { IsUsesOf uses.now graph.now }
     requires lists { shared_state.now.looks ≡ false → P.is_lists_of proposer.now lists.now graph.now.rows }
     requires nodes { length graph.now.rows + 512 * length waiting.queues.items ≤ nodes_of shared_state.now.shared }
     requires table { IsOf waiting.seat shared_state.now.shared }
@@ -145,7 +149,7 @@ pub(crate) fn run_workers<R: Threads + Sync, P: Proposer, H: CommitHook>(
             seat,
             queue,
         };
-        return run_worker(shared_state, graph, proposer, lists, hook, start);
+        return run_worker(shared_state, graph, uses, proposer, lists, hook, start);
     }
     let Ok(other) = shared_state.shared.split(&mut seat) else {
         return no_work(seat, Err(AllocError));
@@ -157,13 +161,13 @@ pub(crate) fn run_workers<R: Threads + Sync, P: Proposer, H: CommitHook>(
     };
     let fewer = WorkerQueues { seat, queues };
     let alone = move || -> WorkerResult
-        requires { IsUsesOf shared_state.now.uses graph.now × (shared_state.now.looks ≡ false → P.is_lists_of proposer.now lists.now graph.now.rows) × (length graph.now.rows + 512 * (start.number + 1) ≤ nodes_of shared_state.now.shared) × IsOf start.seat shared_state.now.shared × IsAtRest (view_of start.seat) }
+        requires { IsUsesOf uses.now graph.now × (shared_state.now.looks ≡ false → P.is_lists_of proposer.now lists.now graph.now.rows) × (length graph.now.rows + 512 * (start.number + 1) ≤ nodes_of shared_state.now.shared) × IsOf start.seat shared_state.now.shared × IsAtRest (view_of start.seat) }
         ensures { HasSwept shared_state.entry.now.shared shared_state.entry.now.zero_gain start.seat result.seat result.report }
-    { run_worker(shared_state, graph, proposer, lists, hook, start) };
+    { run_worker(shared_state, graph, uses, proposer, lists, hook, start) };
     let by_others = move || -> WorkerResult
-        requires { IsSync R.row × IsSync P.row × IsSync H.row × IsSync P.Lists.row × IsUsesOf shared_state.now.uses graph.now × (shared_state.now.looks ≡ false → P.is_lists_of proposer.now lists.now graph.now.rows) × (length graph.now.rows + 512 * length fewer.queues.items ≤ nodes_of shared_state.now.shared) × IsOf fewer.seat shared_state.now.shared × (length fewer.queues.items ≤ length (known_of fewer.seat).numbers) × (length fewer.queues.items ≤ 16) × IsAtRest (view_of fewer.seat) }
+        requires { IsSync R.row × IsSync P.row × IsSync H.row × IsSync P.Lists.row × IsUsesOf uses.now graph.now × (shared_state.now.looks ≡ false → P.is_lists_of proposer.now lists.now graph.now.rows) × (length graph.now.rows + 512 * length fewer.queues.items ≤ nodes_of shared_state.now.shared) × IsOf fewer.seat shared_state.now.shared × (length fewer.queues.items ≤ length (known_of fewer.seat).numbers) × (length fewer.queues.items ≤ 16) × IsAtRest (view_of fewer.seat) }
         ensures { HasSwept shared_state.entry.now.shared shared_state.entry.now.zero_gain fewer.seat result.seat result.report }
-    { run_workers(rt, shared_state, graph, proposer, lists, hook, fewer) };
+    { run_workers(rt, shared_state, graph, uses, proposer, lists, hook, fewer) };
     let (second, first) = join(rt, alone, by_others);
     joined(&shared_state.shared, first, second)
 }

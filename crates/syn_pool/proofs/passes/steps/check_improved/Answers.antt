@@ -1,6 +1,5 @@
-use Rattle.std.proofs.Common.{refl, arith}
-use Rattle.syn_proposals.proofs.Maps.{IfSome-at}
-use Rattle.syn_pool.specs.Steps.{IsFewer}
+use Rattle.std.proofs.Common.{refl, subst, arith}
+use Rattle.syn_pool.specs.Steps.{IsCheck, IsFewer}
 use Rattle.syn_pool.proofs.Chains.{chained}
 use Rattle.syn_pool.proofs.Turning.{report_both}
 use Rattle.syn_pool.proofs.passes.steps.check_improved.Goals as goal
@@ -8,7 +7,7 @@ use Rattle.syn_pool.proofs.passes.steps.check_improved.Goals as goal
 pub returns-in-Some : goal.returns-in-Some
 returns-in-Some g c =
     let gained = c.args.improved.report.gained in
-    let step = IfSome-at (λ m. IsFewer c.args.improved.graph m.report m.graph) c.in_ok-next.field-0 c.in-Some.next c.in-Some.is c.in_ok-next.ensures.some in
+    let step : IsFewer c.args.improved.graph c.in-Some.next.report c.in-Some.next.graph = subst (IsCheck c.args.improved.graph (g.P.Proposer.proposals c.args.pass.now.proposer.now)) c.in-Some.is c.in_ok-made.ensures in
     let sum = c.both.ensures.gained in
     λ strict gain. (
       chained c.args.graph.now c.args.improved.graph c.in-Some.next.graph gained c.in-Some.next.report.gained c.both.result.gained (omega arith) c.requires.follows step.0,
