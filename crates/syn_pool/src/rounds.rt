@@ -33,12 +33,12 @@ use crate::looks::neighbourhoods::Neighbourhoods;
 use crate::rounds::closed_table::close;
 use crate::rounds::contexts::{PassContext, RoundShared, RoundTask, WorkerQueues};
 use crate::rounds::opened_table::{Order, SPARE, gates_of, noted, opened};
-use crate::rounds::queues::{queues_of, thieves_of};
+use crate::rounds::queues::{Queue, Thief, queues_of, thieves_of};
 use crate::rounds::views::{Viewed, looks};
 use crate::rounds::worker_threads::{WorkerResult, run_workers};
 use std::alloc::{AllocError, Global};
 use std::thread::Threads;
-use syn_commit::CommitHook;
+use syn_commit::{CommitHook, Hints};
 use syn_graph::Graph;
 use syn_proposals::{Improved, Proposer};
 use syn_rows::NODE_LIMIT;
@@ -64,31 +64,62 @@ fn fan_outs_of(alloc: Global, graph: &Graph, order: Order) -> Result<FanOuts, Al
     }
 }
 
+// What a round has before its table is opened: the nodes in queues, the queues' far ends, hints, and the fan-outs.
+#[derive(Drop)]
+struct Equipment {
+    queues: Vec<Queue>,
+    thieves: Vec<Thief>,
+    hints: Hints,
+    fan_outs: FanOuts,
+}
+
+// What the workers of a round on a graph have before the table.
+fn equipped(alloc: Global, graph: &Graph, task: &RoundTask<'_>) -> Result<Equipment, AllocError>
+    ensures count { IfOk result (λ e. length e.queues.items ≤ task.now.workers) }
+    ensures few { IfOk result (λ e. length e.queues.items ≤ 16) }
+{
+    let queues = queues_of(alloc, task.nodes, task.workers)?;
+    let thieves = thieves_of(alloc, queues.as_slice())?;
+    Ok(Equipment {
+        queues,
+        thieves,
+        hints: noted(alloc, graph)?,
+        fan_outs: fan_outs_of(alloc, graph, task.order)?,
+    })
+}
+
 // Visits the nodes of a task by its workers: the seat is at rest again, and the table with it.
 fn swept<R: Threads + Sync, P: Proposer, H: CommitHook>(
     pass: &PassContext<'_, R, P, H>,
     viewed: &Viewed<'_, P::Lists>,
     task: &RoundTask<'_>,
+    equipment: Equipment,
     shared: Shared,
     seat: Seat,
-) -> Result<(Shared, WorkerResult), AllocError>
+) -> (Shared, WorkerResult)
     requires viewed { IsViewed P.is_lists_of pass.now.proposer.now viewed.now }
     requires lists { task.now.looks ≡ false → viewed.now.listed ≡ true }
+    requires count { length equipment.queues.items ≤ task.now.workers }
+    requires few { length equipment.queues.items ≤ 16 }
     requires nodes { length viewed.now.graph.now.rows + 512 * task.now.workers ≤ nodes_of shared }
     requires table { IsOf seat shared }
     requires numbers { task.now.workers ≤ length (known_of seat).numbers }
     requires rest { IsAtRest (view_of seat) }
-    ensures same { IfOk result (λ r. r.0 ≡ shared) }
-    ensures swept { IfOk result (λ r. HasSwept shared task.now.zero_gain seat r.1.seat r.1.report) }
+    ensures same { result.0 ≡ shared }
+    ensures swept { HasSwept shared task.now.zero_gain seat result.1.seat result.1.report }
 {
-    let (alloc, graph) = (pass.alloc, viewed.graph);
-    let queues = queues_of(alloc, task.nodes, task.workers)?;
+    let Equipment {
+        queues,
+        thieves,
+        hints,
+        fan_outs,
+    } = equipment;
     let shared_state = RoundShared {
-        alloc,
+        alloc: pass.alloc,
         shared,
-        hints: noted(alloc, graph)?,
-        fan_outs: fan_outs_of(alloc, graph, task.order)?,
-        thieves: thieves_of(alloc, queues.as_slice())?,
+        hints,
+        fan_outs,
+        thieves,
         zero_gain: task.zero_gain,
         looks: task.looks,
     };
@@ -96,14 +127,14 @@ fn swept<R: Threads + Sync, P: Proposer, H: CommitHook>(
     let swept = run_workers(
         pass.rt,
         &shared_state,
-        graph,
+        viewed.graph,
         &viewed.uses,
         pass.proposer,
         &viewed.lists,
         pass.hook,
         waiting,
     );
-    Ok((shared_state.shared, swept))
+    (shared_state.shared, swept)
 }
 
 // The graph after one round on its table; none where nothing was done.
@@ -123,8 +154,9 @@ fn improved<R: Threads + Sync, P: Proposer, H: CommitHook>(
     ensures none { IfOk result (λ made. IfNone made (NothingDone viewed.now.graph.now task.now.zero_gain)) }
 {
     let (alloc, graph) = (pass.alloc, viewed.graph);
+    let equipment = equipped(alloc, graph, task)?;
     let (table, seat) = opened(alloc, graph, task.workers, task.order)?;
-    let (shared, swept) = swept(pass, viewed, task, table, seat)?;
+    let (shared, swept) = swept(pass, viewed, task, equipment, table, seat);
     swept.memory?;
     if swept.report.done == 0 {
         return Ok(None);

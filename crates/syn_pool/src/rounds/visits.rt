@@ -101,7 +101,7 @@ fn visit_for_any<P: Proposer, H: CommitHook>(
 }
 
 /// Commits a proposal for a node, if one seems worth it: the difference in ANDs falls by at least what the worker's report
-/// gains. Where the shared_state says so, one of gain 0 is let through if none saves, and only the cuts of the table as it stands are
+/// gains. Where the round says so, one of gain 0 is let through if none saves, and only the cuts of the table as it stands are
 /// looked at. A node is left as it is that is no AND of the
 /// graph, that a look at the table shows as none, or that is one of the worker's spare nodes. The only error is want of memory
 /// for the proposals; the clauses hold then too.
