@@ -1,5 +1,5 @@
 -- What a recipe makes of a graph, of the graph of a net of LUTs, and of a small network; what it keeps.
-use Rattle.std.proofs.Common.{◌≡◌, ℕ, ◌≤◌, Bool, true, false, List, length, refl, sym, ap, arith}
+use Rattle.std.proofs.Common.{◌≡◌, ℕ, ◌≤◌, Bool, true, false, List, length, refl, sym, ap, subst, arith}
 use Rattle.syn_netlist.specs.Lists.{Frame, Netlist, sources}
 use Rattle.syn_netlist.specs.Meaning.{SameIsTransitive}
 use Rattle.syn_netlist.specs.Order.{Ordered}
@@ -15,6 +15,10 @@ use Rattle.syn_shell.specs.Networks.{IsSmall, Written, ands_by, gates_by, gates_
 use Rattle.syn_shell.specs.Makes.{IsInLuts, IsRemade, IsSweptTo, Makes, MakesOfGraph, NoMoreBy, OnGraph}
 use Rattle.syn_shell.specs.Origins.{IsSameBy}
 use Rattle.syn_shell.proofs.RemadeGraphs.{passed_remade}
+
+-- what this recipe makes another name of it makes
+pub made_by : (r s : Recipe) (old new : Written) → r ≡ s → MakesOfGraph s old new → MakesOfGraph r old new
+made_by r s old new is made = subst (λ (x : Recipe). MakesOfGraph x old new) (sym is) made
 
 -- what a recipe makes of a graph it makes of the network that the graph is
 pub makes_of_graph : (r : Recipe) (m : Netlist) (new : Written) → MakesOfGraph r (graph_network m) new → Makes r (graph_network m) new

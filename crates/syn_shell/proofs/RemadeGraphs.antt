@@ -128,7 +128,7 @@ pub passed_already : GraphLaws → (proposals : List Row → ℕ → List Replac
     → IsPassed levels proposals (written n) (written n)
 passed_already laws proposals levels n made is left =
     let closed : Closed n.body.rows n.body.observed (allowed levels proposals n.body.rows) =
-        subst (λ (m : Option Graph). IfNone m (Closed n.body.rows n.body.observed (allowed levels proposals n.body.rows))) is left.none in
+    subst (λ (m : Option Graph). IfNone m (Closed n.body.rows n.body.observed (allowed levels proposals n.body.rows))) is left.none in
     passed_of laws proposals levels n n refl (left_alone proposals levels n.body closed)
 
 -- a graph that hashing leaves as it is

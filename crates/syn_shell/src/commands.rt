@@ -68,6 +68,13 @@ fn remade(network: &mut Network, new: Option<Graph>)
     }
 }
 
+// Puts another network in place of one.
+fn put(network: &mut Network, new: Network)
+    ensures { network.new ≡ new }
+{
+    *network = new;
+}
+
 // LUTs of a graph under a copy of its names.
 fn mapped(alloc: Global, network: &Network, net: LutNet) -> Result<LutNetwork, AllocError>
     requires { HasFunctionOf network.now.body net }
@@ -138,7 +145,8 @@ pub(crate) fn remake_graph<R: Threads + Sync, G: CommitHook>(
             Ok(Some(mapped(alloc, network, net)?))
         }
         Recipe::Sweep => {
-            *network = sweep(alloc, network)?;
+            let new = sweep(alloc, network)?;
+            put(network, new);
             Ok(None)
         }
     }
