@@ -1,5 +1,5 @@
 -- A graph that was made anew under its names is, as it is written, what the recipes for graphs make of it.
-use Rattle.std.proofs.Common.{◌≡◌, ℕ, ◌+◌, ◌<◌, ◌≤◌, Bool, true, false, List, length, refl, sym, ap, ap₂, subst, arith, Option, None, Some, IfSome, IfNone}
+use Rattle.std.proofs.Common.{◌≡◌, ℕ, ◌+◌, ◌<◌, ◌≤◌, Bool, true, false, List, length, refl, sym, ap, ap₂, subst, arith, Option, None, Some, IfNone, IfSome}
 use Rattle.std.proofs.lemmas.List.{length-drop}
 use Rattle.syn_rows.specs.declared.Lit.{Lit}
 use Rattle.syn_rows.specs.declared.Row.{Row}
@@ -21,6 +21,7 @@ use Rattle.syn_levels.specs.Levels.{IsNoDeeper}
 use Rattle.syn_proposals.specs.Closing.{Closed}
 use Rattle.syn_pool.specs.Improving.{IsImproved, allowed}
 use Rattle.syn_shell.specs.Networks.{Written, graph_network}
+use Rattle.syn_shell.specs.Bodies.{IsLeftBy}
 use Rattle.syn_shell.specs.Makes.{IsBalanced, IsClosedFor, IsPassed, IsRemade, NoDeeper, level_at}
 
 -- what a graph under names is as a netlist
@@ -109,15 +110,26 @@ same_self graph = record { sources = refl; count = refl; stay = λ i l lt source
 left_alone : (proposals : List Row → ℕ → List Replacement) (levels : Bool) (graph : Graph) → Closed graph.rows graph.observed (allowed levels proposals graph.rows) → IsImproved proposals levels graph graph
 left_alone proposals levels graph closed = record { same = same_self graph; count = omega arith; levels = λ e i. omega arith; closed = closed }
 
--- the graph that a pass leaves: the one that it made, if it made one
-left_of : (proposals : List Row → ℕ → List Replacement) (levels : Bool) (was now : Graph) (made : Option Graph) → IfSome made (IsImproved proposals levels was)
-    → IfNone made (Closed was.rows was.observed (allowed levels proposals was.rows)) → IfSome made (λ new. now ≡ new) → IfNone made (now ≡ was) → IsImproved proposals levels was now
-left_of proposals levels was now None some none put stays = subst (IsImproved proposals levels was) (sym stays) (left_alone proposals levels was none)
-left_of proposals levels was now (Some new) some none put stays = subst (IsImproved proposals levels was) (sym put) some
+-- what was made, put under the names
+pub put_balanced : GraphLaws → (was now : Network) (made : Option Graph) (body : Graph) → made ≡ Some body → frame_in now.frame ≡ frame_in was.frame → now.body ≡ body
+    → IfSome made (λ b. balanced.IsBalanced was.body b → IsBalanced (written was) (written now))
+put_balanced laws was now made body is names put =
+    subst (λ (m : Option Graph). IfSome m (λ b. balanced.IsBalanced was.body b → IsBalanced (written was) (written now))) (sym is)
+    (λ h. balanced_of laws was now names (subst (balanced.IsBalanced was.body) (sym put) h))
 
-pub passed_by : GraphLaws → (proposals : List Row → ℕ → List Replacement) (levels : Bool) (was now : Network) (made : Option Graph) → frame_in now.frame ≡ frame_in was.frame → IfSome made (IsImproved proposals levels was.body)
-    → IfNone made (Closed was.body.rows was.body.observed (allowed levels proposals was.body.rows)) → IfSome made (λ new. now.body ≡ new) → IfNone made (now.body ≡ was.body) → IsPassed levels proposals (written was) (written now)
-passed_by laws proposals levels was now made names some none put stays = passed_of laws proposals levels was now names (left_of proposals levels was.body now.body made some none put stays)
+pub put_passed : GraphLaws → (proposals : List Row → ℕ → List Replacement) (levels : Bool) (was now : Network) (made : Option Graph) (body : Graph) → made ≡ Some body → frame_in now.frame ≡ frame_in was.frame → now.body ≡ body
+    → IsLeftBy proposals levels was.body made → IsPassed levels proposals (written was) (written now)
+put_passed laws proposals levels was now made body is names put left =
+    let improved : IsImproved proposals levels was.body body = subst (λ (m : Option Graph). IfSome m (IsImproved proposals levels was.body)) is left.some in
+    passed_of laws proposals levels was now names (subst (IsImproved proposals levels was.body) (sym put) improved)
+
+-- where a pass made none, the graph is what it leaves
+pub passed_already : GraphLaws → (proposals : List Row → ℕ → List Replacement) (levels : Bool) (n : Network) (made : Option Graph) → made ≡ None → IsLeftBy proposals levels n.body made
+    → IsPassed levels proposals (written n) (written n)
+passed_already laws proposals levels n made is left =
+    let closed : Closed n.body.rows n.body.observed (allowed levels proposals n.body.rows) =
+        subst (λ (m : Option Graph). IfNone m (Closed n.body.rows n.body.observed (allowed levels proposals n.body.rows))) is left.none in
+    passed_of laws proposals levels n n refl (left_alone proposals levels n.body closed)
 
 -- a graph that hashing leaves as it is
 pub hashed_already : GraphLaws → (n : Network) → IsRemade (written n) (written n)

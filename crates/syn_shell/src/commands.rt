@@ -1,12 +1,17 @@
 //! What recipes make of a graph and of a net of LUTs.
 
-ghost use Rattle.std.specs.Prelude.{◌≡◌, ◌≤◌, IfOk, IfErr, Some};
+ghost use Rattle.std.specs.Prelude.{◌≡◌, ◌≤◌, ℕ, Bool, List, IfOk, IfErr, IfSome, Some};
+ghost use Rattle.syn_rows.specs.declared.Row.{Row};
 ghost use Rattle.syn_network.specs.Written as graphs;
 ghost use Rattle.syn_network.specs.WrittenLuts as luts;
 ghost use Rattle.syn_build.specs.BuildFaults.{most_gates};
 ghost use Rattle.syn_graph.specs.Relations.{SameFunction};
+ghost use Rattle.syn_lutnet.specs.Nets.{HasFunctionOf};
+ghost use Rattle.syn_balance.specs.Balanced as balanced;
+ghost use Rattle.syn_gain.specs.Replacements.{Replacement};
 ghost use Rattle.syn_shell.specs.Networks.{gates_in, graph_network, IsSmall, mapped_network, network_of, made_in};
-ghost use Rattle.syn_shell.specs.Makes.{IsRemade, Makes, MakesOfGraph};
+ghost use Rattle.syn_shell.specs.Bodies.{AreFewLuts, AreLeastLuts, ArePlainLuts, IsLeftBy};
+ghost use Rattle.syn_shell.specs.Makes.{IsBalanced, IsLeastMappedTo, IsMappedForArea, IsMappedTo, IsPassed, IsRemade, Makes, MakesOfGraph};
 ghost use Rattle.syn_shell.specs.Steps.{MakingRefused};
 
 use crate::network::HeldNetwork;
@@ -19,6 +24,7 @@ use syn_build::{BuildFault, build_luts};
 use syn_commit::CommitHook;
 use syn_flow::flow;
 use syn_graph::Graph;
+use syn_lutnet::LutNet;
 use syn_map::map;
 use syn_network::{LutNetwork, Network};
 use syn_pool::PassSettings;
@@ -40,15 +46,39 @@ fn settings_of(options: &PassOptions, workers: Workers) -> PassSettings
     }
 }
 
-// Puts what a pass made of a graph under its names, if it made another.
-fn put(network: &mut Network, new: Option<Graph>)
-    requires { IfSome new (SameFunction network.old.body) }
-    ensures frame { network.new.frame ≡ network.old.frame }
-    ensures body { network.new.body ≡ unwrap_or new network.old.body }
+// What hashing makes of a graph: it is hashed already, and stays.
+fn hashed(network: &Network)
+    ensures { IsRemade (graph_network (graphs.network_of network.now)) (graph_network (graphs.network_of network.now)) }
 {
-    if let Some(body) = new {
-        network.put(body);
+    syn_network::network_of_graph();
+    syn_network::same_function_keeps_meaning();
+}
+
+// Puts what was made of a graph under its names; it stays where nothing was made.
+fn remade(network: &mut Network, new: Option<Graph>)
+    requires { IfSome new (SameFunction network.old.body) }
+    ensures balanced { IfSome new (λ body. balanced.IsBalanced network.old.body body → IsBalanced (graph_network (graphs.network_of network.old)) (graph_network (graphs.network_of network.new))) }
+    ensures passed { (proposals : List Row → ℕ → List Replacement) (levels : Bool) → IsLeftBy proposals levels network.old.body new → IsPassed levels proposals (graph_network (graphs.network_of network.old)) (graph_network (graphs.network_of network.new)) }
+{
+    syn_network::network_of_graph();
+    syn_network::same_function_keeps_meaning();
+    match new {
+        None => {}
+        Some(body) => network.put(body),
     }
+}
+
+// LUTs of a graph under a copy of its names.
+fn mapped(alloc: Global, network: &Network, net: LutNet) -> Result<LutNetwork, AllocError>
+    requires { HasFunctionOf network.now.body net }
+    ensures plain { (k : ℕ) → ArePlainLuts k network.now.body net → IfOk result (λ made. IsMappedTo k (graph_network (graphs.network_of network.now)) (mapped_network (luts.network_of made))) }
+    ensures few { (k : ℕ) → AreFewLuts k network.now.body net → IfOk result (λ made. IsMappedForArea k (graph_network (graphs.network_of network.now)) (mapped_network (luts.network_of made))) }
+    ensures least { (k : ℕ) → AreLeastLuts k network.now.body net → IfOk result (λ made. IsLeastMappedTo k (graph_network (graphs.network_of network.now)) (mapped_network (luts.network_of made))) }
+{
+    syn_network::network_of_graph();
+    syn_network::network_of_luts();
+    syn_network::mapped_keeps_meaning();
+    network.mapped_copy(alloc, net)
 }
 
 /// Makes a graph anew by a recipe, under its names; or gives the LUTs that the recipe makes of it, under these names too. So
@@ -64,33 +94,32 @@ pub(crate) fn remake_graph<R: Threads + Sync, G: CommitHook>(
     ensures made { IfOk result (λ made. MakesOfGraph recipe.now (graph_network (graphs.network_of network.old)) (made_in network.new made)) }
     ensures refused { IfErr result (λ error. network.new ≡ network.old) }
 {
-    syn_network::network_of_graph();
-    syn_network::network_of_luts();
-    syn_network::same_function_keeps_meaning();
-    syn_network::mapped_keeps_meaning();
     match recipe {
-        Recipe::Strash => Ok(None),
+        Recipe::Strash => {
+            hashed(network);
+            Ok(None)
+        }
         Recipe::Balance => {
             let new = balance(alloc, &network.body)?;
-            network.put(new);
+            remade(network, Some(new));
             Ok(None)
         }
         Recipe::Rewrite(options) => {
             let settings = settings_of(options, workers);
             let new = rewrite(rt, alloc, &network.body, settings, hook)?;
-            put(network, new);
+            remade(network, new);
             Ok(None)
         }
         Recipe::Refactor(options) => {
             let settings = settings_of(options, workers);
             let new = refactor(rt, alloc, &network.body, settings, hook)?;
-            put(network, new);
+            remade(network, new);
             Ok(None)
         }
         Recipe::Resubstitute(options) => {
             let settings = settings_of(options, workers);
             let new = resub(rt, alloc, &network.body, settings, hook)?;
-            put(network, new);
+            remade(network, new);
             Ok(None)
         }
         Recipe::Map {
@@ -98,15 +127,15 @@ pub(crate) fn remake_graph<R: Threads + Sync, G: CommitHook>(
             inputs,
         } => {
             let net = map(rt, alloc, &network.body, inputs.number(), workers)?;
-            Ok(Some(network.mapped_copy(alloc, net)?))
+            Ok(Some(mapped(alloc, network, net)?))
         }
         Recipe::Map { area: true, inputs } => {
             let net = map_for_area(rt, alloc, &network.body, inputs.number(), workers)?;
-            Ok(Some(network.mapped_copy(alloc, net)?))
+            Ok(Some(mapped(alloc, network, net)?))
         }
         Recipe::MapByFlow(inputs) => {
             let (net, _proof) = flow(alloc, &network.body, inputs.number())?;
-            Ok(Some(network.mapped_copy(alloc, net)?))
+            Ok(Some(mapped(alloc, network, net)?))
         }
         Recipe::Sweep => {
             *network = sweep(alloc, network)?;

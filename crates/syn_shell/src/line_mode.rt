@@ -2,7 +2,7 @@
 
 ghost use Rattle.std.specs.Prelude.{◌≡◌, ◌≤◌, None, Option};
 ghost use Rattle.syn_io.specs.Outside.{Disk};
-ghost use Rattle.syn_shell.specs.Networks.{Network};
+ghost use Rattle.syn_shell.specs.Networks.{Written};
 ghost use Rattle.syn_shell.specs.LineMode.{most_lines};
 ghost use Rattle.syn_shell.specs.Outside.{state};
 ghost use Rattle.syn_shell.specs.Stopping.{first_status, Gave, RanLines, Turned};
@@ -73,7 +73,7 @@ fn take_turn<R: Threads + Sync, F: Files, L: Lines, O: Sink, G: CommitHook>(
 
 // Behind as many lines as are run a further one is refused.
 fn refuse_one_more_line<L: Lines, O: Sink>(alloc: Global, lines: &mut L, out: &mut O) -> u8
-    ensures each { (m : Option Network) (files : Disk) → RanLines result most_lines (state m files (O.screen out.old)) (L.input lines.old) (state m files (O.screen out.new)) (L.input lines.new) }
+    ensures each { (m : Option Written) (files : Disk) → RanLines result most_lines (state m files (O.screen out.old)) (L.input lines.old) (state m files (O.screen out.new)) (L.input lines.new) }
 {
     match next_line(alloc, lines) {
         Ok(None) => 0,
@@ -92,7 +92,7 @@ pub(crate) fn run_lines<R: Threads + Sync, F: Files, L: Lines, O: Sink, G: Commi
     out: &mut O,
     hook: &G,
 ) -> u8
-    ensures { (m : Option Network) × RanLines result 0 (state None (F.disk files.old) (O.screen out.old)) (L.input lines.old)
+    ensures { (m : Option Written) × RanLines result 0 (state None (F.disk files.old) (O.screen out.old)) (L.input lines.old)
         (state m (F.disk files.new) (O.screen out.new)) (L.input lines.new) }
 {
     let mut session = Session::new(workers);
