@@ -15,13 +15,13 @@ returns-in_ok-new-in-Balance-clause-made g c = made_by _ recipes.Balance _ _ c.i
 pub returns-in_ok-mapped-in-Map-true-default-clause-made : goal.returns-in_ok-mapped-in-Map-true-default-clause-made
 returns-in_ok-mapped-in-Map-true-default-clause-made g c =
     let h = c.in_ok-net-in-Map-true-default.ensures in
-    made_by _ _ _ _ (c.in-Map-true-default.is ∙ ap₂ recipes.Map c.in-Map-true-default.area-is (sym c.number.ensures.number))
+    made_by _ _ _ _ (c.in-Map-true-default.is ∙ ap₂ recipes.Map c.in-Map-true-default.area-test (sym c.number.ensures.number))
     (c.in_ok-mapped-in-Map-true-default.ensures.few c.number.result (record { luts = record { inputs = h.inputs; count = h.count }; depth = h.depth; fewer = h.fewer }))
 
 pub returns-in_ok-mapped-in-Map-false-default-clause-made : goal.returns-in_ok-mapped-in-Map-false-default-clause-made
 returns-in_ok-mapped-in-Map-false-default-clause-made g c =
     let h = c.in_ok-net-in-Map-false-default.ensures in
-    made_by _ _ _ _ (c.in-Map-false-default.is ∙ ap₂ recipes.Map c.in-Map-false-default.area-is (sym c.number-in-Map-false-default.ensures.number))
+    made_by _ _ _ _ (c.in-Map-false-default.is ∙ ap₂ recipes.Map c.in-Map-false-default.area-test (sym c.number-in-Map-false-default.ensures.number))
     (c.in_ok-mapped-in-Map-false-default.ensures.plain c.number-in-Map-false-default.result (record { luts = record { inputs = h.inputs; count = h.count }; mapping = h.mapping; depth = h.depth }))
 
 pub returns-in_ok-mapped-in-MapByFlow-clause-made : goal.returns-in_ok-mapped-in-MapByFlow-clause-made
