@@ -20,8 +20,9 @@ use Rattle.syn_aiger.specs.Networks.{IsGraphOfAig, frame_of, latches_from}
 use Rattle.syn_aiger.specs.Values.{source_literals, source_variables}
 use Rattle.syn_aiger.specs.Writing.{IsWrittenAs, feed_of, first_typed, free_signals, init_again}
 use Rattle.syn_shell.specs.declared.refusal.Refusal.{Refusal}
-use Rattle.syn_shell.specs.Networks.{IsSmall, Network, gates_in, graph_network, mapped_network}
-use Rattle.syn_shell.specs.Steps.{IsAigerOf, IsRemade}
+use Rattle.syn_shell.specs.Networks.{IsSmall, Written, gates_in, graph_network, mapped_network}
+use Rattle.syn_shell.specs.Makes.{IsRemade}
+use Rattle.syn_shell.specs.Steps.{IsAigerOf}
 
 -- bytes that are not there are not read, in either format
 
@@ -76,9 +77,9 @@ aiger_of_luts ascii old graph bytes made few are = record {
   keeps = written_alike old graph _ made.same are.keeps;
 }
 
-pub aiger_of_network : (ascii : Bool) (network : Network) (old graph : Netlist) (r : Result (Vec ℕ Global) Refusal) → network ≡ mapped_network old → IsRemade (mapped_network old) (graph_network graph) → gates_in (mapped_network old) ≤ most_gates
+pub aiger_of_network : (ascii : Bool) (network : Written) (old graph : Netlist) (r : Result (Vec ℕ Global) Refusal) → network ≡ mapped_network old → IsRemade (mapped_network old) (graph_network graph) → gates_in (mapped_network old) ≤ most_gates
     → IfOk r (λ (bytes : Vec ℕ Global). IsAigerOf ascii (graph_network graph) bytes.items) → IfOk r (λ (bytes : Vec ℕ Global). IsAigerOf ascii network bytes.items)
-aiger_of_network ascii network old graph (Ok bytes) is made few are = subst (λ (n : Network). IsAigerOf ascii n bytes.items) (sym is) (aiger_of_luts ascii old graph bytes.items made few are)
+aiger_of_network ascii network old graph (Ok bytes) is made few are = subst (λ (n : Written). IsAigerOf ascii n bytes.items) (sym is) (aiger_of_luts ascii old graph bytes.items made few are)
 aiger_of_network ascii network old graph (Err cause) is made few are = tt
 
 -- the graph of a file has as many sources as the file

@@ -4,7 +4,8 @@ use Rattle.syn_words.specs.Words.{words_at}
 use Rattle.syn_words.specs.Commands.{flag_and_name, options}
 use Rattle.syn_words.specs.Forms.{given_by}
 use Rattle.syn_words.specs.Scripts.{IsScript, IsFirstFault}
-use Rattle.syn_words.specs.declared.Command.TheVariants.{Read, Write, Stats, Strash, Balance, Rewrite, Refactor, Map, Generate, Sweep, Resubstitute, MapByFlow, ReadAiger, WriteAiger}
+use Rattle.syn_words.specs.declared.Command.TheVariants.{Read, Write, ReadAiger, WriteAiger, Stats, Generate, Make}
+use Rattle.syn_words.specs.declared.recipes.Recipe.TheVariants.{Strash, Balance, Rewrite, Refactor, Resubstitute, Map, MapByFlow, Sweep}
 use Rattle.syn_words.specs.declared.ScriptFault.{ScriptFault}
 use Rattle.syn_words.specs.declared.ScriptFault.TheVariants.{BadByte, UnknownCommand, MissingWord, ExtraWord, BadNumber, OutOfRange}
 use Rattle.syn_words.specs.declared.forms.Form.{Form}
@@ -28,27 +29,27 @@ pub record WorkedScripts : Type 0 where
   pub semicolon : IsScript (codes ";") []
   pub blanks : IsScript (codes " ; ;" ++ 9 ∷ 13 ∷ []) []
   pub three : IsScript (codes "read_blif a; ps; write_blif o") (Read (codes "a") ∷ Stats ∷ Write (codes "o") ∷ [])
-  pub tight : IsScript (codes "read_blif a;ps;b;st") (Read (codes "a") ∷ Stats ∷ Balance ∷ Strash ∷ [])
-  pub long_names : IsScript (codes "print_stats; strash; balance;") (Stats ∷ Strash ∷ Balance ∷ [])
+  pub tight : IsScript (codes "read_blif a;ps;b;st") (Read (codes "a") ∷ Stats ∷ Make Balance ∷ Make Strash ∷ [])
+  pub long_names : IsScript (codes "print_stats; strash; balance;") (Stats ∷ Make Strash ∷ Make Balance ∷ [])
   pub tab_and_cr : IsScript (codes "read_blif" ++ 9 ∷ codes "a.blif" ++ 13 ∷ []) (Read (codes "a.blif") ∷ [])
   pub comment_is_none : IsScript (codes "write_blif #a\\b") (Write (codes "#a\\b") ∷ [])
   pub hyphen_is_a_name : IsScript (codes "read_blif -a") (Read (codes "-a") ∷ [])
-  pub rewriting : IsScript (codes "rw; rewrite -w 4 -z; rwz") (Rewrite (options false false None) ∷ Rewrite (options true false (Some 4)) ∷ Rewrite (options true false None) ∷ [])
-  pub refactoring : IsScript (codes "rf; refactor -w 4 -z; rfz -w 2") (Refactor (options false false None) ∷ Refactor (options true false (Some 4)) ∷ Refactor (options true false (Some 2)) ∷ [])
-  pub mapping : IsScript (codes "if; if -K 2; if -K 008") (Map false 6 ∷ Map false 2 ∷ Map false 8 ∷ [])
-  pub mapping_for_area : IsScript (codes "if -a; if -a -K 4; if -K 4 -a") (Map true 6 ∷ Map true 4 ∷ Map true 4 ∷ [])
-  pub mapping_by_flow : IsScript (codes "flowmap; flowmap -K 2; flowmap -K 8") (MapByFlow 6 ∷ MapByFlow 2 ∷ MapByFlow 8 ∷ [])
+  pub rewriting : IsScript (codes "rw; rewrite -w 4 -z; rwz") (Make (Rewrite (options false false None)) ∷ Make (Rewrite (options true false (Some 4))) ∷ Make (Rewrite (options true false None)) ∷ [])
+  pub refactoring : IsScript (codes "rf; refactor -w 4 -z; rfz -w 2") (Make (Refactor (options false false None)) ∷ Make (Refactor (options true false (Some 4))) ∷ Make (Refactor (options true false (Some 2))) ∷ [])
+  pub mapping : IsScript (codes "if; if -K 2; if -K 008") (Make (Map false 6) ∷ Make (Map false 2) ∷ Make (Map false 8) ∷ [])
+  pub mapping_for_area : IsScript (codes "if -a; if -a -K 4; if -K 4 -a") (Make (Map true 6) ∷ Make (Map true 4) ∷ Make (Map true 4) ∷ [])
+  pub mapping_by_flow : IsScript (codes "flowmap; flowmap -K 2; flowmap -K 8") (Make (MapByFlow 6) ∷ Make (MapByFlow 2) ∷ Make (MapByFlow 8) ∷ [])
   pub ten_commands : IsScript (codes "resyn2")
-      (Balance ∷ Rewrite (options false false None) ∷ Refactor (options false false None) ∷ Balance ∷ Rewrite (options false false None) ∷ Rewrite (options true false None) ∷ Balance ∷ Refactor (options true false None) ∷ Rewrite (options true false None) ∷ Balance ∷ [])
+      (Make Balance ∷ Make (Rewrite (options false false None)) ∷ Make (Refactor (options false false None)) ∷ Make Balance ∷ Make (Rewrite (options false false None)) ∷ Make (Rewrite (options true false None)) ∷ Make Balance ∷ Make (Refactor (options true false None)) ∷ Make (Rewrite (options true false None)) ∷ Make Balance ∷ [])
   pub ten_commands_keeping_levels : IsScript (codes "resyn2l")
-      (Rewrite (options true true None) ∷ Balance ∷ Refactor (options false true None) ∷ Balance ∷ Rewrite (options false true None) ∷ Rewrite (options true true None)
-      ∷ Balance ∷ Refactor (options true true None) ∷ Rewrite (options true true None) ∷ Balance ∷ [])
+      (Make (Rewrite (options true true None)) ∷ Make Balance ∷ Make (Refactor (options false true None)) ∷ Make Balance ∷ Make (Rewrite (options false true None)) ∷ Make (Rewrite (options true true None))
+      ∷ Make Balance ∷ Make (Refactor (options true true None)) ∷ Make (Rewrite (options true true None)) ∷ Make Balance ∷ [])
   pub keeping_levels : IsScript (codes "rw -l; rewrite -w 4 -l -z; rfz -l; refactor -l; rs -l -w 2; rsz -l")
-      (Rewrite (options false true None) ∷ Rewrite (options true true (Some 4)) ∷ Refactor (options true true None) ∷ Refactor (options false true None)
-      ∷ Resubstitute (options false true (Some 2)) ∷ Resubstitute (options true true None) ∷ [])
+      (Make (Rewrite (options false true None)) ∷ Make (Rewrite (options true true (Some 4))) ∷ Make (Refactor (options true true None)) ∷ Make (Refactor (options false true None))
+      ∷ Make (Resubstitute (options false true (Some 2))) ∷ Make (Resubstitute (options true true None)) ∷ [])
   pub generated : IsScript (codes "gen 18446744073709551615 32768; ps") (Generate 18446744073709551615 32768 ∷ Stats ∷ [])
-  pub sweeping : IsScript (codes "read_blif a; scl; ps") (Read (codes "a") ∷ Sweep ∷ Stats ∷ [])
-  pub resubstitution : IsScript (codes "rs; resub -w 4 -z; rsz -w 2") (Resubstitute (options false false None) ∷ Resubstitute (options true false (Some 4)) ∷ Resubstitute (options true false (Some 2)) ∷ [])
+  pub sweeping : IsScript (codes "read_blif a; scl; ps") (Read (codes "a") ∷ Make Sweep ∷ Stats ∷ [])
+  pub resubstitution : IsScript (codes "rs; resub -w 4 -z; rsz -w 2") (Make (Resubstitute (options false false None)) ∷ Make (Resubstitute (options true false (Some 4))) ∷ Make (Resubstitute (options true false (Some 2))) ∷ [])
   pub aiger : IsScript (codes "read_aiger -a; write_aiger o; write_aiger -a o") (ReadAiger (codes "-a") ∷ WriteAiger false (codes "o") ∷ WriteAiger true (codes "o") ∷ [])
   pub zero_refactored_already : IsFirstFault (codes "rfz -z") (ExtraWord 4)
   pub zero_resubstituted_already : IsFirstFault (codes "rsz -z") (ExtraWord 4)

@@ -5,7 +5,7 @@ use Rattle.syn_netlist.specs.Frames.{frame_in}
 use Rattle.syn_netlist.specs.Lists.{Frame, Netlist, sources}
 use Rattle.syn_netlist.specs.Views.{netlist_in}
 use Rattle.syn_build.specs.Building.{IsGraphOf}
-use Rattle.syn_graph.specs.Graphs.{network_of}
+use Rattle.syn_network.specs.Written.{network_of}
 use Rattle.syn_gen.specs.Generated.{generated}
 use Rattle.syn_reader.specs.Limits.{most_sources}
 use Rattle.syn_shell.proofs.session.generated.Goals as goal
