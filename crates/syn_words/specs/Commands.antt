@@ -8,6 +8,7 @@ use Rattle.syn_words.specs.declared.word_reader.Given.{Given}
 use Rattle.syn_words.specs.declared.table.Keyword.{Keyword}
 use Rattle.syn_words.specs.declared.table.Keyword.TheVariants as keywords
 use Rattle.syn_words.specs.declared.recipes.PassOptions.{PassOptions}
+use Rattle.syn_words.specs.declared.recipes.SearchLimits.{SearchLimits}
 use Rattle.syn_words.specs.declared.recipes.Recipe.{Recipe}
 use Rattle.syn_words.specs.declared.recipes.Recipe.TheVariants as recipes
 use Rattle.syn_words.specs.declared.Command.{Command}
@@ -17,33 +18,37 @@ use Rattle.syn_words.specs.declared.ScriptFault.TheVariants.{UnknownCommand}
 
 -- No word.
 abbrev pub no_words : Form
-no_words = record { flags = (None, None); numbered = None; operands = operands.Nothing }
+no_words = record { flags = (None, None, None); numbered = None; operands = operands.Nothing }
 
 -- A file's name.
 abbrev pub name_alone : Form
-name_alone = record { flags = (None, None); numbered = None; operands = operands.Name }
+name_alone = record { flags = (None, None, None); numbered = None; operands = operands.Name }
 
 -- An option without a number, and then a file's name.
 abbrev pub flag_and_name : ℕ → Form
-flag_and_name letter = record { flags = (Some letter, None); numbered = None; operands = operands.Name }
+flag_and_name letter = record { flags = (Some letter, None, None); numbered = None; operands = operands.Name }
 
--- Options alone: `-z`, where it may stand, `-l`, and `-w` with a number of workers from 1 to 16.
+-- Options alone: `-z`, where it may stand, `-L`, `-l`, which says what is so without it, and `-w` with a number of workers from 1 to 16.
 abbrev pub with_workers : Option ℕ → Form
-with_workers zero = record { flags = (zero, Some 108); numbered = Some (record { letter = 119; range = record { least = 1; most = 16 } }); operands = operands.Nothing }
+with_workers zero = record { flags = (zero, Some 76, Some 108); numbered = Some (record { letter = 119; range = record { least = 1; most = 16 } }); operands = operands.Nothing }
+
+-- Options alone: `-L`, and `-C` with a number of conflicts from 0 to 1000000.
+abbrev pub with_conflicts : Form
+with_conflicts = record { flags = (None, Some 76, None); numbered = Some (record { letter = 67; range = record { least = 0; most = 1000000 } }); operands = operands.Nothing }
 
 -- Options alone: one without a number, where there is one, and `-K` with a number of inputs from 2 to 8.
 abbrev pub with_inputs : Option ℕ → Form
-with_inputs flag = record { flags = (flag, None); numbered = Some (record { letter = 75; range = record { least = 2; most = 8 } }); operands = operands.Nothing }
+with_inputs flag = record { flags = (flag, None, None); numbered = Some (record { letter = 75; range = record { least = 2; most = 8 } }); operands = operands.Nothing }
 
 -- Two numbers alone: a seed of 64 bits, and a number of tables from 1 to 32768.
 abbrev pub seed_and_size : Form
-seed_and_size = record { flags = (None, None); numbered = None; operands = operands.TwoNumbers (record { least = 0; most = 18446744073709551615 }) (record { least = 1; most = 32768 }) }
+seed_and_size = record { flags = (None, None, None); numbered = None; operands = operands.TwoNumbers (record { least = 0; most = 18446744073709551615 }) (record { least = 1; most = 32768 }) }
 
 -- A row of the table: a name, what may stand behind it, and its keyword.
 abbrev pub Row : Type 0
 Row = List ℕ × Form × Keyword
 
--- The names, long and short. `rewrite`, `refactor` and `resub` take `-z` and `-l`; `rwz`, `rfz` and `rsz` have `-z` set. `if` and `write_aiger` take `-a`.
+-- The names, long and short. `rewrite`, `refactor` and `resub` take `-z`, `-L` and `-l`; `rwz`, `rfz` and `rsz` have `-z` set. `if` and `write_aiger` take `-a`. `compress2` is `resyn2`.
 abbrev pub table : List Row
 table =
     (codes "read_blif", name_alone, keywords.ReadBlif)
@@ -69,6 +74,9 @@ table =
     ∷ (codes "rs", with_workers (Some 122), keywords.Resubstitute)
     ∷ (codes "rsz", with_workers None, keywords.ResubstituteZero)
     ∷ (codes "flowmap", with_inputs None, keywords.MapByFlow)
+    ∷ (codes "fraig", with_conflicts, keywords.Merge)
+    ∷ (codes "resyn", no_words, keywords.Resyn)
+    ∷ (codes "compress2", no_words, keywords.Resyn2)
     ∷ (codes "read_aiger", name_alone, keywords.ReadAiger)
     ∷ (codes "write_aiger", flag_and_name 97, keywords.WriteAiger)
     ∷ []
@@ -95,7 +103,7 @@ given_inputs (Some number) = inputs_of number
 abbrev pub size_of : ℕ → ℕ
 size_of number = min number 32768
 
--- How a pass goes: with `-z`, with `-l`, and by how many workers.
+-- How a pass goes: with `-z`, with `-L`, and by how many workers.
 abbrev pub options : Bool → Bool → Option ℕ → PassOptions
 options zero levels workers = record { zero = zero; levels = levels; workers = workers }
 
@@ -103,11 +111,31 @@ options zero levels workers = record { zero = zero; levels = levels; workers = w
 abbrev pub given_options : Bool → Given → PassOptions
 given_options zero given = options zero given.flags.1 (option_map workers_of given.number)
 
+-- The number of conflicts that was given, 1000000 at most; the form lets no other through. 100 where none was.
+abbrev pub given_conflicts : Option ℕ → ℕ
+given_conflicts None = 100
+given_conflicts (Some number) = min number 1000000
+
+-- How a search goes by what was given behind a name: by how many conflicts, and with `-L`.
+abbrev pub given_limits : Given → SearchLimits
+given_limits given = record { conflicts = given_conflicts given.number; levels = given.flags.1 }
+
 -- The command that makes the network anew by a recipe.
 abbrev pub make : Recipe → Command
 make recipe = commands.Make recipe
 
--- What `resyn2` spells: b; rw; rf; b; rw; rwz; b; rfz; rwz; b.
+-- What `resyn` spells: b; rw; rwz; b; rwz; b.
+abbrev pub resyn : List Command
+resyn =
+    make recipes.Balance
+    ∷ make (recipes.Rewrite (options false false None))
+    ∷ make (recipes.Rewrite (options true false None))
+    ∷ make recipes.Balance
+    ∷ make (recipes.Rewrite (options true false None))
+    ∷ make recipes.Balance
+    ∷ []
+
+-- What `resyn2` and `compress2` spell: b; rw; rf; b; rw; rwz; b; rfz; rwz; b.
 abbrev pub resyn2 : List Command
 resyn2 =
     make recipes.Balance
@@ -122,7 +150,7 @@ resyn2 =
     ∷ make recipes.Balance
     ∷ []
 
--- What `resyn2l` spells: rwz; b; rf; b; rw; rwz; b; rfz; rwz; b, with `-l` on all but b.
+-- What `resyn2l` spells: rwz; b; rf; b; rw; rwz; b; rfz; rwz; b, with `-L` on all but b.
 abbrev pub resyn2l : List Command
 resyn2l =
     make (recipes.Rewrite (options true true None))
@@ -145,6 +173,7 @@ commands_of keywords.ReadAiger given = commands.ReadAiger given.name ∷ []
 commands_of keywords.WriteAiger given = commands.WriteAiger given.flags.0 given.name ∷ []
 commands_of keywords.PrintStats given = commands.Stats ∷ []
 commands_of keywords.Generate given = commands.Generate given.numbers.0 (size_of given.numbers.1) ∷ []
+commands_of keywords.Resyn given = resyn
 commands_of keywords.Resyn2 given = resyn2
 commands_of keywords.Resyn2Levels given = resyn2l
 commands_of keywords.Strash given = make recipes.Strash ∷ []
@@ -155,6 +184,7 @@ commands_of keywords.Refactor given = make (recipes.Refactor (given_options give
 commands_of keywords.RefactorZero given = make (recipes.Refactor (given_options true given)) ∷ []
 commands_of keywords.Resubstitute given = make (recipes.Resubstitute (given_options given.flags.0 given)) ∷ []
 commands_of keywords.ResubstituteZero given = make (recipes.Resubstitute (given_options true given)) ∷ []
+commands_of keywords.Merge given = make (recipes.Merge (given_limits given)) ∷ []
 commands_of keywords.Map given = make (recipes.Map given.flags.0 (given_inputs given.number)) ∷ []
 commands_of keywords.MapByFlow given = make (recipes.MapByFlow (given_inputs given.number)) ∷ []
 commands_of keywords.Sweep given = make recipes.Sweep ∷ []

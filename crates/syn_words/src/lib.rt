@@ -5,8 +5,8 @@
 //! words is skipped. The whole script is read before anything runs, and the first fault in text
 //! order is answered, alone.
 //!
-//! What may stand behind a name is data, a form: two options without a number, an option with a
-//! number in a range, and then a file's name or two numbers. One function reads words by a form,
+//! What may stand behind a name is data, a form: three options without a number, an option with
+//! a number in a range, and then a file's name or two numbers. One function reads words by a form,
 //! and one table has a row a name: the form, and the keyword, which says what the words spell
 //! (`specs/Commands.antt`, and in the code `table.rt` and `spelling.rt`). A command that makes the
 //! network anew is a recipe (`recipes.rt`). No memory is taken but for the list and the names of files.
@@ -15,6 +15,7 @@
 ghost use Rattle.std.specs.Prelude.{◌≡◌, ◌⊎◌, ◌<◌, ◌^◌, [], Err, List, length, Ok, Some, IfOk, IfErr, IsOkUnless};
 ghost use Rattle.syn_words.specs.Scripts.{IsFirstFault, IsScript, said_after};
 
+mod flags;
 mod forms;
 mod inputs;
 mod laws;
@@ -31,7 +32,7 @@ pub use inputs::LutInputs;
 pub use laws::{either_or, not_both, one_fault, one_script, worked_forms, worked_scripts};
 pub use names::FileName;
 pub use numbers::number_in;
-pub use recipes::{PassOptions, Recipe};
+pub use recipes::{PassOptions, Recipe, SearchLimits};
 use spelling::push_commands;
 use std::alloc::{AllocError, AllocFailed, Global};
 use thiserror::Error;

@@ -14,6 +14,15 @@ pub struct PassOptions {
     pub workers: Option<Workers>,
 }
 
+/// How a command looks for nodes of one value.
+#[derive(Clone, Copy, Debug)]
+pub struct SearchLimits {
+    /// At most so many conflicts for each question.
+    pub conflicts: u32,
+    /// Whether no observed signal may get deeper.
+    pub levels: bool,
+}
+
 /// How a command makes the network anew. Contracts see numbers of inputs as numbers.
 #[derive(Debug, Drop)]
 pub enum Recipe {
@@ -21,12 +30,14 @@ pub enum Recipe {
     Strash,
     /// `balance`, `b`: balances the graph.
     Balance,
-    /// `rewrite [-z] [-l] [-w N]`, `rw`; `rwz` has `-z` set: rewrites the graph until no listed replacement saves a node.
+    /// `rewrite [-z] [-L] [-w N]`, `rw`; `rwz` has `-z` set: rewrites the graph until no listed replacement saves a node.
     Rewrite(PassOptions),
-    /// `refactor [-z] [-l] [-w N]`, `rf`; `rfz` has `-z` set: refactors the graph until no cone's replacement saves a node.
+    /// `refactor [-z] [-L] [-w N]`, `rf`; `rfz` has `-z` set: refactors the graph until no cone's replacement saves a node.
     Refactor(PassOptions),
-    /// `resub [-z] [-l] [-w N]`, `rs`; `rsz` has `-z` set: expresses nodes by others that are there, until no such replacement saves a node.
+    /// `resub [-z] [-L] [-w N]`, `rs`; `rsz` has `-z` set: expresses nodes by others that are there, until no such replacement saves a node.
     Resubstitute(PassOptions),
+    /// `fraig [-C n] [-L]`: merges nodes that are shown to have one value, or opposite values, for all values of the sources.
+    Merge(SearchLimits),
     /// `if [-a] [-K n]`: maps the network to LUTs of so many inputs at most.
     Map {
         /// Whether few LUTs are looked for.

@@ -1,19 +1,22 @@
 //! What a command's name spells with what was given behind it.
 
 ghost use Rattle.std.specs.Prelude.{◌≡◌, ◌⊎◌, [], ◌∷◌, Err, Ok, IfOk, OnOk, IfErr, None, option_map};
-ghost use Rattle.syn_words.specs.Commands.{commands_of, given_options, options, resyn2, resyn2l, said, size_of, workers_of};
+ghost use Rattle.syn_words.specs.Commands.{commands_of, given_conflicts, given_limits, given_options, options, resyn, resyn2, resyn2l, said, size_of, workers_of};
 ghost use Rattle.syn_words.specs.Scripts.{said_onto};
 ghost use Rattle.syn_words.specs.declared.Command.TheVariants as commands;
 
 use crate::inputs::LutInputs;
 use crate::names::FileName;
-use crate::recipes::{PassOptions, Recipe};
-use crate::table::{Keyword, MAX_TABLES, entry_of};
+use crate::recipes::{PassOptions, Recipe, SearchLimits};
+use crate::table::{Keyword, MAX_CONFLICTS, MAX_TABLES, entry_of};
 use crate::word_reader::{Given, given_by};
 use crate::words::Phrase;
 use crate::{Command, ScriptFault};
 use std::alloc::{AllocError, Global};
 use syn_workers::{MAX_WORKERS, Workers};
+
+// So many conflicts where no number is given.
+const USUAL_CONFLICTS: u32 = 100;
 
 // A number of workers, one at least and the most at most.
 fn workers_of(number: u64) -> Workers
@@ -51,6 +54,26 @@ fn given_options(zero: bool, given: &Given<'_>) -> PassOptions
         zero,
         levels: given.flags.1,
         workers: given_workers(given.number),
+    }
+}
+
+// A number of conflicts, at most the most, and the usual one where none was given.
+fn given_conflicts(number: Option<u64>) -> u32
+    ensures { result ≡ given_conflicts number }
+{
+    match number {
+        None => USUAL_CONFLICTS,
+        Some(number) => number.min(MAX_CONFLICTS as u64) as u32,
+    }
+}
+
+// How a search goes by what was given.
+fn given_limits(given: &Given<'_>) -> SearchLimits
+    ensures { result ≡ given_limits given.now }
+{
+    SearchLimits {
+        conflicts: given_conflicts(given.number),
+        levels: given.flags.1,
     }
 }
 
@@ -99,6 +122,22 @@ fn resyn2l(alloc: Global) -> Result<Vec<Command>, AllocError>
     ]?)
 }
 
+// The commands of `resyn`, by as many workers as the session has.
+fn resyn(alloc: Global) -> Result<Vec<Command>, AllocError>
+    ensures { IfOk result (λ v. v.items ≡ resyn) }
+{
+    let plain = options(false, false);
+    let zero = options(true, false);
+    Ok(vec![in alloc;
+        Command::Make(Recipe::Balance),
+        Command::Make(Recipe::Rewrite(plain)),
+        Command::Make(Recipe::Rewrite(zero)),
+        Command::Make(Recipe::Balance),
+        Command::Make(Recipe::Rewrite(zero)),
+        Command::Make(Recipe::Balance),
+    ]?)
+}
+
 // The commands of `resyn2`, by as many workers as the session has.
 fn resyn2(alloc: Global) -> Result<Vec<Command>, AllocError>
     ensures { IfOk result (λ v. v.items ≡ resyn2) }
@@ -127,9 +166,10 @@ fn commands_of(
 ) -> Result<Vec<Command>, AllocError>
     ensures { IfOk result (λ v. v.items ≡ commands_of keyword given.entry) }
 {
-    let (flag, _) = given.flags;
+    let (flag, _, _) = given.flags;
     let plain = given_options(flag, &given);
     let zero = given_options(true, &given);
+    let limits = given_limits(&given);
     let inputs = LutInputs::of(given.number);
     let (seed, size) = (given.numbers.0, size_of(given.numbers.1));
     match keyword {
@@ -142,6 +182,7 @@ fn commands_of(
         }
         Keyword::PrintStats => one(alloc, Command::Stats),
         Keyword::Generate => one(alloc, Command::Generate { seed, size }),
+        Keyword::Resyn => resyn(alloc),
         Keyword::Resyn2 => resyn2(alloc),
         Keyword::Resyn2Levels => resyn2l(alloc),
         Keyword::Strash => make(alloc, Recipe::Strash),
@@ -152,6 +193,7 @@ fn commands_of(
         Keyword::RefactorZero => make(alloc, Recipe::Refactor(zero)),
         Keyword::Resubstitute => make(alloc, Recipe::Resubstitute(plain)),
         Keyword::ResubstituteZero => make(alloc, Recipe::Resubstitute(zero)),
+        Keyword::Merge => make(alloc, Recipe::Merge(limits)),
         Keyword::Map => make(alloc, Recipe::Map { area: flag, inputs }),
         Keyword::MapByFlow => make(alloc, Recipe::MapByFlow(inputs)),
         Keyword::Sweep => make(alloc, Recipe::Sweep),

@@ -26,12 +26,17 @@ pub enum Keyword {
     Resubstitute,
     ResubstituteZero,
     MapByFlow,
+    Merge,
+    Resyn,
     ReadAiger,
     WriteAiger,
 }
 
 // A row of the table: a name, what may stand behind it, and its keyword.
 type Row = (&'static [u8], Form, Keyword);
+
+/// So many conflicts at most.
+pub const MAX_CONFLICTS: u32 = 1_000_000;
 
 /// So many generated tables at most.
 pub const MAX_TABLES: u16 = 32_768;
@@ -51,6 +56,15 @@ const INPUTS: Numbered = Numbered {
     range: NumberRange { least: 2, most: 8 },
 };
 
+// The option with a number of conflicts.
+const CONFLICTS: Numbered = Numbered {
+    letter: b'C',
+    range: NumberRange {
+        least: 0,
+        most: MAX_CONFLICTS as u64,
+    },
+};
+
 // A seed.
 const SEEDS: NumberRange = NumberRange {
     least: 0,
@@ -65,62 +79,69 @@ const SIZES: NumberRange = NumberRange {
 
 // No word.
 const NOTHING: Form = Form {
-    flags: (None, None),
+    flags: (None, None, None),
     numbered: None,
     operands: Operands::Nothing,
 };
 
 // A file's name.
 const NAME: Form = Form {
-    flags: (None, None),
+    flags: (None, None, None),
     numbered: None,
     operands: Operands::Name,
 };
 
 // `-a`, and then a file's name.
 const ASCII_AND_NAME: Form = Form {
-    flags: (Some(b'a'), None),
+    flags: (Some(b'a'), None, None),
     numbered: None,
     operands: Operands::Name,
 };
 
-// `-z`, `-l`, and a number of workers.
+// `-z`, `-L`, `-l`, which says what is so without it, and a number of workers.
 const PASS: Form = Form {
-    flags: (Some(b'z'), Some(b'l')),
+    flags: (Some(b'z'), Some(b'L'), Some(b'l')),
     numbered: Some(WORKERS),
     operands: Operands::Nothing,
 };
 
 // The same without `-z`, which is set already.
 const ZERO_PASS: Form = Form {
-    flags: (None, Some(b'l')),
+    flags: (None, Some(b'L'), Some(b'l')),
     numbered: Some(WORKERS),
     operands: Operands::Nothing,
 };
 
 // `-a`, and a number of inputs.
 const AREA_AND_INPUTS: Form = Form {
-    flags: (Some(b'a'), None),
+    flags: (Some(b'a'), None, None),
     numbered: Some(INPUTS),
     operands: Operands::Nothing,
 };
 
 // A number of inputs.
 const ONLY_INPUTS: Form = Form {
-    flags: (None, None),
+    flags: (None, None, None),
     numbered: Some(INPUTS),
+    operands: Operands::Nothing,
+};
+
+// `-L`, and a number of conflicts.
+const SEARCH: Form = Form {
+    flags: (None, Some(b'L'), None),
+    numbered: Some(CONFLICTS),
     operands: Operands::Nothing,
 };
 
 // A seed, and a number of generated tables.
 const SEED_AND_SIZE: Form = Form {
-    flags: (None, None),
+    flags: (None, None, None),
     numbered: None,
     operands: Operands::TwoNumbers(SEEDS, SIZES),
 };
 
 // The names, long and short.
-const TABLE: [Row; 25] = [
+const TABLE: [Row; 28] = [
     (b"read_blif", NAME, Keyword::ReadBlif),
     (b"write_blif", NAME, Keyword::WriteBlif),
     (b"print_stats", NOTHING, Keyword::PrintStats),
@@ -144,6 +165,9 @@ const TABLE: [Row; 25] = [
     (b"rs", PASS, Keyword::Resubstitute),
     (b"rsz", ZERO_PASS, Keyword::ResubstituteZero),
     (b"flowmap", ONLY_INPUTS, Keyword::MapByFlow),
+    (b"fraig", SEARCH, Keyword::Merge),
+    (b"resyn", NOTHING, Keyword::Resyn),
+    (b"compress2", NOTHING, Keyword::Resyn2),
     (b"read_aiger", NAME, Keyword::ReadAiger),
     (b"write_aiger", ASCII_AND_NAME, Keyword::WriteAiger),
 ];
