@@ -21,8 +21,8 @@ use Rattle.syn_levels.specs.Levels.{IsNoDeeper}
 use Rattle.syn_proposals.specs.Closing.{Closed}
 use Rattle.syn_pool.specs.Improving.{IsImproved, allowed}
 use Rattle.syn_shell.specs.Networks.{Written, graph_network}
-use Rattle.syn_shell.specs.Bodies.{IsLeftBy}
-use Rattle.syn_shell.specs.Makes.{IsBalanced, IsClosedFor, IsPassed, IsRemade, NoDeeper, level_at}
+use Rattle.syn_shell.specs.Bodies.{AreMerged, IsLeftBy}
+use Rattle.syn_shell.specs.Makes.{IsBalanced, IsClosedFor, IsMerged, IsPassed, IsRemade, NoDeeper, level_at}
 
 -- what a graph under names is as a netlist
 pub record GraphLaws : Type 0 where
@@ -79,6 +79,12 @@ balanced_of laws was now names h = record {
   levels = no_deeper laws.spells was now (λ i lt. h.levels i (omega (arith, lt, h.same.count)));
 }
 
+merged_of : GraphLaws → (levels : Bool) (was now : Network) → frame_in now.frame ≡ frame_in was.frame → AreMerged levels was.body now.body → IsMerged levels (written was) (written now)
+merged_of laws levels was now names h = record {
+  remade = remade_of laws was now names h.follows.same (omega (arith, h.follows.count));
+  levels = λ kept. no_deeper laws.spells was now (λ i lt. h.levels kept i);
+}
+
 -- the proposals that no longer save, by the rows that the netlist spells
 closed_of : NetworkOfGraph → (proposals : List Row → ℕ → List Replacement) (now : Network) → Closed now.body.rows now.body.observed (proposals now.body.rows)
     → Closed (rows_of (graphs.network_of now)) (observed_of (graphs.network_of now)) (proposals (rows_of (graphs.network_of now)))
@@ -116,6 +122,12 @@ pub put_balanced : GraphLaws → (was now : Network) (made : Option Graph) (body
 put_balanced laws was now made body is names put =
     subst (λ (m : Option Graph). IfSome m (λ b. balanced.IsBalanced was.body b → IsBalanced (written was) (written now))) (sym is)
     (λ h. balanced_of laws was now names (subst (balanced.IsBalanced was.body) (sym put) h))
+
+pub put_merged : GraphLaws → (levels : Bool) (was now : Network) (made : Option Graph) (body : Graph) → made ≡ Some body → frame_in now.frame ≡ frame_in was.frame → now.body ≡ body
+    → IfSome made (λ b. AreMerged levels was.body b → IsMerged levels (written was) (written now))
+put_merged laws levels was now made body is names put =
+    subst (λ (m : Option Graph). IfSome m (λ b. AreMerged levels was.body b → IsMerged levels (written was) (written now))) (sym is)
+    (λ h. merged_of laws levels was now names (subst (AreMerged levels was.body) (sym put) h))
 
 pub put_passed : GraphLaws → (proposals : List Row → ℕ → List Replacement) (levels : Bool) (was now : Network) (made : Option Graph) (body : Graph) → made ≡ Some body → frame_in now.frame ≡ frame_in was.frame → now.body ≡ body
     → IsLeftBy proposals levels was.body made → IsPassed levels proposals (written was) (written now)

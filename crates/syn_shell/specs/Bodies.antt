@@ -3,7 +3,9 @@ use Rattle.std.specs.Prelude.{◌≡◌, ℕ, ◌+◌, ◌≤◌, Bool, true, Li
 use Rattle.syn_rows.specs.declared.Row.{Row}
 use Rattle.syn_rows.specs.Rows.{node_of}
 use Rattle.syn_graph.specs.declared.Graph.{Graph}
+use Rattle.syn_graph.specs.Relations.{Follows}
 use Rattle.syn_gain.specs.Replacements.{Replacement}
+use Rattle.syn_levels.specs.Levels.{IsNoDeeper}
 use Rattle.syn_proposals.specs.Closing.{Closed}
 use Rattle.syn_pool.specs.Improving.{IsImproved, allowed}
 use Rattle.syn_lutnet.specs.LutData.{greatest, net_depth, none_exceeds}
@@ -18,6 +20,11 @@ use Rattle.syn_flow.specs.Flows.{HasLeastDepth}
 pub record IsLeftBy (proposals : List Row → ℕ → List Replacement) (levels : Bool) (graph : Graph) (made : Option Graph) : Type 0 where
   pub some : IfSome made (IsImproved proposals levels graph)
   pub none : IfNone made (Closed graph.rows graph.observed (allowed levels proposals graph.rows))
+
+-- Merging made a graph of this one: it has its function and no more ANDs, and where levels are kept no observed literal lies higher.
+pub record AreMerged (levels : Bool) (graph made : Graph) : Type 0 where
+  pub follows : Follows graph 0 made
+  pub levels : levels ≡ true → IsNoDeeper graph made
 
 -- LUTs of at most k inputs, no more of them than the graph has ANDs
 pub record AreLuts (k : ℕ) (graph : Graph) (net : LutNet) : Type 0 where

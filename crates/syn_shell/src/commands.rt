@@ -10,8 +10,8 @@ ghost use Rattle.syn_lutnet.specs.Nets.{HasFunctionOf};
 ghost use Rattle.syn_balance.specs.Balanced as balanced;
 ghost use Rattle.syn_gain.specs.Replacements.{Replacement};
 ghost use Rattle.syn_shell.specs.Networks.{gates_in, graph_network, IsSmall, mapped_network, network_of, made_in};
-ghost use Rattle.syn_shell.specs.Bodies.{AreFewLuts, AreLeastLuts, ArePlainLuts, IsLeftBy};
-ghost use Rattle.syn_shell.specs.Makes.{IsBalanced, IsLeastMappedTo, IsMappedForArea, IsMappedTo, IsPassed, IsRemade, Makes, MakesOfGraph};
+ghost use Rattle.syn_shell.specs.Bodies.{AreFewLuts, AreLeastLuts, AreMerged, ArePlainLuts, IsLeftBy};
+ghost use Rattle.syn_shell.specs.Makes.{IsBalanced, IsLeastMappedTo, IsMappedForArea, IsMappedTo, IsMerged, IsPassed, IsRemade, Makes, MakesOfGraph};
 ghost use Rattle.syn_shell.specs.Steps.{MakingRefused};
 
 use crate::network::HeldNetwork;
@@ -23,6 +23,7 @@ use syn_balance::balance;
 use syn_build::{BuildFault, build_luts};
 use syn_commit::CommitHook;
 use syn_flow::flow;
+use syn_fraig::{Limits, fraig};
 use syn_graph::Graph;
 use syn_lutnet::LutNet;
 use syn_map::map;
@@ -32,7 +33,7 @@ use syn_refactor::refactor;
 use syn_resub::resub;
 use syn_rewrite::rewrite;
 use syn_seq::sweep;
-use syn_words::{PassOptions, Recipe};
+use syn_words::{PassOptions, Recipe, SearchLimits};
 use syn_workers::Workers;
 
 // How a pass is to go: as the options say, with so many workers where these name none.
@@ -43,6 +44,16 @@ fn settings_of(options: &PassOptions, workers: Workers) -> PassSettings
         workers: options.workers.unwrap_or(workers),
         zero_gain: options.zero,
         levels: options.levels,
+    }
+}
+
+// How far a search for nodes of one value goes, as the command says.
+fn limits_of(limits: &SearchLimits) -> Limits
+    ensures levels { result.levels ≡ limits.now.levels }
+{
+    Limits {
+        conflicts: limits.conflicts,
+        levels: limits.levels,
     }
 }
 
@@ -58,6 +69,7 @@ fn hashed(network: &Network)
 fn remade(network: &mut Network, new: Option<Graph>)
     requires { IfSome new (SameFunction network.old.body) }
     ensures balanced { IfSome new (λ body. balanced.IsBalanced network.old.body body → IsBalanced (graph_network (graphs.network_of network.old)) (graph_network (graphs.network_of network.new))) }
+    ensures merged { (levels : Bool) → IfSome new (λ body. AreMerged levels network.old.body body → IsMerged levels (graph_network (graphs.network_of network.old)) (graph_network (graphs.network_of network.new))) }
     ensures passed { (proposals : List Row → ℕ → List Replacement) (levels : Bool) → IsLeftBy proposals levels network.old.body new → IsPassed levels proposals (graph_network (graphs.network_of network.old)) (graph_network (graphs.network_of network.new)) }
 {
     syn_network::network_of_graph();
@@ -127,6 +139,11 @@ pub(crate) fn remake_graph<R: Threads + Sync, G: CommitHook>(
             let settings = settings_of(options, workers);
             let new = resub(rt, alloc, &network.body, settings, hook)?;
             remade(network, new);
+            Ok(None)
+        }
+        Recipe::Merge(limits) => {
+            let new = fraig(alloc, &network.body, &limits_of(limits))?;
+            remade(network, Some(new));
             Ok(None)
         }
         Recipe::Map {

@@ -12,6 +12,12 @@ returns-in-Strash-clause-made g c = made_by _ recipes.Strash _ _ c.in-Strash.is 
 pub returns-in_ok-new-in-Balance-clause-made : goal.returns-in_ok-new-in-Balance-clause-made
 returns-in_ok-new-in-Balance-clause-made g c = made_by _ recipes.Balance _ _ c.in-Balance.is (c.remade.ensures.balanced c.in_ok-new-in-Balance.ensures.balanced)
 
+pub returns-in_ok-new-in-Merge-clause-made : goal.returns-in_ok-new-in-Merge-clause-made
+returns-in_ok-new-in-Merge-clause-made g c =
+    let h = c.in_ok-new-in-Merge.ensures in
+    made_by _ (recipes.Merge c.in-Merge.limits.now) _ _ c.in-Merge.is
+    (c.remade.ensures.merged c.in-Merge.limits.now.levels (record { follows = h.follows; levels = λ kept. h.levels (c.limits_of.ensures.levels ∙ kept) }))
+
 pub returns-in_ok-mapped-in-Map-true-default-clause-made : goal.returns-in_ok-mapped-in-Map-true-default-clause-made
 returns-in_ok-mapped-in-Map-true-default-clause-made g c =
     let h = c.in_ok-net-in-Map-true-default.ensures in
