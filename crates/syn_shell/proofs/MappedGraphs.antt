@@ -93,7 +93,7 @@ needed_here spells k was nodes are =
 needed_nodes : (k : ℕ) (graph : Graph) (net : LutNet) → IsMapped k graph net → (nodes : List ℕ) × AreNeeded k graph.rows graph.observed nodes × (length net.luts ≡ length nodes)
 unfolding IsMappedBy
 needed_nodes k graph net (nodes, mapping) =
-    (nodes, record { rise = mapping.rise; needed = mapping.needed; all = mapping.all }, sym (length-map net.luts lut_data) ∙ mapping.long)
+    (nodes, record { rise = mapping.nodes_are.rise; needed = mapping.nodes_are.needed; all = mapping.nodes_are.all }, sym (length-map net.luts lut_data) ∙ mapping.long)
 
 -- as deep as the greatest label, one LUT for each node that needs one
 pub mapped_to : LutLaws → (k : ℕ) (was : Network) (net : LutNet) (made : LutNetwork) → AreOf was net made → ArePlainLuts k was.body net → IsMappedTo k (written was) (written_luts made)

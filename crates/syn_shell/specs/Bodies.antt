@@ -22,9 +22,9 @@ pub record IsLeftBy (proposals : List Row → ℕ → List Replacement) (levels 
   pub none : IfNone made (Closed graph.rows graph.observed (allowed levels proposals graph.rows))
 
 -- Merging made a graph of this one: it has its function and no more ANDs, and where levels are kept no observed literal lies higher.
-pub record AreMerged (levels : Bool) (graph made : Graph) : Type 0 where
+pub record AreMerged (keeps : Bool) (graph made : Graph) : Type 0 where
   pub follows : Follows graph 0 made
-  pub levels : levels ≡ true → IsNoDeeper graph made
+  pub levels : keeps ≡ true → IsNoDeeper graph made
 
 -- LUTs of at most k inputs, no more of them than the graph has ANDs
 pub record AreLuts (k : ℕ) (graph : Graph) (net : LutNet) : Type 0 where

@@ -51,9 +51,9 @@ pub record IsBalanced (old new : Written) : Type 0 where
   pub levels : NoDeeper old.netlist new.netlist
 
 -- What merging makes of a graph: it is remade, and where levels are kept no observed signal has a higher level than before.
-pub record IsMerged (levels : Bool) (old new : Written) : Type 0 where
+pub record IsMerged (keeps : Bool) (old new : Written) : Type 0 where
   pub remade : IsRemade old new
-  pub levels : levels ≡ true → NoDeeper old.netlist new.netlist
+  pub levels : keeps ≡ true → NoDeeper old.netlist new.netlist
 
 -- What rewriting, refactoring and resubstitution make of a graph, each for its proposals: it is remade, and no proposal for any of its ANDs saves one, by the rows that it spells.
 pub record IsClosedFor (proposals : List Row → ℕ → List Replacement) (old new : Written) : Type 0 where

@@ -12,6 +12,7 @@ ghost use Rattle.syn_gain.specs.Replacements.{Replacement};
 ghost use Rattle.syn_shell.specs.Networks.{gates_in, graph_network, IsSmall, mapped_network, network_of, made_in};
 ghost use Rattle.syn_shell.specs.Bodies.{AreFewLuts, AreLeastLuts, AreMerged, ArePlainLuts, IsLeftBy};
 ghost use Rattle.syn_shell.specs.Makes.{IsBalanced, IsLeastMappedTo, IsMappedForArea, IsMappedTo, IsMerged, IsPassed, IsRemade, Makes, MakesOfGraph};
+ghost use Rattle.syn_words.specs.declared.recipes.Recipe.TheVariants as recipes;
 ghost use Rattle.syn_shell.specs.Steps.{MakingRefused};
 
 use crate::network::HeldNetwork;
@@ -33,7 +34,7 @@ use syn_refactor::refactor;
 use syn_resub::resub;
 use syn_rewrite::rewrite;
 use syn_seq::sweep;
-use syn_words::{PassOptions, Recipe, SearchLimits};
+use syn_words::{LutInputs, PassOptions, Recipe, SearchLimits};
 use syn_workers::Workers;
 
 // How a pass is to go: as the options say, with so many workers where these name none.
@@ -100,6 +101,27 @@ fn mapped(alloc: Global, network: &Network, net: LutNet) -> Result<LutNetwork, A
     network.mapped_copy(alloc, net)
 }
 
+// LUTs of so many inputs at most under a copy of a graph's names: few of them where that is asked, else those of the chosen cuts.
+fn mapped_by<R: Threads + Sync>(
+    rt: &R,
+    alloc: Global,
+    network: &Network,
+    area: &bool,
+    inputs: &LutInputs,
+    workers: Workers,
+) -> Result<LutNetwork, AllocError>
+    ensures { IfOk result (λ made. MakesOfGraph (recipes.Map area.now inputs.now) (graph_network (graphs.network_of network.now)) (mapped_network (luts.network_of made))) }
+{
+    let number = inputs.number();
+    if *area {
+        let few = map_for_area(rt, alloc, &network.body, number, workers)?;
+        mapped(alloc, network, few)
+    } else {
+        let plain = map(rt, alloc, &network.body, number, workers)?;
+        mapped(alloc, network, plain)
+    }
+}
+
 /// Makes a graph anew by a recipe, under its names; or gives the LUTs that the recipe makes of it, under these names too. So
 /// many workers do it where the recipe names none. Refused, for want of memory alone, the graph stays.
 pub(crate) fn remake_graph<R: Threads + Sync, G: CommitHook>(
@@ -146,16 +168,9 @@ pub(crate) fn remake_graph<R: Threads + Sync, G: CommitHook>(
             remade(network, Some(new));
             Ok(None)
         }
-        Recipe::Map {
-            area: false,
-            inputs,
-        } => {
-            let net = map(rt, alloc, &network.body, inputs.number(), workers)?;
-            Ok(Some(mapped(alloc, network, net)?))
-        }
-        Recipe::Map { area: true, inputs } => {
-            let net = map_for_area(rt, alloc, &network.body, inputs.number(), workers)?;
-            Ok(Some(mapped(alloc, network, net)?))
+        Recipe::Map { area, inputs } => {
+            let made = mapped_by(rt, alloc, network, area, inputs, workers)?;
+            Ok(Some(made))
         }
         Recipe::MapByFlow(inputs) => {
             let (net, _proof) = flow(alloc, &network.body, inputs.number())?;

@@ -1,4 +1,4 @@
-use Rattle.std.proofs.Common.{refl, sym, ap, ap₂, subst, ◌∙◌}
+use Rattle.std.proofs.Common.{refl, sym, ap, subst, ◌∙◌}
 use Rattle.syn_network.specs.declared.networks.Network.{Network}
 use Rattle.syn_words.specs.declared.recipes.Recipe.TheVariants as recipes
 use Rattle.syn_shell.specs.Makes.{IsSweptTo}
@@ -15,26 +15,17 @@ returns-in_ok-new-in-Balance-clause-made g c = made_by _ recipes.Balance _ _ c.i
 pub returns-in_ok-new-in-Merge-clause-made : goal.returns-in_ok-new-in-Merge-clause-made
 returns-in_ok-new-in-Merge-clause-made g c =
     let h = c.in_ok-new-in-Merge.ensures in
-    made_by _ (recipes.Merge c.in-Merge.limits.now) _ _ c.in-Merge.is
-    (c.remade.ensures.merged c.in-Merge.limits.now.levels (record { follows = h.follows; levels = λ kept. h.levels (c.limits_of.ensures.levels ∙ kept) }))
+    made_by _ (recipes.Merge c.in-Merge.limits) _ _ c.in-Merge.is
+    (c.remade-in-Merge.ensures.merged c.in-Merge.limits.levels (record { follows = h.follows; levels = λ kept. h.levels (c.limits_of.ensures.levels ∙ kept) }))
 
-pub returns-in_ok-mapped-in-Map-true-default-clause-made : goal.returns-in_ok-mapped-in-Map-true-default-clause-made
-returns-in_ok-mapped-in-Map-true-default-clause-made g c =
-    let h = c.in_ok-net-in-Map-true-default.ensures in
-    made_by _ _ _ _ (c.in-Map-true-default.is ∙ ap₂ recipes.Map c.in-Map-true-default.area-test (sym c.number.ensures.number))
-    (c.in_ok-mapped-in-Map-true-default.ensures.few c.number.result (record { luts = record { inputs = h.inputs; count = h.count }; depth = h.depth; fewer = h.fewer }))
-
-pub returns-in_ok-mapped-in-Map-false-default-clause-made : goal.returns-in_ok-mapped-in-Map-false-default-clause-made
-returns-in_ok-mapped-in-Map-false-default-clause-made g c =
-    let h = c.in_ok-net-in-Map-false-default.ensures in
-    made_by _ _ _ _ (c.in-Map-false-default.is ∙ ap₂ recipes.Map c.in-Map-false-default.area-test (sym c.number-in-Map-false-default.ensures.number))
-    (c.in_ok-mapped-in-Map-false-default.ensures.plain c.number-in-Map-false-default.result (record { luts = record { inputs = h.inputs; count = h.count }; mapping = h.mapping; depth = h.depth }))
+pub returns-in_ok-made-in-Map-clause-made : goal.returns-in_ok-made-in-Map-clause-made
+returns-in_ok-made-in-Map-clause-made g c = made_by _ (recipes.Map c.in-Map.area c.in-Map.inputs) _ _ c.in-Map.is c.in_ok-made-in-Map.ensures
 
 pub returns-in_ok-mapped-in-MapByFlow-clause-made : goal.returns-in_ok-mapped-in-MapByFlow-clause-made
 returns-in_ok-mapped-in-MapByFlow-clause-made g c =
     let h = c.in_ok-net-in-MapByFlow.ensures in
-    made_by _ (recipes.MapByFlow c.number-in-MapByFlow.result) _ _ (c.in-MapByFlow.is ∙ ap recipes.MapByFlow (sym c.number-in-MapByFlow.ensures.number))
-    (c.in_ok-mapped-in-MapByFlow.ensures.least c.number-in-MapByFlow.result (record { luts = record { inputs = h.inputs; count = h.count }; least = h.least }))
+    made_by _ (recipes.MapByFlow c.number.result) _ _ (c.in-MapByFlow.is ∙ ap recipes.MapByFlow (sym c.number.ensures.number))
+    (c.in_ok-mapped-in-MapByFlow.ensures.least c.number.result (record { luts = record { inputs = h.inputs; count = h.count }; least = h.least }))
 
 pub returns-in_ok-new-in-Sweep-clause-made : goal.returns-in_ok-new-in-Sweep-clause-made
 returns-in_ok-new-in-Sweep-clause-made g c =
