@@ -1,5 +1,7 @@
 //! Calls on rows that are joined and compacted.
 
+ghost use Rattle.std.specs.Prelude.{◌≤◌, length};
+
 use crate::answers::put;
 use crate::operands::{Operands, small};
 use std::alloc::{AllocError, Global};
@@ -7,7 +9,10 @@ use syn_hashed::{HashedRows, Rows, compact_rows};
 use syn_rows::{Lit, Row};
 
 // The AND of two literals; the constant where a row isn't there, or there are too many.
-fn joined(hashed: &mut HashedRows, a: Lit, b: Lit) -> Result<Lit, AllocError> {
+fn joined(hashed: &mut HashedRows, a: Lit, b: Lit) -> Result<Lit, AllocError>
+    requires { length hashed.old.rows.items ≤ 101 }
+    ensures { length hashed.new.rows.items ≤ 101 }
+{
     let count = hashed.rows.len();
     if a.node() as usize >= count || b.node() as usize >= count || count > 100 {
         return Ok(Lit(0));
@@ -16,7 +21,10 @@ fn joined(hashed: &mut HashedRows, a: Lit, b: Lit) -> Result<Lit, AllocError> {
 }
 
 /// Joins pairs of literals in turn: the literals of their ANDs.
-pub fn join(alloc: Global, hashed: &mut HashedRows, list: &[u128]) -> Result<Vec<Lit>, AllocError> {
+pub fn join(alloc: Global, hashed: &mut HashedRows, list: &[u128]) -> Result<Vec<Lit>, AllocError>
+    requires { length hashed.old.rows.items ≤ 101 }
+    ensures { length hashed.new.rows.items ≤ 101 }
+{
     let mut found = Vec::new(alloc);
     for place in 0..list.len() / 2 {
         let a = Lit(small(list, 2 * place));

@@ -63,7 +63,9 @@ fn generated(alloc: Global, seed: u64, size: u32) -> Result<Vec<u8>, AllocError>
 }
 
 // The numbers of a netlist's sources and observed signals, the order of its tables twice, and its cost.
-fn put_lists(alloc: Global, out: &mut String, checked: &CheckedNetlist) -> Result<(), AllocError> {
+fn put_lists(alloc: Global, out: &mut String, checked: &CheckedNetlist) -> Result<(), AllocError>
+    requires { NetWithin (netlist_in checked.now.netlist) }
+{
     put(out, checked.netlist.frame.sources(alloc))?;
     put(out, checked.netlist.frame.observed(alloc))?;
     put(out, Ok(table_order(&checked.netlist, alloc).ok()))?;
