@@ -23,6 +23,9 @@ build-requires-clause-room c =
     let cheap : cost_of (netlist_in n) ≡ cost_of made = ap cost_of same in
     omega (arith, few, cheap, costs.0, costs.1, c.ranges.size.fits)
 
+pub build-requires-clause-names : goal.build-requires-clause-names
+build-requires-clause-names c = omega (arith, c.in_ok-netlist.ensures.names, c.ranges.size.fits)
+
 pub returns-clause-generated : goal.returns-clause-generated
 returns-clause-generated c = subst (λ (m : Netlist). IsGraphOf m (network_of c.in_ok-graph.graph)) c.in_ok-netlist.ensures.generated c.in_ok-graph.ensures.network
 
