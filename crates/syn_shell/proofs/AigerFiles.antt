@@ -1,4 +1,4 @@
--- Refusals of files as those of reads and writes; an AIGER file of a network's graph as one of the network; how large the graph of a file is.
+-- An AIGER file of a network's graph as one of the network; how large the graph of a file is.
 use Rattle.std.proofs.Common.{◌≡◌, ◌⊎◌, ℕ, suc, ◌≤◌, ◌<◌, ◌^◌, Bool, true, List, [], ◌∷◌, ◌++◌, length, map, flat_map, refl, sym, ap, ap₂, ◌∙◌, subst, arith, IfOk, Result, Ok, Err, Vec, Global}
 use Rattle.std.proofs.lemmas.List.{length-append, length-map}
 use Rattle.syn_netlist.specs.Lists.{Frame, Latch, Netlist, control_of, latch_output, latch_reads, observed, sources}
@@ -24,12 +24,6 @@ use Rattle.syn_shell.specs.Networks.{IsSmall, Written, gates_in, graph_network, 
 use Rattle.syn_shell.specs.Makes.{IsRemade}
 use Rattle.syn_shell.specs.Steps.{IsAigerOf}
 
--- bytes that are not there are not read, in either format
-
--- a network that isn't made a graph has no AIGER file, and one whose graph has none has none
-
--- refused before anything is put, or at the put
-
 -- what latches load has the same values where observed signals have
 
 feeds_same : (w w' : List ℕ → Bool) (ls : List Latch) → ((c : List ℕ) → has_word (flat_map latch_reads ls) c ≡ true → w c ≡ w' c) → map w (map feed_of ls) ≡ map w' (map feed_of ls)
@@ -42,6 +36,7 @@ feeds_same w w' (l ∷ ls) h =
 -- a file that keeps what a netlist means keeps what another one of the same meaning does
 written_alike : (old graph : Netlist) (g : Aig) → SameMeaning old graph → IsWrittenAs graph g → IsWrittenAs old g
 written_alike old graph g same h = record {
+  untyped = ap first_typed e ∙ h.untyped;
   inputs = h.inputs ∙ sym (ap free_signals e);
   outputs = h.outputs ∙ sym (ap (λ (f : Frame). f.outputs) e);
   latches = h.latches ∙ sym (ap (λ (f : Frame). map latch_output f.latches) e);
