@@ -84,7 +84,7 @@ pub(crate) struct Guesses {
 }
 
 // The lowest bit of the first word that isn't 0.
-fn spot(words: &[u64]) -> Option<Spot> {
+fn first_spot(words: &[u64]) -> Option<Spot> {
     for (place, word) in words.iter().enumerate() {
         if *word != 0 {
             let bit = *word & (!*word).wrapping_add(1);
@@ -209,7 +209,7 @@ impl Guesses {
         y: Lit,
         turned: bool,
     ) -> Result<(), AllocError> {
-        let Some(spot) = spot(self.rest.as_slice()) else {
+        let Some(spot) = first_spot(self.rest.as_slice()) else {
             return Ok(());
         };
         for z in &self.inside {
@@ -233,7 +233,7 @@ impl Guesses {
         end: usize,
     ) -> Result<(), AllocError> {
         outside(self.target.as_slice(), words, x, self.left.as_mut_slice());
-        let Some(spot) = spot(self.left.as_slice()) else {
+        let Some(spot) = first_spot(self.left.as_slice()) else {
             self.all.push(Guess::or(x, x, x, turned))?;
             return Ok(());
         };
@@ -280,7 +280,7 @@ impl Guesses {
     // Those of the others in which all that is left lies.
     fn find_covers(&mut self, words: &Words) -> Result<(), AllocError> {
         self.covers.clear();
-        let Some(spot) = spot(self.left.as_slice()) else {
+        let Some(spot) = first_spot(self.left.as_slice()) else {
             return Ok(());
         };
         for p in &self.others {
