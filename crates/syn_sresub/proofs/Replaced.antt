@@ -1,6 +1,7 @@
 -- ANDs in place of a literal that has their value.
-use Rattle.std.proofs.Common.{◌≡◌, ℕ, ◌+◌, ◌-◌, ◌%◌, ◌<◌, ◌&&◌, nat_eq, not, if◌then◌else◌, Bool, true, false, List, length, refl, sym, ap, ap₂, ◌∙◌, subst, arith, inl, inr}
+use Rattle.std.proofs.Common.{◌≡◌, Option, Some, None, IfSome, IsSomeAnd, ℕ, ◌+◌, ◌-◌, ◌%◌, ◌<◌, ◌&&◌, nat_eq, not, if◌then◌else◌, Bool, true, false, List, length, refl, sym, ap, ap₂, ◌∙◌, subst, arith, inl, inr}
 use Rattle.std.proofs.lemmas.Bool.{cases_lt}
+use Rattle.std.proofs.lemmas.Option.{IfSome_then}
 use Rattle.std.proofs.lemmas.List.{get_or_append_left, get_or_past}
 use Rattle.syn_rows.specs.declared.Lit.{Lit}
 use Rattle.syn_rows.specs.declared.Row.{Row}
@@ -63,6 +64,17 @@ replaces_turned old new m not_m l not_l dm dl r = record {
       ∙ ap not (r.value given zero ∙ not_value (value_in (values_of given old)) m not_m dm)
       ∙ not_not (lit_value (value_in (values_of given old)) m);
 }
+
+-- what was found, after rows that grew before
+pub found_later : (old mid new : List Row) (m : Lit) (found : Option Lit) → Extends old mid → node_of m < length old → IfSome found (Replaces mid m new) → IfSome found (Replaces old m new)
+found_later old mid new m found e lt h = IfSome_then found h (λ l r. replaces_later old mid new m l e lt r)
+
+-- and its complement in place of the complement
+pub found_turned : (old mid new : List Row) (m not_m : Lit) (found turned : Option Lit) → Extends old mid → node_of m < length old → not_m.0 ≡ (if nat_eq (m.0 % 2) 0 then m.0 + 1 else m.0 - 1)
+    → IfSome turned (λ n. IsSomeAnd found (λ l. n.0 ≡ (if nat_eq (l.0 % 2) 0 then l.0 + 1 else l.0 - 1))) → IfSome found (Replaces mid not_m new) → IfSome turned (Replaces old m new)
+found_turned old mid new m not_m found None e lt d is h = tt
+found_turned old mid new m not_m None (Some n) e lt d is h = absurd is
+found_turned old mid new m not_m (Some l) (Some n) e lt d is h = replaces_later old mid new m n e lt (replaces_turned mid new m not_m l n d is h)
 
 -- what stands for an old node, replaced, stands for it
 pub stands_replaced : (rows mid new : List Row) (n : ℕ) (m l : Lit) → Stands rows mid n m → Replaces mid m new l → Stands rows new n l

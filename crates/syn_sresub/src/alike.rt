@@ -6,6 +6,12 @@ use syn_sat::{at, put};
 /// No node.
 pub(crate) const NONE: u32 = u32::MAX;
 
+/// The number of the node at a place.
+#[inline]
+pub(crate) fn number(place: usize) -> u32 {
+    u32::try_from(place).unwrap_or(NONE)
+}
+
 /// Chains of nodes, by their keys.
 #[derive(Debug, Drop)]
 pub(crate) struct Alike {
@@ -42,14 +48,14 @@ impl Alike {
         let node = self.next.len();
         self.next.push(NONE)?;
         if node < self.heads.len() {
-            self.link(node as u32, at(keys, node, 0));
+            self.link(number(node), at(keys, node, 0));
             return Ok(());
         }
         let size = self.heads.len().saturating_mul(2);
         self.heads.clear();
         self.heads.resize(size, NONE)?;
         for i in 0..=node {
-            self.link(i as u32, at(keys, i, 0));
+            self.link(number(i), at(keys, i, 0));
         }
         Ok(())
     }

@@ -1,12 +1,10 @@
 //! Which new rows are still needed: references from needed rows, and from old rows that are still to be made. Nothing is
 //! promised of them.
 
+use crate::alike::{NONE, number};
 use std::alloc::{AllocError, Global};
 use syn_rows::{Lit, Row};
 use syn_sat::{at, put};
-
-/// No node, and no edge.
-const NONE: u32 = u32::MAX;
 
 /// Counts of references by new node. A row without references is dead: it refers to nothing.
 #[derive(Debug, Drop)]
@@ -50,7 +48,7 @@ impl References {
         for node in self.counts.len()..rows.len() {
             self.counts.push(0)?;
             self.first.push(NONE)?;
-            let edge = (node as u32).saturating_mul(2);
+            let edge = number(node).saturating_mul(2);
             if let Row::And(a, b) = rows[node] {
                 self.link(edge, a.node())?;
                 self.link(edge.saturating_add(1), b.node())?;

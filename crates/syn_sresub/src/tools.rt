@@ -1,7 +1,7 @@
 //! What resubstitution works with, of which nothing is promised: words, references, divisors and guesses.
 
 use crate::Limits;
-use crate::alike::Alike;
+use crate::alike::{Alike, number};
 use crate::divisors::Divisors;
 use crate::guesses::{Guess, Guesses};
 use crate::references::References;
@@ -48,18 +48,21 @@ pub(crate) struct Tools {
 impl Tools {
     /// Tools for a graph. The only error of this call and of those below is want of memory.
     pub(crate) fn new(alloc: Global, graph: &Graph, limits: &Limits) -> Result<Tools, AllocError> {
+        let needs = graph.refs(alloc)?;
+        let depths = graph.levels(alloc)?;
+        let alike = Alike::new(alloc)?;
         Ok(Tools {
             stack: Vec::new(alloc),
             conflicts: limits.conflicts,
             words: Words::new(alloc),
-            alike: Alike::new(alloc)?,
+            alike,
             references: References::new(alloc),
             divisors: Divisors::new(alloc),
             guesses: Guesses::new(alloc),
             cone: Vec::new(alloc),
             levels: Vec::new(alloc),
-            needs: graph.refs(alloc)?,
-            depths: graph.levels(alloc)?,
+            needs,
+            depths,
             gates: limits.gates,
             keeps_levels: limits.levels,
             need: 0,
@@ -93,7 +96,7 @@ impl Tools {
         self.grow(rows)?;
         for node in 0..rows.len() {
             let need = at(self.needs.as_slice(), node, 0);
-            self.references.add(rows, node as u32, need)?;
+            self.references.add(rows, number(node), need)?;
         }
         Ok(())
     }

@@ -1,5 +1,6 @@
 //! Words of simulation: the values of each node in 3,072 patterns. Nothing is promised of them.
 
+use crate::alike::number;
 use std::alloc::{AllocError, Global};
 use syn_fraig::Random;
 use syn_rows::{Lit, Row};
@@ -158,7 +159,7 @@ impl Words {
             let row = at(rows, node, Row::Free);
             let word = match row {
                 Row::And(a, b) => self.word_of(a, place) & self.word_of(b, place),
-                _ => self.model_word(solver.value(node as u32)),
+                _ => self.model_word(solver.value(number(node))),
             };
             let i = node.saturating_mul(COUNT).saturating_add(place);
             put(self.words.as_mut_slice(), i, word);
