@@ -31,6 +31,12 @@ and_replaces count old new m x y l h same there value = record {
   value = λ given zero. value given zero ∙ sym (same (value_in (values_of given old)) (computed_fit count old h given zero));
 }
 
+-- the same, where there was room for the AND
+pub and_found : (count : ℕ) (old new : List Row) (m x y : Lit) (found : Option Lit) → IsHashed count old → IsAndOf old m x y → IfSome found (λ l. node_of l < length new) → IfSome found (IsAnd old x y new)
+    → IfSome found (Replaces old m new)
+and_found count old new m x y None h same there value = tt
+and_found count old new m x y (Some l) h same there value = and_replaces count old new m x y l h same there value
+
 -- what fits grown rows fits the rows before
 pub fits_less : (old new : List Row) (v : ℕ → Bool) → Extends old new → Fits new v → Fits old v
 fits_less old new v e f = record {

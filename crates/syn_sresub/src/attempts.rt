@@ -173,15 +173,15 @@ fn attempt_all(
     ensures replaces { IfOk result (λ o. IfSome o (Replaces hashed.old.rows.items m hashed.new.rows.items)) }
     ensures clauses { OnOk result (AreTrueBy hashed.new.rows.items solver.new.clauses) }
 {
-    for place in 0..64 {
-        let Some((guess, is_open)) = tools.guess(m, place) else {
+    let mut place = 0;
+    for _ in 0..64 {
+        let Some((guess, next)) = tools.next_guess(m, place) else {
             break;
         };
-        if is_open {
-            let found = attempt_guess(hashed, solver, tools, m, guess)?;
-            if found.is_some() {
-                return Ok(found);
-            }
+        place = next;
+        let found = attempt_guess(hashed, solver, tools, m, guess)?;
+        if found.is_some() {
+            return Ok(found);
         }
     }
     Ok(None)
@@ -206,7 +206,8 @@ pub(crate) fn improve(
 {
     for round in 0..2 {
         tools.find(hashed.rows.as_slice(), m, round)?;
-        if let Some(lit) = attempt_all(hashed, solver, tools, m)? {
+        let found = attempt_all(hashed, solver, tools, m)?;
+        if let Some(lit) = found {
             return Ok(lit);
         }
     }

@@ -196,17 +196,24 @@ impl Tools {
         }
     }
 
-    /// The guess at a place, if so many were found and not too many have failed; with whether it is still worth a question.
-    pub(crate) fn guess(&self, m: Lit, place: usize) -> Option<(Guess, bool)> {
-        if self.failures >= FAILURES || place >= self.guesses.all.len() {
+    // Whether a guess is still worth a question: low enough, and borne out by the words.
+    fn is_open(&self, m: Lit, guess: &Guess) -> bool {
+        let is_low = !self.keeps_levels || self.level_of(guess) <= self.depth;
+        is_low && Guesses::is_borne_out(&self.words, m, guess)
+    }
+
+    /// The first guess from a place on that is worth a question, and the next place, if not too many have failed.
+    pub(crate) fn next_guess(&self, m: Lit, place: usize) -> Option<(Guess, usize)> {
+        if self.failures >= FAILURES {
             return None;
         }
-        let guess = self.guesses.all[place];
-        let is_low = !self.keeps_levels || self.level_of(&guess) <= self.depth;
-        Some((
-            guess,
-            is_low && Guesses::is_borne_out(&self.words, m, &guess),
-        ))
+        for i in place..self.guesses.all.len() {
+            let guess = self.guesses.all[i];
+            if self.is_open(m, &guess) {
+                return Some((guess, i.saturating_add(1)));
+            }
+        }
+        None
     }
 
     /// A guess has failed; the solver's model, if there is one, becomes patterns.

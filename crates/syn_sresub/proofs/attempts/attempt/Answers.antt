@@ -9,8 +9,8 @@ use Rattle.syn_sresub.proofs.attempts.attempt.Goals as goal
 pub ask-requires-clause-clauses : goal.ask-requires-clause-clauses
 ask-requires-clause-clauses c = subst (λ (rs : List Row). AreTrueBy rs c.args.solver.now.clauses) (sym c.as_slice-rows.ensures.value) c.requires.clauses
 
-pub replace_if-requires-clause-same : goal.replace_if-requires-clause-same
-replace_if-requires-clause-same c = λ e. subst (λ (rs : List Row). IsAndOf rs c.args.m c.args.x c.args.y) c.as_slice-rows.ensures.value (c.in_ok-answer.ensures.same e)
+pub replace_if-requires : goal.replace_if-requires
+replace_if-requires c = λ e. subst (λ (rs : List Row). IsAndOf rs c.args.m c.args.x c.args.y) c.as_slice-rows.ensures.value (c.in_ok-answer.ensures.same e)
 
 pub returns-clause-clauses : goal.returns-clause-clauses
 returns-clause-clauses c =
