@@ -76,7 +76,7 @@ fn replace_if(
     x: Lit,
     y: Lit,
 ) -> Result<Option<Lit>, AllocError>
-    requires same { answer ≡ Answer.Refuted → IsAndOf hashed.old.rows.items m x y }
+    requires { answer ≡ Answer.Refuted → IsAndOf hashed.old.rows.items m x y }
     ensures sources { hashed.new.source_count ≡ hashed.old.source_count }
     ensures grows { Extends hashed.old.rows.items hashed.new.rows.items }
     ensures few { length hashed.old.rows.items < NODE_LIMIT → length hashed.new.rows.items < NODE_LIMIT }
