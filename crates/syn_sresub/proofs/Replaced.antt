@@ -1,5 +1,5 @@
 -- ANDs in place of a literal that has their value.
-use Rattle.std.proofs.Common.{◌≡◌, Option, Some, None, IfSome, IsSomeAnd, ℕ, ◌+◌, ◌-◌, ◌%◌, ◌<◌, ◌&&◌, nat_eq, not, if◌then◌else◌, Bool, true, false, List, length, refl, sym, ap, ap₂, ◌∙◌, subst, arith, inl, inr}
+use Rattle.std.proofs.Common.{◌≡◌, Option, Some, None, IfSome, IsSomeAnd, ℕ, ◌+◌, ◌-◌, ◌%◌, ◌<◌, nat_eq, not, if◌then◌else◌, Bool, true, false, List, length, refl, sym, ap, ◌∙◌, subst, arith, inl, inr}
 use Rattle.std.proofs.lemmas.Bool.{cases_lt}
 use Rattle.std.proofs.lemmas.Option.{IfSome_then}
 use Rattle.std.proofs.lemmas.List.{get_or_append_left, get_or_past}

@@ -1,6 +1,6 @@
 //! Attempts to replace a literal of rows that grow.
 
-ghost use Rattle.std.specs.Prelude.{◌≡◌, ◌==◌, ◌%◌, ◌-◌, ◌<◌, ◌+◌, ℕ, List, length, if◌then◌else◌, IfOk, IfSome, IsSomeAnd, OnOk};
+ghost use Rattle.std.specs.Prelude.{◌≡◌, ◌==◌, ◌%◌, ◌-◌, ◌<◌, ◌+◌, length, if◌then◌else◌, IfOk, IfSome, IsSomeAnd, OnOk};
 ghost use Rattle.syn_rows.specs.declared.Row.{Row};
 ghost use Rattle.syn_rows.specs.declared.TheConstants.{NODE_LIMIT};
 ghost use Rattle.syn_rows.specs.Rows.{node_of};

@@ -3,7 +3,7 @@
 use crate::words::{Words, mask};
 use std::alloc::{AllocError, Global};
 use syn_rows::Lit;
-use syn_sat::{at, put};
+use syn_sat::at;
 
 /// A guess for a literal: it, or its complement where it is turned, is the AND of the first literal and of the AND of the two
 /// inner ones, or of the complement of that AND where it is opposite. A guess of fewer literals has some of them twice.

@@ -3,7 +3,7 @@
 
 use crate::alike::{NONE, number};
 use std::alloc::{AllocError, Global};
-use syn_rows::{Lit, Row};
+use syn_rows::Row;
 use syn_sat::{at, put};
 
 /// Counts of references by new node. A row without references is dead: it refers to nothing.

@@ -1,10 +1,10 @@
 //! All nodes made again, each replaced where another literal is shown to have its value.
 
-ghost use Rattle.std.specs.Prelude.{◌≡◌, ◌+◌, ◌<◌, ◌≤◌, ℕ, List, length, map, slice_index_or, true, IfOk, OnOk};
+ghost use Rattle.std.specs.Prelude.{◌≡◌, ◌+◌, ◌<◌, length, true, IfOk, OnOk};
 ghost use Rattle.syn_rows.specs.declared.Row.{Row};
 ghost use Rattle.syn_rows.specs.declared.TheConstants.{NODE_LIMIT};
 ghost use Rattle.syn_rows.specs.Joining.{lit_of};
-ghost use Rattle.syn_rows.specs.Rows.{node_of, row_at};
+ghost use Rattle.syn_rows.specs.Rows.{row_at};
 ghost use Rattle.syn_hashed.specs.Growing.{Extends};
 ghost use Rattle.syn_hashed.specs.Hashed.{IsHashed};
 ghost use Rattle.syn_graph.specs.Relations.{Follows, SameFunction};
@@ -57,8 +57,8 @@ fn improved(
     ensures clauses { OnOk result (AreTrueBy hashed.new.rows.items solver.new.clauses) }
 {
     let literal = joined(hashed, rows, literals, node, a, b)?;
-    let fan_ins = (moved(literals, a), moved(literals, b));
-    let is_open = tools.made(hashed.rows.as_slice(), node, fan_ins, literal)?;
+    let below = (moved(literals, a), moved(literals, b));
+    let is_open = tools.made(hashed.rows.as_slice(), node, below, literal)?;
     if !is_open {
         return Ok(literal);
     }
