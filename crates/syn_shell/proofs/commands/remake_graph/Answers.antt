@@ -15,8 +15,7 @@ returns-in_ok-new-in-Balance-clause-made g c = made_by _ recipes.Balance _ _ c.i
 pub returns-in_ok-new-in-Merge-clause-made : goal.returns-in_ok-new-in-Merge-clause-made
 returns-in_ok-new-in-Merge-clause-made g c =
     let h = c.in_ok-new-in-Merge.ensures in
-    made_by _ (recipes.Merge c.in-Merge.limits.now) _ _ c.in-Merge.is
-    (c.remade.ensures.merged c.in-Merge.limits.now.levels (record { follows = h.follows; levels = λ kept. h.levels (c.limits_of.ensures.levels ∙ kept) }))
+    made_by _ (recipes.Merge _) _ _ c.in-Merge.is (c.remade.ensures.merged _ (record { follows = h.follows; levels = λ kept. h.levels (c.limits_of.ensures.levels ∙ kept) }))
 
 pub returns-in_ok-mapped-in-Map-true-default-clause-made : goal.returns-in_ok-mapped-in-Map-true-default-clause-made
 returns-in_ok-mapped-in-Map-true-default-clause-made g c =
