@@ -13,7 +13,7 @@ mod nets;
 mod reach;
 mod rebuild;
 mod tables;
-mod trim;
+mod trimming;
 
 pub use nets::absorb;
-pub use trim::trim;
+pub use trimming::trim;

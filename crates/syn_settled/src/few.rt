@@ -11,9 +11,9 @@ ghost use Rattle.syn_area.specs.Plain.{AreNeeded};
 ghost use Rattle.syn_absorb.specs.Flips.{AllShown};
 ghost use Rattle.syn_absorb.specs.Needed.{AllDepend};
 
+use crate::settling::settle;
 use std::alloc::{AllocError, Global};
 use std::thread::Threads;
-use syn_absorb::{absorb, trim};
 use syn_area::map_for_area;
 use syn_graph::Graph;
 use syn_lutnet::LutNet;
@@ -39,6 +39,5 @@ pub fn few_luts<R: Threads + Sync>(
     ensures shown { IfOk result (λ net. AllShown (graph.now.source_count + 1) net.observed) }
 {
     let mapped = map_for_area(rt, alloc, graph, k, workers)?;
-    let trimmed = trim(alloc, &mapped)?;
-    absorb(alloc, &trimmed)
+    settle(alloc, &mapped)
 }

@@ -9,8 +9,8 @@ ghost use Rattle.syn_flow.specs.Flows.{HasLeastDepth};
 ghost use Rattle.syn_absorb.specs.Flips.{AllShown};
 ghost use Rattle.syn_absorb.specs.Needed.{AllDepend};
 
+use crate::settling::settle;
 use std::alloc::{AllocError, Global};
-use syn_absorb::{absorb, trim};
 use syn_flow::flow;
 use syn_graph::Graph;
 use syn_lutnet::LutNet;
@@ -28,6 +28,5 @@ pub fn least_luts(alloc: Global, graph: &Graph, k: u8) -> Result<LutNet, AllocEr
     ensures shown { IfOk result (λ net. AllShown (graph.now.source_count + 1) net.observed) }
 {
     let (mapped, _proof) = flow(alloc, graph, k)?;
-    let trimmed = trim(alloc, &mapped)?;
-    absorb(alloc, &trimmed)
+    settle(alloc, &mapped)
 }

@@ -3,6 +3,7 @@
 
 mod few;
 mod least;
+mod settling;
 
 pub use few::few_luts;
 pub use least::least_luts;

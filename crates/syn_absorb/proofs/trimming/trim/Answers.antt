@@ -3,7 +3,7 @@ use Rattle.std.proofs.lemmas.List.{length-map}
 use Rattle.syn_rows.specs.declared.Lit.{Lit}
 use Rattle.syn_lutnet.specs.Data.{lut_data, luts_data}
 use Rattle.syn_absorb.proofs.Trimmed.{Kept, kept_to}
-use Rattle.syn_absorb.proofs.trim.trim.Goals as goal
+use Rattle.syn_absorb.proofs.trimming.trim.Goals as goal
 
 pub invariant_of-result : goal.invariant_of-result
 invariant_of-result c =

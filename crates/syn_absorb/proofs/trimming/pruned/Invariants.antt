@@ -1,7 +1,7 @@
 use Rattle.std.proofs.Common.{length}
 use Rattle.syn_lutnet.specs.Data.{luts_data}
 use Rattle.syn_absorb.specs.Rebuilding.{IsRebuiltNet}
-use Rattle.syn_absorb.proofs.trim.pruned.Given as goal
+use Rattle.syn_absorb.proofs.trimming.pruned.Given as goal
 
 abbrev pub invariant-loop-next : goal.invariant-loop-next
 invariant-loop-next l = IsRebuiltNet l.source_count (luts_data l.fn.parts.luts.items) l.fn.parts.lits.items (luts_data l.kept.luts.items) l.kept.lits.items

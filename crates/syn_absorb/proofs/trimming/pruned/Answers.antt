@@ -2,7 +2,7 @@ use Rattle.std.proofs.Common.{◌+◌, ◌<◌, length, arith}
 use Rattle.std.proofs.lemmas.List.{length-map}
 use Rattle.syn_lutnet.specs.Data.{lut_data, luts_data}
 use Rattle.syn_absorb.proofs.Trimmed.{rebuilt_itself, rebuilt_more}
-use Rattle.syn_absorb.proofs.trim.pruned.Goals as goal
+use Rattle.syn_absorb.proofs.trimming.pruned.Goals as goal
 
 pub loop-next-init : goal.loop-next-init
 loop-next-init c = rebuilt_itself c.args.source_count (luts_data c.args.parts.luts.items) c.args.parts.lits.items c.requires.net c.requires.depend
