@@ -1,5 +1,5 @@
 -- A net made anew has the same function, and is no deeper.
-use Rattle.std.proofs.Common.{◌≡◌, ℕ, suc, ◌+◌, ◌-◌, ◌*◌, ◌<◌, ◌≤◌, Bool, true, false, All, List, [], ◌∷◌, map, length, get_or, replicate, refl, sym, ap, ap₂, ◌∙◌, subst, inl, inr, arith}
+use Rattle.std.proofs.Common.{◌≡◌, ℕ, suc, ◌+◌, ◌-◌, ◌*◌, ◌^◌, ◌<◌, ◌≤◌, Bool, true, false, All, List, [], ◌∷◌, map, length, get_or, replicate, refl, sym, ap, ap₂, ◌∙◌, subst, inl, inr, arith}
 use Rattle.std.proofs.lemmas.Bool.{cases_lt}
 use Rattle.std.proofs.lemmas.List.{length-map, get_or-map}
 use Rattle.std.proofs.lemmas.List.Elements.{All-map}
@@ -139,6 +139,33 @@ reached_net count luts lits marks net swept all = record {
   within = net.within;
   reached = λ j lt. swept.reached (count + 1 + j) (all (count + 1 + j) (omega arith) (omega (arith, lt, swept.count)));
 }
+
+-- the literals that signals became are small
+pub lits_low : (count : ℕ) (luts new : List Lut) (set : ℕ → Bool) (lits seen : List Lit) → seen ≡ lits → IsRebuilt count luts set lits new → length lits < 2 ^ 31 → (n : ℕ) → node_of (lit_at seen n) < 2 ^ 31
+lits_low count luts new set lits seen seen_is done short n = subst (λ (ls : List Lit). node_of (lit_at ls n) < 2 ^ 31) (sym seen_is) (omega (arith, done.within n, done.few, short))
+
+pub open_net : (count : ℕ) (luts : List Lut) (lits : List Lit) → IsLutNet count luts lits → IsOpenNet count luts lits
+open_net count luts lits net = record { luts_fit = net.luts_fit; within = net.within }
+
+-- LUTs and literals that are seen as slices
+module _ (count : ℕ) (luts seen : List code.Lut) (lits seen_lits : List Lit) (luts_are : seen ≡ luts) (lits_are : seen_lits ≡ lits) where
+  seen_in : (P : List Lut → List Lit → Type 0) → P (luts_data luts) lits → P (luts_data seen) seen_lits
+  seen_in P here = subst (λ (ls : List code.Lut). P (luts_data ls) seen_lits) (sym luts_are) (subst (P (luts_data luts)) (sym lits_are) here)
+
+  seen_out : (P : List Lut → List Lit → Type 0) → P (luts_data seen) seen_lits → P (luts_data luts) lits
+  seen_out P here = subst (P (luts_data luts)) lits_are (subst (λ (ls : List code.Lut). P (luts_data ls) seen_lits) luts_are here)
+
+  pub open_seen : IsOpenNet count (luts_data luts) lits → IsOpenNet count (luts_data seen) seen_lits
+  open_seen net = seen_in (λ ls os. IsOpenNet count ls os) net
+
+  pub rebuilt_seen : (new : List Lut) (outs : List Lit) → IsRebuiltNet count (luts_data seen) seen_lits new outs → IsRebuiltNet count (luts_data luts) lits new outs
+  rebuilt_seen new outs made = seen_out (λ ls os. IsRebuiltNet count ls os new outs) made
+
+  pub reached_seen : (marks slice : List Bool) → slice ≡ marks → IsOpenNet count (luts_data luts) lits → IsSwept (count + 1) (luts_data seen) seen_lits marks 0 → ((n : ℕ) → count + 1 ≤ n → n < length slice → value_in slice n ≡ true)
+      → IsLutNet count (luts_data luts) lits
+  reached_seen marks slice slice_is net swept all =
+      reached_net count (luts_data luts) lits slice net
+      (seen_out (λ ls os. IsSwept (count + 1) ls os slice 0) (subst (λ (bs : List Bool). IsSwept (count + 1) (luts_data seen) seen_lits bs 0) (sym slice_is) swept)) all
 
 -- LUTs and literals that are kept by other names
 pub record Kept (count : ℕ) (luts : List Lut) (lits : List Lit) (new : List Lut) (outs : List Lit) : Type 0 where

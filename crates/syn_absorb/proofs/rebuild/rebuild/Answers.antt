@@ -6,15 +6,16 @@ use Rattle.syn_lutnet.specs.LutData as spelled
 use Rattle.syn_lutnet.specs.Data.{lut_data, luts_data}
 use Rattle.syn_absorb.specs.Rebuilding.{IsNext, IsRebuilt}
 use Rattle.syn_absorb.proofs.Steps.{rebuilt_next}
+use Rattle.syn_absorb.proofs.Trimmed.{lits_low}
 use Rattle.syn_absorb.proofs.rebuild.rebuild.Goals as goal
 
 pub next_literal-requires-clause-few : goal.next_literal-requires-clause-few
 next_literal-requires-clause-few c = omega (arith, c.loop-j.invariant.done.few, c.loop-j.invariant.long, c.loop-j-test.true, length-map c.loop-j.new.items lut_data)
 
 pub next_literal-requires-clause-low : goal.next_literal-requires-clause-low
-next_literal-requires-clause-low c n =
-    let at : c.as_slice.result.now ≡ c.loop-j.lits.items = c.as_slice.ensures in
-    omega (arith, c.loop-j.invariant.done.few, c.loop-j.invariant.long, c.loop-j-test.true, c.loop-j.invariant.done.within n)
+next_literal-requires-clause-low c =
+    lits_low c.args.source_count (luts_data c.args.luts.now) (luts_data c.loop-j.new.items) (value_in c.args.marks.now) c.loop-j.lits.items c.as_slice.result.now c.as_slice.ensures.value c.loop-j.invariant.done
+    (omega (arith, c.loop-j.invariant.long, c.loop-j-test.true, c.requires.few))
 
 pub loop-j-preserved : goal.loop-j-preserved
 loop-j-preserved c =

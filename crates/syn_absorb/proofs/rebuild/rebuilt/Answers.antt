@@ -6,7 +6,7 @@ use Rattle.syn_lutnet.specs.declared.luts.Lut as code
 use Rattle.syn_lutnet.specs.Data.{lut_data, luts_data}
 use Rattle.syn_absorb.specs.Rebuilding.{IsRebuilt, read_lit}
 use Rattle.syn_absorb.proofs.Steps.{rebuilt_start}
-use Rattle.syn_absorb.proofs.Trimmed.{fewer_luts, net_rebuilt}
+use Rattle.syn_absorb.proofs.Trimmed.{fewer_luts, lits_low, net_rebuilt}
 use Rattle.syn_absorb.proofs.rebuild.rebuilt.Goals as goal
 
 pub rebuild-requires-clause-fit : goal.rebuild-requires-clause-fit
@@ -24,7 +24,9 @@ rebuild-requires-clause-begun c =
     (rebuilt_start c.args.source_count (luts_data c.args.luts.now) (value_in c.args.marks.now) c.in_ok-lits.lits.items c.in_ok-lits.ensures.long c.in_ok-lits.ensures.own)
 
 pub read_literals-requires : goal.read_literals-requires
-read_literals-requires c n = ?
+read_literals-requires c =
+    lits_low c.args.source_count (luts_data c.args.luts.now) (luts_data c.rebuild.new.new.items) (value_in c.args.marks.now) c.rebuild.new.lits.items c.as_slice.result.now c.as_slice.ensures.value c.in_ok-rebuild.ensures.rebuilt
+    (omega (arith, c.in_ok-rebuild.ensures.long, c.requires.few))
 
 pub returns-in_ok-outs-clause-rebuilt : goal.returns-in_ok-outs-clause-rebuilt
 returns-in_ok-outs-clause-rebuilt c =
@@ -32,7 +34,7 @@ returns-in_ok-outs-clause-rebuilt c =
     let luts = luts_data c.args.luts.now in
     let long : length c.rebuild.new.lits.items ≡ count + 1 + length luts = omega (arith, c.in_ok-rebuild.ensures.long, length-map c.args.luts.now lut_data) in
     net_rebuilt count luts (luts_data c.rebuild.new.new.items) (value_in c.args.marks.now) c.rebuild.new.lits.items c.args.observed.now c.in_ok-outs.outs.items c.requires.net c.requires.marks.seen c.in_ok-rebuild.ensures.rebuilt long
-    (c.in_ok-outs.ensures ∙ ap (λ (ls : List Lit). map (read_lit ls) c.args.observed.now) c.as_slice.ensures)
+    (c.in_ok-outs.ensures ∙ ap (λ (ls : List Lit). map (read_lit ls) c.args.observed.now) c.as_slice.ensures.value)
 
 pub returns-in_ok-outs-clause-fewer : goal.returns-in_ok-outs-clause-fewer
 returns-in_ok-outs-clause-fewer c n le lt off =

@@ -15,5 +15,6 @@ without_unreached-requires-clause-net c = c.loop-next.invariant.net
 
 pub loop-next-preserved : goal.loop-next-preserved
 loop-next-preserved c =
-    let inv = c.loop-next.invariant in
-    rebuilt_more c.args.source_count (luts_data c.args.parts.luts.items) (luts_data c.loop-next.kept.luts.items) (luts_data c.in-Some.next.luts.items) c.args.parts.lits.items c.loop-next.kept.lits.items c.in-Some.next.lits.items inv.trimming ?
+    let kept = c.loop-next.kept in
+    let next = c.in-Some.next in
+    rebuilt_more c.args.source_count (luts_data c.args.parts.luts.items) (luts_data kept.luts.items) (luts_data next.luts.items) c.args.parts.lits.items kept.lits.items next.lits.items c.loop-next.invariant.trimming c.in_ok-without_unreached.ensures.rebuilt
