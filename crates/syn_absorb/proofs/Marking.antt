@@ -9,7 +9,7 @@ use Rattle.syn_rows.specs.Rows.{node_of}
 use Rattle.syn_rows.specs.Nodes.{has_node}
 use Rattle.syn_rows.specs.Reach.{HasObserved}
 use Rattle.syn_rows.specs.Values.{value_in}
-use Rattle.syn_lists.proofs.Once.{number_same}
+use Rattle.syn_rows.proofs.Nodes.{has_at}
 use Rattle.syn_lutnet.specs.LutData.{Lut, Reached, is_input, lut_at}
 use Rattle.syn_lutnet.proofs.LutParts.{input_high, lut_parts}
 use Rattle.syn_absorb.specs.Reaching.{IsOpenNet, IsSwept}
@@ -21,11 +21,6 @@ node_fact P (m ∷ ms) n a h = elim (or_cases (nat_eq m n) (has_node ms n) h) [
   | inr t ↦ node_fact P ms n (All-tail P m ms a) t
 ]
 
-node_at : (ms : List ℕ) (i d : ℕ) → i < length ms → has_node ms (get_or ms i d) ≡ true
-node_at [] i d lt = absurd (omega (arith, lt))
-node_at (m ∷ ms) zero d lt = or_left (nat_eq m m) (has_node ms m) (number_same m)
-node_at (m ∷ ms) (suc i) d lt = or_right (nat_eq m (get_or ms i d)) (has_node ms (get_or ms i d)) (node_at ms i d (omega (arith, lt)))
-
 none_marked : (count m : ℕ) → value_in (replicate count false) m ≡ false
 none_marked zero m = refl
 none_marked (suc n) zero = refl
@@ -36,6 +31,11 @@ pub inputs_below : (count : ℕ) (luts : List Lut) (lits : List Lit) → IsOpenN
 inputs_below count luts lits net j lt =
     All-weaker (λ m. is_input (count + 1 + j) m ≡ true) (λ m. m < count + 1 + j) (λ m t. input_high (count + 1 + j) m t) (lut_at luts j).inputs
     (AllPass-from_list_all (is_input (count + 1 + j)) (lut_at luts j).inputs (lut_parts (count + 1 + j) (lut_at luts j) (net.luts_fit j lt)).inside)
+
+pub inputs_fit : (count : ℕ) (luts : List Lut) (lits : List Lit) → IsOpenNet count luts lits → (j : ℕ) → j < length luts → (inputs : List ℕ) → inputs ≡ (lut_at luts j).inputs → (size : ℕ) → count + 1 + j ≤ size → All (λ m. m < size) inputs
+inputs_fit count luts lits net j lt inputs inputs_are size le =
+    subst (λ (ns : List ℕ). All (λ m. m < size) ns) (sym inputs_are)
+    (All-weaker (λ m. m < count + 1 + j) (λ m. m < size) (λ m less. omega (arith, less, le)) (lut_at luts j).inputs (inputs_below count luts lits net j lt))
 
 -- marks of the observed signals alone
 pub swept_start : (first : ℕ) (luts : List Lut) (lits : List Lit) (none marks : List Bool) (n : ℕ) → n ≡ length luts → none ≡ replicate (first + n) false → length marks ≡ first + n
@@ -51,7 +51,7 @@ swept_start first luts lits none marks n n_is none_is long is = record {
     observed m = sym (is m ∙ ap (λ b. b || has_node (map node_of lits) m) (ap (λ (bs : List Bool). value_in bs m) none_is ∙ none_marked (first + n) m))
 
     there : (i : ℕ) (d : Lit) → i < length lits → has_node (map node_of lits) (node_of (get_or lits i d)) ≡ true
-    there i d lt = ap (has_node (map node_of lits)) (sym (get_or-map node_of lits i d 0 lt)) ∙ node_at (map node_of lits) i 0 (omega (arith, lt, length-map lits node_of))
+    there i d lt = ap (has_node (map node_of lits)) (sym (get_or-map node_of lits i d 0 lt)) ∙ has_at (map node_of lits) i (get_or (map node_of lits) i 0) (omega (arith, lt, length-map lits node_of)) refl
 
     reached : (n : ℕ) → value_in marks n ≡ true → Reached first luts lits n
     reached n t set closed seen = node_fact (λ m. set m ≡ true) (map node_of lits) n
@@ -105,4 +105,4 @@ swept_next count luts lits old new j next signal inputs net there at signal_is i
       where
         here : value_in old (first + j) ≡ true → All (λ m. value_in new m ≡ true) own
         here o i d inside = marked (get_or own i d) ∙ or_right (value_in old (get_or own i d)) (value_in old (first + j) && has_node own (get_or own i d))
-            (and_from (value_in old (first + j)) (has_node own (get_or own i d)) o (node_at own i d inside))
+            (and_from (value_in old (first + j)) (has_node own (get_or own i d)) o (has_at own i (get_or own i d) inside (get_or_default own i 0 d inside)))

@@ -216,7 +216,7 @@ narrower_more a b c first second = record {
 }
 
 -- a valuation that gives signals these values
-assigned : List ℕ → List Bool → ℕ → Bool
+abbrev assigned : List ℕ → List Bool → ℕ → Bool
 assigned [] xs m = false
 assigned (n ∷ ns) [] m = false
 assigned (n ∷ ns) (x ∷ xs) m = if nat_eq n m then x else assigned ns xs m

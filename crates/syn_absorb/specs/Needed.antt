@@ -42,7 +42,7 @@ abbrev pub AllNeeded : Truth → List ℕ → Type 0
 AllNeeded t inputs = (i : ℕ) → i < length inputs → (1 ≤ slice_index_or inputs i 0) × Depends t i
 
 -- The LUT of a function of these signals without signal i, where that is false.
-pub record IsWithout (t : Truth) (inputs : List ℕ) (i : ℕ) (now : code.Lut) : Type 0 where
-  pub inputs : All (Contains inputs) now.inputs.items
-  pub fewer : length now.inputs.items + 1 ≡ length inputs
-  pub value : (w : ℕ → Bool) → value_of now.truth (map w now.inputs.items) ≡ value_of t (slice_set (map w inputs) i false)
+pub record IsWithout (t : Truth) (signals : List ℕ) (i : ℕ) (now : code.Lut) : Type 0 where
+  pub inputs : All (Contains signals) now.inputs.items
+  pub fewer : length now.inputs.items + 1 ≡ length signals
+  pub value : (w : ℕ → Bool) → value_of now.truth (map w now.inputs.items) ≡ value_of t (slice_set (map w signals) i false)

@@ -43,10 +43,10 @@ pub record IsCopy (l : Lut) (lit : Lit) : Type 0 where
   pub node : (node_of lit ≡ 0) ⊎ Contains l.inputs (node_of lit)
 
 -- The LUT reads two or more signals and stands behind others; the literal is its own.
-pub record IsAdded (first : ℕ) (l : Lut) (luts new : List Lut) (lit : Lit) : Type 0 where
+pub record IsAdded (first : ℕ) (l : Lut) (old new : List Lut) (lit : Lit) : Type 0 where
   pub many : 2 ≤ length l.inputs
-  pub luts : new ≡ luts ++ l ∷ []
-  pub own : lit ≡ signed_lit (first + length luts) false
+  pub luts : new ≡ old ++ l ∷ []
+  pub own : lit ≡ signed_lit (first + length old) false
 
 -- A LUT's literal, for which the LUT is put behind others if need be.
 unfoldable pub IsPlaced : ℕ → Lut → List Lut → List Lut → Lit → Type 0

@@ -45,9 +45,10 @@ fn mark_inputs(marks: &mut [bool], signal: u32, inputs: &[u32])
     requires inputs { All (λ m. m < length marks.old) inputs.now }
     ensures { (m : ℕ) → value_in marks.new m ≡ (value_in marks.old m || (value_in marks.old signal && has_node inputs.now m)) }
 {
-    if marks[signal as usize] {
-        mark_all(marks, inputs);
+    if !marks[signal as usize] {
+        return;
     }
+    mark_all(marks, inputs);
 }
 
 // Marks the inputs of marked LUTs, from the last LUT down, where the observed signals are marked.

@@ -17,3 +17,6 @@ loop-signal-preserved c =
       place = omega (arith, inv.place);
       needed = needed_more c.args.truth c.args.inputs.now c.loop-signal.signal-index c.loop-signal.i _ inv.place (search rules) inv.needed (c.is_idle.ensures.needed c.if-is_idle.false);
     }
+
+pub returns-clause-none : goal.returns-clause-none
+returns-clause-none c i lt = c.loop-signal.invariant.needed i (omega (arith, lt, c.loop-signal-test.false))

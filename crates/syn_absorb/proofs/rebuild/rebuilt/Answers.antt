@@ -28,16 +28,16 @@ read_literals-requires c =
     lits_low c.args.source_count (luts_data c.args.luts.now) (luts_data c.rebuild.new.new.items) (value_in c.args.marks.now) c.rebuild.new.lits.items c.as_slice.result.now c.as_slice.ensures.value c.in_ok-rebuild.ensures.rebuilt
     (omega (arith, c.in_ok-rebuild.ensures.long, c.requires.few))
 
-pub returns-in_ok-outs-clause-rebuilt : goal.returns-in_ok-outs-clause-rebuilt
-returns-in_ok-outs-clause-rebuilt c =
+pub returns-clause-rebuilt : goal.returns-clause-rebuilt
+returns-clause-rebuilt c =
     let count = c.args.source_count in
     let luts = luts_data c.args.luts.now in
     let long : length c.rebuild.new.lits.items ≡ count + 1 + length luts = omega (arith, c.in_ok-rebuild.ensures.long, length-map c.args.luts.now lut_data) in
     net_rebuilt count luts (luts_data c.rebuild.new.new.items) (value_in c.args.marks.now) c.rebuild.new.lits.items c.args.observed.now c.in_ok-outs.outs.items c.requires.net c.requires.marks.seen c.in_ok-rebuild.ensures.rebuilt long
     (c.in_ok-outs.ensures ∙ ap (λ (ls : List Lit). map (read_lit ls) c.args.observed.now) c.as_slice.ensures.value)
 
-pub returns-in_ok-outs-clause-fewer : goal.returns-in_ok-outs-clause-fewer
-returns-in_ok-outs-clause-fewer c n le lt off =
+pub returns-clause-fewer : goal.returns-clause-fewer
+returns-clause-fewer c n le lt off =
     let count = c.args.source_count in
     let luts = luts_data c.args.luts.now in
     let new = luts_data c.rebuild.new.new.items in

@@ -1,4 +1,4 @@
-use Rattle.std.proofs.Common.{◌<◌, List, length, ap, subst, sym, arith}
+use Rattle.std.proofs.Common.{◌+◌, ◌<◌, List, length, ap, subst, sym, arith}
 use Rattle.syn_lutnet.specs.Data.{luts_data}
 use Rattle.syn_lutnet.specs.declared.luts.Lut.{Lut}
 use Rattle.syn_absorb.specs.Reaching.{IsSwept}
@@ -25,12 +25,12 @@ returns-then-all_marked-clause-net c =
     reached_seen c.args.source_count c.args.parts.now.luts.items c.as_slice-luts.result.now c.args.parts.now.lits.items c.as_slice-lits.result.now c.as_slice-luts.ensures.value c.as_slice-lits.ensures.value c.in_ok-marks.marks.items c.as_slice-slice.result.now
     c.as_slice-slice.ensures.value c.requires.net c.in_ok-marks.ensures (c.all_marked.ensures.all c.if-all_marked.true)
 
-pub returns-in_ok-made-clause-rebuilt : goal.returns-in_ok-made-clause-rebuilt
-returns-in_ok-made-clause-rebuilt c =
+pub returns-clause-rebuilt : goal.returns-clause-rebuilt
+returns-clause-rebuilt c =
     rebuilt_seen c.args.source_count c.args.parts.now.luts.items c.as_slice-luts.result.now c.args.parts.now.lits.items c.as_slice-lits.result.now c.as_slice-luts.ensures.value c.as_slice-lits.ensures.value (luts_data c.in_ok-made.made.luts.items) c.in_ok-made.made.lits.items
     c.in_ok-made.ensures.rebuilt
 
-pub returns-in_ok-made-clause-fewer : goal.returns-in_ok-made-clause-fewer
-returns-in_ok-made-clause-fewer c =
+pub returns-clause-fewer : goal.returns-clause-fewer
+returns-clause-fewer c =
     let some = c.all_marked.ensures.some c.if-all_marked.false in
     omega (arith, c.in_ok-made.ensures.fewer some.0 some.1.0 some.1.1.0 some.1.1.1, ap (λ (ls : List Lut). length ls) c.as_slice-luts.ensures.value)
