@@ -18,11 +18,11 @@ returns-in-Some-first_twice-clause-some c =
     let inputs = c.as_slice-inputs.result.now in
     let twice = c.in-Some-first_twice.ensures.some in
     let vars : lut.truth.vars ≡ length inputs = omega (arith, lut.vars, ap (λ (ns : List ℕ). length ns) c.as_slice-inputs.ensures.value) in
-    narrower lut c.without-in-Some.result c.joined-truth.result inputs c.in-Some-first_twice.j c.as_slice-inputs.ensures.value c.without-in-Some.ensures
-    (λ w low. ignores_twin lut.truth c.joined-truth.result inputs c.in-Some-first_twice.i c.in-Some-first_twice.j vars twice.0 twice.1.0 twice.1.1 c.joined-truth.ensures.values w)
+    narrower lut c.without-in-Some-first_twice.result c.joined-truth.result inputs c.in-Some-first_twice.j c.as_slice-inputs.ensures.value c.without-in-Some-first_twice.ensures
+    (λ w low. ignores_twin lut.truth c.joined-truth.result inputs c.in-Some-first_twice.i c.in-Some-first_twice.j vars twice.0 twice.1 twice.2 c.joined-truth.ensures.values w)
 
 pub returns-in-Some-first_twice-clause-fewer : goal.returns-in-Some-first_twice-clause-fewer
-returns-in-Some-first_twice-clause-fewer c = omega (arith, c.without-in-Some.ensures.fewer, ap (λ (ns : List ℕ). length ns) c.as_slice-inputs.ensures.value)
+returns-in-Some-first_twice-clause-fewer c = omega (arith, c.without-in-Some-first_twice.ensures.fewer, ap (λ (ns : List ℕ). length ns) c.as_slice-inputs.ensures.value)
 
 pub returns-in-None-clause-none : goal.returns-in-None-clause-none
 returns-in-None-clause-none c = needed_all c.args.lut.now c.as_slice-inputs.result.now c.as_slice-inputs.ensures.value c.in_default.ensures.none c.in-None.ensures.none

@@ -17,4 +17,5 @@ pub loop-kept-preserved : goal.loop-kept-preserved
 loop-kept-preserved c =
     let kept = c.loop-kept.kept in
     let next = c.in-Some.next in
-    rebuilt_more c.args.source_count (luts_data c.args.parts.luts.items) (luts_data kept.luts.items) (luts_data next.luts.items) c.args.parts.lits.items kept.lits.items next.lits.items c.loop-kept.invariant.trimming c.in_ok-without_unreached.ensures.rebuilt
+    rebuilt_more c.args.source_count (luts_data c.args.parts.luts.items) (luts_data kept.luts.items) (luts_data next.luts.items) c.args.parts.lits.items kept.lits.items next.lits.items c.loop-kept.invariant.trimming
+    (rw c.in-Some.is at c.in_ok-next.ensures.rebuilt)

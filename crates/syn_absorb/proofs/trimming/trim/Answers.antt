@@ -9,7 +9,7 @@ pub invariant_of-result : goal.invariant_of-result
 invariant_of-result c =
     let net = c.args.net.now in
     let all : Kept net.source_count (luts_data net.luts) net.observed (luts_data c.of.result) c.of-2.result =
-    kept_to net.source_count net.luts c.in_ok-luts.luts.items c.of.result net.observed c.in_ok-luts.lits.items c.of-2.result c.of.ensures c.of-2.ensures c.in_ok-luts.ensures.rebuilt c.in_ok-luts.ensures.net in
+    kept_to net.source_count net.luts c.in_ok-luts.field-0.luts.items c.of.result net.observed c.in_ok-luts.field-0.lits.items c.of-2.result c.of.ensures c.of-2.ensures c.in_ok-luts.ensures.rebuilt c.in_ok-luts.ensures.net in
     record {
       net = all.net;
       few = omega (arith, net.few, all.rebuilt.trimming.fewer, length-map net.luts lut_data, length-map c.of.result lut_data);
@@ -20,7 +20,7 @@ pub returns : goal.returns
 returns c =
     let net = c.args.net.now in
     let all : Kept net.source_count (luts_data net.luts) net.observed (luts_data c.of.result) c.of-2.result =
-    kept_to net.source_count net.luts c.in_ok-luts.luts.items c.of.result net.observed c.in_ok-luts.lits.items c.of-2.result c.of.ensures c.of-2.ensures c.in_ok-luts.ensures.rebuilt c.in_ok-luts.ensures.net in
+    kept_to net.source_count net.luts c.in_ok-luts.field-0.luts.items c.of.result net.observed c.in_ok-luts.field-0.lits.items c.of-2.result c.of.ensures c.of-2.ensures c.in_ok-luts.ensures.rebuilt c.in_ok-luts.ensures.net in
     let done = all.rebuilt.trimming in
     record {
       same = record { sources = refl; count = done.long; stay = done.stay; values = done.values };

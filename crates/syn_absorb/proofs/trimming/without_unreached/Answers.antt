@@ -33,4 +33,4 @@ returns-clause-rebuilt c =
 pub returns-clause-fewer : goal.returns-clause-fewer
 returns-clause-fewer c =
     let some = c.all_marked.ensures.some c.if-all_marked.false in
-    omega (arith, c.in_ok-made.ensures.fewer some.0 some.1.0 some.1.1.0 some.1.1.1, ap (λ (ls : List Lut). length ls) c.as_slice-luts.ensures.value)
+    omega (arith, c.in_ok-made.ensures.fewer some.0 some.1 some.2 some.3, ap (λ (ls : List Lut). length ls) c.as_slice-luts.ensures.value)
