@@ -11,7 +11,7 @@ use Rattle.syn_rows.specs.Values.{lit_value}
 use Rattle.syn_hashed.specs.Hashed.{lit_at}
 use Rattle.syn_truth.specs.declared.Truth.{Truth}
 use Rattle.syn_truth.specs.Truth.{AtEach, value_at, value_of}
-use Rattle.syn_lutnet.specs.LutData.{Lut, lut_value, ones_of, ones_value, rising}
+use Rattle.syn_lutnet.specs.LutData.{Lut, lut_value, ones_of, ones_value}
 use Rattle.syn_lutnet.proofs.Ones.{ones_give}
 use Rattle.syn_lutnet.specs.declared.luts.Lut as code
 use Rattle.syn_lutnet.specs.Data.{lut_data, luts_data}
@@ -19,7 +19,7 @@ use Rattle.syn_absorb.specs.Flips.{xor, xor_list}
 use Rattle.syn_absorb.specs.Needed.{DependsOn, IsNarrower, ReadsNeeded}
 use Rattle.syn_absorb.specs.Rebuilding.{is_complement, signed_lit, read_lit, IsThrough, IsResolved, IsCopy, IsNext, IsPlaced}
 use Rattle.syn_absorb.proofs.Flipped.{xor_list_map}
-use Rattle.syn_absorb.proofs.Same.{made_node, made_plain, made_opposite, two_signs}
+use Rattle.syn_absorb.proofs.Same.{made_node, made_opposite, two_signs}
 use Rattle.syn_absorb.proofs.Narrowing.{gives}
 
 pub xor_off : (a : Bool) → xor a false ≡ a

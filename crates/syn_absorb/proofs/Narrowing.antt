@@ -1,11 +1,11 @@
 -- Functions of fewer signals.
-use Rattle.std.proofs.Common.{◌≡◌, ◌≢◌, ℕ, zero, suc, ◌+◌, ◌-◌, ◌*◌, ◌^◌, ◌<◌, ◌≤◌, ◌&&◌, ◌||◌, if◌then◌else◌, cond, nat_eq, not, Bool, true, false, All, List, [], ◌∷◌, ◌++◌, map, length, get_or, take, drop, refl, sym, ap, ap₂, ◌∙◌, subst, inl, inr, arith}
+use Rattle.std.proofs.Common.{◌≡◌, ◌≢◌, ℕ, zero, suc, ◌+◌, ◌-◌, ◌*◌, ◌<◌, ◌≤◌, ◌&&◌, ◌||◌, if◌then◌else◌, cond, nat_eq, not, Bool, true, false, All, List, [], ◌∷◌, ◌++◌, map, length, get_or, take, refl, sym, ap, ap₂, ◌∙◌, subst, inl, inr, arith}
 use Rattle.std.specs.Prelude.{◌⊎◌, Contains, swap_remove}
 use Rattle.std.specs.List.{swap, take-map}
 use Rattle.std.specs.Int.{bit_at}
 use Rattle.std.proofs.Math.ListN.{set}
-use Rattle.std.proofs.lemmas.Bool.{cases_lt, cases_Bool, both_ways, and_parts, not-true, or_parts, cases_eq, cond-true, cond-false}
-use Rattle.std.proofs.lemmas.List.{length-map, length-set, length-take, length_push, get_or-map, get_or-set_same, get_or-set_other, get_or-take, get_or_past, get_or_append_left, get_or_push, get_or_default, same_lists, set-get_or, set-set, map-set}
+use Rattle.std.proofs.lemmas.Bool.{cases_lt, both_ways, and_parts, not-true, or_parts, cases_eq, cond-true, cond-false}
+use Rattle.std.proofs.lemmas.List.{length-map, length-set, length-take, length_push, get_or-map, get_or-set_same, get_or-set_other, get_or-take, get_or_append_left, get_or_push, get_or_default, same_lists, set-get_or, set-set, map-set}
 use Rattle.std.proofs.lemmas.List.Edits.{swap_is, length-swap}
 use Rattle.std.proofs.lemmas.List.Elements.{All-take, All-set, All-weaker, All-contains, All-contains_itself, All-from_get_or, Contains-get_or}
 use Rattle.syn_lists.specs.Numbers.{distinct_numbers, has_number}
@@ -14,7 +14,7 @@ use Rattle.syn_truth.specs.declared.Truth.{Truth}
 use Rattle.syn_truth.specs.Truth.{AtEach, Depends, digit, minterm_of, value_of}
 use Rattle.syn_truth.specs.Words as words
 use Rattle.syn_truth.proofs.Halves.{by_word}
-use Rattle.syn_lutnet.specs.LutData.{Lut, lut_value, ones_of}
+use Rattle.syn_lutnet.specs.LutData.{Lut, lut_value}
 use Rattle.syn_lutnet.specs.declared.luts.Lut as code
 use Rattle.syn_lutnet.specs.Data.{lut_data}
 use Rattle.syn_lutnet.proofs.Ones.{ones_give}

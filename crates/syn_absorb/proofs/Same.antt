@@ -7,7 +7,6 @@ use Rattle.std.proofs.lemmas.List.Elements.{recursion_from_All}
 use Rattle.syn_rows.specs.declared.Lit.{Lit}
 use Rattle.syn_rows.specs.Rows.{node_of}
 use Rattle.syn_rows.specs.Values.{lit_value, value_in}
-use Rattle.syn_hashed.specs.Hashed.{lit_at}
 use Rattle.syn_graph.specs.Graphs.{SourcesStay}
 use Rattle.syn_lists.specs.Numbers.{distinct_numbers}
 use Rattle.syn_lutnet.specs.LutData.{Lut, lut_at, lut_value, lut_depth, fold_luts, signal_values, luts_function, greatest, depth_in, net_depth, none_exceeds, is_input, is_lut, ones_value, rising, Reached, IsLutNet}

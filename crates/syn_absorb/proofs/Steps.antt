@@ -1,10 +1,9 @@
 -- LUT by LUT, a net made anew keeps the values and depths of the signals that became literals.
-use Rattle.std.proofs.Common.{◌≡◌, ℕ, zero, suc, ◌+◌, ◌-◌, ◌*◌, ◌^◌, ◌<◌, ◌≤◌, ◌&&◌, if◌then◌else◌, nat_le, nat_lt, Bool, true, false, All, List, [], ◌∷◌, ◌++◌, map, length, get_or, refl, sym, ap, ap₂, ◌∙◌, subst, inl, inr, arith}
-use Rattle.std.specs.Prelude.{◌⊎◌, Contains}
+use Rattle.std.proofs.Common.{◌≡◌, ℕ, suc, ◌+◌, ◌-◌, ◌^◌, ◌<◌, ◌≤◌, ◌&&◌, nat_le, nat_lt, Bool, true, false, All, List, [], ◌∷◌, ◌++◌, map, length, get_or, refl, sym, ap, ap₂, ◌∙◌, subst, inl, inr, arith}
 use Rattle.std.specs.List.{list_all}
 use Rattle.std.proofs.lemmas.Bool.{cases_lt, both_ways, and_from, leb-true, le-leb, lt-ltb}
-use Rattle.std.proofs.lemmas.List.{length-map, length_push, get_or-map, get_or_append_left, get_or_push, get_or_past, get_or_default}
-use Rattle.std.proofs.lemmas.List.Elements.{All-contains, All-from_get_or, All-get_or}
+use Rattle.std.proofs.lemmas.List.{length-map, length_push, get_or-map, get_or_append_left, get_or_push, get_or_past}
+use Rattle.std.proofs.lemmas.List.Elements.{All-contains}
 use Rattle.std.proofs.lemmas.List.Sums.{AllPass-from_list_all, list_all-from_AllPass}
 use Rattle.std.proofs.lemmas.List.Folds.{list_all-append}
 use Rattle.syn_rows.specs.declared.Lit.{Lit}
@@ -12,12 +11,11 @@ use Rattle.syn_rows.specs.Rows.{node_of}
 use Rattle.syn_rows.specs.Values.{lit_value}
 use Rattle.syn_hashed.specs.Hashed.{lit_at}
 use Rattle.syn_lists.specs.Numbers.{distinct_numbers}
-use Rattle.syn_lutnet.specs.LutData.{Lut, IsClosed, greatest, is_input, is_lut, lut_at, lut_value, no_lut, none_exceeds, rising}
+use Rattle.syn_lutnet.specs.LutData.{Lut, greatest, is_input, is_lut, lut_at, lut_value, no_lut, none_exceeds, rising}
 use Rattle.syn_lutnet.proofs.Deepest.{greatest_at, greatest_le}
-use Rattle.syn_lutnet.proofs.Folding.{map_below}
 use Rattle.syn_lutnet.proofs.LutParts.{input_high, lut_parts}
-use Rattle.syn_absorb.specs.Needed.{AllDepend, DependsOn}
-use Rattle.syn_absorb.specs.Rebuilding.{FitsLuts, FitsDepths, IsAdded, IsCopy, IsNext, IsPlaced, IsRebuilt, IsResolved, signed_lit}
+use Rattle.syn_absorb.specs.Needed.{DependsOn}
+use Rattle.syn_absorb.specs.Rebuilding.{FitsLuts, FitsDepths, IsCopy, IsNext, IsPlaced, IsRebuilt, IsResolved, signed_lit}
 use Rattle.syn_absorb.proofs.Literals.{signed_node, signed_value}
 use Rattle.syn_absorb.proofs.Same.{value_local}
 

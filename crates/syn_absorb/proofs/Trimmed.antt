@@ -1,5 +1,5 @@
 -- A net made anew has the same function, and is no deeper.
-use Rattle.std.proofs.Common.{◌≡◌, ℕ, suc, ◌+◌, ◌-◌, ◌*◌, ◌^◌, ◌<◌, ◌≤◌, Bool, true, false, All, List, [], ◌∷◌, map, length, get_or, replicate, refl, sym, ap, ap₂, ◌∙◌, subst, inl, inr, arith}
+use Rattle.std.proofs.Common.{◌≡◌, ℕ, suc, ◌+◌, ◌-◌, ◌^◌, ◌<◌, ◌≤◌, Bool, true, false, All, List, [], ◌∷◌, map, length, get_or, replicate, refl, sym, ap, ap₂, ◌∙◌, subst, inl, inr, arith}
 use Rattle.std.proofs.lemmas.Bool.{cases_lt}
 use Rattle.std.proofs.lemmas.List.{length-map, get_or-map}
 use Rattle.std.proofs.lemmas.List.Elements.{All-map}
@@ -11,7 +11,7 @@ use Rattle.syn_hashed.specs.Hashed.{lit_at}
 use Rattle.syn_graph.specs.Graphs.{SourcesStay}
 use Rattle.syn_lutnet.specs.Data.{luts_data}
 use Rattle.syn_lutnet.specs.declared.luts.Lut as code
-use Rattle.syn_lutnet.specs.LutData.{Lut, IsClosed, IsLutNet, Reached, depth_in, greatest, is_lut, lut_at, lut_depth, lut_value, luts_function, net_depth, none_exceeds, signal_depths, signal_values}
+use Rattle.syn_lutnet.specs.LutData.{Lut, IsLutNet, depth_in, is_lut, lut_at, lut_depth, lut_value, luts_function, net_depth, signal_depths, signal_values}
 use Rattle.syn_lutnet.proofs.Deepest.{all_zero_at, depth_local, greatest_any, greatest_le, length-all_zero}
 use Rattle.syn_lutnet.proofs.Folding.{In, length-luts, luts_kept, lut_step}
 use Rattle.syn_lutnet.proofs.LutParts.{lut_parts}

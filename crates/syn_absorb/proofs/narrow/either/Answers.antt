@@ -1,4 +1,4 @@
-use Rattle.std.proofs.Common.{◌≡◌, ◌&&◌, not, Bool, ap, ap₂, ◌∙◌, arith}
+use Rattle.std.proofs.Common.{◌&&◌, not, Bool, ap, ap₂, ◌∙◌, arith}
 use Rattle.syn_truth.specs.Truth.{value_of}
 use Rattle.syn_absorb.proofs.Narrowing.{either_value}
 use Rattle.syn_absorb.proofs.narrow.either.Goals as goal

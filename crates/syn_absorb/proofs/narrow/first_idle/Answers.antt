@@ -1,4 +1,4 @@
-use Rattle.std.proofs.Common.{◌≡◌, ◌<◌, ◌∙◌, sym, ap, length, get_or, arith, rules}
+use Rattle.std.proofs.Common.{◌≡◌, ◌<◌, sym, ap, length, get_or, arith, rules}
 use Rattle.syn_absorb.proofs.Narrowing.{ignores_idle, needed_more}
 use Rattle.syn_absorb.proofs.narrow.first_idle.Goals as goal
 

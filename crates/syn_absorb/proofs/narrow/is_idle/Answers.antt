@@ -1,4 +1,4 @@
-use Rattle.std.proofs.Common.{◌≡◌, inr}
+use Rattle.std.proofs.Common.{inr}
 use Rattle.std.proofs.lemmas.Bool.{both_ways, not-true}
 use Rattle.syn_absorb.proofs.narrow.is_idle.Goals as goal
 

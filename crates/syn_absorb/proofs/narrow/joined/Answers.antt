@@ -1,5 +1,4 @@
-use Rattle.std.proofs.Common.{◌≡◌, ◌&&◌, ◌||◌, not, false, true, Bool, get_or, ap, ap₂, ◌∙◌, arith}
-use Rattle.syn_truth.specs.Truth.{value_of}
+use Rattle.std.proofs.Common.{◌&&◌, ◌||◌, not, false, Bool, get_or, ap, ap₂, ◌∙◌, arith}
 use Rattle.syn_absorb.proofs.Narrowing.{chosen_value}
 use Rattle.syn_absorb.proofs.narrow.joined.Goals as goal
 

@@ -1,5 +1,4 @@
-use Rattle.std.proofs.Common.{◌≡◌, ◌+◌, ◌<◌, ℕ, List, length, sym, ap, ◌∙◌, arith}
-use Rattle.syn_lutnet.specs.Data.{lut_data}
+use Rattle.std.proofs.Common.{◌≡◌, ℕ, List, length, ap, arith}
 use Rattle.syn_absorb.proofs.Narrowing.{ignores_twin, narrower, needed_all}
 use Rattle.syn_absorb.proofs.narrow.narrowed.Goals as goal
 

@@ -1,4 +1,3 @@
-use Rattle.std.proofs.Common.{◌≡◌}
 use Rattle.syn_lutnet.specs.Data.{lut_data}
 use Rattle.syn_absorb.proofs.Narrowing.{narrower_itself, narrower_more}
 use Rattle.syn_absorb.proofs.narrow.reduced.Goals as goal

@@ -1,4 +1,4 @@
-use Rattle.std.proofs.Common.{ℕ, length}
+use Rattle.std.proofs.Common.{length}
 use Rattle.syn_lutnet.specs.Data.{lut_data}
 use Rattle.syn_absorb.specs.Needed.{IsNarrower}
 use Rattle.syn_absorb.proofs.narrow.reduced.Given as goal

@@ -1,6 +1,5 @@
-use Rattle.std.proofs.Common.{◌+◌, refl, ap, ◌∙◌, List, length, arith}
+use Rattle.std.proofs.Common.{◌+◌, refl, arith}
 use Rattle.std.proofs.lemmas.List.{length-map}
-use Rattle.syn_rows.specs.declared.Lit.{Lit}
 use Rattle.syn_lutnet.specs.Data.{lut_data, luts_data}
 use Rattle.syn_absorb.specs.Flips.{is_flipped}
 use Rattle.syn_absorb.proofs.Absorbed.{Moved, depend_still, moved_to}

@@ -1,4 +1,4 @@
-use Rattle.std.proofs.Common.{◌≡◌, ◌≤◌, get_or, ◌-◌, ◌+◌, ◌<◌, ap, ◌∙◌, sym, length, arith}
+use Rattle.std.proofs.Common.{◌≡◌, get_or, ◌-◌, ◌+◌, ◌<◌, ap, ◌∙◌, sym, length, arith}
 use Rattle.std.proofs.lemmas.List.{get_or-map, length-map}
 use Rattle.syn_lutnet.specs.LutData as spelled
 use Rattle.syn_lutnet.specs.Data.{lut_data, luts_data}

@@ -1,4 +1,4 @@
-use Rattle.std.proofs.Common.{◌≡◌, ◌<◌, ℕ, List, get_or, ap, ◌∙◌, arith}
+use Rattle.std.proofs.Common.{ℕ, List, get_or, ap, ◌∙◌, arith}
 use Rattle.syn_absorb.proofs.Literals.{copy_is, first_low, made_lit}
 use Rattle.syn_absorb.proofs.rebuild.copied.Goals as goal
 

@@ -1,4 +1,4 @@
-use Rattle.std.proofs.Common.{◌≡◌, false}
+use Rattle.std.proofs.Common.{false}
 use Rattle.std.proofs.lemmas.Result.{IfOk-weaker}
 use Rattle.syn_lutnet.specs.Data.{lut_data, luts_data}
 use Rattle.syn_absorb.specs.Rebuilding.{IsNext, IsPlaced}

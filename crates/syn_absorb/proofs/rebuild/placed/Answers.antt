@@ -1,4 +1,4 @@
-use Rattle.std.proofs.Common.{◌≡◌, ◌≤◌, ◌+◌, false, length, arith}
+use Rattle.std.proofs.Common.{◌≤◌, ◌+◌, false, length, arith}
 use Rattle.syn_lutnet.specs.Data.{lut_data, luts_data}
 use Rattle.syn_absorb.proofs.Literals.{made_lit, placed_added, placed_copy}
 use Rattle.syn_absorb.proofs.rebuild.placed.Goals as goal

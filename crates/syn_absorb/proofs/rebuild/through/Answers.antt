@@ -1,4 +1,4 @@
-use Rattle.std.proofs.Common.{◌≡◌, ◌∙◌, ℕ, Bool, List, map, ap, subst, arith}
+use Rattle.std.proofs.Common.{◌≡◌, ◌∙◌, ℕ, Bool, List, map, ap, subst}
 use Rattle.syn_hashed.specs.Hashed.{lit_at}
 use Rattle.syn_rows.specs.Rows.{node_of}
 use Rattle.syn_truth.specs.Truth.{AtEach, value_of}

@@ -1,4 +1,4 @@
-use Rattle.std.proofs.Common.{◌+◌, ◌<◌, length, arith}
+use Rattle.std.proofs.Common.{arith}
 use Rattle.std.proofs.lemmas.List.{length-map}
 use Rattle.syn_lutnet.specs.Data.{lut_data, luts_data}
 use Rattle.syn_absorb.proofs.Trimmed.{rebuilt_itself, rebuilt_more}

@@ -1,6 +1,5 @@
-use Rattle.std.proofs.Common.{◌+◌, ◌≤◌, refl, List, length, arith}
+use Rattle.std.proofs.Common.{refl, arith}
 use Rattle.std.proofs.lemmas.List.{length-map}
-use Rattle.syn_rows.specs.declared.Lit.{Lit}
 use Rattle.syn_lutnet.specs.Data.{lut_data, luts_data}
 use Rattle.syn_absorb.proofs.Trimmed.{Kept, kept_to}
 use Rattle.syn_absorb.proofs.trimming.trim.Goals as goal

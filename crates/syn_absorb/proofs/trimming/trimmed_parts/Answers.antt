@@ -1,4 +1,4 @@
-use Rattle.std.proofs.Common.{◌<◌, ◌+◌, List, length, ap, subst, sym, arith}
+use Rattle.std.proofs.Common.{◌+◌, List, length, ap, subst, sym, arith}
 use Rattle.std.proofs.lemmas.List.{length-map}
 use Rattle.std.proofs.lemmas.Result.{IfOk-weaker}
 use Rattle.syn_lutnet.specs.Data.{lut_data, luts_data}

@@ -1,4 +1,4 @@
-use Rattle.std.proofs.Common.{◌+◌, ◌<◌, List, length, ap, subst, sym, arith}
+use Rattle.std.proofs.Common.{◌+◌, List, length, ap, subst, sym, arith}
 use Rattle.syn_lutnet.specs.Data.{luts_data}
 use Rattle.syn_lutnet.specs.declared.luts.Lut.{Lut}
 use Rattle.syn_absorb.specs.Reaching.{IsSwept}
