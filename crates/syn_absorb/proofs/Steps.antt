@@ -99,9 +99,6 @@ module _ (count : ℕ) (luts : List Lut) (set : ℕ → Bool) (lits : List Lit) 
           let is : get_or nodes j y ≡ node_of (lit_at lits m) = get_or-map (λ m. node_of (lit_at lits m)) old.inputs j 0 y at in
           omega (arith, ap e is, so_far.depths d e fits_d fits_e m (omega (arith, low j 0 at, long)) (closed on j 0 at), fits_d.each i there, greatest_at d old.inputs j 0 at)
 
-  many : length (lits ++ record { 0 = 0 } ∷ []) ≡ first + i + 1
-  many = omega (arith, length_push lits (record { 0 = 0 }), long)
-
   -- a literal for which no LUT is put
   pub more_same : (lit : Lit) → node_of lit < first + length new
       → ((v w : ℕ → Bool) → FitsLuts first luts v → FitsLuts first new w → ((n : ℕ) → n < first → w n ≡ v n) → set (first + i) ≡ true → lit_value w lit ≡ v (first + i))

@@ -30,9 +30,6 @@ settled was trimmed now trim absorb = record {
 }
 
 module _ (graph : Graph) (was now : LutNet) (function : HasFunctionOf graph was) (settled : IsSettled was now) where
-  count_same : was.source_count ≡ graph.source_count
-  count_same = function.sources
-
   pub keeps_function : HasFunctionOf graph now
   keeps_function = record {
     sources = settled.same.sources ∙ function.sources;
