@@ -19,11 +19,9 @@ use crate::network::HeldNetwork;
 use crate::refusal::Refusal;
 use std::alloc::{AllocError, Global};
 use std::thread::Threads;
-use syn_area::map_for_area;
 use syn_balance::balance;
 use syn_build::{BuildFault, build_luts};
 use syn_commit::CommitHook;
-use syn_flow::flow;
 use syn_fraig::{Limits, fraig};
 use syn_graph::Graph;
 use syn_lutnet::LutNet;
@@ -34,6 +32,7 @@ use syn_refactor::refactor;
 use syn_resub::resub;
 use syn_rewrite::rewrite;
 use syn_seq::sweep;
+use syn_settled::{few_luts, least_luts};
 use syn_words::{LutInputs, PassOptions, Recipe, SearchLimits};
 use syn_workers::Workers;
 
@@ -114,7 +113,7 @@ fn mapped_by<R: Threads + Sync>(
 {
     let number = inputs.number();
     if *area {
-        let few = map_for_area(rt, alloc, &network.body, number, workers)?;
+        let few = few_luts(rt, alloc, &network.body, number, workers)?;
         mapped(alloc, network, few)
     } else {
         let plain = map(rt, alloc, &network.body, number, workers)?;
@@ -173,7 +172,7 @@ pub(crate) fn remake_graph<R: Threads + Sync, G: CommitHook>(
             Ok(Some(made))
         }
         Recipe::MapByFlow(inputs) => {
-            let (net, _proof) = flow(alloc, &network.body, inputs.number())?;
+            let net = least_luts(alloc, &network.body, inputs.number())?;
             Ok(Some(mapped(alloc, network, net)?))
         }
         Recipe::Sweep => {
