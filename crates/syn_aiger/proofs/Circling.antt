@@ -5,7 +5,7 @@ use Rattle.std.proofs.lemmas.Bool.{and_from, and_parts, or_cases, or_right, both
 use Rattle.std.proofs.lemmas.Fmt.{decimal_injective}
 use Rattle.syn_netlist.specs.Faults.{AnswersCircle, IsCircle, ReadInTurn, TableReads}
 use Rattle.syn_netlist.specs.Lists.{Table, output_of}
-use Rattle.syn_netlist.specs.Marks.{distinct_numbers, has_number}
+use Rattle.syn_lists.specs.Numbers.{distinct_numbers, has_number}
 use Rattle.syn_netlist.specs.Words.{distinct, has_word}
 use Rattle.syn_netlist.proofs.Checked.{answered_is_circle}
 use Rattle.syn_netlist.proofs.CyclicSets.{in_has, to_in}

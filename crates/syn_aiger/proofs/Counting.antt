@@ -5,13 +5,13 @@ use Rattle.std.proofs.lemmas.List.{drop_more, length-map, map-append}
 use Rattle.syn_rows.specs.declared.Lit.{Lit}
 use Rattle.syn_rows.specs.declared.Row.{Row}
 use Rattle.syn_rows.specs.declared.Row.TheVariants.{And}
-use Rattle.syn_netlist.specs.Marks.{distinct_numbers, has_number}
+use Rattle.syn_lists.specs.Numbers.{distinct_numbers, has_number}
 use Rattle.syn_aiger_files.specs.declared.files.Aig.{Aig}
 use Rattle.syn_aiger_files.specs.declared.files.AigAnd.{AigAnd}
 use Rattle.syn_aiger_files.specs.declared.files.AigLatch.{AigLatch}
 use Rattle.syn_aiger_files.specs.Files.{latch_literal, variable_of}
 use Rattle.syn_aiger_files.specs.Literals.{literals_from}
-use Rattle.syn_shapes.specs.Spelling.{numbers_from}
+use Rattle.syn_lists.specs.Numbers.{numbers_from}
 use Rattle.syn_aiger.specs.Placing.{HasPlaces, IsSound, and_row, is_defined, lit_in, place_in}
 use Rattle.syn_aiger.specs.Values.{and_variable, defined_variables, source_literals}
 use Rattle.syn_aiger.specs.declared.places.Places.{Places}

@@ -3,18 +3,17 @@ use Rattle.std.proofs.Common.{◌≡◌, ℕ, ◌<◌, ◌≤◌, ◌+◌, ◌*�
 use Rattle.std.proofs.lemmas.Bool.{and_parts, cases_lt, or_cases, both_ways}
 use Rattle.syn_netlist.specs.Faults.{AnswersCircle, IsAnsweredCircle, ReachesCircle}
 use Rattle.syn_netlist.specs.Lists.{output_of}
-use Rattle.syn_netlist.specs.Marks.{distinct_numbers, has_number}
+use Rattle.syn_lists.specs.Numbers.{distinct_numbers, has_number}
 use Rattle.syn_netlist.specs.Words.{distinct}
 use Rattle.syn_models.proofs.Circles.{circle_or_none, one_circle}
 use Rattle.syn_reader.specs.Limits.{most_sources}
 use Rattle.syn_aiger_files.specs.declared.fault.AigFault.{AigFault}
 use Rattle.syn_aiger_files.specs.declared.fault.AigFault.TheVariants.{Header, Line, Pair, Symbol, Undefined, Cycle, TooManySources, TooManyGates, NoMemory}
-use Rattle.syn_aiger_files.specs.declared.fault.TheConstants.{MAX_GATES}
 use Rattle.syn_aiger_files.specs.declared.files.Aig.{Aig}
 use Rattle.syn_aiger_files.specs.Files.{and_literal, latch_literal, variable_of}
 use Rattle.syn_aiger_files.specs.Spelling.{most_variables, spelled}
 use Rattle.syn_aiger_files.proofs.Spelled.{NewOnes, may_parts, spelled_fault, spelled_sound}
-use Rattle.syn_aiger.specs.Faults.{IsAigFault, IsFirstFault, Spells, Within}
+use Rattle.syn_aiger.specs.Faults.{IsAigFault, IsFirstFault, Spells, Within, most_ands}
 use Rattle.syn_aiger.specs.Laws.{EitherOr, OneFault}
 use Rattle.syn_aiger.specs.Values.{NoCircle, and_tables, and_variable, defined_variables, first_undefined, source_literals, source_variables, variable_word}
 use Rattle.syn_aiger.proofs.Circling.{AllSmall, circle_variables, outputs_are, same_variables, words_distinct}
@@ -75,14 +74,14 @@ pub either_or : EitherOr
 either_or bytes = go (spelled bytes) refl
   where
     limits : (g : Aig) → spelled bytes ≡ Ok g → first_undefined g ≡ None → NoCircle g
-        → (most_sources < length (source_literals g)) ⊎ (length (source_literals g) ≤ most_sources) → (MAX_GATES < length g.ands) ⊎ (length g.ands ≤ MAX_GATES) → Verdict bytes
+        → (most_sources < length (source_literals g)) ⊎ (length (source_literals g) ≤ most_sources) → (most_ands < length g.ands) ⊎ (length g.ands ≤ most_ands) → Verdict bytes
     limits g e u c (inl a) b = inr (TooManySources (length (source_literals g)), (g, e, (u, c, refl, a)))
     limits g e u c (inr a) (inl b) = inr (TooManyGates (length g.ands), (g, e, (u, c, a, refl, b)))
     limits g e u c (inr a) (inr b) = inl (g, record { says = e; defined = u; acyclic = c }, record { sources = a; gates = b })
 
     circle : (g : Aig) → spelled bytes ≡ Ok g → first_undefined g ≡ None
         → (((w : List ℕ) → ReachesCircle (and_tables g) w → ⊥) ⊎ ((names : List (List ℕ)) × (first : List ℕ) × (before : List (List ℕ)) × (set : List ℕ → Bool) × IsAnsweredCircle (and_tables g) first before names set)) → Verdict bytes
-    circle g e u (inl c) = limits g e u c (cases_lt most_sources (length (source_literals g))) (cases_lt MAX_GATES (length g.ands))
+    circle g e u (inl c) = limits g e u c (cases_lt most_sources (length (source_literals g))) (cases_lt most_ands (length g.ands))
     circle g e u (inr c) =
         let a : AnswersCircle (and_tables g) c.0 = (c.1, c.2, c.3, c.4) in
         let v = circle_variables g c.0 a in

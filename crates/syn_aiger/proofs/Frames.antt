@@ -1,6 +1,6 @@
 -- The names of a written file are those of the network.
 use Rattle.std.specs.List.{list_all}
-use Rattle.std.proofs.Common.{◌≡◌, ℕ, zero, suc, ◌+◌, ◌*◌, ◌<◌, ◌≤◌, ◌==◌, ◌&&◌, ◌||◌, not, Bool, true, false, if◌then◌else◌, List, [], ◌∷◌, ◌++◌, length, map, find, get_or, bytes_eq, decimal, Some, refl, sym, ap, ap₂, ◌∙◌, subst, inl, inr, append_assoc, append-nil, arith, eq-eqb, ne_eqb, length-append}
+use Rattle.std.proofs.Common.{◌≡◌, ℕ, zero, suc, ◌+◌, ◌*◌, ◌<◌, ◌≤◌, ◌==◌, ◌&&◌, ◌||◌, not, Bool, true, false, if◌then◌else◌, List, [], ◌∷◌, ◌++◌, length, map, find, get_or, bytes_eq, decimal, option_map, None, Some, refl, sym, ap, ap₂, ◌∙◌, subst, inl, inr, append_assoc, append-nil, arith, eq-eqb, ne_eqb, length-append}
 use Rattle.std.proofs.lemmas.Bool.{and_parts, and_from, and_left, and_right, or_from, cases_Bool, both_ways, cond-true, cond-false, false_from_ne_true, not-true, not_from_false, not_from_true}
 use Rattle.std.proofs.lemmas.List.{length-map, map-append}
 use Rattle.std.proofs.lemmas.List.Folds.{list_all-append}
@@ -8,8 +8,8 @@ use Rattle.syn_netlist.specs.Words.{distinct, has_word, is_word, without}
 use Rattle.syn_netlist.specs.Lists.{Frame, Latch, Netlist, latch_output, output_of, sources}
 use Rattle.syn_netlist.specs.Order.{Ordered}
 use Rattle.syn_netlist.proofs.Sets.{same_word, word_same, has_head, has_left, has_right}
-use Rattle.syn_shapes.specs.GraphShape.{GraphHasFunction, and_tables, end_tables, lit_of_table, node_names, place, shown}
-use Rattle.syn_shapes.proofs.Spelled.{graph_has_function_is, place_in_front}
+use Rattle.syn_network.specs.GraphShape.{GraphHasFunction, and_tables, end_tables, lit_of_table, node_names, place, shown}
+use Rattle.syn_network.proofs.Spelled.{graph_has_function_is, place_in_front}
 use Rattle.syn_rows.proofs.Folds.{one_valuation_is}
 use Rattle.syn_netlist.proofs.Evaluation.{ordered_has_one}
 use Rattle.syn_aiger_files.specs.declared.files.AigLatch.{AigLatch}
@@ -21,8 +21,8 @@ use Rattle.syn_aiger_files.specs.Literals.{literals_from}
 use Rattle.syn_aiger_files.specs.Symbols.{is_at, letter_of}
 use Rattle.syn_aiger.specs.Naming.{Named, feeds_named, feeds_of, first_name, free_name, inputs_of, is_given, is_given_otherwise, latches_of, longest, name_of, outputs_named, outputs_of, sources_named, sources_of, underscored, word_or}
 use Rattle.syn_aiger.specs.Networks.{frame_of, init_of, latches_from}
-use Rattle.syn_aiger.specs.Writing.{aig_of, free_signals, init_again, init_in, latches_by, literal_in, reset_by, symbols_by, symbols_in}
-use Rattle.syn_aiger.specs.Laws.{AigOfKeeps, written_names}
+use Rattle.syn_aiger.specs.Writing.{aig_of, feed_of, free_signals, has_type, init_again, init_in, latches_by, literal_in, reset_by, symbols_by, symbols_in, untyped_latch, without_types}
+use Rattle.syn_aiger.specs.Laws.{AigOfKeeps, AigOfLeavesTypes, written_names}
 use Rattle.syn_aiger.proofs.Normal.{latch_literals, length-latches}
 use Rattle.syn_aiger.proofs.Kept.{next_kept, outputs_kept}
 
@@ -211,7 +211,7 @@ outputs_from (l ∷ ls) [] fs e h = absurd (omega arith)
 outputs_from (l ∷ ls) (x ∷ os) [] e h = absurd (omega arith)
 outputs_from (l ∷ ls) (x ∷ os) (y ∷ fs) e h = ap (λ (ws : List (List ℕ)). x.name ∷ ws) (outputs_from ls os fs (omega arith) (omega arith))
 
-inits_from : (ls : List AigLatch) (os fs : List Named) → length os ≡ length ls → length fs ≡ length ls → map init_in (latches_from ls os fs) ≡ map init_of ls
+pub inits_from : (ls : List AigLatch) (os fs : List Named) → length os ≡ length ls → length fs ≡ length ls → map init_in (latches_from ls os fs) ≡ map init_of ls
 inits_from [] [] fs e h = refl
 inits_from [] (x ∷ os) fs e h = absurd (omega arith)
 inits_from (l ∷ ls) [] fs e h = absurd (omega arith)
@@ -300,10 +300,45 @@ pub aig_of_keeps : AigOfKeeps
 aig_of_keeps m o s untyped words =
     let law : GraphHasFunction = graph_has_function_is one_valuation_is ordered_has_one in
     record {
+      untyped = untyped;
       inputs = frame_inputs m o words;
       outputs = frame_outputs m o words;
       latches = frame_latches m o words;
       inits = frame_inits m o words;
       values = λ v w fit c same. outputs_kept law m o s v w fit c same;
       next = λ v w fit c same. next_kept law m o s v w fit c same;
+    }
+
+-- with types left out
+
+no_types : (ls : List Latch) → find has_type (map untyped_latch ls) ≡ None
+no_types [] = refl
+no_types (l ∷ ls) = no_types ls
+
+outputs_untyped : (ls : List Latch) → map latch_output (map untyped_latch ls) ≡ map latch_output ls
+outputs_untyped [] = refl
+outputs_untyped (l ∷ ls) = ap (λ (ws : List (List ℕ)). l.output ∷ ws) (outputs_untyped ls)
+
+inits_untyped : (ls : List Latch) → map init_again (map untyped_latch ls) ≡ map init_again ls
+inits_untyped [] = refl
+inits_untyped (l ∷ ls) = ap (λ (ns : List ℕ). init_again l ∷ ns) (inits_untyped ls)
+
+feeds_untyped : (ls : List Latch) → map feed_of (map untyped_latch ls) ≡ map feed_of ls
+feeds_untyped [] = refl
+feeds_untyped (l ∷ ls) = ap (λ (ws : List (List ℕ)). l.feed ∷ ws) (feeds_untyped ls)
+
+sources_untyped : (m : Netlist) → sources (without_types m).frame ≡ sources m.frame
+sources_untyped m = ap (λ (ws : List (List ℕ)). m.frame.inputs ++ (without m.frame.inputs m.frame.clocks ++ ws)) (outputs_untyped m.frame.latches)
+
+pub aig_of_leaves_types : AigOfLeavesTypes
+aig_of_leaves_types m o s words =
+    let law : GraphHasFunction = graph_has_function_is one_valuation_is ordered_has_one in
+    record {
+      untyped = ap (option_map latch_output) (no_types m.frame.latches);
+      inputs = frame_inputs m o words;
+      outputs = frame_outputs m o words;
+      latches = frame_latches m o words ∙ sym (outputs_untyped m.frame.latches);
+      inits = frame_inits m o words ∙ sym (inits_untyped m.frame.latches);
+      values = λ v w fit c same. outputs_kept law m o s v w fit c (ap (map w) (sym (sources_untyped m)) ∙ same);
+      next = λ v w fit c same. ap (map w) (feeds_untyped m.frame.latches) ∙ next_kept law m o s v w fit c (ap (map w) (sym (sources_untyped m)) ∙ same);
     }

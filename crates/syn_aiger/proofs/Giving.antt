@@ -4,7 +4,7 @@ use Rattle.std.proofs.Common.{◌≡◌, ℕ, zero, suc, ◌+◌, ◌<◌, ◌==
 use Rattle.std.proofs.lemmas.Bool.{and_from, and_parts, or_left, or_right, or_parts, both_ways, cases_Bool, cases_lt, cond-true, cond-false, not-true}
 use Rattle.std.proofs.lemmas.List.{get_or-append-add, get_or_append_left, map-append}
 use Rattle.std.proofs.lemmas.List.Folds.{list_all-append, list_any-append}
-use Rattle.syn_netlist.specs.Marks.{distinct_numbers, has_number}
+use Rattle.syn_lists.specs.Numbers.{distinct_numbers, has_number}
 use Rattle.syn_netlist.specs.Numbers.{all_below, with_word, word_at, words_at}
 use Rattle.syn_netlist.specs.Words.{has_word}
 use Rattle.syn_netlist.proofs.Sets.{same_word, word_same, has_word-append}
@@ -23,7 +23,7 @@ one name l = record { name = name; literal = l }
 given_more : (given : List Named) (n : Named) (w : List ℕ) → is_given (given ++ n ∷ []) w ≡ (is_given given w || (bytes_eq n.name w || false))
 given_more given n w = list_any-append (λ (m : Named). bytes_eq m.name w) given (n ∷ [])
 
-all_more : {X : Type 0} (P : X → Type 0) (xs : List X) (x : X) → AllByRecursion P xs → P x → AllByRecursion P (xs ++ x ∷ [])
+pub all_more : {X : Type 0} (P : X → Type 0) (xs : List X) (x : X) → AllByRecursion P xs → P x → AllByRecursion P (xs ++ x ∷ [])
 all_more P [] x h p = (p, tt)
 all_more P (y ∷ xs) x h p = (h.0, all_more P xs x h.1 p)
 

@@ -4,23 +4,26 @@ use Rattle.std.proofs.Common.{◌≡◌, ℕ, ◌+◌, ◌<◌, ◌≤◌, ◌^�
 use Rattle.std.proofs.lemmas.List.{get_or-map, length-map}
 use Rattle.syn_rows.specs.declared.Lit.{Lit}
 use Rattle.syn_rows.specs.declared.Row.{Row}
-use Rattle.syn_rows.specs.Reach.{Ands}
-use Rattle.syn_rows.specs.Values.{given_by, rows_function}
-use Rattle.syn_hashed.specs.Compacting.{CanCompact, HasSources, SameValues}
+use Rattle.syn_rows.specs.Values.{rows_function}
+use Rattle.syn_hashed.specs.Compacting.{CanCompact, IsCompacted}
 use Rattle.syn_netlist.specs.Frames.{frame_in}
 use Rattle.syn_netlist.specs.Lists.{Frame, observed, sources}
 use Rattle.syn_netlist.specs.Numbers.{word_at}
 use Rattle.syn_netlist.specs.Values.{Consistent, HasFunction}
 use Rattle.syn_netlist.specs.Words.{has_word}
-use Rattle.syn_shapes.specs.GraphShape.{GraphHasFunction, place, rows_of}
-use Rattle.syn_shapes.specs.Graphs.{lit_at, source_lit}
-use Rattle.syn_shapes.specs.Spelling.{NetworkOfGraph, NetworkSpells}
+use Rattle.syn_network.specs.GraphShape.{GraphHasFunction, place, rows_of}
+use Rattle.syn_network.specs.NamedGraphs.{source_lit}
+use Rattle.syn_hashed.specs.Hashed.{lit_at}
+use Rattle.syn_network.specs.Spelling.{NetworkOfGraph, NetworkSpells}
+use Rattle.syn_network.specs.declared.networks.Network.{Network}
+use Rattle.syn_network.specs.Networks.{HasOwnSources, IsNamed}
+use Rattle.syn_network.specs.Written.{network_of}
+use Rattle.syn_network.proofs.Naming.{own_stays}
 use Rattle.syn_graph.specs.declared.Graph.{Graph}
-use Rattle.syn_graph.specs.Graphs.{HasOwnSources, network_of}
-use Rattle.syn_aiger_files.specs.declared.fault.TheConstants.{MAX_GATES}
 use Rattle.syn_aiger_files.specs.declared.files.Aig.{Aig}
 use Rattle.syn_aiger_files.specs.Spelling.{most_variables}
-use Rattle.syn_aiger.specs.Faults.{Within}
+use Rattle.syn_aiger.specs.Faults.{Within, most_ands}
+use Rattle.syn_aiger.specs.Framing.{IsBodyOf}
 use Rattle.syn_aiger.specs.Naming.{literal_named, name_of, outputs_of, sources_of}
 use Rattle.syn_aiger.specs.Networks.{IsGraphOfAig, frame_of, observed_literals}
 use Rattle.syn_aiger.specs.Placing.{IsSound, ReadsDefined, is_defined, lit_in, rows_in}
@@ -40,8 +43,8 @@ module _ (g : Aig) (sound : IsSound g) (defined : ReadsDefined g) (rank : HasRan
   pub few_rows : length (rows_in g) ≤ 2 ^ 28
   few_rows = omega (arith, many_rows g, many_defined g, sound.few)
 
-  pub compacts : CanCompact (length (sources (frame_of g))) (rows_in g) lits
-  compacts = subst (λ (n : ℕ). CanCompact n (rows_in g) lits) (sym many_sources_of) (can_compact g defined rank (observed_literals g) all)
+  compacts : CanCompact (length (source_literals g)) (rows_in g) lits
+  compacts = can_compact g defined rank (observed_literals g) all
 
   pub as_many : length lits ≡ length (observed (frame_of g))
   as_many = length-map (observed_literals g) (lit_in g) ∙ length-map (observed (frame_of g)) (literal_named g)
@@ -60,57 +63,49 @@ module _ (g : Aig) (sound : IsSound g) (defined : ReadsDefined g) (rank : HasRan
 
   -- of what the code makes
 
-  module _ (frame : Frame) (rows : List Row) (ls : List Lit) (e : frame ≡ frame_of g) (f : rows ≡ rows_in g) (h : ls ≡ lits) where
-    pub can_with : CanCompact (length (sources frame)) rows ls
+  module _ (count : ℕ) (rows : List Row) (ls : List Lit) (e : count ≡ length (source_literals g)) (f : rows ≡ rows_in g) (h : ls ≡ lits) where
+    pub can_with : CanCompact count rows ls
     can_with =
-        subst (λ (x : Frame). CanCompact (length (sources x)) rows ls) (sym e)
-        (subst (λ (x : List Row). CanCompact (length (sources (frame_of g))) x ls) (sym f)
-        (subst (λ (x : List Lit). CanCompact (length (sources (frame_of g))) (rows_in g) x) (sym h) compacts))
-
-    pub count_with : length ls ≡ length (observed frame)
-    count_with = ap length h ∙ as_many ∙ sym (ap (λ (x : Frame). length (observed x)) e)
-
-    pub own_with : HasOwnSources frame ls
-    own_with = subst (λ (x : Frame). HasOwnSources x ls) (sym e) (subst (HasOwnSources (frame_of g)) (sym h) owns)
+        subst (λ (k : ℕ). CanCompact k rows ls) (sym e)
+        (subst (λ (x : List Row). CanCompact (length (source_literals g)) x ls) (sym f)
+        (subst (λ (x : List Lit). CanCompact (length (source_literals g)) (rows_in g) x) (sym h) compacts))
 
     pub few_with : length rows ≤ 2 ^ 28
     few_with = subst (λ (x : List Row). length x ≤ 2 ^ 28) (sym f) few_rows
 
-    module _ (graph : Graph) where
-      values_with : SameValues (length (sources frame)) rows ls graph.rows graph.observed → SameValues (length (sources (frame_of g))) (rows_in g) lits graph.rows graph.observed
-      values_with values =
-          subst (λ (x : Frame). SameValues (length (sources x)) (rows_in g) lits graph.rows graph.observed) e
-          (subst (λ (x : List Row). SameValues (length (sources frame)) x lits graph.rows graph.observed) f
-          (subst (λ (x : List Lit). SameValues (length (sources frame)) rows x graph.rows graph.observed) h values))
+    pub body_with : (new_rows : List Row) (new_lits : List Lit) → IsCompacted count rows ls new_rows new_lits → IsBodyOf g new_rows new_lits
+    body_with new_rows new_lits c =
+        subst (λ (x : List Lit). IsCompacted (length (source_literals g)) (rows_in g) x new_rows new_lits) h
+        (subst (λ (x : List Row). IsCompacted (length (source_literals g)) x ls new_rows new_lits) f
+        (subst (λ (k : ℕ). IsCompacted k rows ls new_rows new_lits) e c))
 
-      fewer_with : ((k : ℕ) → Ands rows ls k → length graph.rows ≤ length (sources frame) + 1 + k) → (k : ℕ) → Ands (rows_in g) lits k → length graph.rows ≤ length (sources (frame_of g)) + 1 + k
-      fewer_with fewer =
-          subst (λ (x : Frame). (k : ℕ) → Ands (rows_in g) lits k → length graph.rows ≤ length (sources x) + 1 + k) e
-          (subst (λ (x : List Row). (k : ℕ) → Ands x lits k → length graph.rows ≤ length (sources frame) + 1 + k) f
-          (subst (λ (x : List Lit). (k : ℕ) → Ands rows x k → length graph.rows ≤ length (sources frame) + 1 + k) h fewer))
+  pub named_with : (frame : Frame) (body : Graph) → frame ≡ frame_of g → body.source_count ≡ length (source_literals g) → IsBodyOf g body.rows body.observed → IsNamed frame body.source_count body.observed
+  named_with frame body e s b = subst (λ (x : Frame). IsNamed x body.source_count body.observed) (sym e) (record {
+    sources_are = s ∙ sym many_sources_of;
+    observed_are = b.same_count ∙ as_many;
+    own = own_stays (frame_of g) (length (source_literals g)) lits body.observed (sym many_sources_of) b.same_count b.sources_stay owns;
+  })
 
-  -- the graph
+  -- the network
 
-  module _ (of_graph : NetworkOfGraph) (functions : GraphHasFunction) (graph : Graph) (framed : frame_in graph.frame ≡ frame_of g)
-      (values : SameValues (length (sources (frame_of g))) (rows_in g) lits graph.rows graph.observed)
-      (fewer : (k : ℕ) → Ands (rows_in g) lits k → length graph.rows ≤ length (sources (frame_of g)) + 1 + k) where
-    spells : NetworkSpells (frame_in graph.frame) graph.rows graph.observed
-    spells = of_graph (frame_in graph.frame) graph.rows graph.observed graph.frame.clocks_once graph.frame.sources_once graph.graph
+  module _ (of_graph : NetworkOfGraph) (functions : GraphHasFunction) (graph : Network) (framed : frame_in graph.frame ≡ frame_of g) (body : IsBodyOf g graph.body.rows graph.body.observed) where
+    spells : NetworkSpells (frame_in graph.frame) graph.body.rows graph.body.observed
+    spells = of_graph (frame_in graph.frame) graph.body.rows graph.body.observed graph.frame.clocks_once graph.frame.sources_once graph.graph
 
-    function : HasFunction (network_of graph) (rows_function graph.rows graph.observed)
+    function : HasFunction (network_of graph) (rows_function graph.body.rows graph.body.observed)
     function =
-        subst (λ (rows : List Row). HasFunction (network_of graph) (rows_function rows graph.observed)) spells.same_rows
+        subst (λ (rows : List Row). HasFunction (network_of graph) (rows_function rows graph.body.observed)) spells.same_rows
         (subst (λ (ls : List Lit). HasFunction (network_of graph) (rows_function (rows_of (network_of graph)) ls)) spells.same_lits (functions (network_of graph) spells.shape spells.ordered).1)
 
-    few_graph : length graph.rows ≤ length (sources (frame_of g)) + 1 + length g.ands
-    few_graph = let k = few_ands g defined (observed_literals g) all in let le = fewer k.0 k.1 in let lt = k.2 in omega arith
+    few_graph : length graph.body.rows ≤ length (sources (frame_of g)) + 1 + length g.ands
+    few_graph = let k = few_ands g defined (observed_literals g) all in let le = body.ands k.0 k.1 in let lt = k.2 in omega (arith, many_sources_of)
 
     same_values : (v : ℕ → Bool) (w : List ℕ → Bool) → FitsAig g v → Consistent (network_of graph) w → map w (sources (network_of graph).frame) ≡ map v (source_variables g) → map w (observed (network_of graph).frame) ≡ map (value_of v) (observed_literals g)
     same_values v w fit c same =
         let n : ℕ → Bool = λ n. v (get_or (defined_variables g) n 0) in
         function.value w c
-        ∙ ap (rows_function graph.rows graph.observed) same
-        ∙ sym (values (map v (source_variables g)) n (fits g defined v fit) (subst (λ (k : ℕ). HasSources k (given_by (map v (source_variables g))) n) (sym many_sources_of) (has_sources g defined v fit)))
+        ∙ ap (rows_function graph.body.rows graph.body.observed) same
+        ∙ sym (body.same_values (map v (source_variables g)) n (fits g defined v fit) (has_sources g defined v fit))
         ∙ literal_values g defined v fit (observed_literals g) all
 
     pub is_graph : IsGraphOfAig g (network_of graph)
@@ -120,22 +115,11 @@ module _ (g : Aig) (sound : IsSound g) (defined : ReadsDefined g) (rank : HasRan
       shape = spells.shape;
       total = total g defined sound rank;
       values = same_values;
-      fewer = omega (arith, spells.ands, length-drop (length (sources (frame_in graph.frame)) + 1) graph.rows, few_graph, ap (λ (f : Frame). length (sources f)) framed);
+      fewer = omega (arith, spells.ands, length-drop (length (sources (frame_in graph.frame)) + 1) graph.body.rows, few_graph, ap (λ (f : Frame). length (sources f)) framed);
     }
 
-    pub few_nodes : Within g → length graph.rows ≤ graph.source_count + 1 + MAX_GATES
-    few_nodes w = omega (arith, few_graph, w.gates, graph.source_count_is, ap (λ (f : Frame). length (sources f)) framed)
+    pub few_nodes : Within g → length graph.body.rows ≤ graph.body.source_count + 1 + most_ands
+    few_nodes w = omega (arith, few_graph, w.gates, graph.named.sources_are, ap (λ (f : Frame). length (sources f)) framed)
 
     pub few_outputs : length graph.frame.outputs ≤ most_variables
     few_outputs = omega (arith, sound.outputs, length-map graph.frame.outputs (word_at graph.frame.names), ap (λ (f : Frame). length f.outputs) framed, length-map (outputs_of g) name_of, many_outputs g)
-
-  module _ (of_graph : NetworkOfGraph) (functions : GraphHasFunction) (frame : Frame) (rows : List Row) (ls : List Lit) (e : frame ≡ frame_of g) (f : rows ≡ rows_in g) (h : ls ≡ lits) (graph : Graph) (framed : frame_in graph.frame ≡ frame)
-      (values : SameValues (length (sources frame)) rows ls graph.rows graph.observed) (fewer : (k : ℕ) → Ands rows ls k → length graph.rows ≤ length (sources frame) + 1 + k) where
-    pub graph_with : IsGraphOfAig g (network_of graph)
-    graph_with = is_graph of_graph functions graph (framed ∙ e) (values_with frame rows ls e f h graph values) (fewer_with frame rows ls e f h graph fewer)
-
-    pub nodes_with : Within g → length graph.rows ≤ graph.source_count + 1 + MAX_GATES
-    nodes_with = few_nodes of_graph functions graph (framed ∙ e) (values_with frame rows ls e f h graph values) (fewer_with frame rows ls e f h graph fewer)
-
-    pub outputs_with : length graph.frame.outputs ≤ most_variables
-    outputs_with = few_outputs of_graph functions graph (framed ∙ e) (values_with frame rows ls e f h graph values) (fewer_with frame rows ls e f h graph fewer)

@@ -7,16 +7,15 @@ use Rattle.syn_rows.specs.declared.Lit.{Lit}
 use Rattle.syn_netlist.specs.Faults.{AnswersCircle}
 use Rattle.syn_netlist.specs.Lists.{Frame, Netlist, observed}
 use Rattle.syn_netlist.specs.Numbers.{word_at, words_at}
-use Rattle.syn_netlist.specs.Marks.{has_number}
+use Rattle.syn_lists.specs.Numbers.{has_number}
 use Rattle.syn_reader.specs.Limits.{most_sources}
 use Rattle.syn_aiger_files.specs.declared.fault.AigFault.{AigFault}
 use Rattle.syn_aiger_files.specs.declared.fault.AigFault.TheVariants.{Header, Line, Pair, Symbol, Undefined, Cycle, TooManySources, TooManyGates, NoMemory}
-use Rattle.syn_aiger_files.specs.declared.fault.TheConstants.{MAX_GATES}
 use Rattle.syn_aiger_files.specs.declared.files.Aig.{Aig}
 use Rattle.syn_aiger_files.specs.Files.{and_literal, latch_literal}
 use Rattle.syn_aiger_files.specs.Spelling.{most_variables, spelled}
 use Rattle.syn_aiger_files.proofs.Spelled.{spelled_sound}
-use Rattle.syn_aiger.specs.Faults.{IsFirstFault, NamesFirstFault, Spells, Within}
+use Rattle.syn_aiger.specs.Faults.{IsFirstFault, NamesFirstFault, Spells, Within, most_ands}
 use Rattle.syn_aiger.specs.Naming.{literal_named}
 use Rattle.syn_aiger.specs.Networks.{IsGraphOfAig, frame_of, observed_literals}
 use Rattle.syn_aiger.specs.Placing.{lit_in}
@@ -63,13 +62,13 @@ module _ (bytes : List ℕ) (g : Aig) (says : spelled bytes ≡ Ok g) where
     pub sources_fault : HasRank g → (n : ℕ) → n ≡ length (source_literals g) → most_sources < n → NamesFirstFault bytes (TooManySources n)
     sources_fault r n is many = (g, says, (sym none, no_circle_of bytes g says r, is, many))
 
-    pub gates_fault : HasRank g → (n : ℕ) → length (source_literals g) ≤ most_sources → n ≡ length g.ands → MAX_GATES < n → NamesFirstFault bytes (TooManyGates n)
+    pub gates_fault : HasRank g → (n : ℕ) → length (source_literals g) ≤ most_sources → n ≡ length g.ands → most_ands < n → NamesFirstFault bytes (TooManyGates n)
     gates_fault r n few is many = (g, says, (sym none, no_circle_of bytes g says r, few, is, many))
 
     pub graph_result : HasRank g → Within g → (m : Netlist) → IsGraphOfAig g m → (h : Aig) × Spells bytes h × Within h × IsGraphOfAig h m
     graph_result r within m graph = (g, record { says = says; defined = sym none; acyclic = no_circle_of bytes g says r }, within, graph)
 
-pub within_of : (g : Aig) → length (source_literals g) ≤ most_sources → length g.ands ≤ MAX_GATES → Within g
+pub within_of : (g : Aig) → length (source_literals g) ≤ most_sources → length g.ands ≤ most_ands → Within g
 within_of g sources gates = record { sources = sources; gates = gates }
 
 pub spelled_same : (bytes : List ℕ) (g h : Aig) → spelled bytes ≡ Ok g → h ≡ g → spelled bytes ≡ Ok h

@@ -16,9 +16,9 @@ use Rattle.syn_netlist.specs.Order.{Ordered}
 use Rattle.syn_netlist.specs.Values.{Consistent}
 use Rattle.syn_netlist.proofs.Sets.{same_word, has_head, has_tail, has_left, has_right}
 use Rattle.syn_models.proofs.Once.{without_has}
-use Rattle.syn_shapes.specs.GraphShape.{GraphHasFunction, GraphShape, and_tables, lit_of, node_names, row_of, rows_of, source_row}
-use Rattle.syn_shapes.specs.Spelling.{gates_of}
-use Rattle.syn_shapes.proofs.Spelled.{source_rows, spelled_in_order}
+use Rattle.syn_network.specs.GraphShape.{GraphHasFunction, GraphShape, and_tables, lit_of, node_names, row_of, rows_of, source_row}
+use Rattle.syn_network.specs.Spelling.{gates_of}
+use Rattle.syn_network.proofs.Spelled.{source_rows, spelled_in_order}
 use Rattle.syn_aiger_files.specs.Files.{next_of, variable_of}
 use Rattle.syn_aiger_files.specs.Literals.{literals_from}
 use Rattle.syn_aiger_files.proofs.Spelled.{literals-append}
@@ -115,7 +115,7 @@ module _ (m : Netlist) (o : Ordered m) (s : GraphShape m) (v : ℕ → Bool) (w 
       let le = literal_le m s x in
       ap (λ (b : Bool). if (lit_of m x).0 % 2 == 0 then b else not b) (sym (node_value (node_of (lit_of m x)) (omega (arith, length-rows m))))
 
-each_of : (f : List ℕ → Bool) (g : Lit → Bool) (h : List ℕ → Lit) (ws : List (List ℕ)) → map f ws ≡ map g (map h ws) → (x : List ℕ) → has_word ws x ≡ true → f x ≡ g (h x)
+pub each_of : {X : Type 0} (f : List ℕ → Bool) (g : X → Bool) (h : List ℕ → X) (ws : List (List ℕ)) → map f ws ≡ map g (map h ws) → (x : List ℕ) → has_word ws x ≡ true → f x ≡ g (h x)
 each_of f g h [] e x t = absurd (both_ways false refl t)
 each_of f g h (y ∷ ys) e x t = elim (or_cases (bytes_eq y x) (has_word ys x) t) [
   | inl s ↦ subst (λ k. f k ≡ g (h k)) (same_word y x s) (let p : f y ≡ g (h y) = cc in p)
@@ -146,7 +146,7 @@ feeds_read (l ∷ ls) x h = elim (or_cases (bytes_eq l.feed x) (has_word (map fe
   | inr t ↦ has_right (latch_reads l) (flat_map latch_reads ls) x (feeds_read ls x t)
 ]
 
-map_same : (v : ℕ → Bool) (w : List ℕ → Bool) (f : List ℕ → ℕ) (ws : List (List ℕ)) → ((x : List ℕ) → has_word ws x ≡ true → w x ≡ value_of v (f x)) → map w ws ≡ map (value_of v) (map f ws)
+pub map_same : (v : ℕ → Bool) (w : List ℕ → Bool) (f : List ℕ → ℕ) (ws : List (List ℕ)) → ((x : List ℕ) → has_word ws x ≡ true → w x ≡ value_of v (f x)) → map w ws ≡ map (value_of v) (map f ws)
 map_same v w f [] h = refl
 map_same v w f (x ∷ xs) h = ap₂ (λ (b : Bool) (bs : List Bool). b ∷ bs) (h x (has_head x xs)) (map_same v w f xs (λ y t. h y (has_tail x y xs t)))
 

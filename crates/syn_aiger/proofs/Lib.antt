@@ -5,6 +5,7 @@ pub mod WrittenLiterals
 pub mod WrittenFiles
 pub mod Kept
 pub mod Frames
+pub mod ByPlace
 pub mod Defined
 pub mod Words
 pub mod Verdicts

@@ -12,11 +12,12 @@ use Rattle.syn_netlist.specs.Faults.{AnswersCircle, IsChecked, IsFault, first_un
 use Rattle.syn_netlist.specs.declared.Latch as held
 use Rattle.syn_netlist.specs.Kept.{frame_of, latches_below, no_nil_control}
 use Rattle.syn_netlist.specs.Lists.{Frame, Netlist, Table, output_of, sources}
-use Rattle.syn_netlist.specs.Marks.{has_number}
+use Rattle.syn_lists.specs.Numbers.{has_number}
 use Rattle.syn_netlist.specs.Numbers.{all_below, with_word, words_at}
 use Rattle.syn_netlist.specs.Tables.{table_in, tables_below}
 use Rattle.syn_netlist.specs.Words.{distinct, has_word, is_word, is_word_byte}
-use Rattle.syn_shapes.specs.Spelling.{numbers_from, sign_of}
+use Rattle.syn_network.specs.Spelling.{sign_of}
+use Rattle.syn_lists.specs.Numbers.{numbers_from}
 use Rattle.syn_aiger_files.specs.declared.files.Aig.{Aig}
 use Rattle.syn_aiger_files.specs.declared.files.AigAnd.{AigAnd}
 use Rattle.syn_aiger_files.specs.Files.{variable_of}

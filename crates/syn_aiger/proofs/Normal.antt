@@ -16,9 +16,9 @@ use Rattle.syn_netlist.specs.Costs.{is_sign}
 use Rattle.syn_netlist.specs.Lists.{Frame, Latch, Netlist, Table, latch_output, output_of, sources}
 use Rattle.syn_netlist.specs.Order.{Ordered}
 use Rattle.syn_netlist.proofs.Sets.{has_left}
-use Rattle.syn_shapes.specs.GraphShape.{GraphShape, and_tables, end_tables, is_and_cover, is_and_table, is_end_cover, is_end_table, lit_of_table, lit_shown, node_names, row_of, row_shown, rows_of, shown, source_row}
-use Rattle.syn_shapes.specs.Spelling.{gates_of}
-use Rattle.syn_shapes.proofs.Spelled.{place_lt, spelled_in_order}
+use Rattle.syn_network.specs.GraphShape.{GraphShape, and_tables, end_tables, is_and_cover, is_and_table, is_end_cover, is_end_table, lit_of_table, lit_shown, node_names, row_of, row_shown, rows_of, shown, source_row}
+use Rattle.syn_network.specs.Spelling.{gates_of}
+use Rattle.syn_network.proofs.Spelled.{place_lt, spelled_in_order}
 use Rattle.syn_aiger_files.specs.declared.files.Aig.{Aig}
 use Rattle.syn_aiger_files.specs.declared.files.Place.{Place}
 use Rattle.syn_aiger_files.specs.declared.files.Symbol.{Symbol}

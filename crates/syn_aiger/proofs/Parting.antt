@@ -1,5 +1,5 @@
 -- The numbers of names in four parts, and the frame of them.
-use Rattle.std.proofs.Common.{◌≡◌, ℕ, ◌+◌, true, List, [], ◌++◌, length, map, take, drop, codes, sym, ap, ap₂, ◌∙◌, append_assoc, arith, length-append}
+use Rattle.std.proofs.Common.{◌≡◌, ℕ, ◌+◌, true, List, [], ◌++◌, length, map, take, drop, codes, sym, refl, ap, ap₂, ◌∙◌, append_assoc, arith, length-append}
 use Rattle.std.proofs.lemmas.List.{length-map}
 use Rattle.syn_netlist.specs.declared.Latch as code
 use Rattle.syn_netlist.specs.Kept.{latch_in, latches_below, no_nil_control, frame_of as frame_by}
@@ -8,6 +8,7 @@ use Rattle.syn_netlist.specs.Numbers.{all_below, word_at, words_at}
 use Rattle.syn_netlist.specs.Words.{distinct, is_word}
 use Rattle.syn_aiger_files.specs.declared.files.Aig.{Aig}
 use Rattle.syn_aiger_files.specs.declared.files.AigLatch.{AigLatch}
+use Rattle.syn_aiger.specs.Framing.{AreParts}
 use Rattle.syn_aiger.specs.Keeping.{Keeps}
 use Rattle.syn_aiger.specs.Naming.{Named, feeds_of, inputs_of, latches_of, name_of, named_of, outputs_of, sources_of}
 use Rattle.syn_aiger.specs.Networks.{frame_of, latches_from}
@@ -82,34 +83,22 @@ frame_made g names model inputs clocks outputs latches m i c o l =
 pub frame_apart : (g : Aig) (frame : Frame) → frame ≡ frame_of g → distinct (sources frame) ≡ true
 frame_apart g frame e = ap (λ (f : Frame). distinct (sources f)) e ∙ ap distinct (frame_sources g) ∙ sources_distinct g
 
--- What the frame of a file keeps.
-pub record Facts (g : Aig) (names : List (List ℕ)) (model inputs clocks outputs : List ℕ) (latches : List code.Latch) : Type 0 where
-  pub model_is_word : is_word model ≡ true
-  pub inputs_below : all_below (length names) inputs ≡ true
-  pub clocks_below : all_below (length names) clocks ≡ true
-  pub outputs_below : all_below (length names) outputs ≡ true
-  pub latches_low : latches_below (length names) latches ≡ true
-  pub controls : no_nil_control names latches ≡ true
-  pub clocks_once : distinct (words_at names clocks) ≡ true
-  pub frame : frame_by names model inputs clocks outputs latches ≡ frame_of g
-  pub sources_once : distinct (sources (frame_by names model inputs clocks outputs latches)) ≡ true
-
-pub facts : (g : Aig) (words names : List (List ℕ)) (a b o f model inputs clocks outputs : List ℕ) (states : List AigLatch) (found latches : List code.Latch) → Parted g words a b o f → names ≡ words → model ≡ codes "top" → inputs ≡ a → clocks ≡ [] → outputs ≡ o → latches ≡ found → states ≡ g.latches
+pub parts_of : (g : Aig) (names : List (List ℕ)) (a b o f model inputs outputs : List ℕ) (states : List AigLatch) (found latches : List code.Latch) → Parted g names a b o f → model ≡ codes "top" → inputs ≡ a → outputs ≡ o → latches ≡ found → states ≡ g.latches
     → ((ws : List (List ℕ)) (os fs : List Named) → words_at ws b ≡ map name_of os → words_at ws f ≡ map name_of fs → map (latch_in ws) found ≡ latches_from states os fs)
     → ((count : ℕ) → all_below count b ≡ true → all_below count f ≡ true → latches_below count found ≡ true)
-    → ((ws : List (List ℕ)) → no_nil_control ws found ≡ true) → Facts g names model inputs clocks outputs latches
-facts g words names a b o f model inputs clocks outputs states found latches p en em ei ec eo el es made low none =
-    let frame : frame_by names model inputs clocks outputs latches ≡ frame_of g =
-    ap₂ (λ (ws : List (List ℕ)) (ls : List code.Latch). frame_by ws model inputs clocks outputs ls) en el
-    ∙ frame_made g words model inputs clocks outputs found em (ap (words_at words) ei ∙ p.inputs) ec (ap (words_at words) eo ∙ p.outputs) (made words (latches_of g) (feeds_of g) p.held p.feeds ∙ ap (λ (ls : List AigLatch). latches_from ls (latches_of g) (feeds_of g)) es) in
-    record {
-      model_is_word = ap is_word em;
-      inputs_below = ap₂ (λ (ws : List (List ℕ)) (ns : List ℕ). all_below (length ws) ns) en ei ∙ p.inputs_below;
-      clocks_below = ap (all_below (length names)) ec;
-      outputs_below = ap₂ (λ (ws : List (List ℕ)) (ns : List ℕ). all_below (length ws) ns) en eo ∙ p.outputs_below;
-      latches_low = ap₂ (λ (ws : List (List ℕ)) (ls : List code.Latch). latches_below (length ws) ls) en el ∙ low (length words) p.held_below p.feeds_below;
-      controls = ap (no_nil_control names) el ∙ none names;
-      clocks_once = ap (λ (ns : List ℕ). distinct (words_at names ns)) ec;
-      frame = frame;
-      sources_once = frame_apart g (frame_by names model inputs clocks outputs latches) frame;
-    }
+    → ((ws : List (List ℕ)) → no_nil_control ws found ≡ true) → AreParts g names model inputs outputs latches
+parts_of g names a b o f model inputs outputs states found latches p em ei eo el es made low none = record {
+  model_is_word = ap is_word em;
+  inputs_below = ap (all_below (length names)) ei ∙ p.inputs_below;
+  outputs_below = ap (all_below (length names)) eo ∙ p.outputs_below;
+  latches_low = ap (latches_below (length names)) el ∙ low (length names) p.held_below p.feeds_below;
+  controls = ap (no_nil_control names) el ∙ none names;
+  frame = ap (frame_by names model inputs [] outputs) el
+      ∙ frame_made g names model inputs [] outputs found em (ap (words_at names) ei ∙ p.inputs) refl (ap (words_at names) eo ∙ p.outputs)
+      (made names (latches_of g) (feeds_of g) p.held p.feeds ∙ ap (λ (ls : List AigLatch). latches_from ls (latches_of g) (feeds_of g)) es);
+}
+
+-- the frame of names, a model's name, numbers and latches that equal such parts
+pub frame_is : (g : Aig) (names words : List (List ℕ)) (model inputs clocks outputs : List ℕ) (latches : List code.Latch) → AreParts g words model inputs outputs latches → names ≡ words → clocks ≡ []
+    → frame_by names model inputs clocks outputs latches ≡ frame_of g
+frame_is g names words model inputs clocks outputs latches p en ec = ap₂ (λ (ws : List (List ℕ)) (ns : List ℕ). frame_by ws model inputs ns outputs latches) en ec ∙ p.frame

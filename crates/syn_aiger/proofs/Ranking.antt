@@ -4,7 +4,7 @@ use Rattle.std.proofs.Common.{◌≡◌, ℕ, zero, suc, ◌^◌, ◌<◌, ◌&&
 use Rattle.std.proofs.lemmas.Bool.{and_parts, or_cases, or_parts, not-true, both_ways, cond-true, cond-false, cases_Bool}
 use Rattle.std.proofs.lemmas.Fmt.{decimal_injective}
 use Rattle.syn_netlist.specs.Lists.{Table}
-use Rattle.syn_netlist.specs.Marks.{has_number}
+use Rattle.syn_lists.specs.Numbers.{has_number}
 use Rattle.syn_netlist.specs.Faults.{EachReadsAnother}
 use Rattle.syn_netlist.proofs.CyclicSets.{In, to_in}
 use Rattle.syn_aiger_files.specs.declared.files.Aig.{Aig}

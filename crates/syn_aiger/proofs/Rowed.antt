@@ -12,7 +12,7 @@ use Rattle.syn_rows.specs.Values.{Fits, RowFits, given_by, lit_value}
 use Rattle.syn_rows.proofs.Ends.{ands_are_there}
 use Rattle.syn_hashed.specs.Compacting.{CanCompact, HasSources, IsThere}
 use Rattle.syn_hashed.proofs.Compacted.{has_valuation_is}
-use Rattle.syn_netlist.specs.Marks.{distinct_numbers, has_number}
+use Rattle.syn_lists.specs.Numbers.{distinct_numbers, has_number}
 use Rattle.syn_aiger_files.specs.declared.files.Aig.{Aig}
 use Rattle.syn_aiger_files.specs.declared.files.AigAnd.{AigAnd}
 use Rattle.syn_aiger_files.specs.Files.{variable_of}

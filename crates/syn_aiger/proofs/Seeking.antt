@@ -3,7 +3,7 @@ use Rattle.std.specs.List.{list_all}
 use Rattle.std.proofs.Common.{◌≡◌, ℕ, zero, suc, ◌+◌, ◌/◌, ◌%◌, ◌<◌, ◌⊎◌, not, nat_eq, true, false, List, [], ◌∷◌, ◌++◌, length, map, get_or, slice_index, slice_index_or, decimal, Option, Some, None, refl, sym, ap, ◌∙◌, inl, inr, arith, eq-eqb, eqb-true, length-append}
 use Rattle.std.proofs.lemmas.Bool.{and_from, and_parts, or_left, or_right, or_cases, both_ways, false_from_ne_true, not-true, not_from_false}
 use Rattle.std.proofs.lemmas.List.{get_or-map, get_or_append_left, length-map}
-use Rattle.syn_netlist.specs.Marks.{distinct_numbers, has_number}
+use Rattle.syn_lists.specs.Numbers.{distinct_numbers, has_number}
 use Rattle.syn_aiger_files.specs.declared.files.Aig.{Aig}
 use Rattle.syn_aiger_files.specs.Files.{variable_of}
 use Rattle.syn_aiger.specs.Keeping.{feed_next, named_next}

@@ -7,15 +7,15 @@ use Rattle.std.proofs.lemmas.List.Folds.{list_all-append}
 use Rattle.syn_netlist.specs.declared.Latch as code
 use Rattle.syn_netlist.specs.Kept.{latch_in}
 use Rattle.syn_netlist.specs.Lists.{Latch, latch_output, sources}
-use Rattle.syn_netlist.specs.Marks.{has_number}
+use Rattle.syn_lists.specs.Numbers.{has_number}
 use Rattle.syn_netlist.specs.declared.LatchKind.{LatchKind}
 use Rattle.syn_netlist.specs.Numbers.{all_below, kind_at, word_at, words_at}
 use Rattle.syn_netlist.specs.Words.{distinct, has_word}
 use Rattle.syn_netlist.proofs.Sets.{distinct_push, same_word}
 use Rattle.syn_rows.specs.declared.Lit.{Lit}
-use Rattle.syn_shapes.specs.GraphShape.{place}
-use Rattle.syn_shapes.specs.Graphs.{source_lit}
-use Rattle.syn_shapes.proofs.Spelled.{place_lt}
+use Rattle.syn_network.specs.GraphShape.{place}
+use Rattle.syn_network.specs.NamedGraphs.{source_lit}
+use Rattle.syn_network.proofs.Spelled.{place_lt}
 use Rattle.syn_aiger_files.specs.declared.files.Aig.{Aig}
 use Rattle.syn_aiger_files.specs.declared.files.AigLatch.{AigLatch}
 use Rattle.syn_aiger_files.specs.declared.files.Place.{Place}
@@ -172,7 +172,7 @@ module _ (g : Aig) where
   sources_stand : Stands (sources_of g)
   sources_stand = stand_literals (sources_of g) (ap (list_all (is_defined g)) source_literals_are ∙ source_defined (source_literals g) (λ v h. h))
 
-  outputs_literals : (symbols : List Symbol) (i : ℕ) (ls : List ℕ) (given : List Named) → map literal_of (outputs_named symbols i ls given) ≡ ls
+  pub outputs_literals : (symbols : List Symbol) (i : ℕ) (ls : List ℕ) (given : List Named) → map literal_of (outputs_named symbols i ls given) ≡ ls
   outputs_literals symbols i [] given = refl
   outputs_literals symbols i (l ∷ ls) given = ap (λ (rest : List ℕ). l ∷ rest) (outputs_literals symbols (suc i) ls _)
 

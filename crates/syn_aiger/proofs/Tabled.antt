@@ -8,14 +8,15 @@ use Rattle.std.proofs.lemmas.List.Sorted.{All-permutation, IsPermutation-sym}
 use Rattle.syn_netlist.specs.declared.tables.Table as code
 use Rattle.syn_netlist.specs.Faults.{first_undriven, inputs_of, IsChecked}
 use Rattle.syn_netlist.specs.Lists.{Table, output_of, sources}
-use Rattle.syn_netlist.specs.Marks.{has_number}
+use Rattle.syn_lists.specs.Numbers.{has_number}
 use Rattle.syn_netlist.specs.Numbers.{all_below, word_at, words_at}
 use Rattle.syn_netlist.specs.Order.{defined, reads_known}
 use Rattle.syn_netlist.specs.Tables.{table_in}
 use Rattle.syn_netlist.specs.Words.{distinct, has_word}
-use Rattle.syn_shapes.specs.GraphShape.{place}
-use Rattle.syn_shapes.specs.Spelling.{numbers_from, sign_of}
-use Rattle.syn_shapes.proofs.Spelled.{place_in_front, place_lt}
+use Rattle.syn_network.specs.GraphShape.{place}
+use Rattle.syn_network.specs.Spelling.{sign_of}
+use Rattle.syn_lists.specs.Numbers.{numbers_from}
+use Rattle.syn_network.proofs.Spelled.{place_in_front, place_lt}
 use Rattle.syn_aiger_files.specs.declared.files.Aig.{Aig}
 use Rattle.syn_aiger_files.specs.declared.files.AigAnd.{AigAnd}
 use Rattle.syn_aiger_files.specs.Files.{variable_of}

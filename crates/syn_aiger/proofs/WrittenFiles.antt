@@ -14,9 +14,9 @@ use Rattle.syn_netlist.specs.Lists.{Frame, Netlist, latch_output, observed, sour
 use Rattle.syn_netlist.specs.Numbers.{all_below, kind_at, word_at, words_at}
 use Rattle.syn_netlist.specs.Words.{is_word, without}
 use Rattle.syn_netlist.proofs.Places.{below_parts}
-use Rattle.syn_shapes.specs.GraphShape.{rows_of}
-use Rattle.syn_graph.specs.declared.Graph.{Graph}
-use Rattle.syn_graph.specs.Graphs.{network_of}
+use Rattle.syn_network.specs.GraphShape.{rows_of}
+use Rattle.syn_network.specs.declared.networks.Network.{Network}
+use Rattle.syn_network.specs.Written.{network_of}
 use Rattle.syn_aiger_files.specs.declared.files.Aig.{Aig}
 use Rattle.syn_aiger_files.specs.declared.files.AigAnd.{AigAnd}
 use Rattle.syn_aiger_files.specs.declared.files.AigLatch.{AigLatch}
@@ -27,8 +27,8 @@ use Rattle.syn_aiger_files.specs.Laws.{IsNormal}
 use Rattle.syn_aiger_files.specs.Literals.{literals_from}
 use Rattle.syn_aiger.specs.Laws.{written_names}
 use Rattle.syn_aiger.specs.WrittenLists.{HaveLiterals, latches_at, literal_at, typed_output}
-use Rattle.syn_aiger.specs.Writing.{IsWrittenAs, aig_of, ands_by, first_typed, free_signals, has_type, latches_by, literal_in, symbols_by, symbols_in}
-use Rattle.syn_aiger.proofs.Frames.{aig_of_keeps}
+use Rattle.syn_aiger.specs.Writing.{IsWrittenAs, aig_of, ands_by, first_typed, free_signals, has_type, latches_by, literal_in, symbols_by, symbols_in, without_types}
+use Rattle.syn_aiger.proofs.Frames.{aig_of_keeps, aig_of_leaves_types}
 use Rattle.syn_aiger.proofs.Normal.{aig_of_is_normal, length-sources}
 use Rattle.syn_aiger.proofs.WrittenLiterals.{feeds_have, outputs_have, read_latches, read_outputs, spells}
 
@@ -140,22 +140,22 @@ same_file v w i j l k o p a b s t ev ei el eo ea es =
     ∙ ap₂ (λ (x : List AigLatch) (y : List ℕ). made w j x y a s) el eo
     ∙ ap₂ (λ (x : List AigAnd) (y : List Symbol). made w j k p x y) ea es
 
-pub file_is : (g : Graph) (count free : ℕ) (literals : List ℕ) → count ≡ length (sources (frame_in g.frame)) → free + length g.frame.latches ≡ count → HaveLiterals (network_of g) g.frame.names (observed (frame_in g.frame)) literals
-    → made (count + length (ands_by (count + 1) (drop (count + 1) g.rows))) (literals_from 1 free) (latches_at literals (free + 1) g.frame.latches) (map (literal_at literals) g.frame.outputs) (ands_by (count + 1) (drop (count + 1) g.rows)) (symbols_in (frame_in g.frame))
+pub file_is : (g : Network) (count free : ℕ) (literals : List ℕ) → count ≡ length (sources (frame_in g.frame)) → free + length g.frame.latches ≡ count → HaveLiterals (network_of g) g.frame.names (observed (frame_in g.frame)) literals
+    → made (count + length (ands_by (count + 1) (drop (count + 1) g.body.rows))) (literals_from 1 free) (latches_at literals (free + 1) g.frame.latches) (map (literal_at literals) g.frame.outputs) (ands_by (count + 1) (drop (count + 1) g.body.rows)) (symbols_in (frame_in g.frame))
     ≡ aig_of (network_of g)
 file_is g count free literals is_count is_free have =
     let m : Netlist = network_of g in
     let f : Frame = frame_in g.frame in
     let names : List (List ℕ) = g.frame.names in
     let long : free ≡ length (free_signals f) = omega (arith, length-sources f, length-map g.frame.latches (latch_in names), is_count, is_free) in
-    let ands : ands_by (count + 1) (drop (count + 1) g.rows) ≡ ands_by (length (sources f) + 1) (drop (length (sources f) + 1) (rows_of m)) =
+    let ands : ands_by (count + 1) (drop (count + 1) g.body.rows) ≡ ands_by (length (sources f) + 1) (drop (length (sources f) + 1) (rows_of m)) =
     ap₂ (λ (k : ℕ) (rows : List Row). ands_by (k + 1) (drop (k + 1) rows)) is_count (sym (spells g).same_rows) in
     same_file
-    (count + length (ands_by (count + 1) (drop (count + 1) g.rows))) (length (sources f) + length (ands_by (length (sources f) + 1) (drop (length (sources f) + 1) (rows_of m))))
+    (count + length (ands_by (count + 1) (drop (count + 1) g.body.rows))) (length (sources f) + length (ands_by (length (sources f) + 1) (drop (length (sources f) + 1) (rows_of m))))
     (literals_from 1 free) (literals_from 1 (length (free_signals f)))
     (latches_at literals (free + 1) g.frame.latches) (latches_by m (length (free_signals f) + 1) f.latches)
     (map (literal_at literals) g.frame.outputs) (map (literal_in m) f.outputs)
-    (ands_by (count + 1) (drop (count + 1) g.rows)) (ands_by (length (sources f) + 1) (drop (length (sources f) + 1) (rows_of m)))
+    (ands_by (count + 1) (drop (count + 1) g.body.rows)) (ands_by (length (sources f) + 1) (drop (length (sources f) + 1) (rows_of m)))
     (symbols_in f) (symbols_in f)
     (ap₂ (λ (k : ℕ) (l : List AigAnd). k + length l) is_count ands)
     (ap (literals_from 1) long)
@@ -164,30 +164,33 @@ file_is g count free literals is_count is_free have =
     ands
     refl
 
-pub file_made : (g : Graph) (free : ℕ) (literals : List ℕ) (n : ℕ) (inputs : List ℕ) (latches : List AigLatch) (outputs : List ℕ) (ands : List AigAnd) (symbols : List Symbol) → free + length g.frame.latches ≡ g.source_count
+pub file_made : (g : Network) (free : ℕ) (literals : List ℕ) (n : ℕ) (inputs : List ℕ) (latches : List AigLatch) (outputs : List ℕ) (ands : List AigAnd) (symbols : List Symbol) → free + length g.frame.latches ≡ g.body.source_count
     → HaveLiterals (network_of g) g.frame.names (observed (frame_in g.frame)) literals → n ≡ length ands → inputs ≡ literals_from 1 free → latches ≡ latches_at literals (free + 1) g.frame.latches → outputs ≡ map (literal_at literals) g.frame.outputs
-    → ands ≡ ands_by (g.source_count + 1) (drop (g.source_count + 1) g.rows) → symbols ≡ symbols_in (frame_in g.frame)
-    → made (g.source_count + n) inputs latches outputs ands symbols ≡ aig_of (network_of g)
+    → ands ≡ ands_by (g.body.source_count + 1) (drop (g.body.source_count + 1) g.body.rows) → symbols ≡ symbols_in (frame_in g.frame)
+    → made (g.body.source_count + n) inputs latches outputs ands symbols ≡ aig_of (network_of g)
 file_made g free literals n inputs latches outputs ands symbols is_free have en ei el eo ea es =
-    let gates : List AigAnd = ands_by (g.source_count + 1) (drop (g.source_count + 1) g.rows) in
+    let gates : List AigAnd = ands_by (g.body.source_count + 1) (drop (g.body.source_count + 1) g.body.rows) in
     same_file
-    (g.source_count + n) (g.source_count + length gates)
+    (g.body.source_count + n) (g.body.source_count + length gates)
     inputs (literals_from 1 free)
     latches (latches_at literals (free + 1) g.frame.latches)
     outputs (map (literal_at literals) g.frame.outputs)
     ands gates
     symbols (symbols_in (frame_in g.frame))
-    (ap (λ (k : ℕ). g.source_count + k) (en ∙ ap (λ (l : List AigAnd). length l) ea)) ei el eo ea es
-    ∙ file_is g g.source_count free literals g.source_count_is is_free have
+    (ap (λ (k : ℕ). g.body.source_count + k) (en ∙ ap (λ (l : List AigAnd). length l) ea)) ei el eo ea es
+    ∙ file_is g g.body.source_count free literals g.named.sources_are is_free have
 
 -- the laws of writing, of a graph
 
-pub graph_is_normal : (g : Graph) → length g.rows ≤ 2 ^ 28 → length g.frame.outputs < 2 ^ 28 → list_all is_word (written_names (frame_in g.frame)) ≡ true → IsNormal (aig_of (network_of g))
+pub graph_is_normal : (g : Network) → length g.body.rows ≤ 2 ^ 28 → length g.frame.outputs < 2 ^ 28 → list_all is_word (written_names (frame_in g.frame)) ≡ true → IsNormal (aig_of (network_of g))
 graph_is_normal g rows outputs words =
     aig_of_is_normal (network_of g) (spells g).ordered (spells g).shape
     (subst (λ (k : List Row). length k ≤ 2 ^ 28) (sym (spells g).same_rows) rows)
     (subst (λ (k : ℕ). k < 2 ^ 28) (sym (length-map g.frame.outputs (word_at g.frame.names))) outputs)
     words
 
-pub graph_is_kept : (g : Graph) → first_typed (frame_in g.frame) ≡ None → list_all is_word (written_names (frame_in g.frame)) ≡ true → IsWrittenAs (network_of g) (aig_of (network_of g))
+pub graph_leaves_types : (g : Network) → list_all is_word (written_names (frame_in g.frame)) ≡ true → IsWrittenAs (without_types (network_of g)) (aig_of (network_of g))
+graph_leaves_types g words = aig_of_leaves_types (network_of g) (spells g).ordered (spells g).shape words
+
+pub graph_is_kept : (g : Network) → first_typed (frame_in g.frame) ≡ None → list_all is_word (written_names (frame_in g.frame)) ≡ true → IsWrittenAs (network_of g) (aig_of (network_of g))
 graph_is_kept g untyped words = aig_of_keeps (network_of g) (spells g).ordered (spells g).shape untyped words

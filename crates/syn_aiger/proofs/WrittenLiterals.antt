@@ -8,24 +8,24 @@ use Rattle.syn_netlist.specs.declared.Latch.{Latch}
 use Rattle.syn_netlist.specs.Frames.{frame_in}
 use Rattle.syn_netlist.specs.Kept.{control_number, latch_in, latch_numbers, latches_below}
 use Rattle.syn_netlist.specs.Lists.{Netlist, latch_reads, observed}
-use Rattle.syn_netlist.specs.Marks.{has_number}
+use Rattle.syn_lists.specs.Numbers.{has_number}
 use Rattle.syn_netlist.specs.Numbers.{all_below, word_at, words_at}
 use Rattle.syn_netlist.specs.Words.{distinct, has_word}
 use Rattle.syn_netlist.proofs.Places.{below_parts, has_words}
 use Rattle.syn_netlist.proofs.Sets.{has_head, has_left, has_right, has_tail}
-use Rattle.syn_shapes.specs.GraphShape.{lit_of}
-use Rattle.syn_shapes.specs.Spelling.{NetworkSpells}
-use Rattle.syn_shapes.proofs.Networks.{network_spells}
-use Rattle.syn_graph.specs.declared.Graph.{Graph}
-use Rattle.syn_graph.specs.Graphs.{network_of}
+use Rattle.syn_network.specs.GraphShape.{lit_of}
+use Rattle.syn_network.specs.Spelling.{NetworkSpells}
+use Rattle.syn_network.proofs.SpelledNetworks.{network_spells}
+use Rattle.syn_network.specs.declared.networks.Network.{Network}
+use Rattle.syn_network.specs.Written.{network_of}
 use Rattle.syn_aiger_files.specs.declared.files.AigLatch.{AigLatch}
 use Rattle.syn_aiger.specs.WrittenLists.{ArePlaced, HaveLiterals, latches_at, lit_number, literal_at}
 use Rattle.syn_aiger.specs.Writing.{feed_of, latches_by, literal_in, reset_by}
 use Rattle.syn_aiger.proofs.Kept.{among_firsts, feeds_read}
 
 -- what the netlist of a graph spells
-pub spells : (g : Graph) → NetworkSpells (frame_in g.frame) g.rows g.observed
-spells g = network_spells (frame_in g.frame) g.rows g.observed g.frame.clocks_once g.frame.sources_once g.graph
+pub spells : (g : Network) → NetworkSpells (frame_in g.frame) g.body.rows g.body.observed
+spells g = network_spells (frame_in g.frame) g.body.rows g.body.observed g.frame.clocks_once g.frame.sources_once g.graph
 
 -- placing
 
@@ -50,13 +50,13 @@ lits_of_words : (m : Netlist) (names : List (List ℕ)) (ns : List ℕ) → map 
 lits_of_words m names [] = refl
 lits_of_words m names (n ∷ ns) = ap (λ (ls : List ℕ). literal_in m (word_at names n) ∷ ls) (lits_of_words m names ns)
 
-pub placed_are : (g : Graph) (signals literals : List ℕ) → distinct g.frame.names ≡ true → words_at g.frame.names signals ≡ observed (frame_in g.frame) → all_below (length g.frame.names) signals ≡ true
-    → ArePlaced signals g.observed [] literals → HaveLiterals (network_of g) g.frame.names (observed (frame_in g.frame)) literals
+pub placed_are : (g : Network) (signals literals : List ℕ) → distinct g.frame.names ≡ true → words_at g.frame.names signals ≡ observed (frame_in g.frame) → all_below (length g.frame.names) signals ≡ true
+    → ArePlaced signals g.body.observed [] literals → HaveLiterals (network_of g) g.frame.names (observed (frame_in g.frame)) literals
 placed_are g signals literals once words below placed n lt has =
     let m : Netlist = network_of g in
     let names : List (List ℕ) = g.frame.names in
     let seen : has_number signals n ≡ true = sym (has_words names signals n once below lt) ∙ ap (λ (ws : List (List ℕ)). has_word ws (word_at names n)) words ∙ has in
-    let beside : map (λ k. literal_in m (word_at names k)) signals ≡ map lit_number g.observed =
+    let beside : map (λ k. literal_in m (word_at names k)) signals ≡ map lit_number g.body.observed =
     lits_of_words m names signals ∙ ap (λ (ws : List (List ℕ)). map lit_number (map (lit_of m) ws)) words ∙ ap (map lit_number) (spells g).same_lits in
     placed (λ k. literal_in m (word_at names k)) beside n seen refl
 

@@ -2,18 +2,20 @@
 use Rattle.std.specs.Prelude.{ℕ, ◌≡◌, ◌⊎◌, ◌^◌, ◌<◌, ◌≤◌, Bool, true, List, ◌∷◌, ◌++◌, length, map, None, Ok}
 use Rattle.std.specs.List.{list_all}
 use Rattle.syn_netlist.specs.Lists.{Frame, Netlist, latch_output}
-use Rattle.syn_netlist.specs.Marks.{distinct_numbers}
+use Rattle.syn_lists.specs.Numbers.{distinct_numbers}
 use Rattle.syn_netlist.specs.Order.{Ordered}
 use Rattle.syn_netlist.specs.Words.{is_word}
-use Rattle.syn_shapes.specs.GraphShape.{GraphShape, rows_of}
+use Rattle.syn_network.specs.GraphShape.{GraphShape, rows_of}
 use Rattle.syn_aiger_files.specs.declared.fault.AigFault.{AigFault}
+use Rattle.syn_aiger.specs.Again.{HasListsOf, IsReadBack}
 use Rattle.syn_aiger.specs.Faults.{IsFirstFault, Spells, Within}
+use Rattle.syn_aiger.specs.Networks.{IsGraphOfAig}
 use Rattle.syn_aiger_files.specs.declared.files.Aig.{Aig}
 use Rattle.syn_aiger_files.specs.Laws.{IsNormal}
 use Rattle.syn_aiger_files.specs.Printed.{printed}
 use Rattle.syn_aiger_files.specs.Spelling.{spelled}
 use Rattle.syn_aiger.specs.Values.{NoCircle, defined_variables, reads_above, source_variables}
-use Rattle.syn_aiger.specs.Writing.{IsWrittenAs, aig_of, first_typed, free_signals}
+use Rattle.syn_aiger.specs.Writing.{IsWrittenAs, aig_of, first_typed, free_signals, without_types}
 
 -- The bytes spell one file at most.
 abbrev pub OneAig : Type 0
@@ -59,3 +61,15 @@ abbrev pub AigOfKeeps : Type 0
 AigOfKeeps =
     (m : Netlist) → Ordered m → GraphShape m → first_typed m.frame ≡ None
     → list_all is_word (written_names m.frame) ≡ true → IsWrittenAs m (aig_of m)
+
+-- The file of a network whose written names are words keeps what the network means without the types of its latches.
+abbrev pub AigOfLeavesTypes : Type 0
+AigOfLeavesTypes = (m : Netlist) → Ordered m → GraphShape m → list_all is_word (written_names m.frame) ≡ true → IsWrittenAs (without_types m) (aig_of m)
+
+-- A graph of a file has the file's lists by place.
+abbrev pub GraphHasLists : Type 0
+GraphHasLists = (g : Aig) (n : Netlist) → IsGraphOfAig g n → HasListsOf g n
+
+-- A graph of what is written is the network read again.
+abbrev pub WrittenReadsBack : Type 0
+WrittenReadsBack = (bytes : List ℕ) (m n : Netlist) (g : Aig) → Spells bytes g → IsWrittenAs m g → IsGraphOfAig g n → IsReadBack m n

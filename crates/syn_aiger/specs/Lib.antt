@@ -7,5 +7,6 @@ pub mod Placing
 pub mod Keeping
 pub mod Framing
 pub mod Writing
+pub mod Again
 pub mod Laws
 pub mod WrittenLists

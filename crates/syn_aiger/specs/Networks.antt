@@ -3,7 +3,7 @@ use Rattle.std.specs.Prelude.{◌≡◌, ℕ, ◌==◌, ◌≤◌, if◌then◌e
 use Rattle.syn_netlist.specs.Lists.{Frame, Latch, Netlist, observed, sources}
 use Rattle.syn_netlist.specs.Order.{Ordered}
 use Rattle.syn_netlist.specs.Values.{Consistent}
-use Rattle.syn_shapes.specs.GraphShape.{GraphShape, and_tables}
+use Rattle.syn_network.specs.GraphShape.{GraphShape, and_tables}
 use Rattle.syn_aiger_files.specs.declared.files.Aig.{Aig}
 use Rattle.syn_aiger_files.specs.declared.files.AigLatch.{AigLatch}
 use Rattle.syn_aiger.specs.Naming.{Named, feeds_of, inputs_of, latches_of, literal_named, name_of, outputs_of}

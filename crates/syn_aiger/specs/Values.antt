@@ -3,9 +3,9 @@ use Rattle.std.specs.Prelude.{◌≡◌, ℕ, ◌&&◌, not, All, Bool, true, fa
 use Rattle.syn_rows.specs.declared.Lit.{Lit}
 use Rattle.syn_rows.specs.Values.{lit_value}
 use Rattle.syn_netlist.specs.Lists.{Table}
-use Rattle.syn_netlist.specs.Marks.{has_number}
+use Rattle.syn_lists.specs.Numbers.{has_number}
 use Rattle.syn_netlist.specs.Faults.{ReachesCircle}
-use Rattle.syn_shapes.specs.Spelling.{sign_of}
+use Rattle.syn_network.specs.Spelling.{sign_of}
 use Rattle.syn_aiger_files.specs.declared.files.Aig.{Aig}
 use Rattle.syn_aiger_files.specs.declared.files.AigAnd.{AigAnd}
 use Rattle.syn_aiger_files.specs.Files.{latch_literal, next_of, variable_of}

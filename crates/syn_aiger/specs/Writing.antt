@@ -1,12 +1,12 @@
 -- The file that a network is written as, and what the two have in common.
-use Rattle.std.specs.Prelude.{◌≡◌, ℕ, suc, ◌+◌, ◌*◌, ◌==◌, min, max, if◌then◌else◌, Bool, List, [], ◌∷◌, ◌++◌, length, map, find, is_some, option_map, Option, Some, ⊤}
+use Rattle.std.specs.Prelude.{◌≡◌, ℕ, suc, ◌+◌, ◌*◌, ◌==◌, min, max, if◌then◌else◌, Bool, List, [], ◌∷◌, ◌++◌, length, map, find, is_some, option_map, Option, Some, None, ⊤}
 use Rattle.syn_rows.specs.declared.Row.{Row}
 use Rattle.syn_rows.specs.declared.Row.TheVariants.{Free, Source, And, Alias}
 use Rattle.syn_netlist.specs.Lists.{Frame, Latch, Netlist, latch_output, sources}
 use Rattle.syn_netlist.specs.Values.{Consistent}
 use Rattle.syn_netlist.specs.Words.{without}
-use Rattle.syn_shapes.specs.GraphShape.{lit_of, rows_of}
-use Rattle.syn_shapes.specs.Spelling.{gates_of}
+use Rattle.syn_network.specs.GraphShape.{lit_of, rows_of}
+use Rattle.syn_network.specs.Spelling.{gates_of}
 use Rattle.syn_aiger_files.specs.declared.files.Aig.{Aig}
 use Rattle.syn_aiger_files.specs.declared.files.AigAnd.{AigAnd}
 use Rattle.syn_aiger_files.specs.declared.files.AigLatch.{AigLatch}
@@ -91,14 +91,28 @@ feed_of latch = latch.feed
 abbrev pub init_in : Latch → ℕ
 init_in latch = latch.init
 
--- What a written file keeps of a network: its network is called `top`, has clocks behind inputs, the same outputs, latches of the same names with the same initial values, 3 for 2, and names of its own for what they load; where the sources agree, the outputs and what the latches load have the values that each fitting valuation gives.
+-- What a written file keeps of a network: no latch of the network has a type; the file's network is called `top`, has clocks behind inputs, the same outputs, latches of the same names with the same initial values, 3 for 2, and names of its own for what they load; where the sources agree, the outputs and what the latches load have the values that each fitting valuation gives.
 pub record IsWrittenAs (m : Netlist) (g : Aig) : Type 0 where
+  pub untyped : first_typed m.frame ≡ None
   pub inputs : (frame_of g).inputs ≡ free_signals m.frame
   pub outputs : (frame_of g).outputs ≡ m.frame.outputs
   pub latches : map latch_output (frame_of g).latches ≡ map latch_output m.frame.latches
   pub inits : map init_in (frame_of g).latches ≡ map init_again m.frame.latches
   pub values : (v : ℕ → Bool) (w : List ℕ → Bool) → FitsAig g v → Consistent m w → map w (sources m.frame) ≡ map v (source_variables g) → map w m.frame.outputs ≡ map (value_of v) g.outputs
   pub next : (v : ℕ → Bool) (w : List ℕ → Bool) → FitsAig g v → Consistent m w → map w (sources m.frame) ≡ map v (source_variables g) → map w (map feed_of m.frame.latches) ≡ map (value_of v) (map next_of g.latches)
+
+-- a latch without its type
+abbrev pub untyped_latch : Latch → Latch
+untyped_latch latch = record { feed = latch.feed; output = latch.output; kind = None; init = latch.init }
+
+-- a network whose latches' types are left out, and all else stays
+abbrev pub without_types : Netlist → Netlist
+without_types m =
+    let f : Frame = m.frame in
+    record {
+      frame = record { model = f.model; inputs = f.inputs; clocks = f.clocks; outputs = f.outputs; latches = map untyped_latch f.latches };
+      tables = m.tables;
+    }
 
 -- An answer names the first latch with a type, or it is want of memory.
 abbrev pub NamesTyped : Frame → AigWriteFault → Type 0

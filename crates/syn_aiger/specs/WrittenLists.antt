@@ -3,7 +3,7 @@ use Rattle.std.specs.Prelude.{◌≡◌, ℕ, ◌+◌, ◌*◌, ◌<◌, if◌th
 use Rattle.syn_rows.specs.declared.Lit.{Lit}
 use Rattle.syn_netlist.specs.declared.Latch.{Latch}
 use Rattle.syn_netlist.specs.Lists.{Netlist}
-use Rattle.syn_netlist.specs.Marks.{has_number}
+use Rattle.syn_lists.specs.Numbers.{has_number}
 use Rattle.syn_netlist.specs.Numbers.{word_at}
 use Rattle.syn_netlist.specs.Words.{has_word}
 use Rattle.syn_aiger_files.specs.declared.files.AigLatch.{AigLatch}

@@ -6,7 +6,7 @@ ghost use Rattle.std.specs.Prelude.{◌≡◌, ◌+◌, ◌<◌, ◌≤◌, ◌^
 ghost use Rattle.std.specs.List.{list_all};
 ghost use Rattle.syn_netlist.specs.Faults.{AnswersCircle};
 ghost use Rattle.syn_netlist.specs.Lists.{output_of};
-ghost use Rattle.syn_netlist.specs.Marks.{has_number};
+ghost use Rattle.syn_lists.specs.Numbers.{has_number};
 ghost use Rattle.syn_netlist.specs.Tables.{table_in, tables_below};
 ghost use Rattle.syn_netlist.specs.Views.{netlist_in};
 ghost use Rattle.syn_netlist.specs.Words.{has_word};
@@ -16,14 +16,16 @@ ghost use Rattle.syn_aiger.specs.Faults.{IsAigFault};
 ghost use Rattle.syn_aiger.specs.Placing.{ReadsDefined, has_sides, node_in};
 ghost use Rattle.syn_aiger.specs.Ranks.{HasRank, table_netlist};
 ghost use Rattle.syn_aiger.specs.Values.{and_table, and_tables, and_variable, defined_variables, reads_above, source_variables, variable_word};
-ghost use Rattle.syn_shapes.specs.Spelling.{numbers_from, sign_of};
+ghost use Rattle.syn_network.specs.Spelling.{sign_of};
+ghost use Rattle.syn_lists.specs.Numbers.{numbers_from};
 
 use crate::file_numbers::Numbered;
 use crate::names::input_literals;
 use itoa::Buffer;
 use std::alloc::{AllocError, Global};
 use syn_aiger_files::{AigAnd, AigLatch, number_of};
-use syn_netlist::{CheckedNetlist, Frame, Items, Latch, Names, NetFault, Netlist, Table, Word};
+use syn_lists::Items;
+use syn_netlist::{CheckedNetlist, Frame, Latch, Names, NetFault, Netlist, Table, Word};
 
 // Whether the literal's variable is one of the first so many that are defined.
 fn is_below(file: &Numbered, l: u32, bound: usize) -> bool

@@ -1,7 +1,7 @@
 //! A file with the places of its variables.
 
 ghost use Rattle.std.specs.Prelude.{◌≡◌, ◌+◌, ◌<◌, ◌≤◌, ◌^◌, ◌++◌, ℕ, List, [], ◌∷◌, true, length, map, IfOk, OnOk};
-ghost use Rattle.syn_netlist.specs.Marks.{distinct_numbers};
+ghost use Rattle.syn_lists.specs.Numbers.{distinct_numbers};
 ghost use Rattle.syn_aiger_files.specs.Files.{latch_literal, variable_of};
 ghost use Rattle.syn_aiger.specs.Placing.{HasPlaces, IsSound, is_defined, lit_in, place_in};
 ghost use Rattle.syn_aiger.specs.Values.{and_variable, defined_variables, source_literals};

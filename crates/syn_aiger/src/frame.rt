@@ -5,6 +5,7 @@ ghost use Rattle.std.specs.List.{list_all};
 ghost use Rattle.syn_netlist.specs.Frames.{frame_in};
 ghost use Rattle.syn_netlist.specs.Kept.{latch_in, latches_below, no_nil_control};
 ghost use Rattle.syn_netlist.specs.Numbers.{all_below, words_at};
+ghost use Rattle.syn_aiger.specs.Framing.{AreParts};
 ghost use Rattle.syn_aiger.specs.Keeping.{Keeps};
 ghost use Rattle.syn_aiger.specs.Naming.{Named, name_of, named_of};
 ghost use Rattle.syn_aiger.specs.Networks.{frame_of, init_of, latches_from};
@@ -14,7 +15,8 @@ use crate::file_numbers::Numbered;
 use crate::given::Given;
 use std::alloc::{AllocError, Global};
 use syn_aiger_files::AigLatch;
-use syn_netlist::{Frame, Items, Latch, Word};
+use syn_lists::Items;
+use syn_netlist::{Frame, Latch, Word};
 
 /// The frame of a file, and the literals of its names by their numbers.
 #[derive(Drop)]
@@ -61,6 +63,64 @@ fn latches(
     Ok(found)
 }
 
+// The model's name, the numbers of names and the latches of a frame.
+#[derive(Drop)]
+pub struct FrameParts {
+    pub model: Word,
+    pub inputs: Items<u32>,
+    pub outputs: Items<u32>,
+    pub latches: Items<Latch>,
+}
+
+// The parts of a file's frame over the names that are given.
+fn frame_parts(alloc: Global, file: &Numbered, given: &Given) -> Result<FrameParts, AllocError>
+    requires { Keeps given.now (named_of file.now.aig) }
+    ensures { IfOk result (λ p. AreParts file.now.aig given.now.names p.model p.inputs p.outputs p.latches) }
+{
+    let states = file.aig.latches.as_slice();
+    let (inputs, rest) = given.numbers.as_slice().split_at(file.aig.inputs.len());
+    let (held, rest) = rest.split_at(states.len());
+    let (outputs, feeds) = rest.split_at(file.aig.outputs.as_slice().len());
+    let latches = latches(alloc, states, held, feeds)?;
+    Ok(FrameParts {
+        model: Word::of(b"top".to_vec(alloc)?),
+        inputs: Items::of(inputs.to_vec(alloc)?),
+        outputs: Items::of(outputs.to_vec(alloc)?),
+        latches: Items::of(latches),
+    })
+}
+
+// The frame of its parts and of the names that are given.
+fn frame_of_parts(alloc: Global, file: &Numbered, given: Given, parts: FrameParts) -> Framed
+    requires { AreParts file.now.aig given.names parts.model parts.inputs parts.outputs parts.latches }
+    ensures frame { frame_in result.frame ≡ frame_of file.now.aig }
+    ensures names { result.frame.names ≡ given.names }
+    ensures literals { result.literals ≡ given.literals }
+{
+    let _ = file;
+    let Given {
+        names,
+        literals,
+        numbers: _,
+    } = given;
+    let FrameParts {
+        model,
+        inputs,
+        outputs,
+        latches,
+    } = parts;
+    let clocks: Vec<u32> = Vec::new(alloc);
+    let frame = Frame {
+        names,
+        model,
+        inputs,
+        clocks: Items::of(clocks),
+        outputs,
+        latches,
+    };
+    Framed { frame, literals }
+}
+
 /// The frame of a file with the names that are given. The only error is want of memory.
 pub fn frame_file(alloc: Global, file: &Numbered, given: Given) -> Result<Framed, AllocError>
     requires { Keeps given (named_of file.now.aig) }
@@ -68,24 +128,11 @@ pub fn frame_file(alloc: Global, file: &Numbered, given: Given) -> Result<Framed
     ensures names { IfOk result (λ f. f.frame.names ≡ given.names) }
     ensures literals { IfOk result (λ f. f.literals ≡ given.literals) }
 {
-    let Given {
-        names,
-        literals,
-        numbers,
-    } = given;
-    let states = file.aig.latches.as_slice();
-    let (inputs, rest) = numbers.as_slice().split_at(file.aig.inputs.len());
-    let (held, rest) = rest.split_at(states.len());
-    let (outputs, feeds) = rest.split_at(file.aig.outputs.as_slice().len());
-    let latches = latches(alloc, states, held, feeds)?;
-    let clocks: Vec<u32> = Vec::new(alloc);
-    let frame = Frame {
-        names,
-        model: Word::of(b"top".to_vec(alloc)?),
-        inputs: Items::of(inputs.to_vec(alloc)?),
-        clocks: Items::of(clocks),
-        outputs: Items::of(outputs.to_vec(alloc)?),
-        latches: Items::of(latches),
-    };
-    Ok(Framed { frame, literals })
+    match frame_parts(alloc, file, &given) {
+        Ok(parts) => Ok(frame_of_parts(alloc, file, given, parts)),
+        Err(error) => {
+            drop(given);
+            Err(error)
+        }
+    }
 }

@@ -1,6 +1,6 @@
 //! Laws of files and of the networks that they spell.
 
-ghost use Rattle.syn_aiger.specs.Laws.{AigOfIsNormal, AigOfKeeps, EitherOr, NotBoth, OneAig, OneFault, OrderHasNoCircle, PrintedSpells, SpelledDefinesOnce};
+ghost use Rattle.syn_aiger.specs.Laws.{AigOfIsNormal, AigOfKeeps, AigOfLeavesTypes, EitherOr, GraphHasLists, NotBoth, OneAig, OneFault, OrderHasNoCircle, PrintedSpells, SpelledDefinesOnce, WrittenReadsBack};
 
 /// Bytes spell one file at most.
 pub fn one_aig()
@@ -45,4 +45,19 @@ pub fn aig_of_is_normal()
 /// The file of a network without types of latches, whose written names are words, keeps what the network means.
 pub fn aig_of_keeps()
     ensures { AigOfKeeps }
+{}
+
+/// The file of a network whose written names are words keeps what the network means without the types of its latches.
+pub fn aig_of_leaves_types()
+    ensures { AigOfLeavesTypes }
+{}
+
+/// A graph of a file has the file's lists by place.
+pub fn graph_has_lists()
+    ensures { GraphHasLists }
+{}
+
+/// A graph of what is written is the network read again: clocks behind inputs, 3 for 2.
+pub fn written_reads_back()
+    ensures { WrittenReadsBack }
 {}

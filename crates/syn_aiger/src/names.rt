@@ -1,7 +1,7 @@
 //! The names of sources, outputs and of what latches load.
 
 ghost use Rattle.std.specs.Prelude.{◌≡◌, ◌+◌, ◌<◌, ◌≤◌, ◌^◌, ◌++◌, List, [], ◌∷◌, false, length, map, slice_index, IfNone, IfOk, IfSome, OnOk};
-ghost use Rattle.syn_netlist.specs.Marks.{has_number};
+ghost use Rattle.syn_lists.specs.Numbers.{has_number};
 ghost use Rattle.syn_aiger_files.specs.Files.{latch_literal};
 ghost use Rattle.syn_aiger_files.specs.Literals.{literals_from};
 ghost use Rattle.syn_aiger.specs.Keeping.{Keeps, feed_next, places_named};

@@ -20,7 +20,7 @@ pub struct Places {
 
 impl Places {
     ghost use Rattle.std.specs.Prelude.{◌≡◌, ◌+◌, ◌<◌, ◌^◌, ◌++◌, ℕ, List, [], ◌∷◌, false, map, OnOk};
-    ghost use Rattle.syn_netlist.specs.Marks.{has_number};
+    ghost use Rattle.syn_lists.specs.Numbers.{has_number};
     ghost use Rattle.syn_aiger_files.specs.Files.{variable_of};
     ghost use Rattle.syn_aiger_files.specs.Literals.{literals_from};
     ghost use Rattle.syn_aiger.specs.Placing.{HasPlaces, found};

@@ -5,7 +5,7 @@
 
 ghost use Rattle.std.specs.Prelude.{◌≡◌, ◌+◌, ◌<◌, ◌≤◌, ◌^◌, ◌++◌, [], length, map, true, IfErr, IfOk, OnOk, None};
 ghost use Rattle.std.specs.List.{list_all};
-ghost use Rattle.syn_graph.specs.Graphs.{network_of};
+ghost use Rattle.syn_network.specs.Written.{network_of};
 ghost use Rattle.syn_netlist.specs.Frames.{frame_in};
 ghost use Rattle.syn_netlist.specs.Kept.{latches_below};
 ghost use Rattle.syn_netlist.specs.Lists.{observed, sources};
@@ -15,12 +15,13 @@ ghost use Rattle.syn_aiger.specs.Faults.{Spells};
 ghost use Rattle.syn_aiger.specs.Laws.{written_names};
 ghost use Rattle.syn_aiger.specs.WrittenLists.{ArePlaced, HaveLiterals, latch_at, latches_at, literal_at, typed_output};
 ghost use Rattle.syn_aiger_files.specs.Printed.{printed};
-ghost use Rattle.syn_aiger.specs.Writing.{aig_of, and_by, ands_by, first_typed, IsWrittenAs, NamesTyped, reset_by, symbols_by, symbols_in};
+ghost use Rattle.syn_aiger.specs.Writing.{aig_of, and_by, ands_by, first_typed, IsWrittenAs, NamesTyped, reset_by, symbols_by, symbols_in, without_types};
 
 use std::alloc::{AllocError, Global};
 use syn_aiger_files::{Aig, AigAnd, AigLatch, Inputs, Place, Symbol, print};
-use syn_graph::Graph;
-use syn_netlist::{Frame, Items, Latch, Names, Word};
+use syn_lists::Items;
+use syn_netlist::{Frame, Latch, Names, Word};
+use syn_network::Network;
 use syn_rows::{Lit, Row};
 
 /// Why a graph is written as no AIGER file.
@@ -44,8 +45,8 @@ impl From<AllocError> for AigWriteFault {
 }
 
 /// The bytes of the AIGER file of a graph, in the ASCII or in the binary format; or its first latch with a type.
-pub fn write_aig(alloc: Global, graph: &Graph, ascii: bool) -> Result<Vec<u8>, AigWriteFault>
-    requires rows { length graph.now.rows ≤ 2 ^ 28 }
+pub fn write_aig(alloc: Global, graph: &Network, ascii: bool) -> Result<Vec<u8>, AigWriteFault>
+    requires rows { length graph.now.body.rows ≤ 2 ^ 28 }
     requires outputs { length graph.now.frame.outputs < 2 ^ 28 }
     ensures bytes { IfOk result (λ bytes. bytes.items ≡ printed ascii (aig_of (network_of graph.now))) }
     ensures spells { IfOk result (λ bytes. Spells bytes.items (aig_of (network_of graph.now))) }
@@ -55,8 +56,21 @@ pub fn write_aig(alloc: Global, graph: &Graph, ascii: bool) -> Result<Vec<u8>, A
 {
     refuse_types(alloc, &graph.frame)?;
     are_words(&graph.frame);
+    Ok(write_untyped_aig(alloc, graph, ascii)?)
+}
+
+/// The bytes of the AIGER file of a graph, in the ASCII or in the binary format, with the types of latches left out. The only error is want of memory.
+pub fn write_untyped_aig(alloc: Global, graph: &Network, ascii: bool) -> Result<Vec<u8>, AllocError>
+    requires rows { length graph.now.body.rows ≤ 2 ^ 28 }
+    requires outputs { length graph.now.frame.outputs < 2 ^ 28 }
+    ensures bytes { IfOk result (λ bytes. bytes.items ≡ printed ascii (aig_of (network_of graph.now))) }
+    ensures spells { IfOk result (λ bytes. Spells bytes.items (aig_of (network_of graph.now))) }
+    ensures written { IfOk result (λ bytes. IsWrittenAs (without_types (network_of graph.now)) (aig_of (network_of graph.now))) }
+{
+    are_words(&graph.frame);
     let file = file_of(alloc, graph)?;
-    Ok(print(alloc, &file, ascii)?)
+    let bytes = print(alloc, &file, ascii)?;
+    Ok(bytes)
 }
 
 // The written names are words.
@@ -93,16 +107,16 @@ fn typed_output(latches: &[Latch]) -> Option<u32>
 }
 
 // The file of a graph.
-fn file_of(alloc: Global, graph: &Graph) -> Result<Aig, AllocError>
+fn file_of(alloc: Global, graph: &Network) -> Result<Aig, AllocError>
     requires { length graph.now.frame.outputs < 2 ^ 32 }
     ensures { IfOk result (λ g. g ≡ aig_of (network_of graph.now)) }
 {
     let frame = &graph.frame;
-    let count = graph.source_count;
+    let count = graph.body.source_count;
     let latches = frame.latches.as_slice();
     let free = free_count(frame, count);
     let literals = literals_of(alloc, graph)?;
-    let (_, gates) = graph.rows.as_slice().split_at(count as usize + 1);
+    let (_, gates) = graph.body.rows.as_slice().split_at(count as usize + 1);
     let ands = ands_from(alloc, count + 1, gates)?;
     let symbols = symbols_of(alloc, frame, free)?;
     let outputs = literals_at(alloc, &literals, frame.outputs.as_slice())?;
@@ -126,14 +140,18 @@ fn free_count(frame: &Frame, count: u32) -> u32
 }
 
 // The literal of each observed name, by its number; other names have any.
-fn literals_of(alloc: Global, graph: &Graph) -> Result<Vec<u32>, AllocError>
+fn literals_of(alloc: Global, graph: &Network) -> Result<Vec<u32>, AllocError>
     ensures count { IfOk result (λ v. length v.items ≡ length graph.now.frame.names) }
     ensures literals { IfOk result (λ v. HaveLiterals (network_of graph.now) graph.now.frame.names (observed (frame_in graph.now.frame)) v.items) }
 {
     let signals = graph.frame.observed(alloc)?;
     let count = graph.frame.names.len();
     let mut literals = vec![in alloc; 0; count as usize]?;
-    place_literals(literals.as_mut_slice(), &signals, graph.observed.as_slice());
+    place_literals(
+        literals.as_mut_slice(),
+        &signals,
+        graph.body.observed.as_slice(),
+    );
     Ok(literals)
 }
 

@@ -1,13 +1,13 @@
 -- Numbers of a file: what is written is read again, in groups of seven bits and as words of a line.
 use Rattle.std.specs.Prelude.{⊤}
 use Rattle.std.specs.List.{list_all, onto_first}
-use Rattle.std.proofs.Common.{◌≡◌, ℕ, zero, suc, ◌+◌, ◌-◌, ◌*◌, ◌/◌, ◌%◌, ◌^◌, ◌<◌, ◌≤◌, ◌==◌, ◌&&◌, ◌||◌, nat_le, true, cond, ltb, List, [], ◌∷◌, ◌++◌, length, get_or, decimal, option_map, Some, None, refl, sym, ap, ap₂, ◌∙◌, inl, inr, append_assoc, append-nil, arith, lt-ltb, le-ltb, le-leb, eq-eqb, ne_eqb}
+use Rattle.std.proofs.Common.{◌≡◌, ℕ, zero, suc, ◌+◌, ◌-◌, ◌*◌, ◌/◌, ◌%◌, ◌^◌, ◌<◌, ◌≤◌, ◌==◌, ◌&&◌, ◌||◌, nat_le, true, cond, ltb, List, [], ◌∷◌, ◌++◌, length, decimal, option_map, Some, None, refl, sym, ap, ap₂, ◌∙◌, subst, inl, inr, append_assoc, append-nil, arith, lt-ltb, le-ltb, le-leb, eq-eqb, ne_eqb}
 use Rattle.std.specs.Str.Parse.{AllDigits}
-use Rattle.std.proofs.lemmas.Bool.{cases_lt, cond-true, cond-false, and_from, and_left, or_from, not_from_false}
+use Rattle.std.proofs.lemmas.Bool.{cases_lt, cond-true, cond-false, and_from, and_left, or_from}
 use Rattle.std.proofs.lemmas.Str.Parse.{IsNumeralModel, numerals_by_fold, tells_digits, digit_from_value}
-use Rattle.std.proofs.lemmas.Fmt.{decimal_is_IsNumeral, length-decimal-le, first_decimal, decimal_digit, digits_value-decimal}
-use Rattle.syn_shapes.specs.Printed.{blanked, line}
-use Rattle.syn_aiger_files.specs.Texts.{and_number, begins_with_lf, begun, behind, delta, first_line, front, is_digit, is_numeral, lines_at, may_lead, number_of, numbers_of, numbers_on, or_none, value_from, words_of}
+use Rattle.std.proofs.lemmas.Fmt.{decimal_is_IsNumeral, digits_value-decimal}
+use Rattle.syn_netlist.specs.TextLines.{blanked, line}
+use Rattle.syn_aiger_files.specs.Texts.{and_number, begins_with_lf, begun, behind, delta, first_line, front, is_digit, is_numeral, lines_at, most_literal, number_of, numbers_of, numbers_on, or_none, value_from, words_of}
 use Rattle.syn_aiger_files.specs.Printed.{decimals, grouped, number_line}
 
 -- groups of seven bits
@@ -129,17 +129,13 @@ value_model = numerals_by_fold (AllDigits 10) tells_digits value_from (record {
   more = λ n c cs h. ap (λ (m : ℕ). value_from m cs) (let e : 10 * n + (c - 48) ≡ n * 10 + (c - 48) = omega arith in e);
 })
 
-numeral_by : (ds : List ℕ) → AllDigits 10 ds → 0 < length ds → length ds ≤ 9 → (1 < length ds → 48 < get_or ds 0 0) → is_numeral ds ≡ true
-numeral_by [] h some few lead = absurd (omega arith)
-numeral_by (d ∷ ds) h some few lead = and_from (may_lead d ds) (nat_le (length ds) 8 && list_all is_digit (d ∷ ds)) (leads ds lead) (and_from (nat_le (length ds) 8) (list_all is_digit (d ∷ ds)) (le-leb (length ds) 8 (omega arith)) (all_digits (d ∷ ds) h))
-  where
-    leads : (es : List ℕ) → (1 < length (d ∷ es) → 48 < d) → may_lead d es ≡ true
-    leads [] l = refl
-    leads (e ∷ es) l = not_from_false (d == 48) (ne_eqb d 48 (λ e. omega (arith, l (omega arith))))
+numeral_by : (ds : List ℕ) → AllDigits 10 ds → 0 < length ds → value_from 0 ds ≤ most_literal → is_numeral ds ≡ true
+numeral_by [] h some few = absurd (omega arith)
+numeral_by (d ∷ ds) h some few = and_from (list_all is_digit (d ∷ ds)) (nat_le (value_from 0 (d ∷ ds)) most_literal) (all_digits (d ∷ ds) h) (le-leb (value_from 0 (d ∷ ds)) most_literal few)
 
--- Numbers of a file have nine digits at most.
+-- Numbers of a file are no greater than the greatest literal.
 abbrev pub IsShort : ℕ → Type 0
-IsShort n = n < 1000000000
+IsShort n = n ≤ most_literal
 
 abbrev pub AllShort : List ℕ → Type 0
 AllShort [] = ⊤
@@ -151,14 +147,14 @@ digits_of_decimal n h = (decimal_is_IsNumeral n (omega arith)).0.1
 pub above_decimal : (n : ℕ) → IsShort n → Above 32 (decimal n)
 above_decimal n h = above_digits (decimal n) (digits_of_decimal n h)
 
+value_of_decimal : (n : ℕ) → IsShort n → value_from 0 (decimal n) ≡ n
+value_of_decimal n h = digits_value-decimal value_model n (omega arith)
+
 pub numeral_decimal : (n : ℕ) → IsShort n → is_numeral (decimal n) ≡ true
-numeral_decimal n h = numeral_by (decimal n) (digits_of_decimal n h) (decimal_is_IsNumeral n (omega arith)).0.0 (length-decimal-le 9 n (omega arith) (omega arith) (omega arith)) (elim (cases_lt 0 n) [
-  | inl some ↦ λ one. first_decimal n some (omega arith)
-  | inr none ↦ λ one. let e : length (decimal n) ≡ 1 = ap length (decimal_digit n (omega arith)) in absurd (omega arith)
-])
+numeral_decimal n h = numeral_by (decimal n) (digits_of_decimal n h) (decimal_is_IsNumeral n (omega arith)).0.0 (subst (λ (m : ℕ). m ≤ most_literal) (sym (value_of_decimal n h)) h)
 
 pub number_of_decimal : (n : ℕ) → IsShort n → number_of (decimal n) ≡ Some n
-number_of_decimal n h = cond-true (is_numeral (decimal n)) (Some (value_from 0 (decimal n))) None (numeral_decimal n h) ∙ ap (λ (m : ℕ). Some m) (digits_value-decimal value_model n (omega arith))
+number_of_decimal n h = cond-true (is_numeral (decimal n)) (Some (value_from 0 (decimal n))) None (numeral_decimal n h) ∙ ap (λ (m : ℕ). Some m) (value_of_decimal n h)
 
 pub all_words_decimals : (ns : List ℕ) → AllShort ns → AllWords (decimals ns)
 all_words_decimals [] h = tt

@@ -1,63 +1,36 @@
 -- Numbers that are read from words.
 use Rattle.std.specs.List.{list_all}
-use Rattle.std.proofs.Common.{◌≡◌, ℕ, zero, suc, ◌+◌, ◌*◌, ◌-◌, ◌<◌, ◌≤◌, ◌^◌, ◌==◌, ◌&&◌, not, nat_le, Bool, true, false, cond, List, [], ◌∷◌, length, Option, Some, None, refl, sym, ap, ◌∙◌, subst, arith, le-leb}
+use Rattle.std.proofs.Common.{◌≡◌, ℕ, zero, suc, ◌+◌, ◌*◌, ◌-◌, ◌<◌, ◌≤◌, ◌^◌, ◌&&◌, nat_le, Bool, true, false, cond, List, [], ◌∷◌, length, drop, get_or, Option, Some, None, refl, sym, ap, ◌∙◌, subst, arith}
 use Rattle.std.proofs.Math.Nat.{pow-le-pow_right}
-use Rattle.std.proofs.lemmas.Bool.{cond-false, lt-leb}
+use Rattle.std.proofs.lemmas.Bool.{and_right, cond-false, lt-leb}
+use Rattle.std.proofs.lemmas.List.{drop_more}
 use Rattle.syn_aiger_files.specs.Files.{Header}
 use Rattle.syn_aiger_files.specs.Headers.{are_few_zeros, fits_numbers}
 use Rattle.syn_aiger_files.specs.Shown.{digits_in}
 use Rattle.syn_aiger_files.specs.Spelling.{are_enough, are_further, header_by, most_variables}
-use Rattle.syn_aiger_files.specs.Texts.{and_number, is_digit, is_numeral, may_lead, number_of, or_none, value_from}
+use Rattle.syn_aiger_files.specs.Texts.{and_number, is_digit, most_literal, number_of, or_none, value_from}
 
-pub no_number : (w : List ℕ) → is_numeral w ≡ false → number_of w ≡ None
-no_number w e = cond-false (is_numeral w) (Some (value_from 0 w)) None e
+pub empty_number : (w : List ℕ) → length w ≡ 0 → number_of w ≡ None
+empty_number [] e = refl
+empty_number (b ∷ bs) e = absurd (omega arith)
 
-pub long_number : (w : List ℕ) → 9 < length w → number_of w ≡ None
-long_number [] l = absurd (omega arith)
-long_number (b ∷ bs) l = no_number (b ∷ bs) (long (may_lead b bs) (nat_le (length bs) 8) (list_all is_digit (b ∷ bs)) (lt-leb (length bs) 8 (omega arith)))
-  where
-    long : (x y z : Bool) → y ≡ false → (x && (y && z)) ≡ false
-    long true false z e = refl
-    long false y z e = refl
-    long true true z e = absurd (cc)
+pub number_is : (w : List ℕ) → 0 < length w → digits_in w ≡ number_of w
+number_is [] l = absurd (omega arith)
+number_is (b ∷ bs) l = refl
 
--- a zero in front, and one that stands alone
+-- digits behind a number only raise it
+value_grows : (n : ℕ) (w : List ℕ) → n ≤ value_from n w
+value_grows n [] = omega arith
+value_grows n (b ∷ bs) = let le = value_grows (10 * n + (b - 48)) bs in omega arith
 
-zero_leads : (r : List ℕ) → 1 < length (48 ∷ r) → number_of (48 ∷ r) ≡ None
-zero_leads [] l = absurd (omega arith)
-zero_leads (c ∷ cs) l = no_number (48 ∷ c ∷ cs) refl
-
-pub leading_zero : (w : List ℕ) (b : ℕ) (r : List ℕ) → w ≡ b ∷ r → b ≡ 48 → 1 < length w → number_of w ≡ None
-leading_zero w b r e f l =
-    let is : w ≡ 48 ∷ r = e ∙ ap (λ (n : ℕ). n ∷ r) f in
-    ap number_of is ∙ zero_leads r (subst (λ (v : List ℕ). 1 < length v) is l)
-
-zero_by : (r : List ℕ) → length (48 ∷ r) ≤ 1 → number_of (48 ∷ r) ≡ Some 0
-zero_by [] l = refl
-zero_by (c ∷ cs) l = absurd (omega arith)
-
-pub zero_alone : (w : List ℕ) (b : ℕ) (r : List ℕ) → w ≡ b ∷ r → b ≡ 48 → length w ≤ 1 → number_of w ≡ Some 0
-zero_alone w b r e f l =
-    let is : w ≡ 48 ∷ r = e ∙ ap (λ (n : ℕ). n ∷ r) f in
-    ap number_of is ∙ zero_by r (subst (λ (v : List ℕ). length v ≤ 1) is l)
-
--- other digits
-
-both_true : (x y z : Bool) → x ≡ true → y ≡ true → (x && (y && z)) ≡ z
-both_true true true z e f = refl
-both_true true false z e f = absurd (cc)
-both_true false y z e f = absurd (cc)
-
-leads_well : (b : ℕ) (r : List ℕ) → (b == 48) ≡ false → may_lead b r ≡ true
-leads_well b [] e = refl
-leads_well b (c ∷ cs) e = ap not e
-
-pub number_is : (w : List ℕ) (b : ℕ) (r : List ℕ) → w ≡ b ∷ r → (b == 48) ≡ false → length w ≤ 9 → digits_in w ≡ number_of w
-number_is w b r e f l =
-    let short : length (b ∷ r) ≤ 9 = subst (λ (v : List ℕ). length v ≤ 9) e l in
-    ap digits_in e
-    ∙ ap (λ (q : Bool). cond q (Some (value_from 0 (b ∷ r))) None) (sym (both_true (may_lead b r) (nat_le (length r) 8) (list_all is_digit (b ∷ r)) (leads_well b r f) (le-leb (length r) 8 (omega arith))))
-    ∙ sym (ap number_of e)
+-- a number that is too great with its next digit
+pub too_great : (w : List ℕ) (i n : ℕ) → value_from n (drop i w) ≡ value_from 0 w → i < length w → most_literal < 10 * n + (get_or w i 0 - 48) → Path (Option ℕ) None (digits_in w)
+too_great w i n e inside l =
+    let m : ℕ = 10 * n + (get_or w i 0 - 48) in
+    let on : value_from m (drop (i + 1) w) ≡ value_from 0 w = ap (value_from n) (sym (drop_more w i 0 inside)) ∙ e in
+    let grows = value_grows m (drop (i + 1) w) in
+    let few = lt-leb (value_from 0 w) most_literal (omega (arith, on)) in
+    sym (cond-false (list_all is_digit w && nat_le (value_from 0 w) most_literal) (Some (value_from 0 w)) None (and_right (list_all is_digit w) (nat_le (value_from 0 w) most_literal) few))
 
 -- first lines that lack numbers, by how many stand in front
 
@@ -102,10 +75,6 @@ whole_line h None = refl
 whole_line h (Some ns) =
     ap (λ (q : Bool). cond q (Some h) None)
     (swap (list_all (λ n. nat_le n most_variables) (h.variables ∷ h.inputs ∷ h.latches ∷ h.outputs ∷ h.ands ∷ [])) (are_further ns) (are_enough h.ascii h.variables (h.inputs + h.latches + h.ands)))
-
--- a number of nine digits has room for one more
-pub ten_small : (i value : ℕ) → value < 10 ^ i → i ≤ 8 → value < 100000000
-ten_small i value h l = let e : 10 ^ i ≤ 10 ^ 8 = pow-le-pow_right (let z : 0 < 10 = omega arith in z) l in omega arith
 
 -- numbers in groups of seven bits, by how many groups
 

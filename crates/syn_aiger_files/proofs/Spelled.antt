@@ -1,9 +1,9 @@
 -- What a file is that is said: each definition is new, right sides may be read, and there are as many of each as the first line says. And a fault of what it says is one of its text.
 use Rattle.std.specs.Prelude.{⊤}
 use Rattle.std.specs.List.{AllByRecursion, list_all}
-use Rattle.std.proofs.Common.{◌≡◌, ℕ, zero, suc, ◌+◌, ◌-◌, ◌*◌, ◌%◌, ◌^◌, ◌<◌, ◌≤◌, ◌==◌, ◌&&◌, not, nat_le, nat_lt, nat_eq, Bool, true, false, cond, if◌then◌else◌, List, [], ◌∷◌, ◌++◌, length, map, replicate, option_map, ◌⊎◌, Option, Some, None, Result, Ok, Err, refl, sym, ap, ap₂, ◌∙◌, subst, inl, inr, append-nil, map-id, arith, leb-true, eqb-true, eq-eqb, ne_eqb}
+use Rattle.std.proofs.Common.{◌≡◌, ℕ, zero, suc, ◌+◌, ◌-◌, ◌*◌, ◌%◌, ◌≤◌, ◌==◌, ◌&&◌, not, nat_le, nat_lt, nat_eq, Bool, true, false, cond, if◌then◌else◌, List, [], ◌∷◌, ◌++◌, length, map, replicate, option_map, ◌⊎◌, Option, Some, None, Result, Ok, Err, refl, sym, ap, ap₂, ◌∙◌, subst, inl, inr, append-nil, map-id, arith, leb-true, eqb-true, eq-eqb, ne_eqb}
 use Rattle.std.proofs.lemmas.Bool.{and_from, and_parts, or_from, or_left, or_right, both_ways, not-true, not_from_false, cases_Bool, cond-true, cond-false}
-use Rattle.syn_netlist.specs.Marks.{distinct_numbers, has_number}
+use Rattle.syn_lists.specs.Numbers.{distinct_numbers, has_number}
 use Rattle.syn_aiger_files.specs.declared.fault.AigFault.{AigFault}
 use Rattle.syn_aiger_files.specs.declared.fault.AigFault.TheVariants as faults
 use Rattle.syn_aiger_files.specs.declared.fault.AigFault.TheVariants.{Cycle, Header, Line, NoMemory, Pair, Symbol, TooManyGates, TooManySources, Undefined}

@@ -5,7 +5,7 @@ use Rattle.std.proofs.lemmas.Bool.{cond-true, cond-false, and_from, and_parts}
 use Rattle.syn_lex.specs.Lines.{is_nil}
 use Rattle.syn_lex.specs.Words.{is_word_byte}
 use Rattle.syn_netlist.specs.Words.{is_word}
-use Rattle.syn_shapes.specs.Printed.{blanked}
+use Rattle.syn_netlist.specs.TextLines.{blanked}
 use Rattle.syn_aiger_files.specs.declared.fault.AigFault.{AigFault}
 use Rattle.syn_aiger_files.specs.declared.fault.AigFault.TheVariants as faults
 use Rattle.syn_aiger_files.specs.Texts.{behind, lines_at, number_of, or_none, words_of}

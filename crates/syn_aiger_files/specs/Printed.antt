@@ -1,6 +1,6 @@
 -- The bytes of a written file, in both formats (AIGER 1.9).
 use Rattle.std.specs.Prelude.{ℕ, zero, suc, ◌+◌, ◌-◌, ◌/◌, ◌%◌, ◌==◌, nat_lt, Bool, true, false, if◌then◌else◌, List, [], ◌∷◌, ◌++◌, length, flat_map, codes, decimal}
-use Rattle.syn_shapes.specs.Printed.{line}
+use Rattle.syn_netlist.specs.TextLines.{line}
 use Rattle.syn_aiger_files.specs.Files.{Aig, AigAnd, AigLatch, Symbol}
 use Rattle.syn_aiger_files.specs.Symbols.{letter_of}
 

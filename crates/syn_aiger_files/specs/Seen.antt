@@ -2,7 +2,7 @@
 use Rattle.std.specs.Prelude.{ℕ, ◌≡◌, ◌+◌, ◌*◌, ◌||◌, nat_lt, nat_eq, Bool, List}
 use Rattle.std.specs.List.{list_any}
 use Rattle.std.specs.HashSet.{contains}
-use Rattle.syn_netlist.specs.Marks.{has_number}
+use Rattle.syn_lists.specs.Numbers.{has_number}
 use Rattle.syn_aiger_files.specs.declared.sets.NumberSet.{NumberSet}
 use Rattle.syn_aiger_files.specs.declared.symbols.Given.{Given}
 use Rattle.syn_aiger_files.specs.Files.{OfInput, OfLatch, OfOutput, Place, Symbol}

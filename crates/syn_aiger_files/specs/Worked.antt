@@ -26,11 +26,12 @@ free_latch = record {
   symbols = [];
 }
 
--- Both files are said in both formats, with a CR before the LF and without the last LF too; and the faults of a first line, a line, a pair and a symbol have their places.
+-- Both files are said in both formats, with a CR before the LF, without the last LF, and with leading zeros too; and the faults of a first line, a line, a pair and a symbol have their places.
 pub record WorkedFiles : Type 0 where
   pub ascii : spelled (codes "aag 6 3 0 1 3\n2\n4\n6\n13\n8 4 2\n10 6 2\n12 11 9\ni0 a\ni1 b\ni2 c\no0 f\n") ≡ Ok or_of_ands
   pub binary : spelled (codes "aig 6 3 0 1 3\n13\n" ++ (4 ∷ 2 ∷ 4 ∷ 4 ∷ 1 ∷ 2 ∷ []) ++ codes "i0 a\ni1 b\ni2 c\no0 f\nc\nany text") ≡ Ok or_of_ands
   pub latch : spelled (codes "aag 2 1 1 1 0\r\n2\r\n4 3 4\r\n4") ≡ Ok free_latch
+  pub zeros : spelled (codes "aag 002 1 01 1 0\n002\n4 03 4\n0004\n") ≡ Ok free_latch
   pub header : spelled (codes "aag 1 1 0 0\n") ≡ Err faults.Header
   pub line : spelled (codes "aag 1 1 0 0 0\n3\n") ≡ Err (faults.Line 14)
   pub pair : spelled (codes "aig 2 1 0 0 1\n" ++ (5 ∷ 0 ∷ [])) ≡ Err (faults.Pair 14)

@@ -4,7 +4,7 @@ ghost use Rattle.std.specs.Prelude.{◌≡◌, ◌<◌, ◌^◌, length, IfNone,
 ghost use Rattle.syn_aiger_files.specs.Literals.{literals_from};
 
 use std::marker::Model;
-use syn_netlist::Items;
+use syn_lists::Items;
 
 /// A latch: its own literal, the literal that it loads, and its reset, which is 0, 1 or its own literal, for any value.
 #[derive(Debug, Clone, Copy, PartialEq, Eq)]

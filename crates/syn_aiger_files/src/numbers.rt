@@ -7,39 +7,35 @@ ghost use Rattle.syn_aiger_files.specs.Texts.{and_number, delta, number_of, numb
 
 use crate::cuts::cut_word;
 
-// The number that digits spell, where all are digits.
+/// The greatest literal of any file.
+const MAX_LITERAL: u64 = 536_870_911;
+
+// The number that bytes spell, where all are digits and it is no greater than the greatest literal.
 fn value_of(word: &[u8]) -> Option<u32>
-    requires { length word.now < 10 }
     ensures { result ≡ digits_in word.now }
 {
-    let mut value = 0;
+    let mut value: u64 = 0;
     for digit in word {
         if *digit < b'0' || *digit > b'9' {
             return None;
         }
-        value = 10 * value + (*digit - b'0') as u32;
+        value = 10 * value + (*digit - b'0') as u64;
+        if value > MAX_LITERAL {
+            return None;
+        }
     }
-    Some(value)
+    Some(value as u32)
 }
 
-/// The number that a word spells: its digits, nine at most, without a leading zero.
-#[tactic(auto, using(crate::proofs::Reading::long_number, crate::proofs::Reading::leading_zero, crate::proofs::Reading::zero_alone, crate::proofs::Reading::number_is))]
+/// The number that a word spells: decimal digits, among which zeros may lead, of no greater number than the greatest literal.
+#[tactic(auto, using(crate::proofs::Reading::empty_number, crate::proofs::Reading::number_is))]
 pub fn number_of(word: &[u8]) -> Option<u32>
     ensures { result ≡ number_of word.now }
 {
-    let Some((first, _)) = word.split_first() else {
-        return None;
-    };
-    if word.len() > 9 {
+    if word.is_empty() {
         return None;
     }
-    if *first != b'0' {
-        return value_of(word);
-    }
-    if word.len() > 1 {
-        return None;
-    }
-    Some(0)
+    value_of(word)
 }
 
 /// The next number and what is left behind it, where words are left and the next one spells a number.

@@ -12,7 +12,7 @@ use crate::files::{Aig, Header, Inputs, Symbol};
 use crate::header::read_header;
 use crate::symbols::read_symbols;
 use std::alloc::Global;
-use syn_netlist::Items;
+use syn_lists::Items;
 
 // What a first line, a body and symbols say together.
 fn aig_by(h: &Header, body: Body, symbols: Vec<Symbol>) -> Aig

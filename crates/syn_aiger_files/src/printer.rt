@@ -5,7 +5,7 @@ ghost use Rattle.syn_aiger_files.specs.Literals.{literals_from};
 ghost use Rattle.syn_aiger_files.specs.Printed.{ascii_and, ascii_latch, binary_and, binary_latch, body_of, decimals, first_line_of, format_word, grouped, number_line, printed, reset_of, single, symbol_line};
 ghost use Rattle.syn_aiger_files.specs.Symbols.{letter_of};
 ghost use Rattle.syn_netlist.specs.Words.{is_word_byte};
-ghost use Rattle.syn_shapes.specs.Printed.{blanked, line};
+ghost use Rattle.syn_netlist.specs.TextLines.{blanked, line};
 
 use crate::files::{Aig, AigAnd, AigLatch, Inputs, Place, Symbol};
 use itoa::Buffer;

@@ -15,7 +15,7 @@ use crate::files::{Header, Place, Symbol};
 use crate::numbers::number_of;
 use crate::sets::NumberSet;
 use std::alloc::{AllocError, Global};
-use syn_netlist::Items;
+use syn_lists::Items;
 
 /// The indices that have symbols, of each place.
 #[derive(Drop)]

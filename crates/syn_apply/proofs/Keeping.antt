@@ -10,12 +10,11 @@ use Rattle.syn_rows.specs.Reach.{Ands, is_and}
 use Rattle.syn_rows.specs.Values.{Fits, OneValuation, given_by, is_open, lit_value, rows_function, value_in, values_of}
 use Rattle.syn_rows.proofs.Folds.{lit_value-same, one_valuation_is}
 use Rattle.syn_rows.proofs.Reaches.{one_ands_is}
-use Rattle.syn_netlist.specs.Frames.{frame_in}
-use Rattle.syn_netlist.specs.Lists.{sources}
 use Rattle.syn_graph.specs.declared.Graph.{Graph}
 use Rattle.syn_hashed.proofs.Orders.{hashed_in_order}
 use Rattle.syn_plan.specs.Gates.{literal_value, values_after}
-use Rattle.syn_hashed.specs.Compacting.{HasSources, SameValues}
+use Rattle.syn_graph.specs.Relations.{SameFunction}
+use Rattle.syn_hashed.specs.Compacting.{HasSources, IsCompacted, SameValues}
 use Rattle.syn_gain.specs.Replacements.{Replacement, leaf_values, rows_after_by, SavedBy}
 use Rattle.syn_gain.proofs.Extending.{values_go_on}
 use Rattle.syn_gain.proofs.Owning.{IsBelow, root_there}
@@ -37,12 +36,12 @@ same_lits v w k same (l ∷ ls) h =
     ap₂ (λ b bs. b ∷ bs) (lit_value-same w v l (same (node_of l) (All-head (λ x. node_of x < k) l ls h))) (same_lits v w k same ls (All-tail (λ x. node_of x < k) l ls h))
 
 pub kept_values : (graph : Graph) (r : Replacement) → IsBelow r → is_and (row_at graph.rows r.root) ≡ true → IsSoundBy graph.rows r → (rows : List Row) (lits : List Lit)
-    → SameValues (length (sources (frame_in graph.frame))) (rows_after_by graph.rows r) graph.observed rows lits
+    → SameValues graph.source_count (rows_after_by graph.rows r) graph.observed rows lits
     → (bits : List Bool) → rows_function rows lits bits ≡ rows_function graph.rows graph.observed bits
 kept_values graph r below gate sound rows lits same bits = sym (same bits w.0 w.1 has) ∙ same_lits u w.0 (length graph.rows) w.2 graph.observed graph.graph.within
   where
     order : InOrder graph.rows
-    order = hashed_in_order (length (sources (frame_in graph.frame))) graph.rows graph.graph.hashed
+    order = hashed_in_order graph.source_count graph.rows graph.graph.hashed
 
     one : OneValuation graph.rows (given_by bits)
     one = one_valuation_is graph.rows (given_by bits) order refl
@@ -54,18 +53,28 @@ kept_values graph r below gate sound rows lits same bits = sym (same bits w.0 w.
     w = values_go_on graph.rows r.root r.count r.leaves r.gates r.out u order below.positive (root_there graph r.root gate) below.low one.0
         (plan_is_root graph.rows r u sound one.0)
 
-    has : HasSources (length (sources (frame_in graph.frame))) (given_by bits) w.0
+    has : HasSources graph.source_count (given_by bits) w.0
     has n lt =
         let low : n < length graph.rows = omega (arith, graph.graph.hashed.there) in
         w.2 n low ∙ one.1 n low (ap is_open (graph.graph.hashed.front n lt))
+
+-- so the graph of the compacted rows has the graph's function
+pub kept_same : (graph : Graph) (r : Replacement) → IsBelow r → is_and (row_at graph.rows r.root) ≡ true → IsSoundBy graph.rows r → (new : Graph) → new.source_count ≡ graph.source_count
+    → IsCompacted graph.source_count (rows_after_by graph.rows r) graph.observed new.rows new.observed → SameFunction graph new
+kept_same graph r below gate sound new sources c = record {
+  sources = sources;
+  count = c.same_count;
+  stay = c.sources_stay;
+  values = kept_values graph r below gate sound new.rows new.observed c.same_values;
+}
 
 -- by numbers
 falls : (j k c s g r : ℕ) (z : ℤ) → pos j ≡ (pos k +ℤ z) → g ≤ s + 1 + k → r ≡ c + (s + 1) → j ≡ c → (pos g +ℤ z) ≤ℤ pos r
 falls j k c s g r z e le is same = omega (arith, ints)
 
 pub count_falls : (graph : Graph) (r : Replacement) (c : ℕ) → Ands graph.rows graph.observed c → c + (graph.source_count + 1) ≡ length graph.rows → (rows : List Row)
-    → ((k : ℕ) → Ands (rows_after_by graph.rows r) graph.observed k → length rows ≤ length (sources (frame_in graph.frame)) + 1 + k)
+    → ((k : ℕ) → Ands (rows_after_by graph.rows r) graph.observed k → length rows ≤ graph.source_count + 1 + k)
     → (s : ℤ) → SavedBy graph.rows graph.observed r s → (pos (length rows) +ℤ s) ≤ℤ pos (length graph.rows)
 count_falls graph r c all is rows fewer s saved =
-    falls saved.0 saved.1 c (length (sources (frame_in graph.frame))) (length rows) (length graph.rows) s saved.4 (fewer saved.1 saved.3) (omega (arith, is, graph.source_count_is))
+    falls saved.0 saved.1 c graph.source_count (length rows) (length graph.rows) s saved.4 (fewer saved.1 saved.3) (sym is)
     (one_ands_is graph.rows graph.observed saved.0 c saved.2 all)

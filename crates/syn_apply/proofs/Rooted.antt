@@ -7,8 +7,6 @@ use Rattle.syn_rows.specs.declared.Row.TheVariants.{Free, Source, And, Alias}
 use Rattle.syn_rows.specs.Rows.{row_at}
 use Rattle.syn_rows.specs.Reach.{is_and}
 use Rattle.syn_rows.specs.Values.{is_open}
-use Rattle.syn_netlist.specs.Frames.{frame_in}
-use Rattle.syn_netlist.specs.Lists.{sources}
 use Rattle.syn_hashed.specs.Hashed.{is_gate}
 use Rattle.syn_graph.specs.declared.Graph.{Graph}
 use Rattle.syn_rows.specs.Nodes.{has_node}
@@ -50,7 +48,7 @@ gate_and n (And a b) h = refl
 gate_and n (Alias a) h = absurd (cc)
 
 pub root_is_and : (graph : Graph) (r : Replacement) → IsBelow r → IsSoundBy graph.rows r → is_and (row_at graph.rows r.root) ≡ true
-root_is_and graph r below sound = elim (cases_lt (length (sources (frame_in graph.frame))) r.root) [
+root_is_and graph r below sound = elim (cases_lt graph.source_count r.root) [
   | inr front ↦ absurd (cc (closed, ap is_open (graph.graph.hashed.front r.root (omega arith))))
   | inl after ↦ elim (cases_lt r.root (length graph.rows)) [
     | inl inside ↦ gate_and r.root (row_at graph.rows r.root) (graph.graph.hashed.gates r.root after inside)

@@ -1,6 +1,6 @@
 -- Rows made again: literals that stand for old nodes, and plans over them, have the old values.
-use Rattle.std.proofs.Common.{◌≡◌, Result, Ok, Err, IfOk, OnOk, ℕ, zero, suc, ◌+◌, ◌%◌, ◌<◌, ◌&&◌, nat_eq, not, Bool, true, false, All, List, [], ◌∷◌, ◌++◌, length, get_or, map, refl, sym, ap, ap₂, ◌∙◌, subst, arith, inl, inr}
-use Rattle.std.proofs.lemmas.Bool.{cases_Bool, cases_lt, cond-true, cond-false, cond_both, eq-eqb}
+use Rattle.std.proofs.Common.{◌≡◌, ◌≢◌, ◌-◌, Result, Ok, Err, IfOk, OnOk, ℕ, zero, suc, ◌+◌, ◌%◌, ◌<◌, ◌&&◌, nat_eq, not, Bool, true, false, All, List, [], ◌∷◌, ◌++◌, length, get_or, map, refl, sym, ap, ap₂, ◌∙◌, subst, arith, inl, inr}
+use Rattle.std.proofs.lemmas.Bool.{cases_Bool, cases_lt, cond-true, cond-false, cond_both, eq-eqb, eqb-true, eqb-false}
 use Rattle.std.proofs.lemmas.List.{get_or_append_left, get_or_push, get_or_past, get_or-map, length_push, length-map, length-append, map-append}
 use Rattle.std.proofs.lemmas.List.Elements.{All-head, All-push, All-tail}
 use Rattle.syn_rows.specs.declared.Lit.{Lit}
@@ -12,16 +12,14 @@ use Rattle.syn_rows.specs.Reach.{is_and}
 use Rattle.syn_rows.specs.Joining.{complement, constant, lit_of}
 use Rattle.syn_rows.specs.Values.{given_by, lit_value, row_value, rows_function, value_in, values_of}
 use Rattle.syn_rows.proofs.Folds.{one_valuation_is, values_step}
-use Rattle.syn_rows.proofs.JoinLaws.{complement_node, complement_value, plain_value}
-use Rattle.syn_netlist.specs.Lists.{Frame, sources, observed}
-use Rattle.syn_netlist.specs.Numbers.{word_at}
-use Rattle.syn_shapes.specs.GraphShape.{place}
-use Rattle.syn_shapes.specs.Graphs.{IsGraph, source_lit}
-use Rattle.syn_shapes.proofs.Spelled.{place_lt}
+use Rattle.syn_rows.proofs.JoinLaws.{complement_node, complement_value, plain_value, same_lit}
 use Rattle.syn_hashed.specs.Hashed.{IsHashed, is_gate}
 use Rattle.syn_hashed.specs.Growing.{Extends, IsAnd, KeepsValues, value_by}
 use Rattle.syn_hashed.proofs.Orders.{hashed_in_order}
-use Rattle.syn_graph.specs.Graphs.{HasOwnSources}
+use Rattle.syn_hashed.specs.Compacting.{IsCompaction}
+use Rattle.syn_graph.specs.declared.Graph.{Graph}
+use Rattle.syn_graph.specs.Graphs as graphs
+use Rattle.syn_graph.specs.Relations.{SameFunction}
 use Rattle.syn_plan.specs.Gates.{literal_value, values_after}
 use Rattle.syn_plan.specs.Plans.{plan_truth}
 use Rattle.syn_gain.specs.Leaves.{are_below}
@@ -247,17 +245,37 @@ moved_within rows new literals lits all long within i d lt =
     let inside : node_of l < length rows = within i constant low in
     subst (λ (x : Lit). node_of x < length new) (sym (get_or-map (moved literals) lits i constant d low)) (moved_there rows new literals l all (omega arith))
 
-source_moves : (count : ℕ) (literals : List Lit) (k : ℕ) → SourcesStay count literals → k < count → count < length literals → moved literals (source_lit k) ≡ source_lit k
-source_moves count literals k stay lt long =
-    cond-true (nat_eq ((source_lit k).0 % 2) 0) (get_or literals (node_of (source_lit k)) constant) (complement (get_or literals (node_of (source_lit k)) constant)) (eq-eqb ((source_lit k).0 % 2) 0 (omega arith))
-    ∙ (let half : node_of (source_lit k) ≡ k + 1 = omega arith in ap (λ m. get_or literals m constant) half)
-    ∙ stay (k + 1) (omega arith) (omega arith)
+literal_moves : (count : ℕ) (literals : List Lit) (l : Lit) → SourcesStay count literals → node_of l < count + 1 → count < length literals → moved literals l ≡ l
+literal_moves count literals l stay low long =
+    cond_both (nat_eq (l.0 % 2) 0) own (complement own) (λ x. x ≡ l)
+    (λ even. is ∙ (let zero : l.0 % 2 ≡ 0 = eqb-true (l.0 % 2) 0 even in same_lit (lit_of (node_of l)) l (omega arith)))
+    (λ odd. ap complement is ∙ (let one : l.0 % 2 ≢ 0 = eqb-false (l.0 % 2) 0 odd in same_lit (complement (lit_of (node_of l))) l (turned one)))
+  where
+    own : Lit
+    own = get_or literals (node_of l) constant
 
-pub moved_own : (frame : Frame) (rows : List Row) (lits literals : List Lit) → IsGraph frame rows lits → SourcesStay (length (sources frame)) literals → length literals ≡ length rows
-    → HasOwnSources frame (map (moved literals) lits)
-moved_own frame rows lits literals g stay long i lt known =
-    let low : i < length lits = let same = length-map lits (moved literals) in omega arith in
-    get_or-map (moved literals) lits i constant constant low
-    ∙ ap (moved literals) (g.own i low known)
-    ∙ source_moves (length (sources frame)) literals (place (word_at (observed frame) i) (sources frame)) stay
-    (place_lt (sources frame) (word_at (observed frame) i) known) (omega (arith, g.hashed.there))
+    is : own ≡ lit_of (node_of l)
+    is = stay (node_of l) low (omega arith)
+
+    turned : l.0 % 2 ≢ 0 → (complement (lit_of (node_of l))).0 ≡ l.0
+    turned one =
+        cond_both (nat_eq ((lit_of (node_of l)).0 % 2) 0) ((lit_of (node_of l)).0 + 1) ((lit_of (node_of l)).0 - 1) (λ (k : ℕ). k ≡ l.0)
+        (λ even. omega (arith, one))
+        (λ odd. absurd (eqb-false ((lit_of (node_of l)).0 % 2) 0 odd (omega arith)))
+
+-- literals of sources stay
+pub moved_stay : (count : ℕ) (lits literals : List Lit) → SourcesStay count literals → count < length literals → graphs.SourcesStay count lits (map (moved literals) lits)
+moved_stay count lits literals stay long i l lt low at =
+    get_or-map (moved literals) lits i constant constant lt ∙ ap (moved literals) at ∙ literal_moves count literals l stay low long
+
+-- the graph of the rows made again, compacted, has the graph's function
+pub remade_same : (was : Graph) (new : List Row) (literals : List Lit) → AllStand was.rows new literals → SourcesStay was.source_count literals → length literals ≡ length was.rows
+    → (now : Graph) → now.source_count ≡ was.source_count → IsCompaction was.source_count new (map (moved literals) was.observed) now.rows now.observed → SameFunction was now
+remade_same was new literals standing stay long now sources c = record {
+  sources = sources;
+  count = c.same_count ∙ length-map was.observed (moved literals);
+  stay = λ i l lt low at.
+      c.sources_stay i l (omega (arith, lt, length-map was.observed (moved literals))) low
+      (moved_stay was.source_count was.observed literals stay (omega (arith, long, was.graph.hashed.there)) i l lt low at);
+  values = λ bits. c.same_function bits ∙ moved_function was.rows new literals was.observed standing long was.graph.within bits;
+}

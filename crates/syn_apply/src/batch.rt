@@ -7,11 +7,10 @@ ghost use Rattle.syn_rows.specs.declared.TheConstants.{NODE_LIMIT};
 ghost use Rattle.syn_rows.specs.Joining.{constant, lit_of};
 ghost use Rattle.syn_rows.specs.Reach.{is_and};
 ghost use Rattle.syn_rows.specs.Rows.{node_of, row_at};
-ghost use Rattle.syn_rows.specs.Values.{rows_function};
 ghost use Rattle.syn_hashed.specs.Growing.{IsAnd};
 ghost use Rattle.syn_hashed.specs.Hashed.{IsHashed};
 ghost use Rattle.syn_hashed.specs.Joined.{joined_lit, joined_rows};
-ghost use Rattle.syn_netlist.specs.Frames.{frame_in};
+ghost use Rattle.syn_graph.specs.Relations.{SameFunction};
 ghost use Rattle.syn_gain.specs.declared.proposals.Proposal.{Proposal};
 ghost use Rattle.syn_gain.specs.Proposals.{replacement};
 ghost use Rattle.syn_gain.specs.Placing.{literal_for};
@@ -22,11 +21,10 @@ ghost use Rattle.syn_apply.specs.Sound.{IsSoundBy};
 use arrayvec::ArrayVec;
 use std::alloc::{AllocError, Global};
 use syn_gain::{Proposal, literal_at, node_at};
-use syn_graph::{Graph, copy_frame};
+use syn_graph::{Graph, finish};
 use syn_hashed::HashedRows;
 use syn_placing::place_plan;
 use syn_rows::{Lit, NODE_LIMIT, Row};
-use syn_strash::finish;
 
 // The AND of two literals, where there is room for a row more.
 fn and(hashed: &mut HashedRows, a: Lit, b: Lit) -> Result<Lit, AllocError>
@@ -235,7 +233,7 @@ fn all_moved(alloc: Global, literals: &[Lit], lits: &[Lit]) -> Result<Vec<Lit>, 
     Ok(found)
 }
 
-/// The graph after the taken ones of a list of sound proposals, all judged on the graph as it is: the same frame and the
+/// The graph after the taken ones of a list of sound proposals, all judged on the graph as it is: the
 /// same values of the observed signals. Its rows are made again from the sources up, with plans in place of the roots, so
 /// that any number of proposals costs one sweep. Nothing is said of the number of ANDs, which the caller compares. A
 /// proposal that stands behind one for a greater node isn't applied. The only error is want of memory.
@@ -246,15 +244,12 @@ pub fn applied_together(
     taken: &[bool],
 ) -> Result<Graph, AllocError>
     requires sound { All (λ p. IsSoundBy graph.now.rows (replacement p)) proposals.now }
-    ensures frame { IfOk result (λ g. frame_in g.frame ≡ frame_in graph.now.frame) }
-    ensures names { IfOk result (λ g. g.frame.names ≡ graph.now.frame.names) }
-    ensures values { IfOk result (λ g. (bits : List Bool) → rows_function g.rows g.observed bits ≡ rows_function graph.now.rows graph.now.observed bits) }
+    ensures same { IfOk result (SameFunction graph.now) }
     ensures applied { IfOk result (AreAppliedTogether graph.now proposals.now taken.now) }
 {
     let mut hashed = HashedRows::new(alloc, graph.source_count as usize)?;
     let rows = graph.rows.as_slice();
     let literals = remade(alloc, &mut hashed, rows, proposals, taken)?;
     let observed = all_moved(alloc, literals.as_slice(), graph.observed.as_slice())?;
-    let frame = copy_frame(alloc, &graph.frame)?;
-    finish(alloc, frame, hashed, observed.as_slice())
+    finish(alloc, hashed, observed.as_slice())
 }

@@ -3,12 +3,11 @@
 
 mod batch;
 
-ghost use Rattle.std.specs.Prelude.{◌≡◌, ℤ, pos, ◌+ℤ◌, ◌≤ℤ◌, ◌<◌, ◌^◌, Bool, List, true, length, IfErr, IfOk};
+ghost use Rattle.std.specs.Prelude.{◌≡◌, ℤ, pos, ◌+ℤ◌, ◌≤ℤ◌, ◌<◌, true, length, IfOk};
 ghost use Rattle.syn_rows.specs.Rows.{row_at};
 ghost use Rattle.syn_rows.specs.Reach.{is_and};
-ghost use Rattle.syn_rows.specs.Values.{rows_function};
 ghost use Rattle.syn_rows.specs.declared.TheConstants.{NODE_LIMIT};
-ghost use Rattle.syn_netlist.specs.Frames.{frame_in};
+ghost use Rattle.syn_graph.specs.Relations.{SameFunction};
 ghost use Rattle.syn_gain.specs.Proposals.{replacement_of};
 ghost use Rattle.syn_gain.specs.Replacements.{SavedBy, rows_after_by};
 ghost use Rattle.syn_levels.specs.Levels.{IsNoDeeper, keeps_level};
@@ -18,10 +17,9 @@ ghost use Rattle.syn_apply.specs.Sound.{IsSoundBy};
 pub use batch::applied_together;
 use std::alloc::{AllocError, Global};
 use syn_gain::{Candidate, place, replaced_rows};
-use syn_graph::Graph;
+use syn_graph::{Graph, compact};
 use syn_hashed::PairIndex;
-use syn_rows::{Lit, Row};
-use syn_strash::{compact, compact_graph};
+use syn_rows::Row;
 
 // The rows of a graph after a proposal.
 fn rows_after(alloc: Global, graph: &Graph, candidate: Candidate) -> Result<Vec<Row>, AllocError>
@@ -33,15 +31,13 @@ fn rows_after(alloc: Global, graph: &Graph, candidate: Candidate) -> Result<Vec<
     replaced_rows(alloc, graph.rows.as_slice(), candidate.root, &new)
 }
 
-/// The graph after a sound proposal for one of a graph's nodes, beside that graph: the same frame, the same values of the
-/// observed signals, and fewer ANDs by at least what the proposal saves; where it keeps the level of its root, no observed
+/// The graph after a sound proposal for one of a graph's nodes, beside that graph: the same values of the observed signals, and
+/// fewer ANDs by at least what the proposal saves; where it keeps the level of its root, no observed
 /// signal is deeper. The only error is want of memory.
 pub fn applied(alloc: Global, graph: &Graph, candidate: Candidate) -> Result<Graph, AllocError>
     requires sound { IsSoundBy graph.now.rows (replacement_of candidate) }
     requires few { length (rows_after_by graph.now.rows (replacement_of candidate)) < NODE_LIMIT }
-    ensures frame { IfOk result (λ g. frame_in g.frame ≡ frame_in graph.now.frame) }
-    ensures names { IfOk result (λ g. g.frame.names ≡ graph.now.frame.names) }
-    ensures values { IfOk result (λ g. (bits : List Bool) → rows_function g.rows g.observed bits ≡ rows_function graph.now.rows graph.now.observed bits) }
+    ensures same { IfOk result (SameFunction graph.now) }
     ensures count { IfOk result (λ g. (s : ℤ) → SavedBy graph.now.rows graph.now.observed (replacement_of candidate.entry) s → (pos (length g.rows) +ℤ s) ≤ℤ pos (length graph.now.rows)) }
     ensures alone { IfOk result (IsAppliedAlone graph.now (replacement_of candidate.entry)) }
     ensures levels { IfOk result (λ g. keeps_level graph.now.rows (replacement_of candidate.entry) ≡ true → IsNoDeeper graph.now g) }
@@ -49,42 +45,5 @@ pub fn applied(alloc: Global, graph: &Graph, candidate: Candidate) -> Result<Gra
     let _count = graph.count();
     let after = rows_after(alloc, graph, candidate)?;
     let lits = graph.observed.as_slice();
-    compact(alloc, &graph.frame, after.as_slice(), lits)
-}
-
-// The rows of a graph after a proposal, and a copy of its observed literals.
-fn moved(
-    alloc: Global,
-    graph: &Graph,
-    candidate: Candidate,
-) -> Result<(Vec<Row>, Vec<Lit>), AllocError>
-    requires { is_and (row_at graph.now.rows candidate.root) ≡ true }
-    ensures rows { IfOk result (λ r. r.0.items ≡ rows_after_by graph.now.rows (replacement_of candidate.entry)) }
-    ensures observed { IfOk result (λ r. r.1.items ≡ graph.now.observed) }
-{
-    let rows = rows_after(alloc, graph, candidate)?;
-    let observed = Vec::from_slice(alloc, graph.observed.as_slice())?;
-    Ok((rows, observed))
-}
-
-/// The same of a graph that isn't wanted any more: its frame is moved. Where memory is refused, the graph comes back.
-pub fn apply(
-    alloc: Global,
-    graph: Graph,
-    candidate: Candidate,
-) -> Result<Graph, (Graph, AllocError)>
-    requires sound { IsSoundBy graph.rows (replacement_of candidate) }
-    requires few { length (rows_after_by graph.rows (replacement_of candidate)) < NODE_LIMIT }
-    ensures frame { IfOk result (λ g. g.frame ≡ graph.frame) }
-    ensures values { IfOk result (λ g. (bits : List Bool) → rows_function g.rows g.observed bits ≡ rows_function graph.rows graph.observed bits) }
-    ensures count { IfOk result (λ g. (s : ℤ) → SavedBy graph.rows graph.observed (replacement_of candidate.entry) s → (pos (length g.rows) +ℤ s) ≤ℤ pos (length graph.rows)) }
-    ensures refused { IfErr result (λ e. e.0 ≡ graph) }
-{
-    let _count = graph.count();
-    match moved(alloc, &graph, candidate) {
-        Ok((rows, observed)) => {
-            compact_graph(alloc, graph, rows.as_slice(), observed.as_slice())
-        }
-        Err(error) => Err((graph, error)),
-    }
+    compact(alloc, graph.source_count, after.as_slice(), lits)
 }

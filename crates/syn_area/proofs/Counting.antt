@@ -6,7 +6,7 @@ use Rattle.std.proofs.lemmas.List.{length-map}
 use Rattle.syn_rows.specs.Nodes.{has_node}
 use Rattle.syn_rows.proofs.Nodes.{has_here, has_there}
 use Rattle.syn_graph.specs.declared.Graph.{Graph}
-use Rattle.syn_lutshapes.specs.Luts.{rising}
+use Rattle.syn_lutnet.specs.LutData.{rising}
 use Rattle.syn_lutnet.specs.declared.nets.LutNet.{LutNet}
 use Rattle.syn_lutnet.specs.Data.{lut_data}
 use Rattle.syn_covering.specs.Making.{IsMappedBy}
@@ -57,4 +57,4 @@ no_longer (x ∷ xs) (y ∷ ys) r s h =
 -- a net of the chosen cuts has no more LUTs than nodes need one
 pub plain_fewest : (k : ℕ) (graph : Graph) (net : LutNet) (nodes : List ℕ) → IsMapped k graph net → AreNeeded k graph.rows graph.observed nodes → length net.luts ≤ length nodes
 unfolding IsMappedBy
-plain_fewest k graph net nodes (own, is) all = omega (arith, no_longer own nodes is.rise all.rise (λ n h. all.all n (is.needed n h)), is.long, length-map net.luts lut_data)
+plain_fewest k graph net nodes (own, is) all = omega (arith, no_longer own nodes is.nodes_are.rise all.rise (λ n h. all.all n (is.nodes_are.needed n h)), is.long, length-map net.luts lut_data)

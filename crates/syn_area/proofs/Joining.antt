@@ -1,16 +1,15 @@
 -- Unions of kept cuts of the fan-ins of an AND are cuts of it that a LUT may read, and so are the fan-ins.
-use Rattle.std.proofs.Common.{◌≡◌, ℕ, ◌+◌, ◌<◌, ◌≤◌, ◌&&◌, nat_eq, nat_le, nat_lt, true, false, List, [], ◌∷◌, length, map, refl, sym, ap, ◌∙◌, subst, inl, inr, not, arith}
-use Rattle.std.proofs.lemmas.Bool.{cases_lt, and_parts, and_from, both_ways, ltb-true, lt-ltb}
-use Rattle.std.proofs.lemmas.List.{get_or-map, get_or_past}
+use Rattle.std.proofs.Common.{◌≡◌, ℕ, ◌<◌, ◌≤◌, ◌&&◌, nat_eq, nat_le, nat_lt, true, false, List, [], ◌∷◌, length, map, refl, sym, ap, ◌∙◌, subst, inr, not, arith}
+use Rattle.std.proofs.lemmas.Bool.{and_parts, and_from, both_ways, ltb-true, lt-ltb}
+use Rattle.std.proofs.lemmas.List.{get_or-map}
 use Rattle.syn_rows.specs.declared.Lit.{Lit}
 use Rattle.syn_rows.specs.declared.Row.{Row}
 use Rattle.syn_rows.specs.declared.Row.TheVariants.{Free, Source, And, Alias}
 use Rattle.syn_rows.specs.Rows.{node_of, row_at}
 use Rattle.syn_rows.specs.Reach.{is_and}
 use Rattle.syn_hashed.specs.Hashed.{is_gate, IsHashed}
+use Rattle.syn_hashed.proofs.Orders.{and_inside}
 use Rattle.syn_cones.proofs.Swapping.{fan_ins_are_cut}
-use Rattle.syn_netlist.specs.Frames.{frame_in}
-use Rattle.syn_netlist.specs.Lists.{sources}
 use Rattle.syn_graph.specs.declared.Graph.{Graph}
 use Rattle.syn_cuts.proofs.Cutting.{cut_union}
 use Rattle.syn_cuts.proofs.Rising.{IsCutOf, fan_ins, union_of, upper}
@@ -21,10 +20,7 @@ use Rattle.syn_area.specs.declared.lists.Listed.{Listed}
 
 -- an AND of hashed rows is a gate
 gate_of : (count : ℕ) (rows : List Row) → IsHashed count rows → (n : ℕ) (a b : Lit) → row_at rows n ≡ And a b → n < length rows → is_gate n (And a b) ≡ true
-gate_of count rows hashed n a b e lt = subst (λ (r : Row). is_gate n r ≡ true) e (hashed.gates n above lt)
-  where
-    above : count < n
-    above = elim (cases_lt n (count + 1)) [ inl low ↦ absurd (both_ways (is_and (row_at rows n)) (ap is_and (hashed.front n low)) (ap is_and e)) | inr ge ↦ omega (arith, ge) ]
+gate_of count rows hashed n a b e lt = subst (λ (r : Row). is_gate n r ≡ true) e (hashed.gates n (and_inside count rows hashed n (ap is_and e)).0 lt)
 
 as_cut : (rows : List Row) (m : ℕ) (c : List ℕ) → IsKept rows m c → IsCutOf m c
 as_cut rows m c p = record { rising = p.rising; low = p.low; sized = p.sized }
@@ -41,7 +37,7 @@ pub joined : (gr : Graph) (k n : ℕ) (a b : Lit) (left right : ℕ) (listed : L
     → AreCandidates k gr.rows n kept
 joined gr k n a b left right listed chosen kept e lt is_a is_b before have =
     have gr.rows
-    (subst (λ x. Joins k gr.rows x right n) (sym is_a) (subst (λ y. Joins k gr.rows (node_of a) y n) (sym is_b) (joins k (length (sources (frame_in gr.frame))) gr.rows gr.graph.hashed n a b e lt)))
+    (subst (λ x. Joins k gr.rows x right n) (sym is_a) (subst (λ y. Joins k gr.rows (node_of a) y n) (sym is_b) (joins k gr.source_count gr.rows gr.graph.hashed n a b e lt)))
     before.kept
     (before.fit n (ap is_and e))
 
@@ -71,17 +67,10 @@ fan_ins_fit k count rows two hashed n a b e lt =
       few = two;
     }
 
--- an AND is there
-and_there : (rows : List Row) (n : ℕ) → is_and (row_at rows n) ≡ true → n < length rows
-and_there rows n a = elim (cases_lt n (length rows)) [
-  | inl lt ↦ lt
-  | inr past ↦ absurd (both_ways (is_and (row_at rows n)) (ap is_and (get_or_past rows n Free past)) a)
-]
-
 -- the fan-ins of all ANDs are such cuts
 pub fan_ins_chosen : (k count : ℕ) (rows : List Row) (chosen : List (List ℕ)) → 2 ≤ k → IsHashed count rows → chosen ≡ map kept.fan_ins rows → AreLutCuts k rows (cut_in chosen)
 fan_ins_chosen k count rows chosen two hashed e n a =
-    let there = and_there rows n a in
+    let there = (and_inside count rows hashed n a).1 in
     let at : cut_in chosen n ≡ kept.fan_ins (row_at rows n) = ap (λ (l : List (List ℕ)). cut_in l n) e ∙ get_or-map kept.fan_ins rows n Free [] there in
     subst (IsLutCut k rows n) (sym at) (go (row_at rows n) refl a there)
   where

@@ -13,10 +13,12 @@ mod chosen;
 mod costs;
 mod covers;
 mod figures;
+mod laws;
 mod lists;
 mod mapper;
 mod near;
 mod picks;
 mod rounds;
 
+pub use laws::needed_exist;
 pub use mapper::map_for_area;

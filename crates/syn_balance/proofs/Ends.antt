@@ -9,7 +9,7 @@ use Rattle.syn_rows.specs.declared.Lit.{Lit}
 use Rattle.syn_rows.specs.declared.Row.{Row}
 use Rattle.syn_rows.specs.Rows.{node_of}
 use Rattle.syn_rows.specs.Values.{given_by}
-use Rattle.syn_shapes.specs.Graphs.{IsHashed, lit_at}
+use Rattle.syn_hashed.specs.Hashed.{IsHashed, lit_at}
 use Rattle.syn_hashed.specs.Growing.{value_by}
 use Rattle.syn_hashed.specs.Visiting.{visited, with_sign, literal_of, FirstsOf, IsRebuilt}
 use Rattle.syn_hashed.proofs.Rising.{source_value}

@@ -7,7 +7,7 @@ use Rattle.syn_rows.specs.declared.Lit.{Lit}
 use Rattle.syn_rows.specs.declared.Row.{Row}
 use Rattle.syn_rows.specs.declared.Row.TheVariants.{And}
 use Rattle.syn_rows.specs.Rows.{node_of, row_at}
-use Rattle.syn_shapes.specs.Graphs.{IsHashed}
+use Rattle.syn_hashed.specs.Hashed.{IsHashed}
 use Rattle.syn_hashed.specs.Growing.{level_by}
 use Rattle.syn_hashed.proofs.Dropped.{gate_is_and}
 use Rattle.syn_balance.specs.Roots.{mark_at, HasRoots}

@@ -16,7 +16,7 @@ use Rattle.syn_rows.specs.declared.Lit.{Lit}
 use Rattle.syn_rows.specs.declared.Row.{Row}
 use Rattle.syn_rows.specs.Rows.{node_of}
 use Rattle.syn_rows.specs.Levels.{level_in, levels_of}
-use Rattle.syn_shapes.specs.Graphs.{IsHashed}
+use Rattle.syn_hashed.specs.Hashed.{IsHashed}
 use Rattle.syn_hashed.specs.Growing.{Extends, IsAnd, IsJoin, value_by, level_by}
 use Rattle.syn_hashed.specs.Joined.{joined_lit, joined_rows}
 use Rattle.syn_hashed.proofs.Rising.{extends_longer, extends_itself, extends_through}

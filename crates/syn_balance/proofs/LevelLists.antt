@@ -6,7 +6,7 @@ use Rattle.syn_rows.specs.declared.Lit.{Lit}
 use Rattle.syn_rows.specs.declared.Row.{Row}
 use Rattle.syn_rows.specs.Rows.{node_of, row_at}
 use Rattle.syn_rows.specs.Levels.{row_level, level_in, levels_of}
-use Rattle.syn_shapes.specs.Graphs.{IsHashed}
+use Rattle.syn_hashed.specs.Hashed.{IsHashed}
 use Rattle.syn_hashed.specs.Growing.{Extends, level_by}
 use Rattle.syn_hashed.proofs.Dropped.{gate_is_and}
 use Rattle.syn_hashed.proofs.LevelLaws.{length-levels, levels-push, source_level, gate_level}

@@ -11,7 +11,7 @@ use Rattle.syn_rows.specs.declared.Row.TheVariants.{And}
 use Rattle.syn_rows.specs.Rows.{node_of, row_at}
 use Rattle.syn_rows.specs.Values.{value_in, values_of}
 use Rattle.syn_rows.specs.Levels.{level_in, levels_of}
-use Rattle.syn_shapes.specs.Graphs.{IsHashed}
+use Rattle.syn_hashed.specs.Hashed.{IsHashed}
 use Rattle.syn_hashed.specs.Growing.{Extends, value_by, level_by}
 use Rattle.syn_hashed.proofs.Rising.{extends_longer, literal_kept, gate_value}
 use Rattle.syn_hashed.proofs.Joining.{plain_value, not_value}

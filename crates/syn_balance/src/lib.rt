@@ -1,7 +1,7 @@
 //! Balancing: ANDs that belong together are joined again, those of least level first.
 #![tactic(auto)]
 
-ghost use Rattle.std.specs.Prelude.{◌≡◌, IfErr, IfOk};
+ghost use Rattle.std.specs.Prelude.{IfOk};
 ghost use Rattle.syn_hashed.specs.Compacting.{IsCompaction};
 ghost use Rattle.syn_balance.specs.Balanced.{FollowsRule, IsBalanced};
 
@@ -15,17 +15,14 @@ use syn_graph::Graph;
 use syn_hashed::{Rows, compact_hashed};
 
 /// The graph balanced (DAG-aware rewriting's balancing, DAC 2006): each AND that is observed, has two or more references or is
-/// named by a complemented literal is the AND of its leaves, which are joined again, each time the two of least level. The frame
-/// and the function stay; the number of ANDs and the levels of the observed literals don't rise. Refused, the graph comes back.
-pub fn balance(alloc: Global, graph: Graph) -> Result<Graph, (Graph, AllocError)>
-    ensures balanced { IfOk result (λ new. IsBalanced graph new) }
-    ensures rule { IfOk result (λ new. FollowsRule graph.source_count graph.rows graph.observed new.rows new.observed) }
-    ensures refused { IfErr result (λ e. e.0 ≡ graph) }
+/// named by a complemented literal is the AND of its leaves, which are joined again, each time the two of least level. The
+/// function stays; the number of ANDs and the levels of the observed literals don't rise. The only error is want of memory.
+pub fn balance(alloc: Global, graph: &Graph) -> Result<Graph, AllocError>
+    ensures balanced { IfOk result (IsBalanced graph.now) }
+    ensures rule { IfOk result (λ new. FollowsRule graph.now.source_count graph.now.rows graph.now.observed new.rows new.observed) }
 {
-    match balanced(alloc, &graph) {
-        Ok(rows) => Ok(with_rows(graph, rows)),
-        Err(error) => Err((graph, error)),
-    }
+    let kept = balanced(alloc, graph)?;
+    Ok(Graph::over(graph.source_count, kept.rows, kept.observed))
 }
 
 // The balanced rows, compacted.
@@ -42,15 +39,4 @@ fn balanced(alloc: Global, graph: &Graph) -> Result<Rows, AllocError>
     )?;
     let kept = compact_hashed(alloc, count, made.rows.as_slice(), made.observed.as_slice())?;
     Ok(kept)
-}
-
-// The graph with other rows.
-fn with_rows(graph: Graph, rows: Rows) -> Graph
-    requires compact { IsCompaction graph.source_count graph.rows graph.observed rows.rows.items rows.observed.items }
-    requires rule { FollowsRule graph.source_count graph.rows graph.observed rows.rows.items rows.observed.items }
-    ensures balanced { IsBalanced graph result }
-    ensures rule { FollowsRule graph.source_count graph.rows graph.observed result.rows result.observed }
-{
-    let Rows { rows, observed } = rows;
-    graph.with_rows(rows, observed)
 }

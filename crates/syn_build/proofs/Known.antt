@@ -23,11 +23,12 @@ use Rattle.syn_netlist.proofs.Checked.{checked_observes}
 use Rattle.std.proofs.lemmas.List.Sorted.{IsPermutation-sym, sum_by-IsPermutation}
 use Rattle.syn_netlist.proofs.Sets.{same_word, has_word-append, apart, has_head, has_tail}
 use Rattle.syn_netlist.proofs.Places.{one_number}
-use Rattle.syn_shapes.specs.GraphShape.{place}
-use Rattle.syn_shapes.specs.Graphs.{IsHashed, lit_at, source_lit}
+use Rattle.syn_network.specs.GraphShape.{place}
+use Rattle.syn_network.specs.NamedGraphs.{source_lit}
+use Rattle.syn_hashed.specs.Hashed.{IsHashed, lit_at}
 use Rattle.syn_hashed.specs.Growing.{Extends, value_by}
 use Rattle.syn_build.specs.Covering.{AllThere, IsCover}
-use Rattle.syn_graph.specs.Graphs.{HasOwnSources}
+use Rattle.syn_network.specs.Networks.{HasOwnSources}
 use Rattle.syn_build.specs.Naming.{in_order, IsNamed}
 use Rattle.syn_hashed.proofs.Rising.{literal_kept, source_value}
 use Rattle.syn_hashed.proofs.Joining.{plain_value}

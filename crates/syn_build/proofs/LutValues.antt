@@ -1,7 +1,7 @@
 -- The literals of signals have the values that the LUTs give.
-use Rattle.std.proofs.Common.{◌≡◌, ℕ, zero, suc, ◌+◌, ◌-◌, ◌*◌, ◌/◌, ◌%◌, ◌<◌, ◌≤◌, nat_eq, nat_le, nat_lt, not, if◌then◌else◌, Bool, true, false, All, List, [], ◌∷◌, ◌++◌, length, map, get_or, drop, refl, sym, ap, ap₂, ◌∙◌, subst, inl, inr, arith, append_assoc}
+use Rattle.std.proofs.Common.{◌≡◌, ℕ, zero, suc, ◌+◌, ◌-◌, ◌*◌, ◌/◌, ◌%◌, ◌<◌, ◌≤◌, nat_eq, nat_le, nat_lt, not, if◌then◌else◌, Bool, true, false, All, List, [], ◌∷◌, ◌++◌, length, map, get_or, drop, refl, sym, ap, ap₂, ◌∙◌, subst, inl, inr, arith, append_assoc, eq-eqb}
 use Rattle.std.specs.List.{list_all}
-use Rattle.std.proofs.lemmas.Bool.{and_parts, and_from, both_ways, cases_Bool, le-leb, cond-true, cond-false, ltb-true}
+use Rattle.std.proofs.lemmas.Bool.{and_parts, and_from, both_ways, cases_Bool, cond-true, cond-false, eqb-true, eqb-false, ltb-true}
 use Rattle.std.proofs.lemmas.List.{length-drop, length-map, get_or-map, map-append}
 use Rattle.std.proofs.lemmas.List.Elements.{All-cons, All-head, All-tail}
 use Rattle.syn_rows.specs.declared.Lit.{Lit}
@@ -12,27 +12,29 @@ use Rattle.syn_rows.specs.Values.{given_by, lit_value, value_in, values_of, rows
 use Rattle.syn_rows.proofs.JoinLaws.{complement_node, complement_value}
 use Rattle.syn_netlist.specs.Words.{distinct}
 use Rattle.syn_netlist.specs.Meaning.{SameFromFunction}
-use Rattle.syn_netlist.specs.Lists.{Frame, Netlist, sources, observed}
-use Rattle.syn_netlist.specs.Numbers.{word_at}
+use Rattle.syn_netlist.specs.Lists.{Frame, Netlist, sources}
 use Rattle.syn_netlist.specs.Values.{HasFunction}
 use Rattle.syn_plan.specs.declared.plan.Plan.{Plan}
 use Rattle.syn_plan.specs.Plans.{plan_truth}
 use Rattle.syn_truth.specs.declared.Truth.{Truth}
 use Rattle.syn_truth.specs.Truth.{AtEach, value_of}
-use Rattle.syn_shapes.specs.GraphShape.{place, GraphHasFunction}
-use Rattle.syn_shapes.specs.GraphShape as shape
-use Rattle.syn_shapes.proofs.Spelled.{place_lt}
-use Rattle.syn_shapes.specs.Graphs.{IsGraph, IsHashed, lit_at, source_lit}
-use Rattle.syn_shapes.specs.Spelling.{numbers_from, network, NetworkOfGraph, NetworkSpells}
+use Rattle.syn_network.specs.GraphShape.{place, GraphHasFunction}
+use Rattle.syn_network.specs.GraphShape as shape
+use Rattle.syn_network.specs.NamedGraphs.{IsNamedGraph}
+use Rattle.syn_network.specs.NamedLutNets.{IsNamedLutNet}
+use Rattle.syn_network.proofs.LutMeaning.{has_equal_function, lut_network_has_function}
+use Rattle.syn_graph.specs.Graphs.{SourcesStay}
+use Rattle.syn_hashed.specs.Hashed.{IsHashed, lit_at}
+use Rattle.syn_network.specs.Spelling.{network, NetworkOfGraph, NetworkSpells}
+use Rattle.syn_lists.specs.Numbers.{numbers_from}
 use Rattle.syn_hashed.specs.Growing.{Extends, value_by}
 use Rattle.syn_hashed.proofs.Rising.{source_value}
-use Rattle.syn_graph.specs.Graphs.{HasOwnSources}
-use Rattle.syn_lutshapes.specs.Luts as spelled
-use Rattle.syn_lutshapes.specs.Luts.{fold_luts, lut_at, lut_value, luts_function, net_gates, ones_of, ones_value, signal_values, is_input, IsLutNet, none_exceeds}
-use Rattle.syn_lutshapes.specs.LutShape.{LutsHaveFunction, observed_of}
-use Rattle.syn_lutshapes.specs.LutSpelling.{lut_network, NetworkOfLuts, NetworkSpellsLuts}
-use Rattle.syn_lutshapes.proofs.LutTables.{lut_parts}
-use Rattle.syn_lutshapes.proofs.Ones.{ones_give}
+use Rattle.syn_lutnet.specs.LutData as spelled
+use Rattle.syn_lutnet.specs.LutData.{fold_luts, lut_at, lut_value, luts_function, net_gates, ones_of, ones_value, signal_values, is_input, IsLutNet, none_exceeds}
+use Rattle.syn_network.specs.LutShape.{LutsHaveFunction}
+use Rattle.syn_network.specs.LutSpelling.{lut_network, NetworkOfLuts, NetworkSpellsLuts}
+use Rattle.syn_lutnet.proofs.LutParts.{lut_parts}
+use Rattle.syn_lutnet.proofs.Ones.{ones_give}
 use Rattle.syn_lutnet.specs.declared.luts.Lut.{Lut}
 use Rattle.syn_lutnet.specs.Data.{lut_data, luts_data}
 use Rattle.syn_lutnet.proofs.LutDepths.{luts_next}
@@ -170,10 +172,10 @@ inputs_below n (i ∷ is) h =
     let parts = and_parts (is_input n i) (list_all (is_input n) is) h in
     and_from (reads_below n i) (list_all (reads_below n) is) (and_parts (nat_le 1 i) (nat_lt i n) parts.0).1 (inputs_below n is parts.1)
 
-pub net_reads_earlier : (frame : Frame) (luts : List spelled.Lut) (lits : List Lit) (count : ℕ) → count ≡ length (sources frame) + 1 → IsLutNet frame luts lits → ReadEarlier count luts
-net_reads_earlier frame luts lits count e net j lt =
+pub net_reads_earlier : (luts : List spelled.Lut) (lits : List Lit) (sources count : ℕ) → count ≡ sources + 1 → IsLutNet sources luts lits → ReadEarlier count luts
+net_reads_earlier luts lits sources count e net j lt =
     subst (λ n. list_all (reads_below (n + j)) (lut_at luts j).inputs ≡ true) (sym e)
-    (inputs_below (length (sources frame) + 1 + j) (lut_at luts j).inputs (lut_parts (length (sources frame) + 1 + j) (lut_at luts j) (net.luts_fit j lt)).inside)
+    (inputs_below (sources + 1 + j) (lut_at luts j).inputs (lut_parts (sources + 1 + j) (lut_at luts j) (net.luts_fit j lt)).inside)
 
 -- The observed literals of a LUT net, by those of its signals.
 
@@ -184,19 +186,22 @@ signed_there rows signals literals there within i d lt =
     subst (λ l. node_of l < length rows) (sym (get_or-map (signed_by signals) literals i (record { 0 = 0 }) d inside))
     (omega (arith, plain, sign_node ((get_or literals i (record { 0 = 0 })).0 % 2) (lit_at signals (node_of (get_or literals i (record { 0 = 0 }))))))
 
--- observed sources keep their own literals
-pub signed_own : (frame : Frame) (luts : List spelled.Lut) (lits signals outs : List Lit) → IsLutNet frame luts lits → ((i : ℕ) → i < length (sources frame) + 1 → lit_at signals i ≡ lit_of i) → outs ≡ map (signed_by signals) lits → HasOwnSources frame outs
-signed_own frame luts lits signals outs net own outs_are i lt s =
-    let inside : i < length lits = omega (arith, lt, ap (λ (ls : List Lit). length ls) outs_are, length-map lits (signed_by signals)) in
-    let low = place_lt (sources frame) (word_at (observed frame) i) s in
-    ap (λ (ls : List Lit). lit_at ls i) outs_are ∙ get_or-map (signed_by signals) lits i (record { 0 = 0 }) (record { 0 = 0 }) inside
-    ∙ ap (signed_by signals) (net.own i inside s) ∙ back (place (word_at (observed frame) i) (sources frame)) low
-  where
-    back : (p : ℕ) → p < length (sources frame) → signed_by signals (source_lit p) ≡ source_lit p
-    back p lt =
-        let even : 2 * (p + 1) % 2 ≡ 0 = omega arith in
-        let half : 2 * (p + 1) / 2 ≡ p + 1 = omega arith in
-        ap₂ (λ (r m : ℕ). if nat_eq r 0 then lit_at signals m else complement (lit_at signals m)) even half ∙ own (p + 1) (omega (arith, lt))
+complement_plain : (n : ℕ) → (complement (lit_of n)).0 ≡ 2 * n + 1
+complement_plain n = cond-true (nat_eq (2 * n % 2) 0) (2 * n + 1) (2 * n - 1) (let even : 2 * n % 2 ≡ 0 = omega arith in eq-eqb (2 * n % 2) 0 even)
+
+-- a literal of the constant or of a source stands for itself
+pub signed_plain : (signals : List Lit) (l : Lit) → lit_at signals (node_of l) ≡ lit_of (node_of l) → signed_by signals l ≡ l
+signed_plain signals l own = elim (cases_Bool (nat_eq (l.0 % 2) 0)) [
+  | inl e ↦ cond-true (nat_eq (l.0 % 2) 0) (lit_at signals (node_of l)) (complement (lit_at signals (node_of l))) e ∙ own
+      ∙ ap literal_with (let even = eqb-true (l.0 % 2) 0 e in let s : 2 * node_of l ≡ l.0 = omega (arith, even) in s)
+  | inr e ↦ cond-false (nat_eq (l.0 % 2) 0) (lit_at signals (node_of l)) (complement (lit_at signals (node_of l))) e ∙ ap complement own
+      ∙ ap literal_with (let odd = eqb-false (l.0 % 2) 0 e in let s : (complement (lit_of (node_of l))).0 ≡ l.0 = omega (arith, odd, complement_plain (node_of l)) in s)
+]
+
+pub signed_stay : (count : ℕ) (lits signals outs : List Lit) → ((i : ℕ) → i < count + 1 → lit_at signals i ≡ lit_of i) → outs ≡ map (signed_by signals) lits → SourcesStay count lits outs
+signed_stay count lits signals outs own outs_are i l lt low at =
+    ap (λ (ls : List Lit). lit_at ls i) outs_are ∙ get_or-map (signed_by signals) lits i (record { 0 = 0 }) (record { 0 = 0 }) lt ∙ ap (signed_by signals) at
+    ∙ signed_plain signals l (own (node_of l) low)
 
 -- the function of the rows is that of the LUTs
 pub net_function : (bits : List Bool) (count : ℕ) (old new : List Row) (luts : List spelled.Lut) (lits signals after outs : List Lit) → IsHashed count old → length bits ≡ count → signals ≡ plain_literals (count + 1)
@@ -217,10 +222,10 @@ lut_value_is given old new t plan leaves l computes long is =
 
 -- the netlist of the graph is the graph of the LUT net's
 pub graph_of_luts : NetworkOfLuts → LutsHaveFunction → NetworkOfGraph → GraphHasFunction → SameFromFunction → (frame : Frame) (luts : List spelled.Lut) (lits : List Lit) (rows : List Row) (outs : List Lit) → distinct frame.clocks ≡ true → distinct (sources frame) ≡ true
-    → IsLutNet frame luts lits → (k : ℕ) → none_exceeds k luts ≡ true → IsGraph frame rows outs → ((bits : List Bool) → length bits ≡ length (sources frame) → rows_function rows outs bits ≡ luts_function luts lits bits)
+    → IsNamedLutNet frame luts lits → (k : ℕ) → none_exceeds k luts ≡ true → IsNamedGraph frame rows outs → ((bits : List Bool) → length bits ≡ length (sources frame) → rows_function rows outs bits ≡ luts_function luts lits bits)
     → length rows ≤ length (sources frame) + 1 + net_gates luts → IsGraphOfLuts (lut_network frame luts lits) (network frame rows outs)
 graph_of_luts of_luts luts_have of_graph graph_has same_meaning frame luts lits rows outs clocks once net k small graph same fewer = record {
-  same = same_meaning n m (luts_function luts lits) refl from to;
+  same = same_meaning n m (luts_function luts lits) refl (lut_network_has_function of_luts luts_have frame luts lits clocks once net k small) (has_equal_function m (luts_function luts lits) (rows_function rows outs) same own);
   ordered = s.ordered;
   shape = s.shape;
   fewer = omega (arith, s.ands, length-drop (length (sources frame) + 1) rows, fewer, l.gates);
@@ -238,16 +243,5 @@ graph_of_luts of_luts luts_have of_graph graph_has same_meaning frame luts lits 
     s : NetworkSpells frame rows outs
     s = of_graph frame rows outs clocks once graph
 
-    from : HasFunction n (luts_function luts lits)
-    from = subst (λ (ls : List Lit). HasFunction n (luts_function luts ls)) l.same_lits (subst (λ (xs : List spelled.Lut). HasFunction n (luts_function xs (observed_of n))) l.same_luts (luts_have n k (l.shape k small) l.ordered))
-
     own : HasFunction m (rows_function rows outs)
     own = subst (λ (ls : List Lit). HasFunction m (rows_function rows ls)) s.same_lits (subst (λ (rs : List Row). HasFunction m (rows_function rs (shape.observed_of m))) s.same_rows (graph_has m s.shape s.ordered).1)
-
-    to : HasFunction m (luts_function luts lits)
-    to = record { total = own.total; value = λ v c. own.value v c ∙ same (map v (sources frame)) (length-map (sources frame) v) }
-
--- no LUT has more than 8 inputs
-pub eight_exceeded_by_none : (luts : List Lut) → none_exceeds 8 (luts_data luts) ≡ true
-eight_exceeded_by_none [] = refl
-eight_exceeded_by_none (l ∷ ls) = and_from (nat_le (length l.inputs.items) 8) (none_exceeds 8 (luts_data ls)) (le-leb (length l.inputs.items) 8 (omega (arith, l.vars, l.truth.few))) (eight_exceeded_by_none ls)

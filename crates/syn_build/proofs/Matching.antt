@@ -10,7 +10,7 @@ use Rattle.syn_rows.specs.Rows.{node_of}
 use Rattle.syn_rows.specs.Values.{lit_value, value_in, values_of}
 use Rattle.syn_netlist.specs.Covers.{fits_bit, matches}
 use Rattle.syn_netlist.specs.Costs.{is_sign}
-use Rattle.syn_shapes.specs.Graphs.{IsHashed}
+use Rattle.syn_hashed.specs.Hashed.{IsHashed}
 use Rattle.syn_hashed.specs.Growing.{Extends, value_by, IsOr}
 use Rattle.syn_placing.proofs.Placed.{values_kept}
 use Rattle.syn_build.specs.Covering.{AllThere, IsFit, IsMatch, IsOrMatch, IsCover}

@@ -4,9 +4,9 @@ use Rattle.std.specs.List.{list_all}
 use Rattle.syn_rows.specs.declared.Lit.{Lit}
 use Rattle.syn_rows.specs.Joining.{complement, lit_of}
 use Rattle.syn_rows.specs.Rows.{node_of}
-use Rattle.syn_shapes.specs.Graphs.{lit_at}
-use Rattle.syn_shapes.specs.Spelling.{numbers_from}
-use Rattle.syn_lutshapes.specs.Luts.{Lut, lut_at}
+use Rattle.syn_hashed.specs.Hashed.{lit_at}
+use Rattle.syn_lists.specs.Numbers.{numbers_from}
+use Rattle.syn_lutnet.specs.LutData.{Lut, lut_at}
 
 -- the signal is one of the first so many
 abbrev pub reads_below : ℕ → ℕ → Bool

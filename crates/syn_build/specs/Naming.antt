@@ -9,8 +9,9 @@ use Rattle.syn_netlist.specs.Numbers.{word_at}
 use Rattle.syn_netlist.specs.Values.{Consistent}
 use Rattle.syn_netlist.specs.Order.{with_tables}
 use Rattle.syn_netlist.specs.Faults.{tables_at}
-use Rattle.syn_shapes.specs.GraphShape.{place}
-use Rattle.syn_shapes.specs.Graphs.{lit_at, source_lit}
+use Rattle.syn_network.specs.GraphShape.{place}
+use Rattle.syn_network.specs.NamedGraphs.{source_lit}
+use Rattle.syn_hashed.specs.Hashed.{lit_at}
 use Rattle.syn_hashed.specs.Growing.{value_by}
 use Rattle.syn_build.specs.Covering.{AllThere}
 

@@ -6,15 +6,15 @@ ghost use Rattle.syn_rows.specs.declared.TheConstants.{NODE_LIMIT};
 ghost use Rattle.syn_rows.specs.Rows.{node_of};
 ghost use Rattle.syn_rows.specs.Values.{rows_function};
 ghost use Rattle.syn_netlist.specs.Frames.{frame_in};
-ghost use Rattle.syn_netlist.specs.Lists.{observed, sources};
-ghost use Rattle.syn_shapes.specs.Graphs.{lit_at};
+ghost use Rattle.syn_netlist.specs.Lists.{sources};
+ghost use Rattle.syn_hashed.specs.Hashed.{lit_at};
 ghost use Rattle.syn_hashed.specs.Growing.{Extends, value_by};
-ghost use Rattle.syn_graph.specs.Graphs.{HasOwnSources};
-ghost use Rattle.syn_graph.specs.Graphs as graphs;
-ghost use Rattle.syn_lutshapes.specs.Luts.{fold_luts, lut_gates, lut_value, luts_function, net_gates, ones_of, ones_value};
+ghost use Rattle.syn_graph.specs.Graphs.{SourcesStay};
+ghost use Rattle.syn_network.specs.Written as graphs;
+ghost use Rattle.syn_lutnet.specs.LutData.{fold_luts, lut_gates, lut_value, luts_function, net_gates, ones_of, ones_value};
 ghost use Rattle.syn_lutnet.specs.declared.luts.TheConstants.{MAX_INPUTS};
 ghost use Rattle.syn_lutnet.specs.Data.{lut_data, luts_data};
-ghost use Rattle.syn_lutnet.specs.Nets.{network_of};
+ghost use Rattle.syn_network.specs.WrittenLuts.{network_of};
 ghost use Rattle.syn_build.specs.GraphOfLuts.{IsGraphOfLuts};
 ghost use Rattle.syn_build.specs.Covering.{AllThere};
 ghost use Rattle.syn_build.specs.LutLiterals.{plain_literals, ReadEarlier, reads_below, signed_by};
@@ -23,9 +23,9 @@ ghost use Rattle.syn_build.specs.BuildFaults.{TellsFault, most_gates};
 use crate::tables::{Built, signed};
 use arrayvec::ArrayVec;
 use std::alloc::{AllocError, AllocFailed, Global};
-use syn_graph::{Graph, copy_frame};
 use syn_hashed::HashedRows;
 use syn_lutnet::{Lut, LutNet, MAX_INPUTS};
+use syn_network::{LutNetwork, Network, copy_frame, finish};
 use syn_placing::place_plan;
 use syn_rows::Lit;
 use thiserror::Error;
@@ -149,15 +149,15 @@ fn signed_literals(alloc: Global, signals: &[Lit], literals: &[Lit]) -> Result<V
     Ok(found)
 }
 
-// The rows of a LUT net, with a literal for each observed signal.
+// The rows of a LUT net, with a literal for each observed one.
 fn build_net(alloc: Global, net: &LutNet) -> Result<Built, AllocError>
-    requires { length (sources (frame_in net.now.frame)) + 1 + net_gates (luts_data net.now.luts) < NODE_LIMIT }
-    ensures sources { IfOk result (λ b. b.hashed.source_count ≡ length (sources (frame_in net.now.frame))) }
-    ensures few { IfOk result (λ b. length b.hashed.rows.items ≤ length (sources (frame_in net.now.frame)) + 1 + net_gates (luts_data net.now.luts)) }
-    ensures count { IfOk result (λ b. length b.observed.items ≡ length (observed (frame_in net.now.frame))) }
+    requires { net.now.source_count + 1 + net_gates (luts_data net.now.luts) < NODE_LIMIT }
+    ensures sources { IfOk result (λ b. b.hashed.source_count ≡ net.now.source_count) }
+    ensures few { IfOk result (λ b. length b.hashed.rows.items ≤ net.now.source_count + 1 + net_gates (luts_data net.now.luts)) }
+    ensures count { IfOk result (λ b. length b.observed.items ≡ length net.now.observed) }
     ensures within { IfOk result (λ b. AllThere b.hashed.rows.items b.observed.items) }
-    ensures own { IfOk result (λ b. HasOwnSources (frame_in net.now.frame) b.observed.items) }
-    ensures function { IfOk result (λ b. (bits : List Bool) → length bits ≡ length (sources (frame_in net.now.frame)) → rows_function b.hashed.rows.items b.observed.items bits ≡ luts_function (luts_data net.now.luts) net.now.observed bits) }
+    ensures stay { IfOk result (λ b. SourcesStay net.now.source_count net.now.observed b.observed.items) }
+    ensures function { IfOk result (λ b. (bits : List Bool) → length bits ≡ net.now.source_count → rows_function b.hashed.rows.items b.observed.items bits ≡ luts_function (luts_data net.now.luts) net.now.observed bits) }
 {
     let mut hashed = HashedRows::new(alloc, net.source_count as usize)?;
     let mut signals = source_literals(alloc, net.source_count)?;
@@ -170,27 +170,27 @@ fn build_net(alloc: Global, net: &LutNet) -> Result<Built, AllocError>
 /// no observed signal reaches is dropped. The frame is copied.
 ///
 /// A net that takes more than `MAX_GATES` gates is refused; the only other error is want of memory.
-pub fn build_luts(alloc: Global, net: &LutNet) -> Result<Graph, BuildFault>
+pub fn build_luts(alloc: Global, net: &LutNetwork) -> Result<Network, BuildFault>
     requires room { length (sources (frame_in net.now.frame)) + 1 + most_gates < NODE_LIMIT }
     ensures frame { IfOk result (λ graph. frame_in graph.frame ≡ frame_in net.now.frame) }
-    ensures function { IfOk result (λ graph. (bits : List Bool) → length bits ≡ length (sources (frame_in net.now.frame)) → rows_function graph.rows graph.observed bits ≡ luts_function (luts_data net.now.luts) net.now.observed bits) }
+    ensures function { IfOk result (λ graph. (bits : List Bool) → length bits ≡ length (sources (frame_in net.now.frame)) → rows_function graph.body.rows graph.body.observed bits ≡ luts_function (luts_data net.now.body.luts) net.now.body.observed bits) }
     ensures network { IfOk result (λ graph. IsGraphOfLuts (network_of net.now) (graphs.network_of graph)) }
-    ensures few { IfOk result (λ graph. length graph.rows ≤ length (sources (frame_in net.now.frame)) + 1 + net_gates (luts_data net.now.luts)) }
-    ensures within { IfOk result (λ graph. net_gates (luts_data net.now.luts) ≤ most_gates) }
-    ensures fault { IfErr result (TellsFault (net_gates (luts_data net.now.luts))) }
+    ensures few { IfOk result (λ graph. length graph.body.rows ≤ length (sources (frame_in net.now.frame)) + 1 + net_gates (luts_data net.now.body.luts)) }
+    ensures within { IfOk result (λ graph. net_gates (luts_data net.now.body.luts) ≤ most_gates) }
+    ensures fault { IfErr result (TellsFault (net_gates (luts_data net.now.body.luts))) }
 {
-    syn_lutshapes::network_of_luts();
-    syn_lutshapes::luts_have_function();
-    syn_shapes::network_of_graph();
-    syn_shapes::graph_has_function();
+    syn_network::network_of_luts();
+    syn_network::luts_have_function();
+    syn_network::network_of_graph();
+    syn_network::graph_has_function();
     syn_netlist::same_from_function();
-    let gates = net.gates();
+    let gates = net.body.gates();
     if gates > MAX_GATES {
         return Err(BuildFault::TooManyGates(gates));
     }
-    let built = build_net(alloc, net)?;
+    let built = build_net(alloc, &net.body)?;
     let frame = copy_frame(alloc, &net.frame)?;
     let Built { hashed, observed } = built;
-    let graph = syn_strash::finish(alloc, frame, hashed, observed.as_slice())?;
+    let graph = finish(alloc, frame, hashed, observed.as_slice())?;
     Ok(graph)
 }

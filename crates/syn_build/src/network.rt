@@ -9,26 +9,26 @@ ghost use Rattle.syn_netlist.specs.Views.{netlist_in};
 ghost use Rattle.syn_netlist.specs.Faults.{IsChecked, PutsInOrder};
 ghost use Rattle.syn_netlist.specs.Costs.{cost_of};
 ghost use Rattle.syn_netlist.specs.Values.{HasFunction};
-ghost use Rattle.syn_graph.specs.Graphs.{network_of};
+ghost use Rattle.syn_network.specs.Written.{network_of};
 ghost use Rattle.syn_build.specs.Building.{IsGraphOf};
 
 use crate::tables::{Built, build_tables};
 use std::alloc::{AllocError, Global};
-use syn_graph::Graph;
 use syn_netlist::{CheckedNetlist, NetFault, Netlist};
+use syn_network::{Network, finish};
 
 /// The graph of a netlist without a fault: its tables are built in file order, each after the tables of its inputs in
 /// input order, and the rows that no observed signal reaches are dropped. Of the names the graph keeps those of its
 /// sources and observed signals. The only error is want of memory.
 ///
 /// The order of the tables is looked for; `build_checked` takes it from beside the netlist.
-pub fn build(alloc: Global, netlist: &Netlist) -> Result<Graph, AllocError>
+pub fn build(alloc: Global, netlist: &Netlist) -> Result<Network, AllocError>
     requires checked { IsChecked (netlist_in netlist.now) }
     requires room { length (sources (frame_in netlist.now.frame)) + cost_of (netlist_in netlist.now) + 2 < NODE_LIMIT }
     requires names { length netlist.now.frame.names < 2 ^ 31 }
     ensures network { IfOk result (λ graph. IsGraphOf (netlist_in netlist.now) (network_of graph)) }
-    ensures function { IfOk result (λ graph. HasFunction (netlist_in netlist.now) (rows_function graph.rows graph.observed)) }
-    ensures few { IfOk result (λ graph. length graph.rows ≤ length (sources (frame_in netlist.now.frame)) + 1 + cost_of (netlist_in netlist.now)) }
+    ensures function { IfOk result (λ graph. HasFunction (netlist_in netlist.now) (rows_function graph.body.rows graph.body.observed)) }
+    ensures few { IfOk result (λ graph. length graph.body.rows ≤ length (sources (frame_in netlist.now.frame)) + 1 + cost_of (netlist_in netlist.now)) }
     ensures names { IfOk result (λ graph. graph.frame.names ≡ own_names (frame_in netlist.now.frame)) }
 {
     let order = making_order(alloc, netlist)?;
@@ -36,12 +36,12 @@ pub fn build(alloc: Global, netlist: &Netlist) -> Result<Graph, AllocError>
 }
 
 /// The graph of a checked netlist, as `build` makes it. The tables are built in the order that stands beside the netlist.
-pub fn build_checked(alloc: Global, checked: CheckedNetlist) -> Result<Graph, AllocError>
+pub fn build_checked(alloc: Global, checked: CheckedNetlist) -> Result<Network, AllocError>
     requires room { length (sources (frame_in checked.netlist.frame)) + cost_of (netlist_in checked.netlist) + 2 < NODE_LIMIT }
     requires names { length checked.netlist.frame.names < 2 ^ 31 }
     ensures network { IfOk result (λ graph. IsGraphOf (netlist_in checked.netlist) (network_of graph)) }
-    ensures function { IfOk result (λ graph. HasFunction (netlist_in checked.netlist) (rows_function graph.rows graph.observed)) }
-    ensures few { IfOk result (λ graph. length graph.rows ≤ length (sources (frame_in checked.netlist.frame)) + 1 + cost_of (netlist_in checked.netlist)) }
+    ensures function { IfOk result (λ graph. HasFunction (netlist_in checked.netlist) (rows_function graph.body.rows graph.body.observed)) }
+    ensures few { IfOk result (λ graph. length graph.body.rows ≤ length (sources (frame_in checked.netlist.frame)) + 1 + cost_of (netlist_in checked.netlist)) }
     ensures names { IfOk result (λ graph. graph.frame.names ≡ own_names (frame_in checked.netlist.frame)) }
 {
     checked.is_in_order();
@@ -49,22 +49,22 @@ pub fn build_checked(alloc: Global, checked: CheckedNetlist) -> Result<Graph, Al
 }
 
 // The graph of a netlist whose tables are built in this order.
-fn build_in_order(alloc: Global, netlist: &Netlist, order: &[u32]) -> Result<Graph, AllocError>
+fn build_in_order(alloc: Global, netlist: &Netlist, order: &[u32]) -> Result<Network, AllocError>
     requires order { PutsInOrder (netlist_in netlist.now) order.now }
     requires room { length (sources (frame_in netlist.now.frame)) + cost_of (netlist_in netlist.now) + 2 < NODE_LIMIT }
     requires names { length netlist.now.frame.names < 2 ^ 31 }
     ensures network { IfOk result (λ graph. IsGraphOf (netlist_in netlist.now) (network_of graph)) }
-    ensures function { IfOk result (λ graph. HasFunction (netlist_in netlist.now) (rows_function graph.rows graph.observed)) }
-    ensures few { IfOk result (λ graph. length graph.rows ≤ length (sources (frame_in netlist.now.frame)) + 1 + cost_of (netlist_in netlist.now)) }
+    ensures function { IfOk result (λ graph. HasFunction (netlist_in netlist.now) (rows_function graph.body.rows graph.body.observed)) }
+    ensures few { IfOk result (λ graph. length graph.body.rows ≤ length (sources (frame_in netlist.now.frame)) + 1 + cost_of (netlist_in netlist.now)) }
     ensures names { IfOk result (λ graph. graph.frame.names ≡ own_names (frame_in netlist.now.frame)) }
 {
-    syn_shapes::network_of_graph();
-    syn_shapes::graph_has_function();
+    syn_network::network_of_graph();
+    syn_network::graph_has_function();
     syn_netlist::same_from_function();
     let built = build_tables(alloc, netlist, order)?;
     let frame = netlist.frame.over_own_names(alloc)?;
     let Built { hashed, observed } = built;
-    let graph = syn_strash::finish(alloc, frame, hashed, observed.as_slice())?;
+    let graph = finish(alloc, frame, hashed, observed.as_slice())?;
     Ok(graph)
 }
 

@@ -15,10 +15,11 @@ ghost use Rattle.syn_netlist.specs.Order.{defined};
 ghost use Rattle.syn_netlist.specs.Values.{HasFunction};
 ghost use Rattle.syn_netlist.specs.Views.{frame_in, netlist_in};
 ghost use Rattle.syn_netlist.specs.Words.{distinct};
-ghost use Rattle.syn_shapes.specs.Graphs.{IsHashed, lit_at, source_lit};
+ghost use Rattle.syn_network.specs.NamedGraphs.{source_lit};
+ghost use Rattle.syn_hashed.specs.Hashed.{IsHashed, lit_at};
 ghost use Rattle.syn_hashed.specs.Growing.{Extends};
 ghost use Rattle.syn_build.specs.Covering.{AllThere, IsCover, IsFit, IsMatch, IsOrMatch};
-ghost use Rattle.syn_graph.specs.Graphs.{HasOwnSources};
+ghost use Rattle.syn_network.specs.Networks.{HasOwnSources};
 ghost use Rattle.syn_build.specs.Naming.{in_order, IsNamed};
 
 use std::alloc::{AllocError, Global};

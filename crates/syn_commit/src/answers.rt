@@ -13,7 +13,7 @@ use crate::cone_walk::walk;
 use crate::loaded::{MAX_PINS, counts, keys};
 use crate::suggestions::try_hints;
 use crate::trial::Trial;
-use crate::{Gate, Moment, Tools};
+use crate::{CommitHook, Moment, Tools};
 use arrayvec::ArrayVec;
 use syn_decide::{Attempt, Deciding, Decision, NewRows, Outcome, StaleCause};
 use syn_table::Seat;
@@ -31,8 +31,8 @@ fn is_claimed(attempt: &Attempt<'_>, deciding: &Deciding) -> bool {
 }
 
 /// From the walk to the answer: what is loaded is what the decision asks for, and hints. The rows are room.
-pub(crate) fn answer<G: Gate>(
-    tools: &Tools<'_, G>,
+pub(crate) fn answer<H: CommitHook>(
+    tools: &Tools<'_, H>,
     trial: &Trial<'_>,
     seat: &mut Seat,
     deciding: &mut Deciding,
@@ -50,7 +50,7 @@ pub(crate) fn answer<G: Gate>(
 {
     walk(trial, seat, deciding);
     if is_claimed(&trial.attempt, deciding) {
-        tools.gate.at(tools.worker, Moment::Claimed);
+        tools.hook.at(tools.worker, Moment::Claimed);
     }
     keys(trial, seat, deciding, pins);
     try_hints(trial, seat, deciding, pins, rows);

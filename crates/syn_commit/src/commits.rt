@@ -17,14 +17,14 @@ use crate::done::{Stores, store};
 use crate::returns::{Holding, give_up};
 use crate::spare::Spare;
 use crate::trial::{Trial, Verdict};
-use crate::{Gate, Moment, Pool, Tools};
+use crate::{CommitHook, Moment, Pool, Tools};
 use std::snapshot::Snapshot;
 use syn_decide::{Attempt, Outcome};
 use syn_gain::Proposal;
 use syn_table::Seat;
 
 // What follows the answer: `Done` is stored, and at any other one the commit gives up.
-fn settle(
+fn store_or_give_up(
     verdict: &Verdict<'_>,
     seat: &mut Seat,
     pool: &mut Spare,
@@ -47,8 +47,8 @@ fn settle(
 /// `Done` the root has a new row; at any other answer no row changed but those to which nobody refers any more. It answers
 /// `Busy` only of a node that another seat held, and so never to a seat that has all numbers. The seat holds its pool alone
 /// before and after. It takes no memory and waits for nobody.
-pub fn try_commit<G: Gate>(
-    tools: &Tools<'_, G>,
+pub fn try_commit<H: CommitHook>(
+    tools: &Tools<'_, H>,
     seat: &mut Seat,
     pool: &mut Pool,
     proposal: &Proposal,
@@ -101,7 +101,7 @@ pub fn try_commit<G: Gate>(
         deciding: &pool.room.deciding,
         start: &start,
     };
-    settle(
+    store_or_give_up(
         &verdict,
         seat,
         &mut pool.spare,
@@ -109,7 +109,7 @@ pub fn try_commit<G: Gate>(
         &mut pool.room.stores,
         outcome,
     );
-    tools.gate.at(
+    tools.hook.at(
         tools.worker,
         Moment::Answered(matches!(outcome, Outcome::Done(_))),
     );

@@ -23,10 +23,9 @@ use crate::stores::{Spacing, make_rows, redefine_root, row_made};
 use crate::trial::Verdict;
 use arrayvec::ArrayVec;
 use syn_decide::{Deciding, NewRows, NodeRow};
-use syn_keys::between;
 use syn_plan::MAX_GATES;
 use syn_rows::Row;
-use syn_table::Seat;
+use syn_table::{Seat, between};
 
 /// What a commit stores.
 #[derive(Debug, Drop)]

@@ -5,8 +5,8 @@ mod answers;
 mod commits;
 mod cone_walk;
 mod done;
-mod gates;
 mod hints;
+mod hooks;
 mod loaded;
 mod pools;
 mod readiness;
@@ -17,20 +17,20 @@ mod suggestions;
 mod trial;
 
 pub use commits::try_commit;
-pub use gates::{Gate, Moment, OpenGate};
 pub use hints::Hints;
+pub use hooks::{CommitHook, Moment, NoHook};
 pub use pools::Pool;
 use syn_table::Shared;
 
 /// What all commits of a worker use.
 #[derive(Drop)]
-pub struct Tools<'a, G> {
+pub struct Tools<'a, H> {
     /// The table.
     pub shared: &'a Shared,
     /// Where a pair may stand already.
     pub hints: &'a Hints,
     /// What is told of each commit.
-    pub gate: &'a G,
-    /// The worker's number, which the gate is told.
+    pub hook: &'a H,
+    /// The worker's number, which the hook is told.
     pub worker: u8,
 }

@@ -6,9 +6,8 @@ use Rattle.syn_rows.specs.declared.Lit.{Lit}
 use Rattle.syn_rows.specs.declared.Row.{Row}
 use Rattle.syn_rows.specs.Rows.{row_at}
 use Rattle.syn_rows.specs.Reach.{is_and, ands_from}
-use Rattle.syn_netlist.specs.Lists.{Frame, sources}
-use Rattle.syn_shapes.specs.Graphs.{IsGraph}
-use Rattle.syn_lutshapes.specs.Luts.{Lut, rising}
+use Rattle.syn_graph.specs.Graphs.{IsGraph}
+use Rattle.syn_lutnet.specs.LutData.{Lut, rising}
 use Rattle.syn_covering.specs.Cuts.{AreLutCuts}
 use Rattle.syn_covering.specs.Mappings.{node_at, IsMapping, MappingIsSmall}
 use Rattle.syn_covering.proofs.Matching.{has_node_at}
@@ -38,20 +37,20 @@ in_range low high [] le r f g = omega (arith, le)
 in_range low high (m ∷ ms) le r f g = omega (arith, f 0 (omega arith), rising_fits m ms high r g)
 
 -- the nodes that have LUTs stand behind the sources
-pub nodes_fit : (frame : Frame) (k : ℕ) (cut : ℕ → List ℕ) (rows : List Row) (lits : List Lit) (nodes : List ℕ) (luts : List Lut) (outs : List Lit) → AreLutCuts k rows cut → IsGraph frame rows lits → IsMapping cut (length (sources frame)) rows lits nodes luts outs
-    → length (sources frame) + 1 + length nodes ≤ length rows
-nodes_fit frame k cut rows lits nodes luts outs fit graph mapping =
-    in_range (length (sources frame) + 1) (length rows) nodes (omega (arith, graph.hashed.there)) mapping.rise
-    (λ j lt. node_high frame k cut rows lits nodes luts outs fit graph mapping (node_at nodes j) (has_node_at nodes j lt))
-    (λ j lt. node_there frame k cut rows lits nodes luts outs fit graph mapping (node_at nodes j) (has_node_at nodes j lt))
+pub nodes_fit : (count k : ℕ) (cut : ℕ → List ℕ) (rows : List Row) (lits : List Lit) (nodes : List ℕ) (luts : List Lut) (outs : List Lit) → AreLutCuts k rows cut → IsGraph count rows lits → IsMapping cut count rows lits nodes luts outs
+    → count + 1 + length nodes ≤ length rows
+nodes_fit count k cut rows lits nodes luts outs fit graph mapping =
+    in_range (count + 1) (length rows) nodes (omega (arith, graph.hashed.there)) mapping.nodes_are.rise
+    (λ j lt. node_high count k cut rows lits nodes luts outs fit graph mapping (node_at nodes j) (has_node_at nodes j lt))
+    (λ j lt. node_there count k cut rows lits nodes luts outs fit graph mapping (node_at nodes j) (has_node_at nodes j lt))
 
 pub mapping_few : MappingIsSmall
-mapping_few frame k cut rows lits nodes luts outs ands fit graph mapping (set, is_set, counted) =
-    omega (arith, mapping.long, sym counted, nodes_fit frame k cut rows lits nodes luts outs fit graph mapping, most, graph.hashed.there)
+mapping_few count k cut rows lits nodes luts outs ands fit graph mapping (set, is_set, counted) =
+    omega (arith, mapping.long, sym counted, nodes_fit count k cut rows lits nodes luts outs fit graph mapping, most, graph.hashed.there)
   where
-    most : length rows ≤ ands_from 0 set rows + (length (sources frame) + 1)
+    most : length rows ≤ ands_from 0 set rows + (count + 1)
     most =
-        let least = ands_least (length (sources frame) + 1) 0 set rows (λ j lt le.
+        let least = ands_least (count + 1) 0 set rows (λ j lt le.
         and_from (is_and (row_at rows j)) (set (0 + j)) (gate_is_and j (row_at rows j) (graph.hashed.gates j (omega (arith, le)) lt))
         (ap set (let s : 0 + j ≡ j = omega arith in s) ∙ graph.reached j (omega (arith, le)) lt set is_set.closed is_set.observes)) in
         omega (arith, least)

@@ -6,39 +6,38 @@ use Rattle.syn_rows.specs.declared.Lit.{Lit}
 use Rattle.syn_rows.specs.declared.Row.{Row}
 use Rattle.syn_rows.specs.Rows.{node_of, row_at}
 use Rattle.syn_rows.specs.Reach.{is_and}
-use Rattle.syn_netlist.specs.Lists.{Frame, sources}
-use Rattle.syn_shapes.specs.Graphs.{IsGraph}
+use Rattle.syn_graph.specs.Graphs.{IsGraph}
 use Rattle.syn_rows.specs.Nodes.{has_node}
-use Rattle.syn_lutshapes.specs.Luts.{Lut, lut_at, greatest, lut_depth, signal_depths, depth_in, net_depth}
-use Rattle.syn_lutshapes.proofs.Deepest.{greatest_map, greatest_at, greatest_any, greatest_le, all_zero, all_zero_at, length-all_zero, depth_local}
+use Rattle.syn_lutnet.specs.LutData.{Lut, lut_at, greatest, lut_depth, signal_depths, depth_in, net_depth}
+use Rattle.syn_lutnet.proofs.Deepest.{greatest_map, greatest_at, greatest_any, greatest_le, all_zero, all_zero_at, length-all_zero, depth_local}
 use Rattle.syn_covering.specs.Cuts.{AreLutCuts, AreDepths}
 use Rattle.syn_covering.specs.Mappings.{HasSignal, node_at, place_of, signal_of, IsMapping, MappingHasDepth}
-use Rattle.syn_lutshapes.proofs.Folding.{length-luts}
+use Rattle.syn_lutnet.proofs.Folding.{length-luts}
 use Rattle.syn_covering.proofs.Matching.{has_node_at, place_of_at, signal_source, signal_node, signals_match}
 use Rattle.syn_covering.proofs.Mapped.{luts_made, node_high, node_is_and, observed_signal}
 
-module _ (frame : Frame) (k : ℕ) (cut : ℕ → List ℕ) (rows : List Row) (lits : List Lit) (nodes : List ℕ) (luts : List Lut) (outs : List Lit) (fit : AreLutCuts k rows cut) (graph : IsGraph frame rows lits) (mapping : IsMapping cut (length (sources frame)) rows lits nodes luts outs) (label : ℕ → ℕ) (deep : AreDepths rows label cut) where
+module _ (count k : ℕ) (cut : ℕ → List ℕ) (rows : List Row) (lits : List Lit) (nodes : List ℕ) (luts : List Lut) (outs : List Lit) (fit : AreLutCuts k rows cut) (graph : IsGraph count rows lits) (mapping : IsMapping cut count rows lits nodes luts outs) (label : ℕ → ℕ) (deep : AreDepths rows label cut) where
   is_gate : (n : ℕ) → has_node nodes n ≡ true → is_and (row_at rows n) ≡ true
-  is_gate n h = node_is_and frame k cut rows lits nodes luts outs fit graph mapping n h
+  is_gate n h = node_is_and count k cut rows lits nodes luts outs fit graph mapping n h
 
   abbrev depths : List ℕ
-  depths = signal_depths (length (sources frame)) luts
+  depths = signal_depths count luts
 
-  label_source : (m : ℕ) → m < length (sources frame) + 1 → label m ≡ 0
+  label_source : (m : ℕ) → m < count + 1 → label m ≡ 0
   label_source m lt = deep.others m (ap is_and (graph.hashed.front m lt))
 
   lut_deep : (n : ℕ) → has_node nodes n ≡ true → (u : ℕ → ℕ) → map u (lut_at luts (place_of n nodes)).inputs ≡ map label (cut n) → lut_depth u (lut_at luts (place_of n nodes)) ≡ label n
   lut_deep n h u e = ap (λ x. x + 1) (greatest_map u (lut_at luts (place_of n nodes)).inputs ∙ ap (greatest (λ d. d)) e ∙ sym (greatest_map label (cut n))) ∙ sym (deep.ands n (is_gate n h))
 
-  depth_is : (m : ℕ) → HasSignal (length (sources frame)) nodes m → depth_in depths (signal_of (length (sources frame)) nodes m) ≡ label m
-  depth_is m has = signals_match (length (sources frame)) cut nodes luts (luts_made frame k cut rows lits nodes luts outs fit graph mapping) lut_depth 0 depth_local (all_zero (suc (length (sources frame)))) label
-      (omega (arith, length-all_zero (length (sources frame)))) (λ j lt. all_zero_at (suc (length (sources frame))) j ∙ sym (label_source j lt)) lut_deep (suc m) m (omega arith) has
+  depth_is : (m : ℕ) → HasSignal count nodes m → depth_in depths (signal_of count nodes m) ≡ label m
+  depth_is m has = signals_match count cut nodes luts (luts_made count k cut rows lits nodes luts outs fit graph mapping) lut_depth 0 depth_local (all_zero (suc count)) label
+      (omega (arith, length-all_zero count)) (λ j lt. all_zero_at (suc count) j ∙ sym (label_source j lt)) lut_deep (suc m) m (omega arith) has
 
   abbrev top : ℕ
   top = greatest label (map node_of lits)
 
   node_low : (n : ℕ) → has_node nodes n ≡ true → label n ≤ top
-  node_low n h = leb-true (label n) top (and_parts (nat_le (label n) top) (is_and (row_at rows n)) (mapping.needed n h set closed seen)).0
+  node_low n h = leb-true (label n) top (and_parts (nat_le (label n) top) (is_and (row_at rows n)) (mapping.nodes_are.needed n h set closed seen)).0
     where
       set : ℕ → Bool
       set m = nat_le (label m) top && is_and (row_at rows m)
@@ -59,19 +58,19 @@ module _ (frame : Frame) (k : ℕ) (cut : ℕ → List ℕ) (rows : List Row) (l
           and_from (nat_le (label (node_of (get_or lits i d))) top) (is_and (row_at rows (node_of (get_or lits i d)))) (le-leb (label (node_of (get_or lits i d))) top (omega (arith, high, same))) a
 
   each_low : (i : ℕ) → i < length depths → get_or depths i 0 ≤ top
-  each_low i lt = elim (cases_lt i (length (sources frame) + 1)) [
+  each_low i lt = elim (cases_lt i (count + 1)) [
     | inl low ↦
-        let here : depth_in depths i ≡ label i = ap (depth_in depths) (sym (signal_source (length (sources frame)) nodes i low)) ∙ depth_is i (inl low) in
+        let here : depth_in depths i ≡ label i = ap (depth_in depths) (sym (signal_source count nodes i low)) ∙ depth_is i (inl low) in
         omega (arith, here, label_source i low)
     | inr ge ↦
-        let j : ℕ = i - (length (sources frame) + 1) in
-        let inside : i - (length (sources frame) + 1) < length nodes = omega (arith, lt, ge, mapping.long, length-luts lut_depth 0 (all_zero (suc (length (sources frame)))) luts, length-all_zero (length (sources frame))) in
-        let h = has_node_at nodes (i - (length (sources frame) + 1)) inside in
-        let n : ℕ = node_at nodes (i - (length (sources frame) + 1)) in
-        let at : signal_of (length (sources frame)) nodes (node_at nodes (i - (length (sources frame) + 1))) ≡ i =
-        omega (arith, ge, signal_node (length (sources frame)) nodes (node_at nodes (i - (length (sources frame) + 1))) (node_high frame k cut rows lits nodes luts outs fit graph mapping (node_at nodes (i - (length (sources frame) + 1))) h), place_of_at nodes mapping.rise (i - (length (sources frame) + 1)) inside) in
-        let here : depth_in depths i ≡ label (node_at nodes (i - (length (sources frame) + 1))) = ap (depth_in depths) (sym at) ∙ depth_is (node_at nodes (i - (length (sources frame) + 1))) (inr h) in
-        omega (arith, here, node_low (node_at nodes (i - (length (sources frame) + 1))) h)
+        let j : ℕ = i - (count + 1) in
+        let inside : i - (count + 1) < length nodes = omega (arith, lt, ge, mapping.long, length-luts lut_depth 0 (all_zero (suc count)) luts, length-all_zero count) in
+        let h = has_node_at nodes (i - (count + 1)) inside in
+        let n : ℕ = node_at nodes (i - (count + 1)) in
+        let at : signal_of count nodes (node_at nodes (i - (count + 1))) ≡ i =
+        omega (arith, ge, signal_node count nodes (node_at nodes (i - (count + 1))) (node_high count k cut rows lits nodes luts outs fit graph mapping (node_at nodes (i - (count + 1))) h), place_of_at nodes mapping.nodes_are.rise (i - (count + 1)) inside) in
+        let here : depth_in depths i ≡ label (node_at nodes (i - (count + 1))) = ap (depth_in depths) (sym at) ∙ depth_is (node_at nodes (i - (count + 1))) (inr h) in
+        omega (arith, here, node_low (node_at nodes (i - (count + 1))) h)
   ]
 
   each_high : (i : ℕ) → i < length (map node_of lits) → label (get_or (map node_of lits) i 0) ≤ greatest (λ d. d) depths
@@ -79,12 +78,12 @@ module _ (frame : Frame) (k : ℕ) (cut : ℕ → List ℕ) (rows : List Row) (l
       let inside : i < length lits = omega (arith, lt, length-map lits node_of) in
       let no : Lit = record { 0 = 0 } in
       let at = get_or-map node_of lits i (record { 0 = 0 }) 0 inside in
-      let here = depth_is (node_of (get_or lits i (record { 0 = 0 }))) (observed_signal frame k cut rows lits nodes luts outs fit graph mapping i (record { 0 = 0 }) inside) in
-      let high = greatest_any depths (signal_of (length (sources frame)) nodes (node_of (get_or lits i (record { 0 = 0 })))) in
+      let here = depth_is (node_of (get_or lits i (record { 0 = 0 }))) (observed_signal count k cut rows lits nodes luts outs fit graph mapping i (record { 0 = 0 }) inside) in
+      let high = greatest_any depths (signal_of count nodes (node_of (get_or lits i (record { 0 = 0 })))) in
       let same = ap label at in
       omega (arith, here, high, same)
 
-  pub has_depth : net_depth (length (sources frame)) luts ≡ greatest label (map node_of lits)
+  pub has_depth : net_depth count luts ≡ greatest label (map node_of lits)
   has_depth =
       let low : greatest (λ d. d) depths ≤ top = greatest_le (λ d. d) depths top each_low in
       let high : top ≤ greatest (λ d. d) depths = greatest_le label (map node_of lits) (greatest (λ d. d) depths) each_high in

@@ -1,9 +1,10 @@
 pub mod Matching
 pub mod Mapped
 pub mod Depths
-pub mod Framed
+pub mod LutNets
 pub mod Fitting
 pub mod Counting
 pub mod Swept
 pub mod Numbered
 pub mod Assembled
+pub mod NeededNodes

@@ -11,15 +11,15 @@ use Rattle.syn_rows.specs.Rows.{node_of, row_at, InOrder}
 use Rattle.syn_rows.specs.Values.{lit_value, is_open, given_by, value_in, values_of, rows_function, OneValuation}
 use Rattle.syn_rows.specs.Reach.{is_and}
 use Rattle.syn_rows.proofs.Folds.{one_valuation_is}
-use Rattle.syn_netlist.specs.Lists.{Frame, sources}
-use Rattle.syn_shapes.specs.Graphs.{is_gate, IsGraph}
+use Rattle.syn_graph.specs.Graphs.{IsGraph}
+use Rattle.syn_hashed.specs.Hashed.{is_gate}
 use Rattle.syn_rows.specs.Nodes.{has_node}
 use Rattle.syn_cones.proofs.Swapping.{all_fit_between}
 use Rattle.syn_hashed.proofs.Orders.{hashed_in_order}
-use Rattle.syn_lutshapes.specs.Luts.{Lut, ones_value, lut_value, lut_at, signal_values, luts_function}
+use Rattle.syn_lutnet.specs.LutData.{Lut, ones_value, lut_value, lut_at, signal_values, luts_function}
 use Rattle.syn_covering.specs.Cuts.{AreLutCuts}
 use Rattle.syn_covering.specs.Mappings.{HasSignal, place_of, signal_of, signal_lit, AreOnesOver, IsMapping, MappingKeepsFunction}
-use Rattle.syn_lutshapes.proofs.Folding.{below, In, IsLocal}
+use Rattle.syn_lutnet.proofs.Folding.{below, In, IsLocal}
 use Rattle.syn_covering.proofs.Matching.{place_inside, node_at_place, AreMade, signals_match}
 
 -- rows
@@ -53,18 +53,15 @@ lits_map : (count : ℕ) (nodes : List ℕ) (u f : ℕ → Bool) (ls : List Lit)
 lits_map count nodes u f [] h = refl
 lits_map count nodes u f (l ∷ ls) h = ap₂ (λ (b : Bool) (bs : List Bool). b ∷ bs) h.0 (lits_map count nodes u f ls h.1)
 
-module _ (frame : Frame) (k : ℕ) (cut : ℕ → List ℕ) (rows : List Row) (lits : List Lit) (nodes : List ℕ) (luts : List Lut) (outs : List Lit) (fit : AreLutCuts k rows cut) (graph : IsGraph frame rows lits) (mapping : IsMapping cut (length (sources frame)) rows lits nodes luts outs) where
-  abbrev pub count : ℕ
-  count = length (sources frame)
-
+module _ (count k : ℕ) (cut : ℕ → List ℕ) (rows : List Row) (lits : List Lit) (nodes : List ℕ) (luts : List Lut) (outs : List Lit) (fit : AreLutCuts k rows cut) (graph : IsGraph count rows lits) (mapping : IsMapping cut count rows lits nodes luts outs) where
   order : InOrder rows
-  order = hashed_in_order (length (sources frame)) rows graph.hashed
+  order = hashed_in_order count rows graph.hashed
 
   pub node_is_and : (n : ℕ) → has_node nodes n ≡ true → is_and (row_at rows n) ≡ true
-  node_is_and n h = mapping.needed n h (λ m. is_and (row_at rows m)) (λ m t j d lt a. a) (λ j d lt a. a)
+  node_is_and n h = mapping.nodes_are.needed n h (λ m. is_and (row_at rows m)) (λ m t j d lt a. a) (λ j d lt a. a)
 
   pub node_high : (n : ℕ) → has_node nodes n ≡ true → count + 1 ≤ n
-  node_high n h = elim (cases_lt n (length (sources frame) + 1)) [
+  node_high n h = elim (cases_lt n (count + 1)) [
     | inl lt ↦ absurd (both_ways (is_and (row_at rows n)) (ap is_and (graph.hashed.front n lt)) (node_is_and n h))
     | inr ge ↦ ge
   ]
@@ -76,13 +73,13 @@ module _ (frame : Frame) (k : ℕ) (cut : ℕ → List ℕ) (rows : List Row) (l
   ]
 
   pub has_signal : (m : ℕ) → m < length rows → (is_and (row_at rows m) ≡ true → has_node nodes m ≡ true) → HasSignal count nodes m
-  has_signal m lt f = elim (cases_lt m (length (sources frame) + 1)) [
+  has_signal m lt f = elim (cases_lt m (count + 1)) [
     | inl low ↦ inl low
     | inr ge ↦ inr (f (gate_is_and m (row_at rows m) (graph.hashed.gates m (omega (arith, ge)) lt)))
   ]
 
   leaves_needed : (n : ℕ) → has_node nodes n ≡ true → All (λ m. is_and (row_at rows m) ≡ true → has_node nodes m ≡ true) (cut n)
-  leaves_needed n h j d lt a = mapping.all (get_or (cut n) j d) (λ set leaves seen. leaves n (mapping.needed n h set leaves seen) j d lt a)
+  leaves_needed n h j d lt a = mapping.nodes_are.all (get_or (cut n) j d) (λ set leaves seen. leaves n (mapping.nodes_are.needed n h set leaves seen) j d lt a)
 
   leaves_ready : (n : ℕ) → n < length rows → (c : List ℕ) → In n c → AllByRecursion (λ m. is_and (row_at rows m) ≡ true → has_node nodes m ≡ true) c → AllByRecursion (λ m. (m < n) × HasSignal count nodes m) c
   leaves_ready n there [] h all = tt
@@ -93,16 +90,16 @@ module _ (frame : Frame) (k : ℕ) (cut : ℕ → List ℕ) (rows : List Row) (l
 
   pub luts_made : AreMade count cut nodes luts
   luts_made = record {
-    rise = mapping.rise;
+    rise = mapping.nodes_are.rise;
     high = node_high;
     leaves = λ n h. leaves_ready n (node_there n h) (cut n) (fit n (node_is_and n h)).below
         (recursion_from_All (λ m. is_and (row_at rows m) ≡ true → has_node nodes m ≡ true) (cut n) (leaves_needed n h));
     long = mapping.long;
-    inputs = λ n h. mapping.inputs (place_of n nodes) (place_inside n nodes h) ∙ ap (λ m. map (signal_of (length (sources frame)) nodes) (cut m)) (node_at_place n nodes h);
+    inputs = λ n h. mapping.inputs (place_of n nodes) (place_inside n nodes h) ∙ ap (λ m. map (signal_of count nodes) (cut m)) (node_at_place n nodes h);
   }
 
   pub observed_signal : (i : ℕ) (d : Lit) → i < length lits → HasSignal count nodes (node_of (get_or lits i d))
-  observed_signal i d lt = has_signal (node_of (get_or lits i d)) (graph.within i d lt) (λ a. mapping.all (node_of (get_or lits i d)) (λ set leaves seen. seen i d lt a))
+  observed_signal i d lt = has_signal (node_of (get_or lits i d)) (graph.within i d lt) (λ a. mapping.nodes_are.all (node_of (get_or lits i d)) (λ set leaves seen. seen i d lt a))
 
   -- values
 
@@ -122,13 +119,13 @@ module _ (frame : Frame) (k : ℕ) (cut : ℕ → List ℕ) (rows : List Row) (l
   lut_gives bits n h u e = ap (ones_value (lut_at luts (place_of n nodes)).ones) e
       ∙ sym (ones_at n h (map (node_value bits) (cut n)) (length-map (cut n) (node_value bits)) (node_value bits) (all_fit_between rows (cut n) n (node_value bits) (valuation bits).0) refl)
 
-  pub keeps_function : (bits : List Bool) → length bits ≡ length (sources frame) → luts_function luts outs bits ≡ rows_function rows lits bits
+  pub keeps_function : (bits : List Bool) → length bits ≡ count → luts_function luts outs bits ≡ rows_function rows lits bits
   keeps_function bits long =
       ap (λ (ls : List Lit). map (lit_value (value_in (signal_values bits luts))) ls) mapping.outs_are
-      ∙ lits_map (length (sources frame)) nodes (value_in (signal_values bits luts)) (node_value bits) lits
-      (recursion_from_All (λ l. lit_value (value_in (signal_values bits luts)) (signal_lit (length (sources frame)) nodes l) ≡ lit_value (node_value bits) l) lits
-      (λ i d lt. value_lit (length (sources frame)) nodes (value_in (signal_values bits luts)) (node_value bits) (get_or lits i d)
-      (signals_match (length (sources frame)) cut nodes luts luts_made lut_value false value_local (false ∷ bits) (node_value bits) (omega (arith, long)) (source_value bits) (lut_gives bits)
+      ∙ lits_map count nodes (value_in (signal_values bits luts)) (node_value bits) lits
+      (recursion_from_All (λ l. lit_value (value_in (signal_values bits luts)) (signal_lit count nodes l) ≡ lit_value (node_value bits) l) lits
+      (λ i d lt. value_lit count nodes (value_in (signal_values bits luts)) (node_value bits) (get_or lits i d)
+      (signals_match count cut nodes luts luts_made lut_value false value_local (false ∷ bits) (node_value bits) (omega (arith, long)) (source_value bits) (lut_gives bits)
       (suc (node_of (get_or lits i d))) (node_of (get_or lits i d)) (omega arith) (observed_signal i d lt))))
 
 pub mapping_keeps : MappingKeepsFunction

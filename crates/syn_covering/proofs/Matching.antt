@@ -5,10 +5,10 @@ use Rattle.std.proofs.lemmas.Bool.{cases_Bool, or_cases, and_parts, and_from, bo
 use Rattle.std.proofs.lemmas.List.Elements.{All-head, All-tail}
 use Rattle.syn_rows.specs.Nodes.{has_node}
 use Rattle.syn_rows.proofs.Nodes.{has_here, has_there, node_same}
-use Rattle.syn_lutshapes.specs.Luts.{Lut, rising, lut_at, fold_luts}
+use Rattle.syn_lutnet.specs.LutData.{Lut, rising, lut_at, fold_luts}
 use Rattle.syn_covering.specs.Mappings.{node_at, place_of, signal_of, HasSignal}
-use Rattle.syn_lutshapes.proofs.Folding.{below, In}
-use Rattle.syn_lutshapes.proofs.Folding.{IsLocal, luts_kept, lut_step}
+use Rattle.syn_lutnet.proofs.Folding.{below, In}
+use Rattle.syn_lutnet.proofs.Folding.{IsLocal, luts_kept, lut_step}
 
 -- places in rising lists
 

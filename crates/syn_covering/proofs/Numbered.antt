@@ -5,7 +5,7 @@ use Rattle.std.proofs.lemmas.Bool.{cases_Bool, cases_lt, and_parts, and_from, or
 use Rattle.std.proofs.lemmas.List.{drop_more, length_push, get_or_append_left, get_or_push}
 use Rattle.syn_rows.specs.Values.{value_in}
 use Rattle.syn_rows.specs.Nodes.{has_node}
-use Rattle.syn_lutshapes.specs.Luts.{rising}
+use Rattle.syn_lutnet.specs.LutData.{rising}
 use Rattle.syn_covering.specs.Making.{number_at}
 use Rattle.syn_covering.specs.Mappings.{place_of, signal_of, HasSignal}
 use Rattle.syn_covering.specs.Needs.{marked_from}

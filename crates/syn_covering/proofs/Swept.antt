@@ -9,7 +9,7 @@ use Rattle.syn_rows.specs.Rows.{node_of, row_at}
 use Rattle.syn_rows.specs.Reach.{is_and}
 use Rattle.syn_rows.specs.Values.{value_in}
 use Rattle.syn_rows.specs.Nodes.{has_node}
-use Rattle.syn_lutshapes.proofs.Folding.{below, In}
+use Rattle.syn_lutnet.proofs.Folding.{below, In}
 use Rattle.syn_covering.specs.Mappings.{HasObservedAnds, IsNeeded}
 use Rattle.syn_covering.specs.Needs.{IsSwept}
 use Rattle.syn_covering.proofs.Matching.{has_node_at, has_fact}
@@ -21,7 +21,7 @@ joined false true true false = refl
 joined false true false false = refl
 joined false false h a = refl
 
-none_marked : (count m : ℕ) → value_in (replicate count false) m ≡ false
+pub none_marked : (count m : ℕ) → value_in (replicate count false) m ≡ false
 none_marked zero m = refl
 none_marked (suc n) zero = refl
 none_marked (suc n) (suc m) = none_marked n m

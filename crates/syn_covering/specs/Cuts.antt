@@ -5,7 +5,7 @@ use Rattle.syn_rows.specs.Rows.{row_at}
 use Rattle.syn_rows.specs.Reach.{is_and}
 use Rattle.syn_cones.specs.Cones.{IsCut}
 use Rattle.syn_cones.specs.Leaves.{are_below, rise_above}
-use Rattle.syn_lutshapes.specs.Luts.{greatest}
+use Rattle.syn_lutnet.specs.LutData.{greatest}
 
 -- A cut of a node that a LUT may read: 2 to k leaves, which rise and lie below the node, none of them the constant.
 pub record IsLutCut (k : ℕ) (rows : List Row) (node : ℕ) (leaves : List ℕ) : Type 0 where

@@ -4,12 +4,11 @@ use Rattle.std.specs.List.{list_all}
 use Rattle.syn_rows.specs.declared.Lit.{Lit}
 use Rattle.syn_rows.specs.declared.Row.{Row}
 use Rattle.syn_rows.specs.Rows.{node_of}
-use Rattle.syn_netlist.specs.Frames.{frame_in}
-use Rattle.syn_netlist.specs.Lists.{sources}
 use Rattle.syn_graph.specs.declared.Graph.{Graph}
-use Rattle.syn_lutshapes.specs.Luts.{Lut, lut_at, rising}
+use Rattle.syn_lutnet.specs.LutData.{Lut, greatest, lut_at, net_depth, rising}
 use Rattle.syn_lutnet.specs.declared.nets.LutNet.{LutNet}
 use Rattle.syn_lutnet.specs.Data.{luts_data}
+use Rattle.syn_covering.specs.Cuts.{AreDepths}
 use Rattle.syn_covering.specs.Mappings.{node_at, AreOnesOver, IsMapping}
 
 -- the number of a node's signal
@@ -34,4 +33,9 @@ pub record AreLutsOf (cut : ℕ → List ℕ) (rows : List Row) (numbers nodes :
 
 -- the LUT net has the LUTs of a graph's cuts
 unfoldable pub IsMappedBy : (ℕ → List ℕ) → Graph → LutNet → Type 0
-IsMappedBy cut graph net = (nodes : List ℕ) × IsMapping cut (length (sources (frame_in graph.frame))) graph.rows graph.observed nodes (luts_data net.luts) net.observed
+IsMappedBy cut graph net = (nodes : List ℕ) × IsMapping cut graph.source_count graph.rows graph.observed nodes (luts_data net.luts) net.observed
+
+-- where labels are the depths over the cuts, the net is as deep as the greatest label of an observed node
+abbrev pub HasDepthOver : (ℕ → List ℕ) → Graph → LutNet → Type 0
+HasDepthOver cut graph net =
+    (label : ℕ → ℕ) → AreDepths graph.rows label cut → net_depth graph.source_count (luts_data net.luts) ≡ greatest label (map node_of graph.observed)

@@ -6,12 +6,11 @@ use Rattle.syn_rows.specs.declared.Row.{Row}
 use Rattle.syn_rows.specs.Rows.{node_of, row_at}
 use Rattle.syn_rows.specs.Values.{rows_function}
 use Rattle.syn_rows.specs.Reach.{is_and, Ands}
-use Rattle.syn_netlist.specs.Lists.{Frame, sources}
-use Rattle.syn_shapes.specs.Graphs.{IsGraph}
+use Rattle.syn_graph.specs.Graphs.{IsGraph, SourcesStay}
 use Rattle.syn_truth.specs.Truth.{AtEach}
 use Rattle.syn_rows.specs.Nodes.{has_node}
 use Rattle.syn_cones.specs.Cones.{FitsBetween}
-use Rattle.syn_lutshapes.specs.Luts.{Lut, ones_value, lut_at, rising, greatest, net_depth, luts_function, none_exceeds, IsLutNet}
+use Rattle.syn_lutnet.specs.LutData.{Lut, ones_value, lut_at, rising, greatest, net_depth, luts_function, none_exceeds, IsLutNet}
 use Rattle.syn_covering.specs.Cuts.{AreLutCuts, AreDepths}
 
 -- The set has the observed ANDs,
@@ -25,6 +24,12 @@ HasLeaves cut rows set = (n : ℕ) → set n ≡ true → All (λ m. is_and (row
 -- a node needs a LUT: every such set has it
 abbrev pub IsNeeded : (ℕ → List ℕ) → List Row → List Lit → ℕ → Type 0
 IsNeeded cut rows lits n = (set : ℕ → Bool) → HasLeaves cut rows set → HasObservedAnds rows lits set → set n ≡ true
+
+-- The nodes that need LUTs, each once, in order.
+pub record AreNeeded (cut : ℕ → List ℕ) (rows : List Row) (lits : List Lit) (nodes : List ℕ) : Type 0 where
+  pub rise : rising nodes ≡ true
+  pub needed : (n : ℕ) → has_node nodes n ≡ true → IsNeeded cut rows lits n
+  pub all : (n : ℕ) → IsNeeded cut rows lits n → has_node nodes n ≡ true
 
 -- the node at a place
 abbrev pub node_at : List ℕ → ℕ → ℕ
@@ -53,9 +58,7 @@ AreOnesOver rows leaves node ones = AtEach (length leaves) (λ xs. (v : ℕ → 
 
 -- The LUTs of a graph over so many sources: one for each node that needs one, in node order, of the node's function over its cut.
 pub record IsMapping (cut : ℕ → List ℕ) (count : ℕ) (rows : List Row) (lits : List Lit) (nodes : List ℕ) (luts : List Lut) (outs : List Lit) : Type 0 where
-  pub rise : rising nodes ≡ true
-  pub needed : (n : ℕ) → has_node nodes n ≡ true → IsNeeded cut rows lits n
-  pub all : (n : ℕ) → IsNeeded cut rows lits n → has_node nodes n ≡ true
+  pub nodes_are : AreNeeded cut rows lits nodes
   pub long : length luts ≡ length nodes
   pub inputs : (j : ℕ) → j < length nodes → (lut_at luts j).inputs ≡ map (signal_of count nodes) (cut (node_at nodes j))
   pub ones : (j : ℕ) → j < length nodes → AreOnesOver rows (cut (node_at nodes j)) (node_at nodes j) (lut_at luts j).ones
@@ -63,27 +66,35 @@ pub record IsMapping (cut : ℕ → List ℕ) (count : ℕ) (rows : List Row) (l
   pub small_ones : (j : ℕ) → j < length nodes → list_all (λ m. nat_lt m (2 ^ length (lut_at luts j).inputs)) (lut_at luts j).ones ≡ true
   pub outs_are : outs ≡ map (signal_lit count nodes) lits
 
+-- Over cuts that LUTs may read there are nodes that need LUTs.
+abbrev pub NeededExist : Type 0
+NeededExist = (k : ℕ) (cut : ℕ → List ℕ) (rows : List Row) (lits : List Lit) → AreLutCuts k rows cut → (nodes : List ℕ) × AreNeeded cut rows lits nodes
+
+-- An observed literal of a source stays.
+abbrev pub MappingKeepsSources : Type 0
+MappingKeepsSources = (cut : ℕ → List ℕ) (count : ℕ) (rows : List Row) (lits : List Lit) (nodes : List ℕ) (luts : List Lut) (outs : List Lit) → IsMapping cut count rows lits nodes luts outs → SourcesStay count lits outs
+
 -- Of a graph, over cuts that LUTs may read, such LUTs have the graph's function,
 abbrev pub MappingKeepsFunction : Type 0
-MappingKeepsFunction = (frame : Frame) (k : ℕ) (cut : ℕ → List ℕ) (rows : List Row) (lits : List Lit) (nodes : List ℕ) (luts : List Lut) (outs : List Lit) → AreLutCuts k rows cut → IsGraph frame rows lits
-    → IsMapping cut (length (sources frame)) rows lits nodes luts outs → (bits : List Bool) → length bits ≡ length (sources frame) → luts_function luts outs bits ≡ rows_function rows lits bits
+MappingKeepsFunction = (count k : ℕ) (cut : ℕ → List ℕ) (rows : List Row) (lits : List Lit) (nodes : List ℕ) (luts : List Lut) (outs : List Lit) → AreLutCuts k rows cut → IsGraph count rows lits
+    → IsMapping cut count rows lits nodes luts outs → (bits : List Bool) → length bits ≡ count → luts_function luts outs bits ≡ rows_function rows lits bits
 
 -- their depth is the greatest label of an observed node, where the labels are the depths over the cuts,
 abbrev pub MappingHasDepth : Type 0
-MappingHasDepth = (frame : Frame) (k : ℕ) (cut : ℕ → List ℕ) (rows : List Row) (lits : List Lit) (nodes : List ℕ) (luts : List Lut) (outs : List Lit) → AreLutCuts k rows cut → IsGraph frame rows lits
-    → IsMapping cut (length (sources frame)) rows lits nodes luts outs → (label : ℕ → ℕ) → AreDepths rows label cut → net_depth (length (sources frame)) luts ≡ greatest label (map node_of lits)
+MappingHasDepth = (count k : ℕ) (cut : ℕ → List ℕ) (rows : List Row) (lits : List Lit) (nodes : List ℕ) (luts : List Lut) (outs : List Lit) → AreLutCuts k rows cut → IsGraph count rows lits
+    → IsMapping cut count rows lits nodes luts outs → (label : ℕ → ℕ) → AreDepths rows label cut → net_depth count luts ≡ greatest label (map node_of lits)
 
--- they are a LUT net of the graph's frame,
+-- they are a LUT net over as many sources,
 abbrev pub MappingIsNet : Type 0
-MappingIsNet = (frame : Frame) (k : ℕ) (cut : ℕ → List ℕ) (rows : List Row) (lits : List Lit) (nodes : List ℕ) (luts : List Lut) (outs : List Lit) → AreLutCuts k rows cut → IsGraph frame rows lits
-    → IsMapping cut (length (sources frame)) rows lits nodes luts outs → IsLutNet frame luts outs
+MappingIsNet = (count k : ℕ) (cut : ℕ → List ℕ) (rows : List Row) (lits : List Lit) (nodes : List ℕ) (luts : List Lut) (outs : List Lit) → AreLutCuts k rows cut → IsGraph count rows lits
+    → IsMapping cut count rows lits nodes luts outs → IsLutNet count luts outs
 
 -- none of them has more than k inputs,
 abbrev pub MappingFits : Type 0
-MappingFits = (frame : Frame) (k : ℕ) (cut : ℕ → List ℕ) (rows : List Row) (lits : List Lit) (nodes : List ℕ) (luts : List Lut) (outs : List Lit) → AreLutCuts k rows cut → IsGraph frame rows lits
-    → IsMapping cut (length (sources frame)) rows lits nodes luts outs → none_exceeds k luts ≡ true
+MappingFits = (count k : ℕ) (cut : ℕ → List ℕ) (rows : List Row) (lits : List Lit) (nodes : List ℕ) (luts : List Lut) (outs : List Lit) → AreLutCuts k rows cut → IsGraph count rows lits
+    → IsMapping cut count rows lits nodes luts outs → none_exceeds k luts ≡ true
 
 -- and there are at most as many of them as reached ANDs.
 abbrev pub MappingIsSmall : Type 0
-MappingIsSmall = (frame : Frame) (k : ℕ) (cut : ℕ → List ℕ) (rows : List Row) (lits : List Lit) (nodes : List ℕ) (luts : List Lut) (outs : List Lit) (ands : ℕ) → AreLutCuts k rows cut → IsGraph frame rows lits
-    → IsMapping cut (length (sources frame)) rows lits nodes luts outs → Ands rows lits ands → length luts ≤ ands
+MappingIsSmall = (count k : ℕ) (cut : ℕ → List ℕ) (rows : List Row) (lits : List Lit) (nodes : List ℕ) (luts : List Lut) (outs : List Lit) (ands : ℕ) → AreLutCuts k rows cut → IsGraph count rows lits
+    → IsMapping cut count rows lits nodes luts outs → Ands rows lits ands → length luts ≤ ands

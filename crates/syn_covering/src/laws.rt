@@ -1,10 +1,15 @@
 //! Laws of LUT nets over cuts. Each function's clause is the law; it computes nothing.
 
-ghost use Rattle.syn_covering.specs.Mappings.{MappingFits, MappingHasDepth, MappingIsNet, MappingIsSmall, MappingKeepsFunction};
+ghost use Rattle.syn_covering.specs.Mappings.{MappingFits, MappingHasDepth, MappingIsNet, MappingIsSmall, MappingKeepsFunction, MappingKeepsSources, NeededExist};
 
 /// The LUTs of a graph's cuts have the graph's function.
 pub fn mapping_keeps_function()
     ensures { MappingKeepsFunction }
+{}
+
+/// An observed literal of a source stays.
+pub fn mapping_keeps_sources()
+    ensures { MappingKeepsSources }
 {}
 
 /// Their depth is the greatest label of an observed node, where the labels are the depths over the cuts.
@@ -22,7 +27,12 @@ pub fn mapping_is_small()
     ensures { MappingIsSmall }
 {}
 
-/// They are a LUT net of the graph's frame.
+/// They are a LUT net over the graph's sources.
 pub fn mapping_is_net()
     ensures { MappingIsNet }
+{}
+
+/// Over cuts that LUTs may read there are nodes that need LUTs, in order.
+pub fn needed_exist()
+    ensures { NeededExist }
 {}

@@ -12,5 +12,6 @@ mod signals;
 pub use choice::Choice;
 pub use laws::{
     mapping_fits, mapping_has_depth, mapping_is_net, mapping_is_small, mapping_keeps_function,
+    mapping_keeps_sources, needed_exist,
 };
 pub use nets::net_of;

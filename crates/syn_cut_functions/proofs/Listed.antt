@@ -16,8 +16,6 @@ use Rattle.syn_cuts.specs.Lists.{list_at}
 use Rattle.syn_cuts.specs.Laws.{IsListedCut}
 use Rattle.syn_cuts.proofs.Cutting.{listed_are_cuts}
 use Rattle.syn_cuts.proofs.Rising.{listed_cuts_rise}
-use Rattle.syn_netlist.specs.Frames.{frame_in}
-use Rattle.syn_netlist.specs.Lists.{sources}
 use Rattle.syn_graph.specs.declared.Graph.{Graph}
 use Rattle.syn_hashed.proofs.Orders.{and_inside, hashed_in_order}
 use Rattle.syn_cut_functions.specs.Cuts.{AreLeavesOf, cuts_of}
@@ -49,7 +47,7 @@ listed_leaves graph node gate k d lt =
     subst (AreLeavesOf graph.rows node) (sym same) (record { cut = subst (λ c. IsCut graph.rows c node) same (cuts k d lt); rise = is.rising; below = is.below; few = is.few })
   where
     count : ℕ
-    count = length (sources (frame_in graph.frame))
+    count = graph.source_count
 
     at : (count < node) × (node < length graph.rows)
     at = and_inside count graph.rows graph.graph.hashed node gate

@@ -5,7 +5,7 @@ use Rattle.syn_rows.specs.declared.Row.{Row}
 use Rattle.syn_rows.specs.Nodes.{has_node}
 use Rattle.syn_rows.specs.Rows.{InOrder, refs_of, row_at}
 use Rattle.syn_rows.specs.Reach.{is_and}
-use Rattle.syn_lutshapes.specs.Luts.{greatest}
+use Rattle.syn_lutnet.specs.LutData.{greatest}
 use Rattle.syn_paths.specs.Tops.{fan_in_label, IsInTop}
 use Rattle.syn_paths.specs.Paths.{ArePathsInto, IsPathInto, LeadsUp}
 use Rattle.syn_paths.specs.LeastCuts.{IsCutOutside, IsLeastCut}

@@ -7,7 +7,7 @@ use Rattle.syn_rows.specs.Nodes.{has_node}
 use Rattle.syn_rows.specs.Rows.{InOrder, refs_of, row_at}
 use Rattle.syn_rows.specs.Reach.{is_and}
 use Rattle.syn_cones.specs.Cones.{IsCut, LeadsTo, LeadsToSource, Refers}
-use Rattle.syn_lutshapes.specs.Luts.{greatest}
+use Rattle.syn_lutnet.specs.LutData.{greatest}
 use Rattle.syn_paths.specs.Tops.{fan_in_label, IsInTop}
 use Rattle.syn_flow.specs.Witness.{AreBorneOut, BorneOutBoundCuts, IsLabelOver, Shown}
 use Rattle.syn_hashed.proofs.Orders.{hashed_in_order}

@@ -7,15 +7,14 @@ use Rattle.syn_rows.specs.declared.Lit.{Lit}
 use Rattle.syn_rows.specs.declared.Row.{Row}
 use Rattle.syn_rows.specs.Rows.{node_of}
 use Rattle.syn_rows.specs.Reach.{is_and}
-use Rattle.syn_netlist.specs.Lists.{Frame, sources}
-use Rattle.syn_shapes.specs.Graphs.{IsGraph, lit_at}
-use Rattle.syn_lutshapes.specs.Luts.{depth_in, greatest, is_input, IsLutNet, Lut, lut_at, lut_depth, net_depth, none_exceeds, signal_depths}
+use Rattle.syn_hashed.specs.Hashed.{IsHashed, lit_at}
+use Rattle.syn_lutnet.specs.LutData.{depth_in, greatest, is_input, IsLutNet, Lut, lut_at, lut_depth, net_depth, none_exceeds, signal_depths}
 use Rattle.syn_covering.specs.Mappings.{node_at}
 use Rattle.syn_flow.specs.Witness.{AreBorneOut, Shown}
-use Rattle.syn_flow.specs.Coverings.{BorneOutBoundCoverings, IsCovering, IsLeastDepth, lit_for, stands_for}
-use Rattle.syn_lutshapes.proofs.Folding.{below, In, lut_step}
-use Rattle.syn_lutshapes.proofs.Deepest.{all_zero, depth_local, greatest_any, greatest_le, length-all_zero}
-use Rattle.syn_lutshapes.proofs.LutTables.{lut_parts}
+use Rattle.syn_flow.specs.Coverings.{BorneOutBoundCoverings, BorneOutBoundLuts, IsCovering, IsLeastDepth, lit_for, stands_for}
+use Rattle.syn_lutnet.proofs.Folding.{below, In, lut_step}
+use Rattle.syn_lutnet.proofs.Deepest.{all_zero, depth_local, greatest_any, greatest_le, length-all_zero}
+use Rattle.syn_lutnet.proofs.LutParts.{lut_parts}
 use Rattle.syn_flow.proofs.Bounding.{bound_cuts}
 
 -- where f is nowhere above h on inputs of signals below n, it isn't in their greatest
@@ -54,32 +53,34 @@ inputs_in n (i ∷ is) h =
     let parts = and_parts (is_input n i) (list_all (is_input n) is) h in
     and_from (below n i) (list_all (below n) is) (and_parts (nat_le 1 i) (nat_lt i n) parts.0).1 (inputs_in n is parts.1)
 
-inputs_of : (frame : Frame) (luts : List Lut) (outs : List Lit) → IsLutNet frame luts outs → (j : ℕ) → j < length luts → list_all (is_input (length (sources frame) + 1 + j)) (lut_at luts j).inputs ≡ true
-inputs_of frame luts outs net j lt = (lut_parts (length (sources frame) + 1 + j) (lut_at luts j) (net.luts_fit j lt)).inside
+inputs_of : (count : ℕ) (luts : List Lut) (outs : List Lit) → IsLutNet count luts outs → (j : ℕ) → j < length luts → list_all (is_input (count + 1 + j)) (lut_at luts j).inputs ≡ true
+inputs_of count luts outs net j lt = (lut_parts (count + 1 + j) (lut_at luts j) (net.luts_fit j lt)).inside
 
-lut_deep : (frame : Frame) (luts : List Lut) (outs : List Lit) → IsLutNet frame luts outs → (j : ℕ) → j < length luts
-    → depth_in (signal_depths (length (sources frame)) luts) (length (sources frame) + 1 + j) ≡ greatest (depth_in (signal_depths (length (sources frame)) luts)) (lut_at luts j).inputs + 1
-lut_deep frame luts outs net j lt =
-    lut_step lut_depth 0 depth_local (all_zero (suc (length (sources frame)))) luts (length (sources frame) + 1 + j) j (omega (arith, length-all_zero (length (sources frame)))) lt
-    (inputs_in (length (sources frame) + 1 + j) (lut_at luts j).inputs (inputs_of frame luts outs net j lt))
+lut_deep : (count : ℕ) (luts : List Lut) (outs : List Lit) → IsLutNet count luts outs → (j : ℕ) → j < length luts
+    → depth_in (signal_depths count luts) (count + 1 + j) ≡ greatest (depth_in (signal_depths count luts)) (lut_at luts j).inputs + 1
+lut_deep count luts outs net j lt =
+    lut_step lut_depth 0 depth_local (all_zero (suc count)) luts (count + 1 + j) j (omega (arith, length-all_zero count)) lt
+    (inputs_in (count + 1 + j) (lut_at luts j).inputs (inputs_of count luts outs net j lt))
 
-covered : (k : ℕ) (frame : Frame) (rows : List Row) (lits : List Lit) (label : ℕ → ℕ) (shown : List Shown) → IsGraph frame rows lits → AreBorneOut k rows label shown
-    → (nodes : List ℕ) (luts : List Lut) (outs : List Lit) → IsCovering k frame rows lits nodes luts outs
-    → (limit j : ℕ) → j < limit → j < length luts → label (node_at nodes j) ≤ depth_in (signal_depths (length (sources frame)) luts) (length (sources frame) + 1 + j)
-covered k frame rows lits label shown graph out nodes luts outs cover zero j lt there = absurd (omega (arith, lt))
-covered k frame rows lits label shown graph out nodes luts outs cover (suc limit) j lt there =
-    let count : ℕ = length (sources frame) in
-    let depth : ℕ → ℕ = depth_in (signal_depths (length (sources frame)) luts) in
-    let before : (i : ℕ) → i < j → label (node_at nodes i) ≤ depth (count + 1 + i) = λ i less. covered k frame rows lits label shown graph out nodes luts outs cover limit i (omega (arith, less, lt)) (omega (arith, less, there)) in
-    let low = signal_deep count rows label depth nodes j (λ n small. out.others n (ap is_and (graph.hashed.front n small))) before in
+covered : (k count : ℕ) (rows : List Row) (lits : List Lit) (label : ℕ → ℕ) (shown : List Shown) → IsHashed count rows → AreBorneOut k rows label shown
+    → (nodes : List ℕ) (luts : List Lut) (outs : List Lit) → IsCovering k count rows lits nodes luts outs
+    → (limit j : ℕ) → j < limit → j < length luts → label (node_at nodes j) ≤ depth_in (signal_depths count luts) (count + 1 + j)
+covered k count rows lits label shown hashed out nodes luts outs cover zero j lt there = absurd (omega (arith, lt))
+covered k count rows lits label shown hashed out nodes luts outs cover (suc limit) j lt there =
+    let depth : ℕ → ℕ = depth_in (signal_depths count luts) in
+    let before : (i : ℕ) → i < j → label (node_at nodes i) ≤ depth (count + 1 + i) = λ i less. covered k count rows lits label shown hashed out nodes luts outs cover limit i (omega (arith, less, lt)) (omega (arith, less, there)) in
+    let low = signal_deep count rows label depth nodes j (λ n small. out.others n (ap is_and (hashed.front n small))) before in
     let inputs = (lut_at luts j).inputs in
     let few : length (map (stands_for count nodes) inputs) ≤ k = omega (arith, length-map inputs (stands_for count nodes), few_inputs k luts cover.few j there) in
     omega (
       arith,
-      lut_deep frame luts outs cover.net j there,
-      bound_cuts k count rows label shown graph.hashed out (node_at nodes j) (map (stands_for count nodes) inputs) (cover.ands j there) (cover.cuts j there) few,
-      greatest_below label (stands_for count nodes) depth (count + 1 + j) low inputs (inputs_of frame luts outs cover.net j there),
+      lut_deep count luts outs cover.net j there,
+      bound_cuts k count rows label shown hashed out (node_at nodes j) (map (stands_for count nodes) inputs) (cover.ands j there) (cover.cuts j there) few,
+      greatest_below label (stands_for count nodes) depth (count + 1 + j) low inputs (inputs_of count luts outs cover.net j there),
     )
+
+pub bound_luts : BorneOutBoundLuts
+bound_luts k count rows lits label shown hashed out nodes luts outs cover j there = covered k count rows lits label shown hashed out nodes luts outs cover (suc j) j (omega arith) there
 
 -- an observed literal's node is what the net's literal stands for
 
@@ -87,22 +88,21 @@ node_for : (count : ℕ) (nodes : List ℕ) (l : Lit) → node_of (lit_for count
 node_for count nodes l = omega arith
 
 pub bound_coverings : BorneOutBoundCoverings
-bound_coverings k frame rows lits label shown graph out nodes luts outs cover i there =
-    let count : ℕ = length (sources frame) in
-    let depth : ℕ → ℕ = depth_in (signal_depths (length (sources frame)) luts) in
+bound_coverings k count rows lits label shown hashed out nodes luts outs cover i there =
+    let depth : ℕ → ℕ = depth_in (signal_depths count luts) in
     let here : i < length outs = omega (arith, there, length-map outs (lit_for count nodes), ap (λ (l : List Lit). length l) cover.stand) in
     let l : Lit = lit_at outs i in
     let is : lit_at lits i ≡ lit_for count nodes (lit_at outs i) = ap (λ (ls : List Lit). lit_at ls i) (sym cover.stand) ∙ get_or-map (lit_for count nodes) outs i (record { 0 = 0 }) (record { 0 = 0 }) here in
     let node : node_of (lit_at lits i) ≡ stands_for count nodes (node_of (lit_at outs i)) = ap node_of is ∙ node_for count nodes (lit_at outs i) in
-    let low = signal_deep count rows label depth nodes (length luts) (λ n small. out.others n (ap is_and (graph.hashed.front n small)))
-    (λ j less. covered k frame rows lits label shown graph out nodes luts outs cover (suc j) j (omega arith) less) (node_of (lit_at outs i)) (cover.net.within i (record { 0 = 0 }) here) in
+    let low = signal_deep count rows label depth nodes (length luts) (λ n small. out.others n (ap is_and (hashed.front n small)))
+    (bound_luts k count rows lits label shown hashed out nodes luts outs cover) (node_of (lit_at outs i)) (cover.net.within i (record { 0 = 0 }) here) in
     let same = ap label node in
-    omega (arith, low, same, greatest_any (signal_depths (length (sources frame)) luts) (node_of (lit_at outs i)))
+    omega (arith, low, same, greatest_any (signal_depths count luts) (node_of (lit_at outs i)))
 
 -- so the greatest label of an observed node is the least depth, where it is a depth
-pub labels_least : (k : ℕ) (frame : Frame) (rows : List Row) (lits : List Lit) (label : ℕ → ℕ) (shown : List Shown) → IsGraph frame rows lits → AreBorneOut k rows label shown → IsLeastDepth k frame rows lits (greatest label (map node_of lits))
-labels_least k frame rows lits label shown graph out nodes luts outs cover =
-    greatest_le label (map node_of lits) (net_depth (length (sources frame)) luts) (λ i lt.
+pub labels_least : (k count : ℕ) (rows : List Row) (lits : List Lit) (label : ℕ → ℕ) (shown : List Shown) → IsHashed count rows → AreBorneOut k rows label shown → IsLeastDepth k count rows lits (greatest label (map node_of lits))
+labels_least k count rows lits label shown hashed out nodes luts outs cover =
+    greatest_le label (map node_of lits) (net_depth count luts) (λ i lt.
     let inside : i < length lits = omega (arith, lt, length-map lits node_of) in
     let same = ap label (get_or-map node_of lits i (record { 0 = 0 }) 0 inside) in
-    omega (arith, same, bound_coverings k frame rows lits label shown graph out nodes luts outs cover i inside))
+    omega (arith, same, bound_coverings k count rows lits label shown hashed out nodes luts outs cover i inside))

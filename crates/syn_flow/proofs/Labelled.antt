@@ -10,7 +10,7 @@ use Rattle.syn_rows.specs.Nodes.{has_node}
 use Rattle.syn_rows.specs.Rows.{InOrder, node_of, refs_of, row_at}
 use Rattle.syn_rows.specs.Reach.{is_and}
 use Rattle.syn_hashed.specs.Hashed.{IsHashed}
-use Rattle.syn_lutshapes.specs.Luts.{greatest}
+use Rattle.syn_lutnet.specs.LutData.{greatest}
 use Rattle.syn_covering.specs.Cuts.{AreDepths, AreLutCuts}
 use Rattle.syn_paths.specs.Tops.{fan_in_label, IsInTop, IsLowFor, label_in}
 use Rattle.syn_paths.specs.Paths.{ArePathsInto}

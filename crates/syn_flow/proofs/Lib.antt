@@ -5,3 +5,4 @@ pub mod Noded
 pub mod Labelled
 pub mod Witnessed
 pub mod OneLabels
+pub mod Attained

@@ -1,7 +1,7 @@
 -- What is chosen for a node is right for all labels that go on from it.
-use Rattle.std.proofs.Common.{◌≡◌, ℕ, zero, suc, ◌+◌, ◌⊎◌, ◌<◌, ◌≤◌, nat_eq, nat_lt, true, false, List, [], ◌∷◌, ◌++◌, length, length-append, refl, sym, ap, ◌∙◌, subst, inl, inr, arith}
+use Rattle.std.proofs.Common.{◌≡◌, ℕ, zero, suc, ◌+◌, ◌⊎◌, ◌<◌, ◌≤◌, nat_lt, true, false, List, [], ◌∷◌, ◌++◌, length, length-append, refl, sym, ap, ◌∙◌, subst, inl, inr, arith}
 use Rattle.std.specs.List.{list_all}
-use Rattle.std.proofs.lemmas.Bool.{and_from, and_parts, both_ways, cases_lt, eq-eqb, false_from_ne_true, lt-ltb}
+use Rattle.std.proofs.lemmas.Bool.{and_from, and_parts, both_ways, cases_lt, false_from_ne_true, lt-ltb}
 use Rattle.std.proofs.lemmas.List.{get_or_append_left, get_or_at, get_or_past}
 use Rattle.syn_rows.specs.declared.Lit.{Lit}
 use Rattle.syn_rows.specs.declared.Row.{Row}
@@ -23,7 +23,7 @@ use Rattle.syn_flow.specs.Labels.{IsFlowLabel}
 use Rattle.syn_flow.specs.Labelling.{AreLabelled, cut_at, IsChoice, IsNode}
 use Rattle.syn_rows.proofs.Nodes.{has_here, has_there}
 use Rattle.syn_hashed.proofs.Orders.{hashed_in_order}
-use Rattle.syn_shapes.proofs.Gates.{first_below, first_there, gate_parts, GateParts}
+use Rattle.syn_hashed.proofs.Dropped.{gate_parts, IsGate}
 use Rattle.syn_cones.proofs.Swapping.{fan_ins_are_cut}
 use Rattle.syn_cones.proofs.Walking.{refers_row}
 use Rattle.syn_paths.proofs.Falling.{greatest_over, refers_below}
@@ -34,11 +34,8 @@ use Rattle.syn_flow.proofs.Agreeing.{agree_back, AgreeBelow, same_fan_in, same_l
 
 -- the two fan-ins are a cut that a LUT may read
 
-fan_ins_rise : (n : ℕ) (a b : Lit) → GateParts n a b → node_of a < node_of b
-fan_ins_rise n a b g = elim (cases_lt (node_of a) (node_of b)) [
-  | inl less ↦ less
-  | inr past ↦ let same : node_of a ≡ node_of b = omega (arith, past, g.less) in absurd (both_ways (nat_eq (node_of a) (node_of b)) g.differ (eq-eqb (node_of a) (node_of b) same))
-]
+fan_ins_rise : (n : ℕ) (a b : Lit) → IsGate n a b → node_of a < node_of b
+fan_ins_rise n a b g = omega (arith, g.rising, g.apart)
 
 pub fan_ins_lut : (k count : ℕ) (rows : List Row) (n : ℕ) → IsHashed count rows → 2 ≤ k → is_and (row_at rows n) ≡ true → IsLutCut k rows n (refs_of (row_at rows n))
 fan_ins_lut k count rows n hashed many gate = go (row_at rows n) refl (hashed_gate count rows hashed n gate)
@@ -50,9 +47,9 @@ fan_ins_lut k count rows n hashed many gate = go (row_at rows n) refl (hashed_ga
         let parts = gate_parts n a b g in
         record {
           cut = fan_ins_are_cut rows n a b e;
-          rising = and_from (nat_lt 0 (node_of a)) (rise_above (node_of a) (node_of b ∷ [])) (lt-ltb 0 (node_of a) (first_there n a b parts))
+          rising = and_from (nat_lt 0 (node_of a)) (rise_above (node_of a) (node_of b ∷ [])) (lt-ltb 0 (node_of a) (omega (arith, parts.above)))
               (and_from (nat_lt (node_of a) (node_of b)) true (lt-ltb (node_of a) (node_of b) (fan_ins_rise n a b parts)) refl);
-          below = and_from (nat_lt (node_of a) n) (are_below n (node_of b ∷ [])) (lt-ltb (node_of a) n (first_below n a b parts)) (and_from (nat_lt (node_of b) n) true (lt-ltb (node_of b) n parts.below) refl);
+          below = and_from (nat_lt (node_of a) n) (are_below n (node_of b ∷ [])) (lt-ltb (node_of a) n (omega (arith, parts.rising, parts.below))) (and_from (nat_lt (node_of b) n) true (lt-ltb (node_of b) n parts.below) refl);
           two = omega arith;
           few = omega (arith, many);
         }

@@ -9,7 +9,7 @@ use Rattle.syn_rows.specs.Rows.{refs_of, row_at}
 use Rattle.syn_rows.specs.Reach.{is_and}
 use Rattle.syn_rows.specs.Values.{value_in}
 use Rattle.syn_hashed.specs.Hashed.{IsHashed}
-use Rattle.syn_lutshapes.specs.Luts.{greatest}
+use Rattle.syn_lutnet.specs.LutData.{greatest}
 use Rattle.syn_paths.specs.Tops.{fan_in_label, FallsBelow, IsInTop, label_in}
 use Rattle.syn_paths.specs.Paths.{ArePathsInto}
 use Rattle.syn_flow.specs.declared.witness.FlowProof.{FlowProof}

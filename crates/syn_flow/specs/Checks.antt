@@ -4,7 +4,7 @@ use Rattle.syn_rows.specs.declared.Row.{Row}
 use Rattle.syn_rows.specs.declared.Row.TheVariants.{Free, Source, And, Alias}
 use Rattle.syn_rows.specs.Rows.{node_of, row_at}
 use Rattle.syn_rows.specs.Values.{value_in}
-use Rattle.syn_lutshapes.specs.Luts.{greatest}
+use Rattle.syn_lutnet.specs.LutData.{greatest}
 use Rattle.syn_paths.specs.Tops.{fan_in_label, IsInTop}
 use Rattle.syn_paths.specs.Paths.{ArePathsInto}
 use Rattle.syn_flow.specs.Witness.{Shown}

@@ -4,11 +4,14 @@ use Rattle.syn_rows.specs.declared.Row.{Row}
 use Rattle.syn_rows.specs.Rows.{row_at}
 use Rattle.syn_rows.specs.Reach.{is_and}
 use Rattle.syn_graph.specs.declared.Graph.{Graph}
+use Rattle.syn_lutnet.specs.LutData.{net_depth}
 use Rattle.syn_lutnet.specs.declared.nets.LutNet.{LutNet}
+use Rattle.syn_lutnet.specs.Data.{luts_data}
 use Rattle.syn_covering.specs.Making.{IsMappedBy}
 use Rattle.syn_flow.specs.declared.witness.FlowProof.{FlowProof}
 use Rattle.syn_flow.specs.declared.witness.Paths.{Paths}
 use Rattle.syn_paths.specs.Tops.{label_in}
+use Rattle.syn_flow.specs.Coverings.{IsCovering, IsLeastDepth}
 use Rattle.syn_flow.specs.Witness.{AreBorneOut, Shown}
 use Rattle.syn_flow.specs.Labels.{AreFlowLabels, IsChosenCut}
 
@@ -27,3 +30,12 @@ pub record IsFlowMapping (k : ℕ) (graph : Graph) (net : LutNet) (proof : FlowP
   pub cut : ℕ → List ℕ
   pub chosen : (n : ℕ) → is_and (row_at graph.rows n) ≡ true → IsChosenCut graph.rows (label_in proof.labels) n (cut n)
   pub mapped : IsMappedBy cut graph net
+
+-- no covering of the graph by LUTs of at most k inputs is shallower than the net
+abbrev pub HasLeastDepth : ℕ → Graph → LutNet → Type 0
+HasLeastDepth k graph net = IsLeastDepth k graph.source_count graph.rows graph.observed (net_depth graph.source_count (luts_data net.luts))
+
+-- The net is a covering of the graph by LUTs of at most k inputs, with some choice of the nodes that they stand for.
+pub record IsCoveredBy (k : ℕ) (graph : Graph) (net : LutNet) : Type 0 where
+  pub nodes : List ℕ
+  pub covering : IsCovering k graph.source_count graph.rows graph.observed nodes (luts_data net.luts) net.observed

@@ -5,7 +5,7 @@ use Rattle.syn_rows.specs.Rows.{row_at}
 use Rattle.syn_rows.specs.Reach.{is_and}
 use Rattle.syn_hashed.specs.Hashed.{IsHashed}
 use Rattle.syn_cones.specs.Cones.{IsCut}
-use Rattle.syn_lutshapes.specs.Luts.{greatest}
+use Rattle.syn_lutnet.specs.LutData.{greatest}
 use Rattle.syn_paths.specs.Tops.{fan_in_label, IsInTop}
 use Rattle.syn_paths.specs.Paths.{ArePathsInto}
 

@@ -8,6 +8,9 @@ mod mapper;
 mod witness;
 
 pub use certificate::check_paths;
-pub use laws::{borne_out_bound_coverings, borne_out_bound_cuts, one_flow_labels};
+pub use laws::{
+    borne_out_bound_coverings, borne_out_bound_cuts, borne_out_bound_luts, mapping_is_covering,
+    one_flow_labels,
+};
 pub use mapper::flow;
 pub use witness::{FlowProof, Paths};

@@ -1,6 +1,6 @@
 //! Labels, and the paths that bear them out.
 
-use syn_netlist::Items;
+use syn_lists::Items;
 
 /// Labels of nodes, and the paths that bear them out.
 #[derive(Debug, Drop)]

@@ -6,7 +6,7 @@ use Rattle.syn_netlist.specs.declared.tables.Table as code
 use Rattle.syn_netlist.specs.Frames.{frame_in}
 use Rattle.syn_netlist.specs.Kept.{latch_in}
 use Rattle.syn_netlist.specs.Lists as lists
-use Rattle.syn_netlist.specs.Marks.{without_numbers}
+use Rattle.syn_lists.specs.Numbers.{without_numbers}
 use Rattle.syn_netlist.specs.Numbers.{all_below, words_at}
 use Rattle.syn_netlist.specs.Tables.{table_in, tables_below}
 use Rattle.syn_netlist.specs.Walk.{table_inputs, table_output}

@@ -9,7 +9,8 @@ ghost use Rattle.syn_gen.specs.Generated.{generated, signals, unread};
 use crate::names::{INPUTS, input_numbers, signal_names};
 use crate::tables::{draw_tables, signals_read, unmarked_outputs};
 use std::alloc::{AllocError, Global};
-use syn_netlist::{Frame, Items, Names, Netlist, Table, Word, marks_of};
+use syn_lists::Items;
+use syn_netlist::{Frame, Names, Netlist, Table, Word, marks_of};
 
 // The frame over so many signals, with the outputs of the tables that none of them reads.
 fn frame_over(

@@ -1,7 +1,8 @@
 //! The generated tables, by numbers of signals.
 
 ghost use Rattle.std.specs.Prelude.{◌≡◌, ℕ, ◌+◌, ◌*◌, ◌<◌, ◌≤◌, ◌^◌, ◌&&◌, true, nat_lt, List, [], ◌∷◌, IfOk, OnOk, length, map, flat_map};
-ghost use Rattle.syn_netlist.specs.Marks.{AreMarks, without_numbers};
+ghost use Rattle.syn_netlist.specs.Marks.{AreMarks};
+ghost use Rattle.syn_lists.specs.Numbers.{without_numbers};
 ghost use Rattle.syn_netlist.specs.Numbers.{all_below};
 ghost use Rattle.syn_netlist.specs.Tables.{table_in, tables_below};
 ghost use Rattle.syn_netlist.specs.Walk.{table_inputs, table_output};
@@ -12,7 +13,8 @@ ghost use Rattle.syn_gen.specs.Signals.{AreSignals};
 use crate::draws::{Drawn, Draws};
 use crate::names::INPUTS;
 use std::alloc::{AllocError, Global};
-use syn_netlist::{Items, Table, Word};
+use syn_lists::Items;
+use syn_netlist::{Table, Word};
 
 // How many minterms three variables have.
 const MINTERMS: u8 = 8;

@@ -7,8 +7,8 @@ use Rattle.syn_rows.specs.declared.Row.TheVariants.{Free, Source, And, Alias}
 use Rattle.syn_rows.specs.Rows.{node_of, row_at, InOrder}
 use Rattle.syn_rows.specs.Reach.{IsReachedSet, is_and, ands_from, Ands, HasAnds}
 use Rattle.syn_rows.specs.References.{hits, refs, sum_below, refs_by_literals}
-use Rattle.syn_netlist.specs.Lists.{Frame, sources}
-use Rattle.syn_shapes.specs.Graphs.{is_gate, IsGraph}
+use Rattle.syn_hashed.specs.Hashed.{is_gate}
+use Rattle.syn_graph.specs.Graphs.{IsGraph}
 use Rattle.syn_hashed.proofs.Orders.{hashed_in_order}
 
 -- rows of which those from `front` on are ANDs of the set, and those before are none
@@ -36,12 +36,9 @@ gate_and n Source h = h
 gate_and n (And a b) h = refl
 gate_and n (Alias a) h = h
 
-pub graph_ands : (frame : Frame) (rows : List Row) (lits : List Lit) (k : ℕ) → ((rows : List Row) (observed : List Lit) → InOrder rows → HasAnds rows observed) → IsGraph frame rows lits → k + (length (sources frame) + 1) ≡ length rows → Ands rows lits k
-graph_ands frame rows lits k has_word g counted = (set, is_set, omega (arith, counted, total))
+pub graph_ands : (count : ℕ) (rows : List Row) (lits : List Lit) (k : ℕ) → ((rows : List Row) (observed : List Lit) → InOrder rows → HasAnds rows observed) → IsGraph count rows lits → k + (count + 1) ≡ length rows → Ands rows lits k
+graph_ands count rows lits k has_word g counted = (set, is_set, omega (arith, counted, total))
   where
-    count : ℕ
-    count = length (sources frame)
-
     found : HasAnds rows lits
     found = has_word rows lits (hashed_in_order count rows g.hashed)
 

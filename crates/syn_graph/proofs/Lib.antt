@@ -1,4 +1,2 @@
-mod Copying
-mod Counting
-mod Framing
-pub mod Observing
+pub mod Counting
+pub mod Graphing

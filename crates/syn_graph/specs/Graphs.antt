@@ -1,19 +1,17 @@
--- The netlist that a graph is written as, and the literals of observed sources.
-use Rattle.std.specs.Prelude.{◌≡◌, ℕ, ◌<◌, true, List, length}
+-- Graphs: node 0 is the constant 0, then come the sources, then ANDs of smaller nodes (an and-inverter graph). Nothing in them has a name.
+use Rattle.std.specs.Prelude.{◌≡◌, ℕ, ◌+◌, ◌<◌, All, List, length}
 use Rattle.syn_rows.specs.declared.Lit.{Lit}
-use Rattle.syn_netlist.specs.Lists.{Frame, Netlist, sources, observed}
-use Rattle.syn_netlist.specs.Numbers.{word_at}
-use Rattle.syn_netlist.specs.Words.{has_word}
-use Rattle.syn_shapes.specs.GraphShape.{place}
-use Rattle.syn_shapes.specs.Graphs.{lit_at, source_lit}
-use Rattle.syn_netlist.specs.Frames.{frame_in}
-use Rattle.syn_shapes.specs.Spelling.{network}
-use Rattle.syn_graph.specs.declared.Graph.{Graph}
+use Rattle.syn_rows.specs.declared.Row.{Row}
+use Rattle.syn_rows.specs.Rows.{node_of}
+use Rattle.syn_rows.specs.Reach.{Reached}
+use Rattle.syn_hashed.specs.Hashed.{IsHashed, lit_at}
 
--- the netlist of a graph: a table for each AND, then one for each observed signal that is no source
-abbrev pub network_of : Graph → Netlist
-network_of graph = network (frame_in graph.frame) graph.rows graph.observed
+-- Rows and observed literals are a graph over so many sources: hashed rows, literals of nodes that are there, and every AND is reached.
+pub record IsGraph (count : ℕ) (rows : List Row) (lits : List Lit) : Type 0 where
+  pub hashed : IsHashed count rows
+  pub within : All (λ l. node_of l < length rows) lits
+  pub reached : (n : ℕ) → count < n → n < length rows → Reached rows lits n
 
--- an observed signal that is a source has that source's plain literal
-abbrev pub HasOwnSources : Frame → List Lit → Type 0
-HasOwnSources frame lits = (i : ℕ) → i < length lits → has_word (sources frame) (word_at (observed frame) i) ≡ true → lit_at lits i ≡ source_lit (place (word_at (observed frame) i) (sources frame))
+-- a literal of node 0 or of a source stays
+abbrev pub SourcesStay : ℕ → List Lit → List Lit → Type 0
+SourcesStay count lits new_lits = (i : ℕ) (l : Lit) → i < length lits → node_of l < count + 1 → lit_at lits i ≡ l → lit_at new_lits i ≡ l

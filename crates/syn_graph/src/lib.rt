@@ -1,4 +1,4 @@
-//! And-inverter graphs.
+//! And-inverter graphs, which have no names: rows, and literals of what is observed.
 #![tactic(auto)]
 
 ghost use Rattle.std.specs.Prelude.{◌≡◌, ℕ, ◌+◌, ◌<◌, ◌^◌, length, slice_index_or, IfOk};
@@ -7,71 +7,49 @@ ghost use Rattle.syn_rows.specs.Levels.{levels_of};
 ghost use Rattle.syn_rows.specs.Reach.{Ands};
 ghost use Rattle.syn_rows.specs.References.{refs_by_literals, refs_by_rows};
 ghost use Rattle.syn_rows.specs.Values.{rows_function};
-ghost use Rattle.syn_netlist.specs.Frames.{frame_in};
-ghost use Rattle.syn_netlist.specs.Lists.{sources};
-ghost use Rattle.syn_shapes.specs.Graphs.{IsGraph};
+ghost use Rattle.syn_graph.specs.Graphs.{IsGraph};
 
-mod copies;
+mod compaction;
+mod laws;
 mod references;
 
-use crate::references::{few_observed, references};
-pub use copies::{copy_frame, copy_names, frame_over};
+use crate::references::references;
+pub use compaction::{compact, finish};
+pub use laws::same_function_goes_on;
 use std::alloc::{AllocError, Global};
-use syn_netlist::{Frame, Items};
+use syn_lists::Items;
 use syn_rows::{Lit, Row};
 
-/// An and-inverter graph: node 0 is the constant 0, then come the sources of the frame, then ANDs of two smaller nodes.
-/// No two ANDs have the same pair, and each is reached from an observed literal.
+/// An and-inverter graph: node 0 is the constant 0, then come the sources, then ANDs of two smaller nodes. No two ANDs have the
+/// same pair, and each is reached from an observed literal.
 #[derive(Debug, Drop)]
 pub struct Graph {
-    /// The names, the inputs, clocks and outputs, and the latches.
-    pub frame: Frame,
     /// The number of sources.
     pub source_count: u32,
     /// The rows by node number.
     pub rows: Items<Row>,
-    /// One literal for each observed signal, in their order.
+    /// The observed literals.
     pub observed: Items<Lit>,
-    pub ghost source_count_is: { source_count ≡ length (sources (frame_in frame)) },
-    pub ghost graph: { IsGraph (frame_in frame) rows observed },
+    pub ghost graph: { IsGraph source_count rows observed },
     pub ghost few: { length rows < NODE_LIMIT },
-    pub ghost few_names: { length frame.names < 2 ^ 31 },
+    pub ghost few_observed: { length observed < 2 ^ 31 },
 }
 
 impl Graph {
-    /// The graph of these rows and observed literals over a frame with so many sources.
-    pub fn over(frame: Frame, source_count: u32, rows: Vec<Row>, observed: Vec<Lit>) -> Graph
-        requires sources { source_count ≡ length (sources (frame_in frame)) }
-        requires graph { IsGraph (frame_in frame) rows.items observed.items }
+    /// The graph of these rows and observed literals over so many sources.
+    pub fn over(source_count: u32, rows: Vec<Row>, observed: Vec<Lit>) -> Graph
+        requires graph { IsGraph source_count rows.items observed.items }
         requires few { length rows.items < NODE_LIMIT }
-        requires names { length frame.names < 2 ^ 31 }
-        ensures frame { result.frame ≡ frame }
+        requires observed { length observed.items < 2 ^ 31 }
+        ensures sources { result.source_count ≡ source_count }
         ensures rows { result.rows ≡ rows.items }
         ensures observed { result.observed ≡ observed.items }
     {
         Graph {
-            frame,
             source_count,
             rows: Items::of(rows),
             observed: Items::of(observed),
         }
-    }
-
-    /// The graph of other rows and observed literals over the same frame, which is moved.
-    pub fn with_rows(self, rows: Vec<Row>, observed: Vec<Lit>) -> Graph
-        requires graph { IsGraph (frame_in self.frame) rows.items observed.items }
-        requires few { length rows.items < NODE_LIMIT }
-        ensures frame { result.frame ≡ self.frame }
-        ensures rows { result.rows ≡ rows.items }
-        ensures observed { result.observed ≡ observed.items }
-    {
-        let Graph {
-            frame,
-            source_count,
-            rows: _,
-            observed: _,
-        } = self;
-        Graph::over(frame, source_count, rows, observed)
     }
 
     /// The number of ANDs.
@@ -104,21 +82,16 @@ impl Graph {
         ensures count { IfOk result (λ v. length v.items ≡ length self.now.rows) }
         ensures refs { IfOk result (λ v. (m : ℕ) → slice_index_or v.items m 0 ≡ refs_by_rows m self.now.rows + refs_by_literals m self.now.observed) }
     {
-        few_observed(&self.frame);
         references(alloc, self.rows.as_slice(), self.observed.as_slice())
     }
 
     /// An equal graph.
     pub fn copy(&self, alloc: Global) -> Result<Graph, AllocError>
-        ensures frame { IfOk result (λ g. frame_in g.frame ≡ frame_in self.now.frame) }
-        ensures names { IfOk result (λ g. g.frame.names ≡ self.now.frame.names) }
-        ensures rows { IfOk result (λ g. g.rows ≡ self.now.rows) }
-        ensures observed { IfOk result (λ g. g.observed ≡ self.now.observed) }
+        ensures { IfOk result (λ g. g ≡ self.now) }
     {
         let rows = Vec::from_slice(alloc, self.rows.as_slice())?;
         let observed = Vec::from_slice(alloc, self.observed.as_slice())?;
         Ok(Graph {
-            frame: copy_frame(alloc, &self.frame)?,
             source_count: self.source_count,
             rows: Items::of(rows),
             observed: Items::of(observed),

@@ -5,19 +5,9 @@ ghost use Rattle.syn_rows.specs.declared.TheConstants.{NODE_LIMIT};
 ghost use Rattle.syn_rows.specs.declared.Row.{Row};
 ghost use Rattle.syn_rows.specs.Rows.{AllRefs, node_of};
 ghost use Rattle.syn_rows.specs.References.{hits, refs, refs_by_literals, refs_by_rows};
-ghost use Rattle.syn_netlist.specs.Frames.{frame_in};
-ghost use Rattle.syn_netlist.specs.Lists.{observed};
 
 use std::alloc::{AllocError, Global};
-use syn_netlist::Frame;
 use syn_rows::{Lit, Row};
-
-// There are no more observed signals than names: a law, which computes nothing.
-pub fn few_observed(frame: &Frame)
-    ensures { length (observed (frame_in frame.now)) ≤ length frame.now.names }
-{
-    let _count = frame.names.len();
-}
 
 // So many counts of none.
 fn no_counts(alloc: Global, count: usize) -> Result<Vec<u32>, AllocError>

@@ -7,8 +7,6 @@ use Rattle.syn_rows.specs.Rows.{InOrder, node_of, row_at}
 use Rattle.syn_hashed.specs.Hashed.{IsHashed, is_gate}
 use Rattle.syn_hashed.proofs.Dropped.{gate_parts}
 use Rattle.syn_hashed.proofs.Orders.{and_inside, hashed_in_order}
-use Rattle.syn_netlist.specs.Frames.{frame_in}
-use Rattle.syn_netlist.specs.Lists.{sources}
 use Rattle.syn_graph.specs.declared.Graph.{Graph}
 use Rattle.syn_truth.specs.declared.Truth.{Truth}
 use Rattle.syn_truth.specs.Truth.{AtEach, value_of}
@@ -29,18 +27,18 @@ gate_fan_ins n a b g =
 -- in hashed rows each AND has two different fan-ins
 pub have_fan_ins : (graph : Graph) → HaveFanIns graph.rows
 have_fan_ins graph n a b is =
-    let hashed : IsHashed (length (sources (frame_in graph.frame))) graph.rows = graph.graph.hashed in
-    let inside = and_inside (length (sources (frame_in graph.frame))) graph.rows hashed n (ap is_and is) in
+    let hashed : IsHashed graph.source_count graph.rows = graph.graph.hashed in
+    let inside = and_inside graph.source_count graph.rows hashed n (ap is_and is) in
     gate_fan_ins n a b (subst (λ row. is_gate n row ≡ true) is (hashed.gates n inside.0 inside.1))
 
 pub in_order : (graph : Graph) → InOrder graph.rows
-in_order graph = hashed_in_order (length (sources (frame_in graph.frame))) graph.rows graph.graph.hashed
+in_order graph = hashed_in_order graph.source_count graph.rows graph.graph.hashed
 
 pub and_there : (graph : Graph) (node : ℕ) → is_and (row_at graph.rows node) ≡ true → node < length graph.rows
-and_there graph node gate = (and_inside (length (sources (frame_in graph.frame))) graph.rows graph.graph.hashed node gate).1
+and_there graph node gate = (and_inside graph.source_count graph.rows graph.graph.hashed node gate).1
 
 pub and_above : (graph : Graph) (node : ℕ) → is_and (row_at graph.rows node) ≡ true → 0 < node
-and_above graph node gate = let at = and_inside (length (sources (frame_in graph.frame))) graph.rows graph.graph.hashed node gate in omega (arith, at.0)
+and_above graph node gate = let at = and_inside graph.source_count graph.rows graph.graph.hashed node gate in omega (arith, at.0)
 
 -- the table has the values of the node
 pub table_values : (graph : Graph) (node : ℕ) (leaves : List ℕ) (t : Truth) → is_and (row_at graph.rows node) ≡ true → AreLeaves graph.rows node leaves → IsTruthOver graph.rows leaves node t

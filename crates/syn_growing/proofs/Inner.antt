@@ -8,8 +8,8 @@ use Rattle.syn_rows.specs.Reach.{is_and}
 use Rattle.syn_rows.specs.Rows.{node_of, refs_of, row_at}
 use Rattle.syn_rows.specs.Nodes.{has_node}
 use Rattle.syn_rows.proofs.Nodes.{has_cases, has_here, has_one, has_there, same_node}
-use Rattle.syn_netlist.specs.Marks.{distinct_numbers, without_numbers}
-use Rattle.syn_netlist.proofs.Walking.{once_more}
+use Rattle.syn_lists.specs.Numbers.{distinct_numbers, without_numbers}
+use Rattle.syn_lists.proofs.Once.{once_more}
 use Rattle.syn_cones.specs.Walk.{put_nodes, rises}
 use Rattle.syn_cones.proofs.Walking.{puts_has, rises_puts}
 use Rattle.syn_growing.specs.Cones.{HaveFanIns}

@@ -4,7 +4,7 @@ use Rattle.syn_rows.specs.declared.Row.{Row}
 use Rattle.syn_rows.specs.Reach.{is_and}
 use Rattle.syn_rows.specs.Rows.{refs_of, row_at}
 use Rattle.syn_rows.specs.Nodes.{has_node}
-use Rattle.syn_netlist.specs.Marks.{without_numbers}
+use Rattle.syn_lists.specs.Numbers.{without_numbers}
 use Rattle.syn_cones.specs.Walk.{put_nodes}
 
 -- The nodes of a cone: its leaves, which rise, and its inner nodes, in the order in which they were replaced. No node is both, and none stands twice.

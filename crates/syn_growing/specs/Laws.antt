@@ -4,7 +4,7 @@ use Rattle.syn_rows.specs.declared.Row.{Row}
 use Rattle.syn_rows.specs.Reach.{is_and}
 use Rattle.syn_rows.specs.Rows.{row_at}
 use Rattle.syn_rows.specs.Nodes.{has_node}
-use Rattle.syn_netlist.specs.Marks.{distinct_numbers}
+use Rattle.syn_lists.specs.Numbers.{distinct_numbers}
 use Rattle.syn_cones.specs.Walk.{rises}
 use Rattle.syn_growing.specs.Cones.{HaveFanIns}
 use Rattle.syn_growing.specs.Growing.{ConeNodes, cone_of, count_with, may_be_replaced, next_leaf}

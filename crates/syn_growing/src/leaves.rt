@@ -3,7 +3,7 @@
 ghost use Rattle.std.specs.Prelude.{◌≡◌, ◌+◌, ◌<◌, ◌≤◌, [], ◌∷◌, ◌++◌, nat_le, length};
 ghost use Rattle.syn_rows.specs.Nodes.{has_node};
 ghost use Rattle.syn_rows.specs.Rows.{node_of};
-ghost use Rattle.syn_netlist.specs.Marks.{without_numbers};
+ghost use Rattle.syn_lists.specs.Numbers.{without_numbers};
 ghost use Rattle.syn_cones.specs.Walk.{put_node, put_nodes};
 ghost use Rattle.syn_growing.specs.Growing.{one_new, without_node};
 

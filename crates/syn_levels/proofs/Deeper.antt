@@ -5,8 +5,6 @@ use Rattle.std.proofs.lemmas.List.{get_or_past}
 use Rattle.syn_rows.specs.declared.Lit.{Lit}
 use Rattle.syn_rows.specs.Rows.{node_of}
 use Rattle.syn_rows.specs.Levels.{level_in, levels_of}
-use Rattle.syn_netlist.specs.Frames.{frame_in}
-use Rattle.syn_netlist.specs.Lists.{sources}
 use Rattle.syn_hashed.specs.Growing.{level_by}
 use Rattle.syn_hashed.specs.Hashed.{lit_at}
 use Rattle.syn_hashed.proofs.LevelLaws.{source_level}
@@ -17,7 +15,7 @@ use Rattle.syn_levels.specs.Levels.{IsNoDeeper}
 pub past_level : (graph : Graph) (i : ℕ) → length graph.observed ≤ i → level_by graph.rows (lit_at graph.observed i) ≡ 0
 past_level graph i past =
     ap (level_by graph.rows) (get_or_past graph.observed i (record { 0 = 0 }) past)
-    ∙ source_level (length (sources (frame_in graph.frame))) graph.rows graph.graph.hashed 0 (omega arith)
+    ∙ source_level graph.source_count graph.rows graph.graph.hashed 0 (omega arith)
 
 pub no_deeper : (was now : Graph) (old new : List Lit) (before after : List ℕ) → old ≡ was.observed → before ≡ levels_of was.rows → new ≡ now.observed → after ≡ levels_of now.rows
     → ((i : ℕ) → i < length new → level_in after (node_of (lit_at new i)) ≤ level_in before (node_of (lit_at old i))) → IsNoDeeper was now

@@ -1,1 +1,5 @@
+pub mod LutParts
+pub mod Folding
+pub mod Ones
+pub mod Deepest
 pub mod LutDepths

@@ -8,10 +8,10 @@ use Rattle.syn_truth.specs.declared.Truth.{Truth}
 use Rattle.syn_truth.specs.Truth.{value_of}
 use Rattle.syn_plan.specs.Factoring.{Built, factored, falling}
 use Rattle.syn_plan.proofs.Factored.{factored_after-same}
-use Rattle.syn_lutshapes.specs.Luts.{greatest, depth_in, lut_depth, fold_luts, lut_gates, net_gates, ones_of, ones_value}
-use Rattle.syn_lutshapes.specs.Luts as spelled
-use Rattle.syn_lutshapes.proofs.Deepest.{greatest_le}
-use Rattle.syn_lutshapes.proofs.Ones.{ones_give}
+use Rattle.syn_lutnet.specs.LutData.{greatest, depth_in, lut_depth, fold_luts, lut_gates, net_gates, ones_of, ones_value}
+use Rattle.syn_lutnet.specs.LutData as spelled
+use Rattle.syn_lutnet.proofs.Deepest.{greatest_le}
+use Rattle.syn_lutnet.proofs.Ones.{ones_give}
 use Rattle.syn_lutnet.specs.declared.luts.Lut.{Lut}
 use Rattle.syn_lutnet.specs.Data.{lut_data, luts_data}
 

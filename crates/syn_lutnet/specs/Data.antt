@@ -1,6 +1,6 @@
 -- LUTs as data.
 use Rattle.std.specs.Prelude.{List, map}
-use Rattle.syn_lutshapes.specs.Luts as spelled
+use Rattle.syn_lutnet.specs.LutData as spelled
 use Rattle.syn_lutnet.specs.declared.luts.Lut.{Lut}
 
 -- a LUT as data: its inputs, and the minterms of its function

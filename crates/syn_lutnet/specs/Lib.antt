@@ -1,2 +1,3 @@
+pub mod LutData
 pub mod Data
 pub mod Nets

@@ -1,10 +1,15 @@
--- The netlist that a LUT net is written as.
-use Rattle.syn_netlist.specs.Lists.{Netlist}
-use Rattle.syn_netlist.specs.Frames.{frame_in}
-use Rattle.syn_lutshapes.specs.LutSpelling.{lut_network}
-use Rattle.syn_lutnet.specs.declared.nets.LutNet.{LutNet}
+-- What a mapping makes of a graph.
+use Rattle.std.specs.Prelude.{◌≡◌, Bool, List, length}
+use Rattle.syn_rows.specs.Values.{rows_function}
+use Rattle.syn_graph.specs.Graphs.{SourcesStay}
+use Rattle.syn_graph.specs.declared.Graph.{Graph}
+use Rattle.syn_lutnet.specs.LutData.{luts_function}
 use Rattle.syn_lutnet.specs.Data.{luts_data}
+use Rattle.syn_lutnet.specs.declared.nets.LutNet.{LutNet}
 
--- the netlist of a LUT net: a table for each LUT, then one for each observed signal that is no source
-abbrev pub network_of : LutNet → Netlist
-network_of net = lut_network (frame_in net.frame) (luts_data net.luts) net.observed
+-- The LUT net has as many sources and observed literals as the graph, of the same values, and a literal of a source stays.
+pub record HasFunctionOf (graph : Graph) (net : LutNet) : Type 0 where
+  pub sources : net.source_count ≡ graph.source_count
+  pub count : length net.observed ≡ length graph.observed
+  pub stay : SourcesStay graph.source_count graph.observed net.observed
+  pub values : (bits : List Bool) → length bits ≡ graph.source_count → luts_function (luts_data net.luts) net.observed bits ≡ rows_function graph.rows graph.observed bits

@@ -1,7 +1,7 @@
 //! The depths of the signals of a LUT net.
 
 ghost use Rattle.std.specs.Prelude.{◌≡◌, ◌+◌, ◌<◌, ◌≤◌, ◌^◌, All, IfOk, length, max, replicate};
-ghost use Rattle.syn_lutshapes.specs.Luts.{depth_in, greatest, signal_depths};
+ghost use Rattle.syn_lutnet.specs.LutData.{depth_in, greatest, signal_depths};
 ghost use Rattle.syn_lutnet.specs.Data.{luts_data};
 
 use crate::luts::Lut;

@@ -19,7 +19,7 @@ pub struct Lut {
 
 impl Lut {
     ghost use Rattle.syn_truth.specs.Truth.{value_at};
-    ghost use Rattle.syn_lutshapes.specs.Luts.{lut_gates};
+    ghost use Rattle.syn_lutnet.specs.LutData.{lut_gates};
     ghost use Rattle.syn_lutnet.specs.Data.{lut_data};
 
     /// Whether its function is true at a minterm, whose bit j is the value of input j.

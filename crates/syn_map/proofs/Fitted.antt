@@ -1,15 +1,13 @@
 -- The chosen cuts are such as LUTs may read, and the labels are the depths over them.
-use Rattle.std.proofs.Common.{◌≡◌, ℕ, ◌+◌, ◌<◌, ◌≤◌, Bool, true, false, List, [], ◌∷◌, length, refl, sym, ap, ◌∙◌, subst, inl, inr}
-use Rattle.std.proofs.lemmas.Bool.{cases_lt, both_ways}
-use Rattle.std.proofs.lemmas.List.{get_or_past}
+use Rattle.std.proofs.Common.{◌≡◌, ℕ, ◌+◌, ◌≤◌, Bool, true, false, List, [], ◌∷◌, refl, sym, ap, ◌∙◌, subst}
+use Rattle.std.proofs.lemmas.Bool.{both_ways}
 use Rattle.syn_rows.specs.declared.Row.{Row}
 use Rattle.syn_rows.specs.declared.Row.TheVariants.{Free, Source, And, Alias}
 use Rattle.syn_rows.specs.Rows.{row_at}
 use Rattle.syn_rows.specs.Reach.{is_and}
-use Rattle.syn_netlist.specs.Frames.{frame_in}
-use Rattle.syn_netlist.specs.Lists.{sources}
+use Rattle.syn_hashed.proofs.Orders.{and_inside}
 use Rattle.syn_graph.specs.declared.Graph.{Graph}
-use Rattle.syn_lutshapes.specs.Luts.{greatest}
+use Rattle.syn_lutnet.specs.LutData.{greatest}
 use Rattle.syn_covering.specs.Cuts.{AreDepths, AreLutCuts}
 use Rattle.syn_map.specs.Labels.{least, choice, cuts_of, row_label, label_of, chosen}
 use Rattle.syn_map.specs.Mappings.{ChosenAreLutCuts, LabelsAreDepths}
@@ -17,16 +15,9 @@ use Rattle.syn_map.proofs.Choices.{choice_is}
 use Rattle.syn_map.proofs.Labelling.{labels_are}
 use Rattle.syn_map.proofs.Listed.{chosen_is_cut, chosen_listed}
 
--- an AND is there
-and_there : (rows : List Row) (n : ℕ) → is_and (row_at rows n) ≡ true → n < length rows
-and_there rows n a = elim (cases_lt n (length rows)) [
-  | inl lt ↦ lt
-  | inr past ↦ absurd (both_ways (is_and (row_at rows n)) (ap is_and (get_or_past rows n Free past)) a)
-]
-
 pub chosen_fit : ChosenAreLutCuts
 chosen_fit k count rows two hashed n a =
-    let there = and_there rows n a in
+    let there = (and_inside count rows hashed n a).1 in
     let listed = chosen_listed count k rows hashed two n there a in
     record { cut = chosen_is_cut count k rows hashed two n there a; rising = listed.rising; below = listed.below; two = listed.two; few = listed.few }
 
@@ -63,7 +54,7 @@ pub known : (P : (ℕ → List ℕ) → Type 0) (k k2 : ℕ) (rows rows2 : List 
 known P k k2 rows rows2 same_k same_rows h = subst (λ (rs : List Row). P (chosen k2 rs)) (sym same_rows) (subst (λ x. P (chosen x rows)) (sym same_k) h)
 
 pub graph_fit : (gr : Graph) (k : ℕ) → 2 ≤ k → AreLutCuts k gr.rows (chosen k gr.rows)
-graph_fit gr k two = chosen_fit k (length (sources (frame_in gr.frame))) gr.rows two gr.graph.hashed
+graph_fit gr k two = chosen_fit k gr.source_count gr.rows two gr.graph.hashed
 
 pub graph_deep : (gr : Graph) (k : ℕ) → AreDepths gr.rows (label_of k gr.rows) (chosen k gr.rows)
-graph_deep gr k = labels_deep k (length (sources (frame_in gr.frame))) gr.rows gr.graph.hashed
+graph_deep gr k = labels_deep k gr.source_count gr.rows gr.graph.hashed

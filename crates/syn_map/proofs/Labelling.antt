@@ -1,5 +1,5 @@
 -- The labels that are computed row by row are those that the rows give.
-use Rattle.std.proofs.Common.{◌≡◌, ℕ, zero, suc, ◌+◌, ◌<◌, ◌≤◌, max, min, List, [], ◌∷◌, ◌++◌, length, get_or, refl, sym, ap, ap₂, ◌∙◌, subst, inl, inr, arith}
+use Rattle.std.proofs.Common.{◌≡◌, ℕ, zero, suc, ◌+◌, ◌<◌, max, min, List, [], ◌∷◌, ◌++◌, length, get_or, refl, sym, ap, ap₂, ◌∙◌, subst, inl, inr, arith}
 use Rattle.std.specs.List.{list_all, AllByRecursion}
 use Rattle.std.proofs.lemmas.Bool.{cases_lt, and_parts, ltb-true}
 use Rattle.std.proofs.lemmas.List.{length_push, get_or_append_left, get_or_push, get_or_past}
@@ -8,7 +8,7 @@ use Rattle.syn_rows.specs.declared.Row.{Row}
 use Rattle.syn_rows.specs.declared.Row.TheVariants.{Free, Source, And, Alias}
 use Rattle.syn_rows.specs.Rows.{row_at, fold_rows}
 use Rattle.syn_rows.proofs.Folds.{length-fold, fold_kept}
-use Rattle.syn_lutshapes.specs.Luts.{greatest}
+use Rattle.syn_lutnet.specs.LutData.{greatest}
 use Rattle.syn_map.specs.Labels.{least, cuts_of, row_label, labels_of, label_of, LabelsAreLabels}
 use Rattle.syn_map.proofs.Listed.{below, In, cuts_in}
 

@@ -1,5 +1,5 @@
 -- The least label and the first cut that gives it, cut by cut; labels row by row.
-use Rattle.std.proofs.Common.{◌≡◌, ℕ, ◌+◌, ◌<◌, ◌≤◌, min, nat_eq, if◌then◌else◌, true, false, All, List, [], ◌∷◌, ◌++◌, length, get_or, drop, refl, sym, ap, ap₂, ◌∙◌, arith}
+use Rattle.std.proofs.Common.{◌≡◌, ℕ, ◌+◌, ◌<◌, ◌≤◌, min, nat_eq, true, false, All, List, [], ◌∷◌, ◌++◌, length, get_or, drop, refl, sym, ap, ap₂, ◌∙◌, arith}
 use Rattle.std.proofs.lemmas.Bool.{cond-true, cond-false}
 use Rattle.arrayvec.specs.ArrayVec.{ArrayVec}
 use Rattle.std.proofs.lemmas.List.{drop_more}
@@ -12,7 +12,7 @@ use Rattle.syn_cuts.specs.Cuts.{listed_cuts, row_cuts}
 use Rattle.syn_cuts.specs.Leaves.{leaves, leaves_of}
 use Rattle.syn_cuts.specs.Lists.{nontrivial}
 use Rattle.syn_cuts.proofs.Putting.{drop_leaves}
-use Rattle.syn_lutshapes.specs.Luts.{greatest}
+use Rattle.syn_lutnet.specs.LutData.{greatest}
 use Rattle.syn_lutnet.proofs.LutDepths.{depths_low}
 use Rattle.syn_map.specs.Labels.{choice, chosen, first_at, labels_of, least, row_label}
 

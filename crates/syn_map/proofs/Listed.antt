@@ -1,6 +1,6 @@
 -- The cuts of a node but the last: an AND has one, and each rises, lies below the node and has 2 to k leaves.
 use Rattle.std.proofs.Common.{◌≡◌, ℕ, zero, suc, ◌+◌, ◌-◌, ◌<◌, ◌≤◌, nat_lt, nat_eq, Bool, true, false, if◌then◌else◌, All, List, [], ◌∷◌, ◌++◌, length, take, get_or, bytes_eq, refl, sym, ap, ap₂, ◌∙◌, subst, inl, inr, arith}
-use Rattle.std.proofs.lemmas.Bool.{cases_Bool, cases_lt, both_ways, cond-true, cond-false, le-leb}
+use Rattle.std.proofs.lemmas.Bool.{cases_Bool, cases_lt, both_ways, cond-true, cond-false, le-leb, ne_eqb}
 use Rattle.std.proofs.lemmas.List.{length-append, length_push, length-take-le, get_or-take, get_or-append-add, get_or_default}
 use Rattle.std.proofs.lemmas.List.Elements.{All-nil, All-take, All-same}
 use Rattle.syn_rows.specs.declared.Row.{Row}
@@ -8,15 +8,14 @@ use Rattle.syn_rows.specs.declared.Row.TheVariants.{Free, Source, And, Alias}
 use Rattle.syn_rows.specs.Rows.{row_at, node_of}
 use Rattle.syn_rows.specs.Reach.{is_and}
 use Rattle.syn_hashed.specs.Hashed.{is_gate, IsHashed}
-use Rattle.syn_shapes.proofs.Gates.{gate_parts, first_below}
 use Rattle.syn_cones.specs.Cones.{IsCut}
 use Rattle.syn_cuts.specs.Cuts.{union, comes_before, put, arranged, is_small, unions_with, unions, merge_cut_sets, row_cuts, listed_cuts}
 use Rattle.syn_cuts.specs.Laws.{IsListedCut}
 use Rattle.syn_cuts.specs.Lists.{but_last, list_at}
 use Rattle.syn_cuts.proofs.Cutting.{listed_at, listed_are_cuts}
-use Rattle.syn_hashed.proofs.Orders.{hashed_in_order}
-use Rattle.syn_cuts.proofs.Rising.{listed_cuts_rise}
-pub use Rattle.syn_lutshapes.proofs.Folding.{below, In}
+use Rattle.syn_hashed.proofs.Orders.{and_inside, hashed_in_order}
+use Rattle.syn_cuts.proofs.Rising.{fan_ins, listed_cuts_rise}
+pub use Rattle.syn_lutnet.proofs.Folding.{below, In}
 use Rattle.syn_map.specs.Labels.{choice, cuts_of, label_of, chosen}
 use Rattle.syn_map.proofs.Choices.{choice_is}
 
@@ -111,10 +110,7 @@ choice_has P label cuts some all =
 
 module _ (count k : ℕ) (rows : List Row) (hashed : IsHashed count rows) (two : 2 ≤ k) where
   gate_at : (n : ℕ) → n < length rows → is_and (row_at rows n) ≡ true → is_gate n (row_at rows n) ≡ true
-  gate_at n lt a = elim (cases_lt n (count + 1)) [
-    | inl low ↦ absurd (both_ways (is_and (row_at rows n)) (ap is_and (hashed.front n low)) a)
-    | inr ge ↦ hashed.gates n (omega (arith, ge)) lt
-  ]
+  gate_at n lt a = hashed.gates n (and_inside count rows hashed n a).0 lt
 
   row_ends : (cuts : ℕ → List (List ℕ)) (n : ℕ) (row : Row) → (xs : List (List ℕ)) × (row_cuts k cuts n row ≡ xs ++ (n ∷ []) ∷ [])
   row_ends cuts n Free = ([], refl)
@@ -127,12 +123,11 @@ module _ (count k : ℕ) (rows : List Row) (hashed : IsHashed count rows) (two :
 
   row_filled : (n : ℕ) → n < length rows → (row : Row) → is_and row ≡ true → is_gate n row ≡ true → 1 ≤ length (but_last (row_cuts k (list_at (listed_cuts k rows)) n row))
   row_filled n lt (And a b) h g =
-      let parts = gate_parts n a b g in
-      let low = first_below n a b parts in
-      let (xs, e) = list_ends (node_of a) (omega (arith, low, lt)) in
-      let (ys, q) = list_ends (node_of b) (omega (arith, parts.below, lt)) in
+      let f = fan_ins n a b g in
+      let (xs, e) = list_ends (node_of a) (omega (arith, f.first_low, lt)) in
+      let (ys, q) = list_ends (node_of b) (omega (arith, f.second_low, lt)) in
       subst (λ (l : List (List ℕ)). 1 ≤ length l) (sym (but_last_is (merge_cut_sets k (list_at (listed_cuts k rows) (node_of a)) (list_at (listed_cuts k rows) (node_of b))) (n ∷ []) ∙ ap₂ (merge_cut_sets k) e q))
-      (firsts_some k (node_of a) (node_of b) two parts.differ xs ys)
+      (firsts_some k (node_of a) (node_of b) two (ne_eqb (node_of a) (node_of b) f.apart) xs ys)
   row_filled n lt row h g = absurd (both_ways false refl h)
 
   pub chosen_listed : (n : ℕ) → n < length rows → is_and (row_at rows n) ≡ true → IsListedCut k n (chosen k rows n)

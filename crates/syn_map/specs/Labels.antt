@@ -7,7 +7,7 @@ use Rattle.syn_rows.specs.Levels.{level_in}
 use Rattle.syn_hashed.specs.Hashed.{IsHashed}
 use Rattle.syn_cuts.specs.Cuts.{listed_cuts}
 use Rattle.syn_cuts.specs.Lists.{nontrivial}
-use Rattle.syn_lutshapes.specs.Luts.{greatest}
+use Rattle.syn_lutnet.specs.LutData.{greatest}
 
 -- the least, over cuts, of the greatest label of a leaf; 0 where there is no cut
 abbrev pub least : (ℕ → ℕ) → List (List ℕ) → ℕ

@@ -1,13 +1,11 @@
 //! From a graph to a LUT net.
 
-ghost use Rattle.std.specs.Prelude.{◌≡◌, ◌+◌, ◌<◌, ◌≤◌, Bool, true, List, IfOk, length, map};
+ghost use Rattle.std.specs.Prelude.{◌≡◌, ◌+◌, ◌≤◌, true, IfOk, length, map};
 ghost use Rattle.syn_rows.specs.Rows.{node_of};
-ghost use Rattle.syn_rows.specs.Values.{rows_function};
-ghost use Rattle.syn_netlist.specs.Frames.{frame_in};
-ghost use Rattle.syn_netlist.specs.Lists.{sources};
 ghost use Rattle.syn_truth.specs.declared.TheConstants.{MAX_VARS};
-ghost use Rattle.syn_lutshapes.specs.Luts.{greatest, luts_function, net_depth, none_exceeds};
+ghost use Rattle.syn_lutnet.specs.LutData.{greatest, net_depth, none_exceeds};
 ghost use Rattle.syn_lutnet.specs.Data.{luts_data};
+ghost use Rattle.syn_lutnet.specs.Nets.{HasFunctionOf};
 ghost use Rattle.syn_map.specs.Labels.{label_of};
 ghost use Rattle.syn_map.specs.Mappings.{IsMapped};
 
@@ -34,12 +32,11 @@ pub fn map<R: Threads + Sync>(
 ) -> Result<LutNet, AllocError>
     requires many { 2 ≤ k }
     requires few { k ≤ MAX_VARS }
-    ensures frame { IfOk result (λ net. frame_in net.frame ≡ frame_in graph.now.frame) }
     ensures mapping { IfOk result (IsMapped k graph.now) }
-    ensures function { IfOk result (λ net. (bits : List Bool) → length bits ≡ length (sources (frame_in graph.now.frame)) → luts_function (luts_data net.luts) net.observed bits ≡ rows_function graph.now.rows graph.now.observed bits) }
-    ensures depth { IfOk result (λ net. net_depth (length (sources (frame_in graph.now.frame))) (luts_data net.luts) ≡ greatest (label_of k graph.now.rows) (map node_of graph.now.observed)) }
+    ensures function { IfOk result (HasFunctionOf graph.now) }
+    ensures depth { IfOk result (λ net. net_depth graph.now.source_count (luts_data net.luts) ≡ greatest (label_of k graph.now.rows) (map node_of graph.now.observed)) }
     ensures inputs { IfOk result (λ net. none_exceeds k (luts_data net.luts) ≡ true) }
-    ensures count { IfOk result (λ net. length net.luts + (length (sources (frame_in graph.now.frame)) + 1) ≤ length graph.now.rows) }
+    ensures count { IfOk result (λ net. length net.luts + (graph.now.source_count + 1) ≤ length graph.now.rows) }
 {
     let labelled = Labelled::of(rt, alloc, graph, k, workers)?;
     net_of(alloc, graph, &labelled)

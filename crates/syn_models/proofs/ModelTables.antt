@@ -7,7 +7,7 @@ use Rattle.syn_netlist.specs.declared.tables.Table.{Table}
 use Rattle.syn_netlist.specs.Lists as lists
 use Rattle.syn_netlist.specs.Words.{has_word, distinct}
 use Rattle.syn_netlist.specs.Numbers.{word_at, words_at, all_below}
-use Rattle.syn_netlist.specs.Marks.{has_number}
+use Rattle.syn_lists.specs.Numbers.{has_number}
 use Rattle.syn_netlist.specs.Tables.{table_in, tables_below}
 use Rattle.syn_netlist.specs.Faults.{no_table, IsTableOrder, PutsInOrder}
 use Rattle.syn_models.specs.Answers.{models_in}

@@ -7,7 +7,7 @@ use Rattle.syn_netlist.specs.Words.{has_word, distinct}
 use Rattle.syn_netlist.specs.Lists.{Table, output_of}
 use Rattle.syn_netlist.specs.Order.{reads_known}
 use Rattle.syn_netlist.specs.Numbers.{word_at, words_at, all_below}
-use Rattle.syn_netlist.specs.Marks.{has_number}
+use Rattle.syn_lists.specs.Numbers.{has_number}
 use Rattle.syn_netlist.specs.Faults.{no_table}
 use Rattle.syn_netlist.proofs.Sets.{apart, has_head}
 use Rattle.syn_netlist.proofs.Places.{has_words}

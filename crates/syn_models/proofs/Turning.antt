@@ -14,7 +14,7 @@ use Rattle.syn_models.specs.declared.met.Instance as met
 use Rattle.syn_models.specs.declared.met.Part.{Part}
 use Rattle.syn_models.specs.declared.met.Level.{Level}
 use Rattle.syn_netlist.specs.declared.Latch.{Latch}
-use Rattle.syn_netlist.specs.declared.items.Items.{Items}
+use Rattle.syn_lists.specs.declared.items.Items.{Items}
 use Rattle.syn_netlist.specs.declared.tables.Table.{Table}
 use Rattle.syn_netlist.specs.Numbers.{all_below}
 use Rattle.syn_models.specs.Kept.{bind_in, kind_in, numbers_in, statement_in, statements_below, subcircuit_in}

@@ -24,7 +24,8 @@ use crate::ports::model_names;
 use crate::sites::copied;
 use crate::sizes::totals;
 use std::alloc::{AllocError, Global};
-use syn_netlist::{Frame, Items, Latch, Names, NetFault, Netlist, Table, Word, table_order};
+use syn_lists::Items;
+use syn_netlist::{Frame, Latch, Names, NetFault, Netlist, Table, Word, table_order};
 
 // The number of a model that is there.
 fn number_of(file: &File<'_>, name: &[u8]) -> u32

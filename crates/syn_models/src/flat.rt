@@ -28,7 +28,8 @@ use crate::ports::{Role, all_listed};
 use crate::sites::copied;
 use crate::slash_counts::slash_count;
 use std::alloc::{AllocError, Global};
-use syn_netlist::{Frame, Items, Latch, Names, Netlist};
+use syn_lists::Items;
+use syn_netlist::{Frame, Latch, Names, Netlist};
 
 /// The most words of the main model and of the models of all its instances.
 pub const MAX_WORDS: u64 = 16_777_216;

@@ -1,6 +1,7 @@
 //! What can be wrong with models that contain each other.
 
-use syn_netlist::{Items, Word};
+use syn_lists::Items;
+use syn_netlist::Word;
 
 /// What is wrong with models that contain each other. Of several faults the first in this order is answered: those of
 /// subcircuits by line, and on one line in the order here; then the other three in turn.

@@ -11,7 +11,8 @@ use crate::hierarchy::Model;
 use crate::instances::instance_names;
 use crate::met::Instance;
 use std::alloc::{AllocError, Global};
-use syn_netlist::{Items, Names};
+use syn_lists::Items;
+use syn_netlist::Names;
 
 /// The names of the netlist, and for the main model and each instance, in the order of their numbers, by which number each
 /// of its names is called.

@@ -11,7 +11,8 @@ use crate::called_names::{called_latch, called_table};
 use crate::hierarchy::StatementKind;
 use crate::met::Part;
 use std::alloc::{AllocError, Global};
-use syn_netlist::{Items, Latch, Table};
+use syn_lists::Items;
+use syn_netlist::{Latch, Table};
 
 // Appends the latch that a statement gives, if it is one.
 fn push_latch(

@@ -6,7 +6,7 @@ ghost use Rattle.syn_models.specs.Views.{all_counted, model_in};
 ghost use Rattle.syn_netlist.specs.Words.{distinct};
 
 use crate::hierarchy::Model;
-use syn_netlist::Items;
+use syn_lists::Items;
 
 /// The models of a file, of different names. The first is the main model.
 #[derive(Debug, Drop)]

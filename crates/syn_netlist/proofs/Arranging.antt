@@ -12,12 +12,13 @@ use Rattle.syn_netlist.specs.declared.tables.Table.{Table}
 use Rattle.syn_netlist.specs.Faults.{first_undriven, reads, inputs_of, no_table, tables_at, PutsInOrder, IsTableOrder, TableOrderPuts, PutIsChecked}
 use Rattle.syn_netlist.specs.Lists as lists
 use Rattle.syn_netlist.specs.Lists.{output_of, sources, latch_reads}
-use Rattle.syn_netlist.specs.Marks.{has_number}
+use Rattle.syn_lists.specs.Numbers.{has_number}
 use Rattle.syn_netlist.specs.Numbers.{word_at, words_at, all_below}
 use Rattle.syn_netlist.specs.Order.{defined, reads_known}
 use Rattle.syn_netlist.specs.Tables.{table_in}
 use Rattle.syn_netlist.specs.Views.{netlist_in}
-use Rattle.syn_netlist.specs.Walk.{table_output, inputs_at, output_at, distinct_numbers, driver_at, driver_among, reads_made, AreDrivers, IsOrder}
+use Rattle.syn_netlist.specs.Walk.{table_output, inputs_at, output_at, driver_at, driver_among, reads_made, AreDrivers, IsOrder}
+use Rattle.syn_lists.specs.Numbers.{distinct_numbers}
 use Rattle.syn_netlist.specs.Words.{has_word, distinct}
 use Rattle.syn_netlist.proofs.Finding.{bytes_eq-sym}
 use Rattle.syn_netlist.proofs.Places.{below_parts, has_words}

@@ -12,11 +12,12 @@ use Rattle.syn_netlist.specs.declared.tables.Table.{Table}
 use Rattle.syn_netlist.specs.Faults.{EachReadsAnother, IsCyclicSet, AnswersCircle, GoesOn, next_in, no_table}
 use Rattle.syn_netlist.specs.Lists as lists
 use Rattle.syn_netlist.specs.Lists.{output_of, sources}
-use Rattle.syn_netlist.specs.Marks.{has_number}
+use Rattle.syn_lists.specs.Numbers.{has_number}
 use Rattle.syn_netlist.specs.Numbers.{word_at, words_at, all_below}
 use Rattle.syn_netlist.specs.Tables.{table_in}
 use Rattle.syn_netlist.specs.Views.{netlist_in}
-use Rattle.syn_netlist.specs.Walk.{table_output, inputs_at, output_at, distinct_numbers, driver_at, stage_at, is_done, is_finished, driver_among, reads_made, seen_at, Leads, Linked, Begins, AreDrivers, IsOrderWalk, Meets, from_number, output_words}
+use Rattle.syn_netlist.specs.Walk.{table_output, inputs_at, output_at, driver_at, stage_at, is_done, is_finished, driver_among, reads_made, seen_at, Leads, Linked, Begins, AreDrivers, IsOrderWalk, Meets, from_number, output_words}
+use Rattle.syn_lists.specs.Numbers.{distinct_numbers}
 use Rattle.syn_netlist.specs.Words.{has_word, distinct}
 use Rattle.syn_netlist.proofs.Arranging.{word_of_output, words_of_inputs}
 use Rattle.syn_netlist.proofs.CyclicSets.{to_in, in_has, one_table, next_is, cyclic_set}
@@ -24,7 +25,8 @@ use Rattle.syn_netlist.proofs.Firsts.{table_outputs_below}
 use Rattle.syn_netlist.proofs.Places.{below_at, below_parts, has_words}
 use Rattle.syn_netlist.proofs.Sets.{word_same, same_word, distinct_right}
 use Rattle.syn_netlist.proofs.Undriven.{words_at-table_outputs}
-use Rattle.syn_netlist.proofs.Walking.{driver_is, inputs_below, finished_among, has_other}
+use Rattle.syn_netlist.proofs.Walking.{driver_is, inputs_below, finished_among}
+use Rattle.syn_lists.proofs.Once.{has_other}
 
 -- the first that passes
 find_first : (p : List ℕ → Bool) (xs : List (List ℕ)) (k : ℕ) → k < length xs → ((j : ℕ) → j < k → p (word_at xs j) ≡ false) → p (word_at xs k) ≡ true → find p xs ≡ Some (word_at xs k)

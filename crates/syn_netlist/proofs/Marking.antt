@@ -3,15 +3,9 @@ use Rattle.std.proofs.Common.{◌≡◌, ℕ, ◌<◌, ◌||◌, not, nat_eq, Bo
 use Rattle.std.proofs.lemmas.Bool.{cases_Bool, cond-true, cond-false, or_left, or_right, not_from_false, not_from_true}
 use Rattle.std.proofs.lemmas.Bool.{eqb-true}
 use Rattle.std.proofs.lemmas.List.Elements.{filter_agree}
-use Rattle.syn_netlist.specs.Marks.{has_number, without_numbers, first_numbers}
-
-pub has_number-append : (xs ys : List ℕ) (i : ℕ) → has_number (xs ++ ys) i ≡ (has_number xs i || has_number ys i)
-has_number-append [] ys i = refl
-has_number-append (x ∷ xs) ys i = ap (λ t. nat_eq x i || t) (has_number-append xs ys i) ∙ sym (or_assoc (nat_eq x i) (has_number xs i) (has_number ys i))
-  where
-    or_assoc : (a b c : Bool) → ((a || b) || c) ≡ (a || (b || c))
-    or_assoc true b c = refl
-    or_assoc false b c = refl
+use Rattle.syn_netlist.specs.Marks.{first_numbers}
+use Rattle.syn_lists.specs.Numbers.{has_number, without_numbers}
+use Rattle.syn_lists.proofs.Once.{has_number-append}
 
 or_none : (b : Bool) → (b || false) ≡ b
 or_none true = refl

@@ -7,7 +7,8 @@ use Rattle.syn_netlist.specs.declared.LatchKind.{LatchKind}
 use Rattle.syn_netlist.specs.declared.Latch.{Latch}
 use Rattle.syn_netlist.specs.Kept.{latch_in, latches_below, latch_numbers, control_number, frame_of}
 use Rattle.syn_netlist.specs.Lists.{latch_output, latch_reads, control_of, sources, observed}
-use Rattle.syn_netlist.specs.Marks.{has_number, without_numbers, first_numbers, output_number, read_numbers, source_numbers, observed_numbers}
+use Rattle.syn_netlist.specs.Marks.{first_numbers, output_number, read_numbers, source_numbers, observed_numbers}
+use Rattle.syn_lists.specs.Numbers.{has_number, without_numbers}
 use Rattle.syn_netlist.specs.Numbers.{word_at, words_at, all_below, kind_at}
 use Rattle.syn_netlist.specs.Words.{has_word, distinct, without, firsts}
 use Rattle.syn_netlist.proofs.Sets.{same_word, word_same, has_head, has_tail, distinct_head}

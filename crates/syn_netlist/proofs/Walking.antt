@@ -10,11 +10,12 @@ use Rattle.std.proofs.lemmas.List.Sums.{sum_by-set}
 use Rattle.syn_netlist.specs.declared.order_walk.Stage.{Stage}
 use Rattle.syn_netlist.specs.declared.order_walk.Stage.TheVariants.{Waiting, Open, Done}
 use Rattle.syn_netlist.specs.declared.tables.Table.{Table}
-use Rattle.syn_netlist.specs.Marks.{has_number}
+use Rattle.syn_lists.specs.Numbers.{has_number}
 use Rattle.syn_netlist.specs.Numbers.{all_below}
 use Rattle.syn_netlist.specs.Tables.{tables_below}
-use Rattle.syn_netlist.specs.Walk.{AreDrivers, table_output, output_at, inputs_at, distinct_numbers, driver_at, stage_at, is_open, is_done, weight, driver_done, is_finished, driver_among, reads_made, seen_at, Leads, Linked, Begins, IsOrderWalk, IsNext, GoOn, Meets}
-use Rattle.syn_netlist.proofs.Marking.{has_number-append}
+use Rattle.syn_netlist.specs.Walk.{AreDrivers, table_output, output_at, inputs_at, driver_at, stage_at, is_open, is_done, weight, driver_done, is_finished, driver_among, reads_made, seen_at, Leads, Linked, Begins, IsOrderWalk, IsNext, GoOn, Meets}
+use Rattle.syn_lists.specs.Numbers.{distinct_numbers}
+use Rattle.syn_lists.proofs.Once.{number_same, same_number, has_last, has_other, once_front, once_more}
 use Rattle.syn_netlist.proofs.Places.{below_parts, below_from, all_below-append}
 
 -- the last of a list
@@ -25,45 +26,6 @@ below_front n (x ∷ xs) t h =
     let (here, rest) = below_parts n x (xs ++ t ∷ []) h in
     let (front, last) = below_front n xs t rest in
     (below_from n x xs here front, last)
-
-or_none : (b : Bool) → (b || false) ≡ b
-or_none true = refl
-or_none false = refl
-
-number_same : (n : ℕ) → nat_eq n n ≡ true
-number_same n = elim (eqb_tells n n) [ inl (t, e) ↦ t | inr (t, e) ↦ absurd (e refl) ]
-
-number_other : (n i : ℕ) → i ≢ n → nat_eq n i ≡ false
-number_other n i ne = elim (eqb_tells n i) [ inl (t, e) ↦ absurd (ne (sym e)) | inr (t, e) ↦ t ]
-
--- one more number at the end
-pub has_last : (ns : List ℕ) (n : ℕ) → has_number (ns ++ n ∷ []) n ≡ true
-has_last ns n = has_number-append ns (n ∷ []) n ∙ or_right (has_number ns n) (nat_eq n n || false) (or_left (nat_eq n n) false (number_same n))
-
-pub has_other : (ns : List ℕ) (n i : ℕ) → i ≢ n → has_number (ns ++ n ∷ []) i ≡ has_number ns i
-has_other ns n i ne = has_number-append ns (n ∷ []) i ∙ ap (λ b. has_number ns i || (b || false)) (number_other n i ne) ∙ or_none (has_number ns i)
-
-same_number : (n i : ℕ) → nat_eq n i ≡ true → n ≡ i
-same_number n i h = elim (eqb_tells n i) [ inl (t, e) ↦ e | inr (t, e) ↦ absurd (both_ways (nat_eq n i) t h) ]
-
-pub once_front : (front : List ℕ) (t : ℕ) → distinct_numbers (front ++ t ∷ []) ≡ true → (distinct_numbers front ≡ true) × (has_number front t ≡ false)
-once_front [] t h = (refl, refl)
-once_front (x ∷ xs) t h =
-    let parts = and_parts (not (has_number (xs ++ t ∷ []) x)) (distinct_numbers (xs ++ t ∷ [])) h in
-    let (rest, away) = once_front xs t parts.1 in
-    let apart = or_parts (has_number xs x) (nat_eq t x || false) (sym (has_number-append xs (t ∷ []) x) ∙ not-true (has_number (xs ++ t ∷ []) x) parts.0) in
-    let other : nat_eq x t ≡ false = false_from_ne_true (nat_eq x t) (λ e. both_ways (nat_eq t x) (or_parts (nat_eq t x) false apart.1).0 (ap (λ k. nat_eq k x) (sym (same_number x t e)) ∙ number_same x)) in
-    (and_from (not (has_number xs x)) (distinct_numbers xs) (not_from_false (has_number xs x) apart.0) rest, or_from (nat_eq x t) (has_number xs t) other away)
-
-pub once_more : (ns : List ℕ) (n : ℕ) → distinct_numbers ns ≡ true → has_number ns n ≡ false → distinct_numbers (ns ++ n ∷ []) ≡ true
-once_more [] n d h = refl
-once_more (x ∷ xs) n d h =
-    let parts = and_parts (not (has_number xs x)) (distinct_numbers xs) d in
-    let away = or_parts (nat_eq x n) (has_number xs n) h in
-    let other : nat_eq n x ≡ false = false_from_ne_true (nat_eq n x) (λ e. both_ways (nat_eq x n) away.0 (ap (λ k. nat_eq k n) (sym (same_number n x e)) ∙ number_same n)) in
-    and_from (not (has_number (xs ++ n ∷ []) x)) (distinct_numbers (xs ++ n ∷ []))
-    (not_from_false (has_number (xs ++ n ∷ []) x) (has_number-append xs (n ∷ []) x ∙ or_from (has_number xs x) (nat_eq n x || false) (not-true (has_number xs x) parts.0) (ap (λ b. b || false) other)))
-    (once_more xs n parts.1 away.1)
 
 -- stages
 

@@ -1,21 +1,8 @@
 -- The lists of sources and of observed signals by numbers of names, and marks by number.
-use Rattle.std.specs.Prelude.{◌≡◌, ℕ, ◌<◌, ◌++◌, nat_eq, not, ◌&&◌, Bool, true, false, List, [], ◌∷◌, map, flat_map, filter, length, slice_index_or}
-use Rattle.std.specs.List.{list_any}
+use Rattle.std.specs.Prelude.{◌≡◌, ℕ, ◌<◌, ◌++◌, Bool, false, List, [], ◌∷◌, map, flat_map, length, slice_index_or}
 use Rattle.syn_netlist.specs.declared.Latch.{Latch}
 use Rattle.syn_netlist.specs.Kept.{control_number}
-
--- the number is in the list
-abbrev pub has_number : List ℕ → ℕ → Bool
-has_number numbers i = list_any (λ n. nat_eq n i) numbers
-
--- no number stands twice in the list
-abbrev pub distinct_numbers : List ℕ → Bool
-distinct_numbers [] = true
-distinct_numbers (n ∷ ns) = not (has_number ns n) && distinct_numbers ns
-
--- the numbers that are not in the first list, in their order
-abbrev pub without_numbers : List ℕ → List ℕ → List ℕ
-without_numbers others numbers = filter (λ n. not (has_number others n)) numbers
+use Rattle.syn_lists.specs.Numbers.{has_number, without_numbers}
 
 -- each number once, at its first place
 abbrev pub first_numbers : List ℕ → List ℕ

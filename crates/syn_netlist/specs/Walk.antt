@@ -6,8 +6,7 @@ use Rattle.syn_netlist.specs.declared.order_walk.Stage.TheVariants.{Waiting, Ope
 use Rattle.syn_netlist.specs.declared.order_walk.Walked.{Walked}
 use Rattle.syn_netlist.specs.declared.order_walk.Walked.TheVariants.{Order, Circle}
 use Rattle.syn_netlist.specs.declared.tables.Table.{Table}
-pub use Rattle.syn_netlist.specs.Marks.{distinct_numbers}
-use Rattle.syn_netlist.specs.Marks.{has_number}
+use Rattle.syn_lists.specs.Numbers.{has_number, distinct_numbers}
 use Rattle.syn_netlist.specs.Numbers.{word_at, all_below}
 
 -- the numbers of what a table reads

@@ -6,9 +6,9 @@ ghost use Rattle.syn_netlist.specs.Views.{netlist_in};
 
 use crate::NetFault;
 use crate::checks::order_driven;
-use crate::items::Items;
 use crate::netlists::Netlist;
 use std::alloc::Global;
+use syn_lists::Items;
 
 /// A netlist in which each name that is read is defined, with an order of its tables: in turn, each after the tables of
 /// its inputs in turn. Whoever holds one need not look for the order again.

@@ -8,7 +8,6 @@ ghost use Rattle.syn_netlist.specs.Views.{netlist_in};
 ghost use Rattle.syn_netlist.specs.Walk.{from_number, output_at, output_words};
 
 use crate::NetFault;
-use crate::items::Items;
 use crate::name_numbers::Names;
 use crate::netlists::Netlist;
 use crate::order_walk::{Walked, walk};
@@ -17,6 +16,7 @@ use crate::tables::Table;
 use crate::undriven_names::{defined_marks, first_read};
 use crate::words::Word;
 use std::alloc::{AllocError, Global};
+use syn_lists::Items;
 
 impl From<AllocError> for NetFault {
     ghost use Rattle.std.specs.Prelude.{◌≡◌};

@@ -10,11 +10,11 @@ ghost use Rattle.syn_netlist.specs.Numbers.{all_below, kind_at, with_word, word_
 ghost use Rattle.syn_netlist.specs.Words.{firsts, has_word};
 
 use crate::frames::Frame;
-use crate::items::Items;
 use crate::name_numbers::Names;
 use crate::words::Word;
 use crate::{Latch, LatchKind};
 use std::alloc::{AllocError, Global};
+use syn_lists::Items;
 
 // Names chosen among others, and for each of the others its place among them, if it is one.
 #[derive(Drop)]

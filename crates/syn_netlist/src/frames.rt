@@ -7,11 +7,11 @@ ghost use Rattle.syn_netlist.specs.Numbers.{all_below, words_at};
 ghost use Rattle.syn_netlist.specs.Words.{distinct, is_word};
 
 use crate::Latch;
-use crate::items::Items;
 use crate::name_numbers::Names;
 use crate::signals::{observed_numbers, source_numbers};
 use crate::words::Word;
 use std::alloc::{AllocError, Global};
+use syn_lists::Items;
 
 /// What a netlist has beside its tables, by numbers of names.
 #[derive(Debug, Drop)]

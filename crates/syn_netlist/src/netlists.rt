@@ -7,11 +7,11 @@ ghost use Rattle.syn_netlist.specs.Tables.{table_in, tables_below};
 ghost use Rattle.syn_netlist.specs.Words.{distinct};
 
 use crate::frames::Frame;
-use crate::items::Items;
 use crate::marks::first_unmarked;
 use crate::tables::Table;
 use crate::undriven_names::defined_marks;
 use std::alloc::{AllocError, Global};
+use syn_lists::Items;
 
 /// A netlist of one model by numbers of names: no name is defined twice, apart from an input that is a clock too.
 #[derive(Debug, Drop)]

@@ -2,7 +2,8 @@
 
 ghost use Rattle.std.specs.Prelude.{◌≡◌, ◌++◌, ◌+◌, ◌<◌, [], ◌∷◌, IfOk, OnOk, flat_map, length, map, true, false, slice_set, slice_index_or, if◌then◌else◌};
 ghost use Rattle.syn_netlist.specs.Kept.{latches_below};
-ghost use Rattle.syn_netlist.specs.Marks.{AreMarks, first_numbers, observed_numbers, output_number, read_numbers, source_numbers, without_numbers, has_number};
+ghost use Rattle.syn_netlist.specs.Marks.{AreMarks, first_numbers, observed_numbers, output_number, read_numbers, source_numbers};
+ghost use Rattle.syn_lists.specs.Numbers.{without_numbers, has_number};
 ghost use Rattle.syn_netlist.specs.Numbers.{all_below};
 
 use crate::Latch;

@@ -3,8 +3,8 @@
 ghost use Rattle.std.specs.Prelude.{◌≡◌, length, true};
 ghost use Rattle.syn_netlist.specs.Kept.{polarity_fits, rows_fit};
 
-use crate::items::Items;
 use crate::words::Word;
+use syn_lists::Items;
 
 /// A table by numbers of names: the output has the value of the cover that the rows list.
 #[derive(Debug, Drop)]

@@ -8,7 +8,7 @@ use Rattle.syn_rows.specs.Nodes.{has_node}
 use Rattle.syn_rows.specs.Rows.{InOrder}
 use Rattle.syn_cones.specs.Cones.{is_end, LeadsTo, Refers, refs_at}
 use Rattle.syn_paths.specs.Paths.{ArePathsInto, IsPathInto, LeadsUp}
-use Rattle.syn_netlist.specs.Marks.{distinct_numbers}
+use Rattle.syn_lists.specs.Numbers.{distinct_numbers}
 use Rattle.syn_paths.specs.Tops.{IsInCone, IsInTop}
 use Rattle.syn_paths.specs.Checking.{all_within, are_lists, are_new, AreBelow, AreUpTo, goes_up, is_list, is_marked, is_off, mark_all, NoneMarked}
 use Rattle.syn_paths.specs.Tops.{label_in}

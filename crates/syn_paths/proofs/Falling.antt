@@ -8,7 +8,7 @@ use Rattle.syn_rows.specs.Nodes.{has_node}
 use Rattle.syn_rows.specs.Rows.{AllRefs, InOrder, node_of, refs_of, row_at}
 use Rattle.syn_rows.specs.Reach.{is_and}
 use Rattle.syn_cones.specs.Cones.{IsCut, LeadsTo, LeadsToSource, Refers}
-use Rattle.syn_lutshapes.specs.Luts.{greatest}
+use Rattle.syn_lutnet.specs.LutData.{greatest}
 use Rattle.syn_rows.proofs.Nodes.{has_here, has_there, here_or_there, has_one}
 use Rattle.syn_cones.proofs.Walking.{refers_row}
 use Rattle.syn_paths.specs.Tops.{FallsBelow}

@@ -7,7 +7,7 @@ use Rattle.syn_paths.specs.declared.places.Next.TheVariants.{Off}
 use Rattle.syn_paths.specs.declared.places.Place.TheVariants.{In, Out}
 use Rattle.syn_rows.specs.Nodes.{has_node}
 use Rattle.syn_cones.specs.Cones.{is_end}
-use Rattle.syn_netlist.specs.Marks.{distinct_numbers}
+use Rattle.syn_lists.specs.Numbers.{distinct_numbers}
 use Rattle.syn_paths.specs.Augmenting.{IsFlow}
 use Rattle.syn_paths.specs.Searching.{is_seen, next_at, State}
 use Rattle.syn_paths.specs.Listing.{AreLists, GoesUp, IsListFrom}

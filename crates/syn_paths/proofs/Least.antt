@@ -6,7 +6,7 @@ use Rattle.std.proofs.lemmas.List.{get_or_past}
 use Rattle.syn_rows.specs.declared.Row.{Row}
 use Rattle.syn_rows.specs.Nodes.{has_node}
 use Rattle.syn_rows.specs.Rows.{InOrder}
-use Rattle.syn_netlist.specs.Marks.{distinct_numbers}
+use Rattle.syn_lists.specs.Numbers.{distinct_numbers}
 use Rattle.syn_cones.specs.Cones.{is_end, LeadsTo, Refers, refs_at}
 use Rattle.syn_cones.specs.Walk.{rises}
 use Rattle.syn_paths.specs.declared.places.Next.{Next}

@@ -8,7 +8,7 @@ use Rattle.syn_rows.specs.Nodes.{has_node}
 use Rattle.syn_rows.specs.Rows.{InOrder}
 use Rattle.syn_cones.specs.Cones.{is_end}
 use Rattle.syn_paths.specs.Paths.{ArePathsInto, IsPathInto, LeadsUp}
-use Rattle.syn_netlist.specs.Marks.{distinct_numbers}
+use Rattle.syn_lists.specs.Numbers.{distinct_numbers}
 use Rattle.syn_paths.specs.Tops.{IsInTop}
 use Rattle.syn_paths.specs.Augmenting.{IsFlow}
 use Rattle.syn_paths.specs.Tops.{label_in}

@@ -3,7 +3,7 @@ use Rattle.std.proofs.Common.{◌≡◌, ℕ, suc, ◌≤◌, not, if◌then◌e
 use Rattle.std.specs.Bool.{⊤}
 use Rattle.std.proofs.lemmas.Bool.{and_parts, both_ways, not-true}
 use Rattle.syn_rows.specs.Nodes.{has_node}
-use Rattle.syn_netlist.specs.Marks.{distinct_numbers}
+use Rattle.syn_lists.specs.Numbers.{distinct_numbers}
 use Rattle.syn_rows.proofs.Nodes.{has_cases, has_here, has_left, has_right, has_there}
 
 abbrev pub flat : List (List ℕ) → List ℕ

@@ -1,6 +1,6 @@
 -- In hashed rows no fan-in is the constant, and a cut that isn't the node alone has two leaves.
-use Rattle.std.proofs.Common.{◌≡◌, ℕ, zero, suc, ◌+◌, ◌⊎◌, ◌<◌, ◌≤◌, nat_eq, true, false, List, [], ◌∷◌, length, refl, sym, ap, ◌∙◌, subst, inl, inr, arith}
-use Rattle.std.proofs.lemmas.Bool.{both_ways, cases_Bool, cases_lt, eq-eqb, or_cases}
+use Rattle.std.proofs.Common.{◌≡◌, ℕ, zero, suc, ◌+◌, ◌⊎◌, ◌<◌, ◌≤◌, true, false, List, [], ◌∷◌, length, refl, sym, ap, ◌∙◌, subst, inl, inr, arith}
+use Rattle.std.proofs.lemmas.Bool.{both_ways, cases_Bool, cases_lt, or_cases}
 use Rattle.std.proofs.lemmas.List.{get_or_past}
 use Rattle.syn_rows.specs.declared.Row.{Row}
 use Rattle.syn_rows.specs.declared.Row.TheVariants.{Free, Source, And, Alias}
@@ -12,7 +12,7 @@ use Rattle.syn_hashed.specs.Hashed.{is_gate, IsHashed}
 use Rattle.syn_cones.specs.Cones.{is_end, IsCut, Refers}
 use Rattle.syn_paths.specs.Tops.{IsInTop, label_in}
 use Rattle.syn_rows.proofs.Nodes.{has_here, has_one, has_there, here_or_there}
-use Rattle.syn_shapes.proofs.Gates.{first_there, gate_parts, second_there}
+use Rattle.syn_hashed.proofs.Dropped.{gate_parts}
 use Rattle.syn_hashed.proofs.Orders.{hashed_in_order}
 use Rattle.syn_cones.proofs.Walking.{refers_row}
 use Rattle.syn_paths.proofs.Falling.{and_refs, cut_below, refers_below}
@@ -70,8 +70,8 @@ refers_there count rows hashed n m r = elim (row_kind count rows hashed n) [
     go Free g h = absurd (both_ways false refl h)
     go Source g h = absurd (both_ways false refl h)
     go (And a b) g h = elim (here_or_there (node_of a) m (node_of b ∷ []) h) [
-      | inl e ↦ omega (arith, e, first_there n a b (gate_parts n a b g))
-      | inr t ↦ omega (arith, has_one (node_of b) m t, second_there n a b (gate_parts n a b g))
+      | inl e ↦ omega (arith, e, (gate_parts n a b g).above)
+      | inr t ↦ let parts = gate_parts n a b g in omega (arith, has_one (node_of b) m t, parts.above, parts.rising)
     ]
     go (Alias a) g h = absurd (both_ways false refl g)
 
@@ -114,7 +114,7 @@ one_short count rows hashed (suc limit) n lt gate leaves l all cut away =
     go (And a b) g each =
         let first = each (node_of a) (has_here (node_of a) (node_of b ∷ [])) in
         let second = each (node_of b) (has_there (node_of a) (node_of b) (node_of b ∷ []) (has_here (node_of b) [])) in
-        both_ways (nat_eq (node_of a) (node_of b)) (gate_parts n a b g).differ (eq-eqb (node_of a) (node_of b) (first ∙ sym second))
+        (gate_parts n a b g).apart (first ∙ sym second)
     go (Alias a) g each = both_ways false refl g
 
 pub two_leaves : (count : ℕ) (rows : List Row) → IsHashed count rows → (n : ℕ) → is_and (row_at rows n) ≡ true → (leaves : List ℕ) → IsCut rows leaves n → has_node leaves n ≡ false → 2 ≤ length leaves

@@ -6,7 +6,7 @@ use Rattle.syn_rows.specs.declared.Row.{Row}
 use Rattle.syn_rows.specs.Nodes.{has_node}
 use Rattle.syn_rows.specs.Rows.{InOrder}
 use Rattle.syn_cones.specs.Cones.{IsCut, LeadsTo, LeadsToSource, Refers}
-use Rattle.syn_netlist.specs.Marks.{distinct_numbers}
+use Rattle.syn_lists.specs.Numbers.{distinct_numbers}
 use Rattle.syn_paths.specs.Tops.{FallsBelow, IsInTop, IsLowFor}
 use Rattle.syn_paths.specs.Paths.{ArePathsInto, IsPathInto, LeadsUp}
 use Rattle.syn_paths.specs.LeastCuts.{IsCutOutside, IsInside}

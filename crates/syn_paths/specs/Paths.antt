@@ -3,7 +3,7 @@ use Rattle.std.specs.Prelude.{◌≡◌, ℕ, ◌≤◌, true, All, List, [], �
 use Rattle.std.specs.List.{list_any}
 use Rattle.syn_rows.specs.declared.Row.{Row}
 use Rattle.syn_rows.specs.Nodes.{has_node}
-use Rattle.syn_netlist.specs.Marks.{distinct_numbers}
+use Rattle.syn_lists.specs.Numbers.{distinct_numbers}
 use Rattle.syn_cones.specs.Cones.{is_end, Refers}
 
 -- from a node up along the rows over these nodes to one that a node of the set refers to

@@ -2,7 +2,7 @@
 use Rattle.std.specs.Prelude.{◌≡◌, ◌≢◌, ℕ, true, List, [], length}
 use Rattle.syn_rows.specs.declared.Row.{Row}
 use Rattle.syn_rows.specs.Nodes.{has_node}
-use Rattle.syn_netlist.specs.Marks.{distinct_numbers}
+use Rattle.syn_lists.specs.Numbers.{distinct_numbers}
 use Rattle.syn_cones.specs.Cones.{is_end}
 use Rattle.syn_paths.specs.declared.places.Next.{Next}
 use Rattle.syn_paths.specs.declared.places.Next.TheVariants.{Off}

@@ -3,7 +3,7 @@ use Rattle.std.specs.Prelude.{◌≡◌, ◌⊎◌, ℕ, ◌<◌, ◌≤◌, Lis
 use Rattle.syn_rows.specs.declared.Row.{Row}
 use Rattle.syn_rows.specs.Rows.{row_at, refs_of}
 use Rattle.syn_cones.specs.Cones.{LeadsTo, Refers}
-use Rattle.syn_lutshapes.specs.Luts.{greatest}
+use Rattle.syn_lutnet.specs.LutData.{greatest}
 
 -- the label of a node, 0 past the end
 abbrev pub label_in : List ℕ → ℕ → ℕ

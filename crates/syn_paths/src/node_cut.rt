@@ -22,7 +22,7 @@ use crate::tops::mark_below;
 use arrayvec::ArrayVec;
 use std::alloc::{AllocError, Global};
 use syn_cones::gap_for;
-use syn_netlist::Items;
+use syn_lists::Items;
 use syn_rows::Row;
 
 /// What is found for a node.

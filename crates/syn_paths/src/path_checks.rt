@@ -13,7 +13,7 @@ use crate::node_facts::{is_marked, is_source, label_of, refers};
 use crate::room::Room;
 use crate::tops::mark_below;
 use std::alloc::AllocError;
-use syn_netlist::Items;
+use syn_lists::Items;
 use syn_rows::Row;
 
 // The list is a path from a source up to a marked node, none of the level on it.

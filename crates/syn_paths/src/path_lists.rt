@@ -6,14 +6,14 @@ ghost use Rattle.syn_rows.specs.Rows.{InOrder};
 ghost use Rattle.syn_paths.specs.Tops.{label_in};
 ghost use Rattle.syn_paths.specs.Paths.{ArePathsInto};
 ghost use Rattle.syn_paths.specs.Tops.{IsInTop};
-ghost use Rattle.syn_netlist.specs.Marks.{distinct_numbers};
+ghost use Rattle.syn_lists.specs.Numbers.{distinct_numbers};
 ghost use Rattle.syn_paths.specs.Searching.{next_at};
 ghost use Rattle.syn_paths.specs.Adding.{ArePaths};
 ghost use Rattle.syn_paths.specs.Listing.{AreLists, AreSources, GoesUp, HasListFrom};
 
 use crate::places::{Next, next_at};
 use std::alloc::{AllocError, Global};
-use syn_netlist::Items;
+use syn_lists::Items;
 use syn_rows::Row;
 
 // The path from a node up.

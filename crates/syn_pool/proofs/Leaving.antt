@@ -1,5 +1,5 @@
 -- The rows that a closed table leaves: they can be compacted, they keep the values of the opened graph, and their ANDs number those of the graph and the difference.
-use Rattle.std.proofs.Common.{◌≡◌, ◌≢◌, ℕ, ◌+◌, ◌-◌, ◌<◌, ◌≤◌, ◌&&◌, Bool, true, false, All, List, [], ◌∷◌, length, map, replicate, refl, sym, ap, ap₂, ◌∙◌, subst, arith, inl, inr, ℤ, pos, ◌+ℤ◌, ◌≤ℤ◌}
+use Rattle.std.proofs.Common.{◌≡◌, ◌≢◌, ℕ, ◌+◌, ◌-◌, ◌<◌, ◌≤◌, ◌&&◌, Bool, true, false, All, List, [], ◌∷◌, length, map, replicate, refl, sym, ap, ap₂, ◌∙◌, subst, subst₂, arith, inl, inr, ℤ, pos, ◌+ℤ◌, ◌≤ℤ◌}
 use Rattle.std.proofs.lemmas.Bool.{cases_lt}
 use Rattle.std.proofs.lemmas.Int.{ints}
 use Rattle.std.proofs.lemmas.List.{get_or_append_left, get_or-append_right, get_or_past, get_or-replicate, length-append, length-replicate}
@@ -15,13 +15,11 @@ use Rattle.syn_rows.proofs.Ends.{reached_set}
 use Rattle.syn_rows.proofs.Folds.{AllRefs-weaker, one_valuation_is}
 use Rattle.syn_rows.proofs.Reaches.{one_ands_is}
 use Rattle.syn_hashed.specs.Hashed.{IsHashed, is_gate}
-use Rattle.syn_hashed.specs.Compacting.{CanCompact, HasSources, SameValues}
+use Rattle.syn_hashed.specs.Compacting.{CanCompact, HasSources, IsCompacted, SameValues}
 use Rattle.syn_hashed.proofs.Orders.{and_inside, hashed_in_order}
 use Rattle.syn_fanout_free.proofs.Existing.{all_ands_reached}
 use Rattle.syn_fanout_free.proofs.Numbers.{ands_count, one_if, sum_apart, sum_le, sum_none, sum_same}
 use Rattle.syn_fanout_free.proofs.Replaced.{lits_from, within_from}
-use Rattle.syn_netlist.specs.Frames.{frame_in}
-use Rattle.syn_netlist.specs.Lists.{sources}
 use Rattle.syn_graph.specs.declared.Graph.{Graph}
 use Rattle.syn_gain.proofs.Owning.{graph_within}
 use Rattle.syn_core_laws.specs.Sound.{Agree}
@@ -32,7 +30,7 @@ use Rattle.syn_pool.specs.Closing.{IsLeft}
 
 -- the number of a graph's sources
 abbrev pub sources_of : Graph → ℕ
-sources_of graph = length (sources (frame_in graph.frame))
+sources_of graph = graph.source_count
 
 -- ---- spare rows are free
 replicate_free : (spare i : ℕ) → row_at (replicate spare Free) i ≡ Free
@@ -159,7 +157,7 @@ no_more graph spare difference rows observed closing c ands whole new_rows fewer
     falls (length new_rows) (all_ands rows) (all_ands (with_spare graph.rows spare)) c (ands_in found.0 rows) (sources_of graph) (length graph.rows) difference
     (fewer (ands_in found.0 rows) (found.0, found.1, refl)) (some_of_all rows found.0) closing.ands
     (spare_ands graph.rows spare ∙ one_ands_is graph.rows graph.observed (all_ands graph.rows) c (graph_ands graph) ands)
-    (ap (λ s. c + (s + 1)) (sym graph.source_count_is) ∙ whole)
+    whole
   where
     within : refs_within rows ≡ true
     within = within_from rows (λ p. AllRefs-weaker (λ m. row_at rows m ≢ Free) (λ m. m < length rows) (there rows) (row_at rows p) (closing.rests p))
@@ -182,20 +180,20 @@ can_compact_as graph spare difference rows observed closing given lits same_rows
 pub is_left : (graph : Graph) (spare : ℕ) (difference : ℤ) (rows : List Row) (observed : List Lit) → IsClosing (with_spare graph.rows spare) graph.observed difference rows observed
     → (given : List Row) (lits : List Lit) → given ≡ rows → lits ≡ graph.observed
     → (c : ℕ) → Ands graph.rows graph.observed c → c + (graph.source_count + 1) ≡ length graph.rows
-    → (next : Graph) → frame_in next.frame ≡ frame_in graph.frame → next.frame.names ≡ graph.frame.names
-    → SameValues (sources_of graph) given lits next.rows next.observed
-    → ((k : ℕ) → Ands given lits k → length next.rows ≤ sources_of graph + 1 + k)
+    → (next : Graph) → next.source_count ≡ graph.source_count → IsCompacted (sources_of graph) given lits next.rows next.observed
     → IsLeft graph difference next
-is_left graph spare difference rows observed closing given lits same_rows same_lits c ands whole next frame names same fewer = record {
-  frame = frame;
-  names = names;
-  values = kept_values graph spare difference rows observed closing next.rows next.observed
-      (subst (λ (l : List Lit). SameValues (sources_of graph) rows l next.rows next.observed) same_lits
-      (subst (λ (r : List Row). SameValues (sources_of graph) r lits next.rows next.observed) same_rows same));
-  count = no_more graph spare difference rows observed closing c ands whole next.rows
-      (subst (λ (l : List Lit). (k : ℕ) → Ands rows l k → length next.rows ≤ sources_of graph + 1 + k) same_lits
-      (subst (λ (r : List Row). (k : ℕ) → Ands r lits k → length next.rows ≤ sources_of graph + 1 + k) same_rows fewer));
+is_left graph spare difference rows observed closing given lits same_rows same_lits c ands whole next sources kept = record {
+  same = record {
+    sources = sources;
+    count = own.same_count;
+    stay = own.sources_stay;
+    values = kept_values graph spare difference rows observed closing next.rows next.observed own.same_values;
+  };
+  count = no_more graph spare difference rows observed closing c ands whole next.rows own.ands;
 }
+  where
+    own : IsCompacted (sources_of graph) rows graph.observed next.rows next.observed
+    own = subst₂ (λ (r : List Row) (l : List Lit). IsCompacted (sources_of graph) r l next.rows next.observed) same_rows same_lits kept
 
 by_numbers : (n m g : ℕ) (d e : ℤ) → pos n ≤ℤ (pos m +ℤ d) → (d +ℤ pos g) ≤ℤ e → e ≡ pos 0 → n + g ≤ m
 by_numbers n m g d e left fell none = omega (arith, ints, left, fell, none)
@@ -203,8 +201,6 @@ by_numbers n m g d e left fell none = omega (arith, ints, left, fell, none)
 -- a difference that fell from 0 by what was gained
 pub follows : (was next : Graph) (gained : ℕ) (difference start : ℤ) → IsLeft was difference next → (difference +ℤ pos gained) ≤ℤ start → start ≡ pos 0 → Follows was gained next
 follows was next gained difference start left fell none = record {
-  frame = left.frame;
-  names = left.names;
-  values = left.values;
+  same = left.same;
   count = by_numbers (length next.rows) (length was.rows) gained difference start left.count fell none;
 }

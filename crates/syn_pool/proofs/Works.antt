@@ -22,7 +22,7 @@ use Rattle.syn_commit.specs.Counts.{dying_by}
 use Rattle.syn_commit.specs.Committed.{FellSince, StoredSince, changes_since, gain_of, makes_since, met_since, state_since}
 use Rattle.syn_commit.specs.Giving.{IsAtRest}
 use Rattle.syn_core_laws.specs.declared.View.{View}
-use Rattle.syn_pool.specs.declared.workers.Worker.{Worker}
+use Rattle.syn_pool.specs.declared.rounds.workers.Worker.{Worker}
 use Rattle.syn_pool.specs.Reports.{HasTried, done_of, IsSum, all_answers, reported, told, with_answer, with_gain}
 use Rattle.syn_pool.specs.Closing.{IsLeft}
 use Rattle.syn_pool.specs.Working.{HasSwept, HasWorked, IsRound, IsRoundReport}

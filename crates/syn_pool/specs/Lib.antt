@@ -1,6 +1,7 @@
 pub mod Keys
 pub mod Reports
-pub mod Scenes
+pub mod Readiness
+pub mod Views
 pub mod Working
 pub mod Closing
 pub mod Steps

@@ -1,5 +1,6 @@
 -- Workers at a table, and what their commits leave.
-use Rattle.std.specs.Prelude.{◌≡◌, ◌≤◌, Bool, false, List, [], ◌∷◌, pos, ◌+ℤ◌, ◌≤ℤ◌}
+use Rattle.std.specs.Prelude.{◌≡◌, ◌⊎◌, ℕ, ◌+◌, ◌*◌, ◌^◌, ◌≤◌, Bool, false, List, [], ◌∷◌, length, pos, ◌+ℤ◌, ◌≤ℤ◌}
+use Rattle.syn_rows.specs.declared.TheConstants.{NODE_LIMIT}
 use Rattle.syn_graph.specs.declared.Graph.{Graph}
 use Rattle.syn_decide.specs.Decided.{Answer}
 use Rattle.syn_proposals.specs.declared.gains.Report.{Report}
@@ -8,7 +9,7 @@ use Rattle.syn_table.specs.declared.Shared.{Shared}
 use Rattle.syn_table.specs.Seating.{IsOf, graph_of, known_of, view_of}
 use Rattle.syn_table.specs.Steps.{with_view}
 use Rattle.syn_commit.specs.Giving.{HoldsAlone, IsAtRest}
-use Rattle.syn_pool.specs.declared.workers.Worker.{Worker}
+use Rattle.syn_pool.specs.declared.rounds.workers.Worker.{Worker}
 use Rattle.syn_pool.specs.Closing.{IsLeft}
 use Rattle.syn_pool.specs.Reports.{HasTriedAll, IsSum, Sweep, all_answers, reported}
 
@@ -58,3 +59,7 @@ pub record NothingDone (was : Graph) (zero_gain : Bool) : Type 0 where
   pub report : Report
   pub round : IsRoundReport was zero_gain report
   pub none : report.done ≡ 0
+
+-- A graph has no room for a table of so many workers: of their spare nodes below the limit of nodes, or of its observed signals.
+abbrev pub HasNoRoom : Graph → ℕ → Type 0
+HasNoRoom was workers = (NODE_LIMIT ≤ length was.rows + 512 * workers) ⊎ (2 ^ 30 ≤ length was.observed)

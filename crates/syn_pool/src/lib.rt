@@ -8,27 +8,9 @@
 //! change while they are read. Nothing rests on them: a commit judges each proposal again.
 #![tactic(auto)]
 
-mod added_rows;
-mod attempts;
-mod closed_table;
-mod cuts;
-mod fan_outs;
-mod freed;
-mod improvement;
-mod kept_levels;
-mod neighbourhoods;
-mod opened_table;
+mod looks;
 mod passes;
-mod previews;
-mod queues;
-mod reports;
-mod revisits;
 mod rounds;
-mod scene;
-mod steps;
-mod visits;
-mod worker_threads;
-mod workers;
 
-pub use improvement::{PassSettings, improve};
+pub use passes::improvement::{PassSettings, improve};
 pub use passes::pass;

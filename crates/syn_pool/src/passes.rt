@@ -1,29 +1,32 @@
 //! Rounds until the graph is closed.
 
-ghost use Rattle.std.specs.Prelude.{◌≡◌, ◌+◌, ◌≤◌, ℕ, Bool, false, not, List, IfErr, IfNone, IfOk, IfSome, length};
-ghost use Rattle.syn_rows.specs.Values.{rows_function};
-ghost use Rattle.syn_netlist.specs.Frames.{frame_in};
+ghost use Rattle.std.specs.Prelude.{◌≡◌, ◌+◌, ◌≤◌, ℕ, false, not, List, IfErr, IfNone, IfOk, IfSome, length};
 ghost use Rattle.syn_proposals.specs.Closing.{Closed};
 ghost use Rattle.syn_proposals.specs.Following.{Follows};
 ghost use Rattle.syn_proposals.specs.Gains.{IsGain};
 ghost use Rattle.syn_pool.specs.Turns.{IsPassReport};
 ghost use Rattle.syn_pool.specs.Steps.{IsStepOf};
 
-use crate::neighbourhoods::Seen;
-use crate::reports::{NOTHING, both};
-use crate::scene::Course;
-use crate::steps::{Step, one_step};
+pub(crate) mod checks;
+pub(crate) mod improvement;
+pub(crate) mod kept_levels;
+pub(crate) mod steps;
+
+use crate::looks::neighbourhoods::Seen;
+use crate::passes::steps::{Step, one_step};
+use crate::rounds::contexts::PassContext;
+use crate::rounds::reports::both;
 use std::alloc::{AllocError, Global};
 use std::thread::Threads;
-use syn_commit::Gate;
+use syn_commit::CommitHook;
 use syn_graph::Graph;
 use syn_proposals::{Proposer, Report};
 use syn_workers::Workers;
 
 // Steps on a graph in place of another, until it is closed; the lists are those of one before it. Whether workers commit in the
 // first of them is given; in a later one they do if the one before it says so.
-fn close<R: Threads + Sync, P: Proposer, G: Gate>(
-    course: &Course<'_, R, P, G>,
+fn close<R: Threads + Sync, P: Proposer, H: CommitHook>(
+    pass: &PassContext<'_, R, P, H>,
     start: &Graph,
     graph: Graph,
     report: Report,
@@ -32,11 +35,11 @@ fn close<R: Threads + Sync, P: Proposer, G: Gate>(
     seen: &mut Seen,
 ) -> Result<(Graph, Report), AllocError>
     requires follows { Follows start.now report.gained graph }
-    requires gain { IsGain (not course.now.zero_gain) report }
+    requires gain { IsGain (not pass.now.zero_gain) report }
     requires report { IsPassReport start.now graph report }
     ensures follows { IfOk result (λ r. Follows start.now r.1.gained r.0) }
-    ensures closed { IfOk result (λ r. Closed r.0.rows r.0.observed (P.proposals course.now.proposer.now r.0.rows)) }
-    ensures gain { IfOk result (λ r. IsGain (not course.now.zero_gain) r.1) }
+    ensures closed { IfOk result (λ r. Closed r.0.rows r.0.observed (P.proposals pass.now.proposer.now r.0.rows)) }
+    ensures gain { IfOk result (λ r. IsGain (not pass.now.zero_gain) r.1) }
     ensures report { IfOk result (λ r. IsPassReport start.now r.0 r.1) }
 {
     let mut graph = graph;
@@ -45,7 +48,7 @@ fn close<R: Threads + Sync, P: Proposer, G: Gate>(
     let mut commits = commits;
     loop {
         let before = Some(lists);
-        match one_step(course, &graph, before, commits, seen)? {
+        match one_step(pass, &graph, before, commits, seen)? {
             Step::Stays => return Ok((graph, report)),
             Step::Ends(next, more) => return Ok((next, both(report, more))),
             Step::GoesOn(next, more, used, again) => {
@@ -59,59 +62,48 @@ fn close<R: Threads + Sync, P: Proposer, G: Gate>(
 }
 
 /// A closed graph in place of the given one; none where that is closed. Workers commit in the first step.
-pub(crate) fn closed<R: Threads + Sync, P: Proposer, G: Gate>(
-    course: &Course<'_, R, P, G>,
+pub(crate) fn closed<R: Threads + Sync, P: Proposer, H: CommitHook>(
+    pass: &PassContext<'_, R, P, H>,
     graph: &Graph,
 ) -> Result<Option<(Graph, Report)>, AllocError>
-    ensures some { IfOk result (λ made. IfSome made (λ r. Follows graph.now r.1.gained r.0 × Closed r.0.rows r.0.observed (P.proposals course.now.proposer.now r.0.rows) × IsGain (not course.now.zero_gain) r.1 × IsPassReport graph.now r.0 r.1)) }
-    ensures none { IfOk result (λ made. IfNone made (Closed graph.now.rows graph.now.observed (P.proposals course.now.proposer.now graph.now.rows))) }
+    ensures some { IfOk result (λ made. IfSome made (λ r. Follows graph.now r.1.gained r.0 × Closed r.0.rows r.0.observed (P.proposals pass.now.proposer.now r.0.rows) × IsGain (not pass.now.zero_gain) r.1 × IsPassReport graph.now r.0 r.1)) }
+    ensures none { IfOk result (λ made. IfNone made (Closed graph.now.rows graph.now.observed (P.proposals pass.now.proposer.now graph.now.rows))) }
 {
-    let mut seen = Seen::new(course.alloc, graph)?;
-    match one_step(course, graph, None, true, &mut seen)? {
+    let mut seen = Seen::new(pass.alloc, graph)?;
+    match one_step(pass, graph, None, true, &mut seen)? {
         Step::Stays => Ok(None),
         Step::Ends(next, report) => Ok(Some((next, report))),
         Step::GoesOn(next, report, lists, again) => {
-            Ok(Some(close(course, graph, next, report, lists, again, &mut seen)?))
+            Ok(Some(close(pass, graph, next, report, lists, again, &mut seen)?))
         }
     }
 }
 
 /// Lets workers commit proposals on a graph, and then checks it; workers commit for what the check finds, or it is applied,
-/// again and again until no proposal saves: the same frame, the same values of the observed signals, fewer ANDs by at least
-/// what the report says, and closed. The report has what the workers' commits did and gained, and nothing of what was applied
+/// again and again until no proposal saves: the same function, fewer ANDs by at least what the report says, and closed. None
+/// comes where the graph is closed. The report has what the workers' commits did and gained, and nothing of what was applied
 /// without them. Where `zero_gain` is true, commits of gain 0 are let through, and workers commit again before the first check
-/// for as long as a round leads to much, for ANDs in whose neighbourhood something is new. The gate is told of each commit.
-/// Where memory is refused, the same graph comes back.
-#[tactic(auto, using(crate::proofs::Turning::no_turn))]
-pub fn pass<R: Threads + Sync, P: Proposer, G: Gate>(
+/// for as long as a round leads to much, for ANDs in whose neighbourhood something is new. The hook is told of each commit. The
+/// only error is want of memory.
+pub fn pass<R: Threads + Sync, P: Proposer, H: CommitHook>(
     rt: &R,
     alloc: Global,
-    graph: Graph,
+    graph: &Graph,
     proposer: &P,
     workers: Workers,
     zero_gain: bool,
-    gate: &G,
-) -> Result<(Graph, Report), (Graph, AllocError)>
-    ensures frame { IfOk result (λ r. frame_in r.0.frame ≡ frame_in graph.frame) }
-    ensures names { IfOk result (λ r. r.0.frame.names ≡ graph.frame.names) }
-    ensures values { IfOk result (λ r. (bits : List Bool) → rows_function r.0.rows r.0.observed bits ≡ rows_function graph.rows graph.observed bits) }
-    ensures count { IfOk result (λ r. length r.0.rows + r.1.gained ≤ length graph.rows) }
-    ensures closed { IfOk result (λ r. Closed r.0.rows r.0.observed (P.proposals proposer.now r.0.rows)) }
-    ensures gains { IfOk result (λ r. zero_gain ≡ false → r.1.done ≤ r.1.gained) }
-    ensures report { IfOk result (λ r. IsPassReport graph r.0 r.1) }
-    ensures refused { IfErr result (λ e. e.0 ≡ graph) }
+    hook: &H,
+) -> Result<Option<(Graph, Report)>, AllocError>
+    ensures some { IfOk result (λ made. IfSome made (λ r. Follows graph.now r.1.gained r.0 × Closed r.0.rows r.0.observed (P.proposals proposer.now r.0.rows) × IsGain (not zero_gain) r.1 × IsPassReport graph.now r.0 r.1)) }
+    ensures none { IfOk result (λ made. IfNone made (Closed graph.now.rows graph.now.observed (P.proposals proposer.now graph.now.rows))) }
 {
-    let course = Course {
+    let context = PassContext {
         rt,
         alloc,
         proposer,
-        gate,
+        hook,
         workers,
         zero_gain,
     };
-    match closed(&course, &graph) {
-        Ok(Some(made)) => Ok(made),
-        Ok(None) => Ok((graph, NOTHING)),
-        Err(error) => Err((graph, error)),
-    }
+    closed(&context, graph)
 }

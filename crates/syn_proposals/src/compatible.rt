@@ -1,5 +1,5 @@
 //! Which of the proposals that save are applied together. The choice is free, as each of them is sound: those are taken whose
-//! cones don't meet, so that what they save adds up.
+//! cones don't meet, and whose gates aren't rows that others replace, so that what they save adds up.
 
 ghost use Rattle.std.specs.Prelude.{◌≡◌, true, All, IfOk, length};
 ghost use Rattle.std.specs.List.Sorted.{IsNonDecreasing};
@@ -10,18 +10,22 @@ ghost use Rattle.syn_gain.specs.Uses.{IsUsesOf};
 use smallvec::SmallVec;
 use std::alloc::{AllocError, Global};
 use syn_fanout_free::sort_used;
-use syn_gain::{NewRows, Proposal, Uses, mffc, place};
+use syn_gain::{Candidate, NewRows, PlacedPlan, Proposal, RowsBelow, Uses, mffc, place};
 use syn_graph::Graph;
+use syn_plan::MAX_INDEXES;
 use syn_rows::{Lit, Row, no_marks};
 
 // Of a cone that goes no more ANDs than so many are looked for: it may be as deep as the graph.
 const MAX_GONE: u32 = 256;
 
-// The nodes whose rows go with the roots of the chosen proposals, and those that stay: the roots, and what their new rows name.
+// The nodes by what the chosen proposals do with them: those whose rows are replaced, the roots; those whose rows go with them;
+// those that stay, the roots and what their new rows name; and those that are hit, whose rows gates of their plans are.
 #[derive(Drop)]
 struct Chosen {
+    roots: Vec<bool>,
     goes: Vec<bool>,
     stays: Vec<bool>,
+    hits: Vec<bool>,
 }
 
 // Whether one of the nodes is marked.
@@ -43,23 +47,37 @@ fn mark_all(marks: &mut [bool], nodes: &[u32]) {
 impl Chosen {
     fn none(alloc: Global, nodes: usize) -> Result<Chosen, AllocError> {
         Ok(Chosen {
+            roots: no_marks(alloc, nodes)?,
             goes: no_marks(alloc, nodes)?,
             stays: no_marks(alloc, nodes)?,
+            hits: no_marks(alloc, nodes)?,
         })
     }
 
-    // Takes a proposal for a root that stays, with whose row these nodes go, and whose new rows name those, unless it meets one
-    // that was taken.
-    fn take(&mut self, root: u32, goes: &[u32], names: &[u32]) -> bool {
+    // Whether a row that one proposal replaces or takes away is hit by another: of those that were taken, and one for this root,
+    // with whose row these nodes go, and which hits those. A plan placed when such a row is gone makes it again, with its cone.
+    fn is_hit(&self, root: u32, goes: &[u32], hits: &[u32]) -> bool {
+        any_marked(self.roots.as_slice(), hits)
+            || any_marked(self.goes.as_slice(), hits)
+            || any_marked(self.hits.as_slice(), &[root])
+            || any_marked(self.hits.as_slice(), goes)
+    }
+
+    // Takes a proposal for a root that stays, with whose row these nodes go, whose new rows name those, and which hits those,
+    // unless it meets one that was taken.
+    fn take(&mut self, root: u32, goes: &[u32], names: &[u32], hits: &[u32]) -> bool {
         if any_marked(self.goes.as_slice(), names)
             || any_marked(self.goes.as_slice(), goes)
             || any_marked(self.stays.as_slice(), goes)
+            || self.is_hit(root, goes, hits)
         {
             return false;
         }
+        mark_all(self.roots.as_mut_slice(), &[root]);
         mark_all(self.goes.as_mut_slice(), goes);
         mark_all(self.stays.as_mut_slice(), names);
         mark_all(self.stays.as_mut_slice(), &[root]);
+        mark_all(self.hits.as_mut_slice(), hits);
         true
     }
 }
@@ -95,6 +113,36 @@ fn names_of(alloc: Global, old: usize, new: &NewRows) -> Result<SmallVec<u32, 32
     Ok(names)
 }
 
+// The nodes that a proposal for an AND hits: those but its leaves that gates of its plan become, whose rows are there. A function
+// fills its locals as it begins, so this one isn't part of another.
+#[inline(never)]
+fn hits_of(
+    alloc: Global,
+    graph: &Graph,
+    uses: &Uses,
+    candidate: Candidate,
+) -> Result<SmallVec<u32, 32>, AllocError>
+    requires uses { IsUsesOf uses.now graph.now }
+    requires root { is_and (row_at graph.now.rows candidate.root) ≡ true }
+{
+    let rows = graph.rows.as_slice();
+    let mut placed = PlacedPlan::<MAX_INDEXES>::new();
+    placed.begin(candidate.plan.leaves, candidate.leaves);
+    let below = RowsBelow {
+        rows,
+        index: &uses.pairs,
+        root: candidate.root,
+    };
+    let _ = placed.place_gates(&below, candidate.plan.gates.as_slice(), u32::MAX);
+    let mut hits = SmallVec::new(alloc);
+    for literal in placed.literals.as_slice() {
+        if !candidate.leaves.contains(&literal.node()) {
+            name(rows.len(), *literal, &mut hits)?;
+        }
+    }
+    Ok(hits)
+}
+
 // Takes a proposal for an AND of the graph if it meets none that was taken.
 fn choose(
     alloc: Global,
@@ -119,11 +167,17 @@ fn choose(
         names.as_slice(),
         MAX_GONE,
     )?;
-    Ok(chosen.take(proposal.root, gone.nodes.as_slice(), names.as_slice()))
+    let hits = hits_of(alloc, graph, uses, proposal.borrow())?;
+    Ok(chosen.take(
+        proposal.root,
+        gone.nodes.as_slice(),
+        names.as_slice(),
+        hits.as_slice(),
+    ))
 }
 
 /// Marks the proposals of a list that are applied together: from the last to the first, each whose cone meets none of those
-/// that were marked before. The only error is want of memory.
+/// that were marked before, and of which none hits a row that the other replaces or takes away. The only error is want of memory.
 pub(crate) fn select_compatible(
     alloc: Global,
     graph: &Graph,

@@ -17,8 +17,9 @@ ghost use Rattle.syn_reader.specs.Alone.{is_alone, is_plain, latch_in_kind, latc
 
 use crate::signals::copy_word;
 use std::alloc::{AllocError, Global};
+use syn_lists::Items;
 use syn_models::{FlatFault, MAX_WORDS, Model, Models, Statement, StatementKind, flatten};
-use syn_netlist::{Frame, Items, Latch, Netlist, Table, Word, push_reads};
+use syn_netlist::{Frame, Latch, Netlist, Table, Word, push_reads};
 
 // Whether no statement is a subcircuit.
 fn are_plain(statements: &[Statement]) -> bool

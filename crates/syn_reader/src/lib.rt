@@ -25,7 +25,8 @@ pub use laws::{
     worked_models, worked_parts, worked_prefixes, worked_subcircuits, worked_texts,
 };
 use std::alloc::{AllocError, AllocFailed};
-use syn_netlist::{Items, Word};
+use syn_lists::Items;
+use syn_netlist::Word;
 
 /// What a line is: a row, or a keyword with its words.
 #[derive(Clone, Copy, Debug, PartialEq, Eq)]

@@ -35,8 +35,9 @@ use crate::subcircuits::{BindLine, read_subckt};
 use crate::{Kind, ReadFault};
 use std::alloc::{AllocError, Global};
 use syn_lex::LineWords;
+use syn_lists::Items;
 use syn_models::{Bind, Statement, StatementKind, Subcircuit};
-use syn_netlist::{Items, Names, Table};
+use syn_netlist::{Names, Table};
 
 /// What the statements above spell: names with their marks, statements by numbers of names, and how many words their lines have.
 #[derive(Drop)]

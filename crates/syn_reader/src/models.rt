@@ -21,8 +21,9 @@ use crate::statements::Statements;
 use crate::{Kind, ReadFault};
 use std::alloc::Global;
 use syn_lex::LineWords;
+use syn_lists::Items;
 use syn_models::{Model, Models};
-use syn_netlist::{Items, Names, Word};
+use syn_netlist::{Names, Word};
 
 // A model of which the statements are to be gathered: its name, and what its `.model` line counts.
 #[derive(Drop)]

@@ -7,8 +7,6 @@ use Rattle.syn_rows.specs.Rows.{row_at}
 use Rattle.syn_rows.proofs.Nodes.{has_at}
 use Rattle.syn_hashed.specs.Hashed.{IsHashed, is_gate}
 use Rattle.syn_hashed.proofs.Dropped.{gate_parts}
-use Rattle.syn_netlist.specs.Frames.{frame_in}
-use Rattle.syn_netlist.specs.Lists.{sources}
 use Rattle.syn_graph.specs.declared.Graph.{Graph}
 use Rattle.syn_hashed.proofs.Orders.{and_inside}
 use Rattle.syn_growing.proofs.InGraphs.{and_there, in_order}
@@ -20,8 +18,8 @@ use Rattle.syn_resub.proofs.Scanned.{FirstIsSmaller}
 
 pub is_gate_at : (graph : Graph) (n : ℕ) (a b : Lit) → row_at graph.rows n ≡ And a b → is_gate n (And a b) ≡ true
 is_gate_at graph n a b is =
-    let hashed : IsHashed (length (sources (frame_in graph.frame))) graph.rows = graph.graph.hashed in
-    let inside = and_inside (length (sources (frame_in graph.frame))) graph.rows hashed n (ap is_and is) in
+    let hashed : IsHashed graph.source_count graph.rows = graph.graph.hashed in
+    let inside = and_inside graph.source_count graph.rows hashed n (ap is_and is) in
     subst (λ row. is_gate n row ≡ true) is (hashed.gates n inside.0 inside.1)
 
 pub first_is_smaller : (graph : Graph) → FirstIsSmaller graph.rows

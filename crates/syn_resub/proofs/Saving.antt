@@ -10,8 +10,6 @@ use Rattle.syn_rows.specs.Rows.{row_at}
 use Rattle.syn_rows.proofs.JoinLaws.{NeedRow}
 use Rattle.syn_hashed.proofs.Looking.{gate_needs}
 use Rattle.syn_fanout_free.specs.Saved.{IsExtra}
-use Rattle.syn_netlist.specs.Frames.{frame_in}
-use Rattle.syn_netlist.specs.Lists.{sources}
 use Rattle.syn_graph.specs.declared.Graph.{Graph}
 use Rattle.syn_gain.specs.Placing.{root_row}
 use Rattle.syn_gain.specs.Replacements.{Replacement, new_root_by, new_rows_by}
@@ -43,7 +41,7 @@ module _ (graph : Graph) (node : ℕ) (d : Divided) (divided : AreDivided graph.
 
   is_below : IsBelow form_replacement
   is_below = record {
-    positive = (let inside = and_inside (length (sources (frame_in graph.frame))) graph.rows graph.graph.hashed node divided.gate in let after = inside.0 in omega (arith, after));
+    positive = (let inside = and_inside graph.source_count graph.rows graph.graph.hashed node divided.gate in let after = inside.0 in omega (arith, after));
     low = below_from node d.leaves.items (λ n h. (divided.are.within n h).1);
   }
 

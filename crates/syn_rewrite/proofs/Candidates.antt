@@ -9,8 +9,6 @@ use Rattle.syn_rows.specs.declared.Lit.{Lit}
 use Rattle.syn_rows.specs.declared.Row.{Row}
 use Rattle.syn_rows.specs.Rows.{row_at}
 use Rattle.syn_rows.specs.Reach.{is_and}
-use Rattle.syn_netlist.specs.Frames.{frame_in}
-use Rattle.syn_netlist.specs.Lists.{sources}
 use Rattle.syn_hashed.proofs.Orders.{and_inside, hashed_in_order}
 use Rattle.syn_graph.specs.declared.Graph.{Graph}
 use Rattle.syn_plan.specs.declared.plan.Plan.{Plan}
@@ -44,15 +42,15 @@ within_leaves rows leaves node f p function names =
 
 -- an AND is no constant, and is there
 pub and_above : (graph : Graph) (node : ℕ) → is_and (row_at graph.rows node) ≡ true → 0 < node
-and_above graph node gate = let at = and_inside (length (sources (frame_in graph.frame))) graph.rows graph.graph.hashed node gate in omega (arith, at.0)
+and_above graph node gate = let at = and_inside graph.source_count graph.rows graph.graph.hashed node gate in omega (arith, at.0)
 
 pub and_there : (graph : Graph) (node : ℕ) → is_and (row_at graph.rows node) ≡ true → node < length graph.rows
-and_there graph node gate = (and_inside (length (sources (frame_in graph.frame))) graph.rows graph.graph.hashed node gate).1
+and_there graph node gate = (and_inside graph.source_count graph.rows graph.graph.hashed node gate).1
 
 -- the function of an AND over its leaves
 pub is_function : (graph : Graph) (node f : ℕ) (leaves : List ℕ) → is_and (row_at graph.rows node) ≡ true → AreLeavesOf graph.rows node leaves → IsFunctionOver graph.rows leaves node f → f ≡ cut_function graph.rows leaves node
 is_function graph node f leaves gate are function =
-    let count = length (sources (frame_in graph.frame)) in
+    let count = graph.source_count in
     function_of_table graph.rows leaves node f (hashed_in_order count graph.rows graph.graph.hashed) (and_there graph node gate) are.rise are.below function
 
 -- the plans of that function are the proposals of the cut

@@ -11,7 +11,7 @@ use Rattle.syn_netlist.specs.Lists.{Latch, Netlist, latch_output, observed, sour
 use Rattle.syn_netlist.specs.Order.{Ordered}
 use Rattle.syn_netlist.specs.Values.{Consistent}
 use Rattle.syn_netlist.specs.Words.{has_word}
-use Rattle.syn_shapes.specs.GraphShape.{GraphHasFunction, GraphShape, lit_of, rows_of}
+use Rattle.syn_network.specs.GraphShape.{GraphHasFunction, GraphShape, lit_of, rows_of}
 use Rattle.syn_seq.specs.Runs.{free_signals}
 use Rattle.syn_seq.specs.Sweeping.{needing_rows}
 use Rattle.syn_seq.specs.Rounds.{latch_at, latch_node, no_latch}

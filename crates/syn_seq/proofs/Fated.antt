@@ -15,9 +15,9 @@ use Rattle.syn_netlist.specs.Lists as lists
 use Rattle.syn_netlist.specs.Lists.{Netlist, control_of, latch_output, latch_reads, observed, sources}
 use Rattle.syn_netlist.specs.Words.{has_word}
 use Rattle.syn_netlist.proofs.Sets.{has_head, has_right, has_tail}
-use Rattle.syn_shapes.specs.Spelling.{NetworkOfGraph}
-use Rattle.syn_graph.specs.declared.Graph.{Graph}
-use Rattle.syn_graph.specs.Graphs.{network_of}
+use Rattle.syn_network.specs.Spelling.{NetworkOfGraph}
+use Rattle.syn_network.specs.declared.networks.Network.{Network}
+use Rattle.syn_network.specs.Written.{network_of}
 use Rattle.syn_seq.specs.declared.keys.Key.{Key}
 use Rattle.syn_seq.specs.Code.{AreAlikeLits, AreLits, all_kept, is_kept, lit_in}
 use Rattle.syn_seq.specs.Keys.{AreFatesBy, IsFateBy, control_in, key_by, trigger_in, trigger_of}
@@ -30,25 +30,25 @@ use Rattle.syn_seq.proofs.Loading.{alike, is_some, is_typed, key_in, keys_are, k
 use Rattle.syn_seq.proofs.Sweeps.{graphs_have_functions, spells}
 
 -- what is computed of the latches of a graph before their fates
-pub record IsFated (g : Graph) (lits : List Lit) (needed : List Bool) (first : ℕ) (ls : List Latch) (fates : List Fate) : Type 0 where
+pub record IsFated (g : Network) (lits : List Lit) (needed : List Bool) (first : ℕ) (ls : List Latch) (fates : List Fate) : Type 0 where
   pub lits_are : AreLits (network_of g) g.frame.names lits
   pub needs : IsReachedSet (needing_rows (network_of g)) (output_lits (network_of g)) (value_in needed)
   pub latches : ls ≡ g.frame.latches
-  pub first_is : first ≡ g.source_count + 1 - length ls
+  pub first_is : first ≡ g.body.source_count + 1 - length ls
   pub count : length fates ≡ length ls
   pub fates_are : AreFatesBy (λ j. value_in needed (first + j)) (λ j. key_by lits (get_or ls j no_latch)) fates
 
-many_latches : (g : Graph) → length (network_of g).frame.latches ≡ length g.frame.latches
+many_latches : (g : Network) → length (network_of g).frame.latches ≡ length g.frame.latches
 many_latches g = length-map g.frame.latches (latch_in g.frame.names)
 
 -- the node of a latch
-node_is : (g : Graph) (first : ℕ) (j : ℕ) → first ≡ g.source_count + 1 - length g.frame.latches → first + j ≡ latch_node (network_of g) j
+node_is : (g : Network) (first : ℕ) (j : ℕ) → first ≡ g.body.source_count + 1 - length g.frame.latches → first + j ≡ latch_node (network_of g) j
 node_is g first j e =
     let n : Netlist = network_of g in
     let long : length (sources n.frame) ≡ length (free_signals n.frame) + length (map latch_output n.frame.latches) = ap length (sym (sources_are n.frame)) ∙ length-append (free_signals n.frame) (map latch_output n.frame.latches) in
-    omega (arith, e, long, g.source_count_is, length-map n.frame.latches latch_output, many_latches g)
+    omega (arith, e, long, g.named.sources_are, length-map n.frame.latches latch_output, many_latches g)
 
-key_at : (g : Graph) (lits : List Lit) (needed : List Bool) (first : ℕ) (ls : List Latch) (fates : List Fate) → IsFated g lits needed first ls fates → (j : ℕ) → j < length fates → key_by lits (get_or ls j no_latch) ≡ key_in (network_of g) (latch_at (network_of g) j)
+key_at : (g : Network) (lits : List Lit) (needed : List Bool) (first : ℕ) (ls : List Latch) (fates : List Fate) → IsFated g lits needed first ls fates → (j : ℕ) → j < length fates → key_by lits (get_or ls j no_latch) ≡ key_in (network_of g) (latch_at (network_of g) j)
 key_at g lits needed first ls fates f j lt =
     let inside : j < length g.frame.latches = omega (arith, lt, f.count, ap length f.latches) in
     ap (λ (x : List Latch). key_by lits (get_or x j no_latch)) f.latches ∙ keys_are g lits f.lits_are j inside
@@ -59,7 +59,7 @@ reads_there n j lt w t =
     among_firsts (n.frame.outputs ++ reads) w (has_right n.frame.outputs reads w (has_reads n.frame.latches j w lt t))
 
 -- latch j, by number and in words
-latch_is : (g : Graph) (j : ℕ) → j < length g.frame.latches → latch_at (network_of g) j ≡ latch_in g.frame.names (get_or g.frame.latches j no_latch)
+latch_is : (g : Network) (j : ℕ) → j < length g.frame.latches → latch_at (network_of g) j ≡ latch_in g.frame.names (get_or g.frame.latches j no_latch)
 latch_is g j lt = get_or-map (latch_in g.frame.names) g.frame.latches j no_latch no_named_latch lt
 
 numbers_below : (count : ℕ) (ls : List Latch) → latches_below count ls ≡ true → (j : ℕ) → j < length ls → all_below count (latch_numbers (get_or ls j no_latch)) ≡ true
@@ -68,13 +68,13 @@ numbers_below count (l ∷ ls) h zero lt = (and_parts (all_below count (latch_nu
 numbers_below count (l ∷ ls) h (suc j) lt = numbers_below count ls (and_parts (all_below count (latch_numbers l)) (latches_below count ls) h).1 j (omega (arith, lt))
 
 -- the feed and the control of a latch are names that are there, of observed signals
-record ReadsBy (g : Graph) (l : Latch) : Type 0 where
+record ReadsBy (g : Network) (l : Latch) : Type 0 where
   feed : l.feed < length g.frame.names
   fed : has_word (observed (network_of g).frame) (word_at g.frame.names l.feed) ≡ true
   control : (i : ℕ) → control_number l.kind ≡ i ∷ [] → i < length g.frame.names
   controlled : (i : ℕ) → control_number l.kind ≡ i ∷ [] → has_word (observed (network_of g).frame) (word_at g.frame.names i) ≡ true
 
-reads_by : (g : Graph) (j : ℕ) → j < length g.frame.latches → ReadsBy g (get_or g.frame.latches j no_latch)
+reads_by : (g : Network) (j : ℕ) → j < length g.frame.latches → ReadsBy g (get_or g.frame.latches j no_latch)
 reads_by g j lt =
     let names : List (List ℕ) = g.frame.names in
     let l : Latch = get_or g.frame.latches j no_latch in
@@ -91,7 +91,7 @@ reads_by g j lt =
           (subst (λ (ws : List (List ℕ)). has_word ws (word_at names i) ≡ true) (ap (words_at names) (sym e) ∙ words_at-control names l.kind) (has_head (word_at names i) [])));
     }
 
-kinds_by : (g : Graph) (fates : List Fate) (lits : List Lit) → AreAlikeLits (network_of g) fates g.frame.names lits → (k l : Option (LatchKind × Option ℕ))
+kinds_by : (g : Network) (fates : List Fate) (lits : List Lit) → AreAlikeLits (network_of g) fates g.frame.names lits → (k l : Option (LatchKind × Option ℕ))
     → ((i : ℕ) → control_number k ≡ i ∷ [] → (i < length g.frame.names) × (has_word (observed (network_of g).frame) (word_at g.frame.names i) ≡ true))
     → ((i : ℕ) → control_number l ≡ i ∷ [] → (i < length g.frame.names) × (has_word (observed (network_of g).frame) (word_at g.frame.names i) ≡ true))
     → trigger_in k ≡ trigger_in l → control_in (lit_in lits) k ≡ control_in (lit_in lits) l → KindsAlike (network_of g) fates (kind_at g.frame.names k) (kind_at g.frame.names l)
@@ -107,7 +107,7 @@ kinds_by g fates lits h (Some (a, Some x)) (Some (b, None)) hk hl t c = absurd (
 kinds_by g fates lits h (Some (a, Some x)) (Some (b, Some y)) hk hl t c = (kind_same a b t, h x y (hk x refl).0 (hl y refl).0 (hk x refl).1 (hl y refl).1 (ap lit_out c))
 
 -- merged latches load alike
-merged_right : (g : Graph) (fates : List Fate) (lits : List Lit) (set : ℕ → Bool) → AreAlikeLits (network_of g) fates g.frame.names lits → (i j : ℕ) → i < j → j < length g.frame.latches → fate_at fates i ≡ Kept
+merged_right : (g : Network) (fates : List Fate) (lits : List Lit) (set : ℕ → Bool) → AreAlikeLits (network_of g) fates g.frame.names lits → (i j : ℕ) → i < j → j < length g.frame.latches → fate_at fates i ≡ Kept
     → key_by lits (get_or g.frame.latches i no_latch) ≡ key_by lits (get_or g.frame.latches j no_latch) → (get_or g.frame.latches j no_latch).init < 2 → IsFate (network_of g) fates set j (Merged i)
 merged_right g fates lits set h i j ij lt kept same known =
     let n : Netlist = network_of g in
@@ -125,24 +125,24 @@ merged_right g fates lits set h i j ij lt kept same known =
     (ij, kept, feeds, kinds, starts, known)
 
 -- fates that are right by keys are right, where equal literals are alike
-pub record IsFatedBy (g : Graph) (lits : List Lit) (needed : List Bool) (first : ℕ) (ls : List Latch) (fates : List Fate) : Type 0 where
+pub record IsFatedBy (g : Network) (lits : List Lit) (needed : List Bool) (first : ℕ) (ls : List Latch) (fates : List Fate) : Type 0 where
   pub alike_lits : AreAlikeLits (network_of g) fates g.frame.names lits
   pub needs : IsReachedSet (needing_rows (network_of g)) (output_lits (network_of g)) (value_in needed)
   pub latches : ls ≡ g.frame.latches
-  pub first_is : first ≡ g.source_count + 1 - length ls
+  pub first_is : first ≡ g.body.source_count + 1 - length ls
   pub count : length fates ≡ length ls
   pub right : (j : ℕ) → j < length fates → IsFateBy (λ j. value_in needed (first + j)) (λ j. key_by lits (get_or ls j no_latch)) fates j (fate_at fates j)
 
-one_right : (g : Graph) (lits : List Lit) (needed : List Bool) (first : ℕ) (ls : List Latch) (fates : List Fate) → IsFatedBy g lits needed first ls fates → (j : ℕ) → j < length fates → (f : Fate)
+one_right : (g : Network) (lits : List Lit) (needed : List Bool) (first : ℕ) (ls : List Latch) (fates : List Fate) → IsFatedBy g lits needed first ls fates → (j : ℕ) → j < length fates → (f : Fate)
     → IsFateBy (λ j. value_in needed (first + j)) (λ j. key_by lits (get_or ls j no_latch)) fates j f → IsFate (network_of g) fates (value_in needed) j f
-one_right g lits needed first ls fates f j lt Kept r = subst (λ (k : ℕ). value_in needed k ≡ true) (node_is g first j (f.first_is ∙ ap (λ (x : List Latch). g.source_count + 1 - length x) f.latches)) r
+one_right g lits needed first ls fates f j lt Kept r = subst (λ (k : ℕ). value_in needed k ≡ true) (node_is g first j (f.first_is ∙ ap (λ (x : List Latch). g.body.source_count + 1 - length x) f.latches)) r
 one_right g lits needed first ls fates f j lt (Merged i) r =
     let inside : j < length g.frame.latches = omega (arith, lt, f.count, ap length f.latches) in
     merged_right g fates lits (value_in needed) f.alike_lits i j r.0 inside r.1 (subst (λ (x : List Latch). key_by lits (get_or x i no_latch) ≡ key_by lits (get_or x j no_latch)) f.latches r.2)
     (subst (λ (x : List Latch). (key_by lits (get_or x j no_latch)).init < 2) f.latches r.3)
-one_right g lits needed first ls fates f j lt Dropped r = subst (λ (k : ℕ). value_in needed k ≡ false) (node_is g first j (f.first_is ∙ ap (λ (x : List Latch). g.source_count + 1 - length x) f.latches)) r
+one_right g lits needed first ls fates f j lt Dropped r = subst (λ (k : ℕ). value_in needed k ≡ false) (node_is g first j (f.first_is ∙ ap (λ (x : List Latch). g.body.source_count + 1 - length x) f.latches)) r
 
-pub are_fates_by : (g : Graph) (lits : List Lit) (needed : List Bool) (first : ℕ) (ls : List Latch) (fates : List Fate) → IsFatedBy g lits needed first ls fates → AreFates (network_of g) fates
+pub are_fates_by : (g : Network) (lits : List Lit) (needed : List Bool) (first : ℕ) (ls : List Latch) (fates : List Fate) → IsFatedBy g lits needed first ls fates → AreFates (network_of g) fates
 are_fates_by g lits needed first ls fates f = record {
   count = f.count ∙ ap length f.latches ∙ sym (many_latches g);
   needed = value_in needed;
@@ -152,12 +152,12 @@ are_fates_by g lits needed first ls fates f = record {
 }
 
 -- the literals of a graph's own rows are alike
-own_alike : NetworkOfGraph → (g : Graph) (fates : List Fate) (lits : List Lit) → AreLits (network_of g) g.frame.names lits → AreAlikeLits (network_of g) fates g.frame.names lits
+own_alike : NetworkOfGraph → (g : Network) (fates : List Fate) (lits : List Lit) → AreLits (network_of g) g.frame.names lits → AreAlikeLits (network_of g) fates g.frame.names lits
 own_alike law g fates lits k a b la lb ta tb e =
     let s = spells law g in
     alike graphs_have_functions (network_of g) s.ordered s.shape fates (word_at g.frame.names a) (word_at g.frame.names b) ta tb (sym (k a la ta) ∙ e ∙ k b lb tb)
 
-pub are_fates : NetworkOfGraph → (g : Graph) (lits : List Lit) (needed : List Bool) (first : ℕ) (ls : List Latch) (fates : List Fate) → IsFated g lits needed first ls fates → AreFates (network_of g) fates
+pub are_fates : NetworkOfGraph → (g : Network) (lits : List Lit) (needed : List Bool) (first : ℕ) (ls : List Latch) (fates : List Fate) → IsFated g lits needed first ls fates → AreFates (network_of g) fates
 are_fates law g lits needed first ls fates f = are_fates_by g lits needed first ls fates (record { alike_lits = own_alike law g fates lits f.lits_are; needs = f.needs; latches = f.latches; first_is = f.first_is; count = f.count; right = f.fates_are.right })
 
 -- each is kept, where all are
@@ -168,11 +168,11 @@ each_kept (Merged i ∷ fs) h zero lt = absurd (both_ways false refl h)
 each_kept (Dropped ∷ fs) h zero lt = absurd (both_ways false refl h)
 each_kept (f ∷ fs) h (suc j) lt = each_kept fs (and_parts (is_kept f) (all_kept fs) h).1 j (omega (arith, lt))
 
-pub is_swept : NetworkOfGraph → (g : Graph) (lits : List Lit) (needed : List Bool) (first : ℕ) (ls : List Latch) (fates : List Fate) → IsFated g lits needed first ls fates → all_kept fates ≡ true → IsSwept (network_of g)
+pub is_swept : NetworkOfGraph → (g : Network) (lits : List Lit) (needed : List Bool) (first : ℕ) (ls : List Latch) (fates : List Fate) → IsFated g lits needed first ls fates → all_kept fates ≡ true → IsSwept (network_of g)
 is_swept law g lits needed first ls fates f h =
     let n : Netlist = network_of g in
     let many : length fates ≡ length n.frame.latches = f.count ∙ ap length f.latches ∙ sym (many_latches g) in
-    let node = λ (j : ℕ). node_is g first j (f.first_is ∙ ap (λ (x : List Latch). g.source_count + 1 - length x) f.latches) in
+    let node = λ (j : ℕ). node_is g first j (f.first_is ∙ ap (λ (x : List Latch). g.body.source_count + 1 - length x) f.latches) in
     record {
       reached = All-from_get_or (IsReachedLatch n) n.frame.latches no_named_latch (λ j lt.
           let inside : j < length fates = omega (arith, lt, many) in

@@ -16,11 +16,11 @@ use Rattle.syn_netlist.specs.Order.{Ordered}
 use Rattle.syn_netlist.specs.Words.{distinct, has_word}
 use Rattle.syn_netlist.proofs.Places.{below_parts, words_at-control}
 use Rattle.syn_netlist.proofs.Sets.{has_head, has_left, has_right, has_tail}
-use Rattle.syn_shapes.specs.GraphShape.{GraphHasFunction, GraphShape, and_tables, lit_of, node_names, place, shown}
-use Rattle.syn_shapes.proofs.Gates.{place_back}
-use Rattle.syn_shapes.proofs.Spelled.{half, place_in_front}
-use Rattle.syn_graph.specs.declared.Graph.{Graph}
-use Rattle.syn_graph.specs.Graphs.{network_of}
+use Rattle.syn_network.specs.GraphShape.{GraphHasFunction, GraphShape, and_tables, lit_of, node_names, place, shown}
+use Rattle.syn_network.proofs.Gates.{place_back}
+use Rattle.syn_network.proofs.Spelled.{half, place_in_front}
+use Rattle.syn_network.specs.declared.networks.Network.{Network}
+use Rattle.syn_network.specs.Written.{network_of}
 use Rattle.syn_seq.specs.declared.keys.Key.{Key}
 use Rattle.syn_seq.specs.declared.keys.Trigger.{Trigger}
 use Rattle.syn_seq.specs.declared.keys.Trigger.TheVariants as triggers
@@ -76,7 +76,7 @@ each_key n names lits k (l ∷ ls) b h =
     (each_key n names lits k ls p.1 (λ w t. h w (has_right reads rest w t)))
 
 -- the key of a latch by number is its key in words
-pub keys_are : (g : Graph) (lits : List Lit) → AreLits (network_of g) g.frame.names lits → (j : ℕ) → j < length g.frame.latches → key_by lits (get_or g.frame.latches j no_latch) ≡ key_in (network_of g) (latch_at (network_of g) j)
+pub keys_are : (g : Network) (lits : List Lit) → AreLits (network_of g) g.frame.names lits → (j : ℕ) → j < length g.frame.latches → key_by lits (get_or g.frame.latches j no_latch) ≡ key_in (network_of g) (latch_at (network_of g) j)
 keys_are g lits k j lt =
     let n : Netlist = network_of g in
     let outs : List (List ℕ) = words_at g.frame.names g.frame.outputs in

@@ -13,12 +13,12 @@ use Rattle.syn_netlist.specs.Lists.{Netlist, latch_reads, observed, sources}
 use Rattle.syn_netlist.specs.Numbers.{word_at}
 use Rattle.syn_netlist.specs.Values.{Consistent}
 use Rattle.syn_netlist.specs.Words.{has_word}
-use Rattle.syn_shapes.specs.GraphShape.{lit_of, place}
-use Rattle.syn_shapes.specs.Spelling.{NetworkOfGraph}
-use Rattle.syn_shapes.proofs.Ends.{firsts_distinct}
-use Rattle.syn_shapes.proofs.Gates.{place_back}
-use Rattle.syn_graph.specs.declared.Graph.{Graph}
-use Rattle.syn_graph.specs.Graphs.{network_of}
+use Rattle.syn_network.specs.GraphShape.{lit_of, place}
+use Rattle.syn_network.specs.Spelling.{NetworkOfGraph}
+use Rattle.syn_network.proofs.Ends.{firsts_distinct}
+use Rattle.syn_network.proofs.Gates.{place_back}
+use Rattle.syn_network.specs.declared.networks.Network.{Network}
+use Rattle.syn_network.specs.Written.{network_of}
 use Rattle.syn_seq.specs.Code.{AreAlikeLits, AreLitsBy, AreTargets, is_kept, is_target, merged_from, merged_place, merged_places, moved, rows_left, up_to}
 use Rattle.syn_seq.specs.Rounds.{Dropped, Fate, HoldMerged, Kept, Merged, fate_at, latch_at}
 use Rattle.syn_seq.specs.Runs.{free_signals}
@@ -85,29 +85,29 @@ merged_low first fates targets k lt = elim (cases_lt k first) [
 ]
 
 -- the node of the first latch, and where nodes stand
-abbrev pub first_in : Graph → List Fate → ℕ
-first_in g fates = g.source_count + 1 - length fates
+abbrev pub first_in : Network → List Fate → ℕ
+first_in g fates = g.body.source_count + 1 - length fates
 
-abbrev pub stands_in : Graph → List Fate → List ℕ
+abbrev pub stands_in : Network → List Fate → List ℕ
 stands_in g fates = merged_places (first_in g fates) fates
 
-few_latches : (g : Graph) (fates : List Fate) → length fates ≡ length g.frame.latches → length fates ≤ g.source_count
-few_latches g fates count = omega (arith, count, many_sources (network_of g).frame, g.source_count_is, length-map g.frame.latches (latch_in g.frame.names))
+few_latches : (g : Network) (fates : List Fate) → length fates ≡ length g.frame.latches → length fates ≤ g.body.source_count
+few_latches g fates count = omega (arith, count, many_sources (network_of g).frame, g.named.sources_are, length-map g.frame.latches (latch_in g.frame.names))
 
-pub can_merge : (g : Graph) (fates : List Fate) → length fates ≡ length g.frame.latches → AreTargets fates → CanMove g.source_count g.source_count g.rows (stands_in g fates)
+pub can_merge : (g : Network) (fates : List Fate) → length fates ≡ length g.frame.latches → AreTargets fates → CanMove g.body.source_count g.body.source_count g.body.rows (stands_in g fates)
 can_merge g fates count targets =
     let few = few_latches g fates count in
-    let many : length (stands_in g fates) ≡ g.source_count + 1 = count_merged (first_in g fates) fates ∙ omega (arith, few) in
+    let many : length (stands_in g fates) ≡ g.body.source_count + 1 = count_merged (first_in g fates) fates ∙ omega (arith, few) in
     record {
-      hashed = subst (λ (k : ℕ). IsHashed k g.rows) (sym g.source_count_is) g.graph.hashed;
+      hashed = subst (λ (k : ℕ). IsHashed k g.body.rows) (sym g.named.sources_are) g.graph.hashed;
       many = many;
       few = omega (arith, many);
       low = λ k lt. omega (arith, merged_low (first_in g fates) fates targets k lt, lt, many);
     }
 
 -- each node has the value of the one that stands for it
-stands_move : NetworkOfGraph → (g : Graph) (fates : List Fate) → length fates ≡ length g.frame.latches → (v : List ℕ → Bool) → HoldMerged (network_of g) fates v
-    → AreTargets fates → (k : ℕ) → k < g.source_count + 1 → given_by (map v (sources (network_of g).frame)) (get_or (stands_in g fates) k 0) ≡ node_values g v k
+stands_move : NetworkOfGraph → (g : Network) (fates : List Fate) → length fates ≡ length g.frame.latches → (v : List ℕ → Bool) → HoldMerged (network_of g) fates v
+    → AreTargets fates → (k : ℕ) → k < g.body.source_count + 1 → given_by (map v (sources (network_of g).frame)) (get_or (stands_in g fates) k 0) ≡ node_values g v k
 stands_move law g fates count v held targets k lt = elim (cases_lt k first) [
   | inl free ↦ ap value (free_stays first fates k free) ∙ source_value law g v k lt
   | inr past ↦
@@ -121,14 +121,14 @@ stands_move law g fates count v held targets k lt = elim (cases_lt k first) [
     first : ℕ
     first = first_in g fates
 
-    few : length fates ≤ g.source_count
+    few : length fates ≤ g.body.source_count
     few = few_latches g fates count
 
     many : length n.frame.latches ≡ length fates
     many = length-map g.frame.latches (latch_in g.frame.names) ∙ sym count
 
     at : first ≡ length (free_signals n.frame) + 1
-    at = omega (arith, many_sources n.frame, g.source_count_is, many)
+    at = omega (arith, many_sources n.frame, g.named.sources_are, many)
 
     value : ℕ → Bool
     value = given_by (map v (sources n.frame))
@@ -144,23 +144,23 @@ stands_move law g fates count v held targets k lt = elim (cases_lt k first) [
     by_fate j jn e Dropped s = ap value (sym e)
 
 -- what is compacted
-abbrev pub rows_merged : Graph → List Fate → List Row
-rows_merged g fates = rows_left g.source_count g.rows (stands_in g fates)
+abbrev pub rows_merged : Network → List Fate → List Row
+rows_merged g fates = rows_left g.body.source_count g.body.rows (stands_in g fates)
 
-abbrev pub lits_merged : Graph → List Fate → List Lit
-lits_merged g fates = map (moved (stands_in g fates)) g.observed
+abbrev pub lits_merged : Network → List Fate → List Lit
+lits_merged g fates = map (moved (stands_in g fates)) g.body.observed
 
-pub fits_merged : (g : Graph) (fates : List Fate) → length fates ≡ length g.frame.latches → AreTargets fates → length (stands_in g fates) ≤ length g.rows
-fits_merged g fates count targets = omega (arith, (can_merge g fates count targets).many, g.source_count_is, g.graph.hashed.there)
+pub fits_merged : (g : Network) (fates : List Fate) → length fates ≡ length g.frame.latches → AreTargets fates → length (stands_in g fates) ≤ length g.body.rows
+fits_merged g fates count targets = omega (arith, (can_merge g fates count targets).many, g.named.sources_are, g.graph.hashed.there)
 
-pub compacts_merged : (g : Graph) (fates : List Fate) → length fates ≡ length g.frame.latches → AreTargets fates → CanCompact g.source_count (rows_merged g fates) (lits_merged g fates)
-compacts_merged g fates count targets = can_compact g.source_count g.source_count g.rows (stands_in g fates) (can_merge g fates count targets) (fits_merged g fates count targets) g.observed g.graph.within
+pub compacts_merged : (g : Network) (fates : List Fate) → length fates ≡ length g.frame.latches → AreTargets fates → CanCompact g.body.source_count (rows_merged g fates) (lits_merged g fates)
+compacts_merged g fates count targets = can_compact g.body.source_count g.body.source_count g.body.rows (stands_in g fates) (can_merge g fates count targets) (fits_merged g fates count targets) g.body.observed g.graph.within
 
 -- the literal of an observed signal, by a list of them
-abbrev pub lit_by : Graph → List Lit → List ℕ → Lit
+abbrev pub lit_by : Network → List Lit → List ℕ → Lit
 lit_by g lits w = lit_at lits (place w (observed (frame_in g.frame)))
 
-pub lits_by : (g : Graph) (lits : List Lit) → length lits ≡ length (observed (frame_in g.frame)) → lits ≡ map (lit_by g lits) (observed (frame_in g.frame))
+pub lits_by : (g : Network) (lits : List Lit) → length lits ≡ length (observed (frame_in g.frame)) → lits ≡ map (lit_by g lits) (observed (frame_in g.frame))
 lits_by g lits count = ext_get_or (record { 0 = 0 }) lits (map (lit_by g lits) ws) (count ∙ sym (length-map ws (lit_by g lits))) (λ i lt.
     let inside : i < length ws = omega (arith, lt, count) in
     sym (get_or-map (lit_by g lits) ws i [] (record { 0 = 0 }) inside ∙ ap (lit_at lits) (place_back ws (firsts_distinct ((frame_in g.frame).outputs ++ flat_map latch_reads (frame_in g.frame).latches)) i inside)))
@@ -169,7 +169,7 @@ lits_by g lits count = ext_get_or (record { 0 = 0 }) lits (map (lit_by g lits) w
     ws = observed (frame_in g.frame)
 
 -- observed signals have the values of the literals that compaction gives
-merged_value : NetworkOfGraph → (g : Graph) (fates : List Fate) → length fates ≡ length g.frame.latches → AreTargets fates → (rows : List Row) (lits : List Lit) → IsCompacted g.source_count (rows_merged g fates) (lits_merged g fates) rows lits
+merged_value : NetworkOfGraph → (g : Network) (fates : List Fate) → length fates ≡ length g.frame.latches → AreTargets fates → (rows : List Row) (lits : List Lit) → IsCompacted g.body.source_count (rows_merged g fates) (lits_merged g fates) rows lits
     → length lits ≡ length (observed (frame_in g.frame)) → (v : List ℕ → Bool) → Consistent (network_of g) v → HoldMerged (network_of g) fates v
     → (w : List ℕ) → has_word (observed (frame_in g.frame)) w ≡ true → v w ≡ lit_value (value_in (values_of (given_by (map v (sources (network_of g).frame))) rows)) (lit_by g lits w)
 merged_value law g fates count targets rows lits c many v cv held w t =
@@ -179,17 +179,17 @@ merged_value law g fates count targets rows lits c many v cv held w t =
     let x : ℕ → Bool = node_values g v in
     let places : List ℕ = stands_in g fates in
     let move = can_merge g fates count targets in
-    let moves = λ (k : ℕ) (lt : k < g.source_count + 1). stands_move law g fates count v held targets k lt in
-    let y : ℕ → Bool = values_left g.source_count given x in
+    let moves = λ (k : ℕ) (lt : k < g.body.source_count + 1). stands_move law g fates count v held targets k lt in
+    let y : ℕ → Bool = values_left g.body.source_count given x in
     let all : map v ws ≡ map (lit_value (value_in (values_of given rows))) (map (lit_by g lits) ws) =
     values_of_words v (lit_value x) (lit_of (network_of g)) ws (λ z tz. observed_by_nodes law g v cv z tz)
     ∙ ap (map (lit_value x)) (spells law g).same_lits
-    ∙ values_moved (lit_value x) (lit_value y) (moved places) g.observed (moved_value g.source_count g.source_count g.rows places move given x moves)
-    ∙ c.same_values bits y (fits_left g.source_count g.source_count g.rows places move given x refl moves (fits_nodes law g v)) (has_sources g.source_count given x)
+    ∙ values_moved (lit_value x) (lit_value y) (moved places) g.body.observed (moved_value g.body.source_count g.body.source_count g.body.rows places move given x moves)
+    ∙ c.same_values bits y (fits_left g.body.source_count g.body.source_count g.body.rows places move given x refl moves (fits_nodes law g v)) (has_sources g.body.source_count given x)
     ∙ ap (map (lit_value (value_in (values_of given rows)))) (lits_by g lits many) in
     each_of v (lit_value (value_in (values_of given rows))) (lit_by g lits) ws all w t
 
-pub merged_alike : NetworkOfGraph → (g : Graph) (fates : List Fate) → length fates ≡ length g.frame.latches → AreTargets fates → (rows : List Row) (lits : List Lit) → IsCompacted g.source_count (rows_merged g fates) (lits_merged g fates) rows lits
+pub merged_alike : NetworkOfGraph → (g : Network) (fates : List Fate) → length fates ≡ length g.frame.latches → AreTargets fates → (rows : List Row) (lits : List Lit) → IsCompacted g.body.source_count (rows_merged g fates) (lits_merged g fates) rows lits
     → length lits ≡ length (observed (frame_in g.frame)) → (found : List Lit) → AreLitsBy (lit_by g lits) (network_of g) g.frame.names found → AreAlikeLits (network_of g) fates g.frame.names found
 merged_alike law g fates count targets rows lits c many found are a b la lb ta tb e v cv held =
     let same : lit_by g lits (word_at g.frame.names a) ≡ lit_by g lits (word_at g.frame.names b) = sym (are a la ta) ∙ e ∙ are b lb tb in
@@ -206,20 +206,20 @@ all_low first fates few targets places e k d lt =
     let at : get_or places k d ≡ get_or (merged_places first fates) k 0 = ap (λ (ps : List ℕ). get_or ps k d) e ∙ get_or_default (merged_places first fates) k d 0 inside in
     omega (arith, at, merged_low first fates targets k inside, inside, count_merged first fates, few)
 
-pub rows_are_merged : (g : Graph) (fates : List Fate) (rows moved_rows : List Row) (places : List ℕ) → rows ≡ g.rows → places ≡ stands_in g fates → moved_rows ≡ rows_left g.source_count rows places → moved_rows ≡ rows_merged g fates
-rows_are_merged g fates rows moved_rows places r p e = e ∙ ap₂ (λ (rs : List Row) (ps : List ℕ). rows_left g.source_count rs ps) r p
+pub rows_are_merged : (g : Network) (fates : List Fate) (rows moved_rows : List Row) (places : List ℕ) → rows ≡ g.body.rows → places ≡ stands_in g fates → moved_rows ≡ rows_left g.body.source_count rows places → moved_rows ≡ rows_merged g fates
+rows_are_merged g fates rows moved_rows places r p e = e ∙ ap₂ (λ (rs : List Row) (ps : List ℕ). rows_left g.body.source_count rs ps) r p
 
-pub lits_are_merged : (g : Graph) (fates : List Fate) (lits moved_lits : List Lit) (places : List ℕ) → lits ≡ g.observed → places ≡ stands_in g fates → moved_lits ≡ map (moved places) lits → moved_lits ≡ lits_merged g fates
+pub lits_are_merged : (g : Network) (fates : List Fate) (lits moved_lits : List Lit) (places : List ℕ) → lits ≡ g.body.observed → places ≡ stands_in g fates → moved_lits ≡ map (moved places) lits → moved_lits ≡ lits_merged g fates
 lits_are_merged g fates lits moved_lits places l p e = e ∙ ap₂ (λ (ls : List Lit) (ps : List ℕ). map (moved ps) ls) l p
 
-pub merged_count : (g : Graph) (fates : List Fate) → length fates ≡ length g.frame.latches → AreTargets fates → length (rows_merged g fates) ≡ length g.rows
-merged_count g fates count targets = moved_count g.source_count (stands_in g fates) g.rows (can_merge g fates count targets).few (fits_merged g fates count targets)
+pub merged_count : (g : Network) (fates : List Fate) → length fates ≡ length g.frame.latches → AreTargets fates → length (rows_merged g fates) ≡ length g.body.rows
+merged_count g fates count targets = moved_count g.body.source_count (stands_in g fates) g.body.rows (can_merge g fates count targets).few (fits_merged g fates count targets)
 
-pub can_with_merged : (g : Graph) (fates : List Fate) → length fates ≡ length g.frame.latches → AreTargets fates → (rows : List Row) (lits : List Lit) → rows ≡ rows_merged g fates → lits ≡ lits_merged g fates → CanCompact g.source_count rows lits
+pub can_with_merged : (g : Network) (fates : List Fate) → length fates ≡ length g.frame.latches → AreTargets fates → (rows : List Row) (lits : List Lit) → rows ≡ rows_merged g fates → lits ≡ lits_merged g fates → CanCompact g.body.source_count rows lits
 can_with_merged g fates count targets rows lits r l =
-    subst (λ (ls : List Lit). CanCompact g.source_count rows ls) (sym l) (subst (λ (rs : List Row). CanCompact g.source_count rs (lits_merged g fates)) (sym r) (compacts_merged g fates count targets))
+    subst (λ (ls : List Lit). CanCompact g.body.source_count rows ls) (sym l) (subst (λ (rs : List Row). CanCompact g.body.source_count rs (lits_merged g fates)) (sym r) (compacts_merged g fates count targets))
 
-pub compacted_with : (g : Graph) (fates : List Fate) (rows : List Row) (lits : List Lit) (new_rows : List Row) (new_lits : List Lit) → rows ≡ rows_merged g fates → lits ≡ lits_merged g fates → IsCompacted g.source_count rows lits new_rows new_lits
-    → IsCompacted g.source_count (rows_merged g fates) (lits_merged g fates) new_rows new_lits
+pub compacted_with : (g : Network) (fates : List Fate) (rows : List Row) (lits : List Lit) (new_rows : List Row) (new_lits : List Lit) → rows ≡ rows_merged g fates → lits ≡ lits_merged g fates → IsCompacted g.body.source_count rows lits new_rows new_lits
+    → IsCompacted g.body.source_count (rows_merged g fates) (lits_merged g fates) new_rows new_lits
 compacted_with g fates rows lits new_rows new_lits r l c =
-    subst (λ (ls : List Lit). IsCompacted g.source_count (rows_merged g fates) ls new_rows new_lits) l (subst (λ (rs : List Row). IsCompacted g.source_count rs lits new_rows new_lits) r c)
+    subst (λ (ls : List Lit). IsCompacted g.body.source_count (rows_merged g fates) ls new_rows new_lits) l (subst (λ (rs : List Row). IsCompacted g.body.source_count rs lits new_rows new_lits) r c)

@@ -10,9 +10,9 @@ use Rattle.syn_netlist.specs.Numbers.{all_below, word_at, words_at}
 use Rattle.syn_netlist.specs.Words.{distinct, has_word}
 use Rattle.syn_netlist.proofs.Places.{below_at, below_parts, one_number}
 use Rattle.syn_netlist.proofs.Sets.{has_head, has_left, has_tail, same_word}
-use Rattle.syn_shapes.specs.GraphShape.{lit_of}
-use Rattle.syn_graph.specs.declared.Graph.{Graph}
-use Rattle.syn_graph.specs.Graphs.{network_of}
+use Rattle.syn_network.specs.GraphShape.{lit_of}
+use Rattle.syn_network.specs.declared.networks.Network.{Network}
+use Rattle.syn_network.specs.Written.{network_of}
 use Rattle.syn_seq.specs.Code.{AreLits, AreLitsBy, lit_in}
 use Rattle.syn_seq.specs.Sweeping.{output_lits}
 use Rattle.syn_seq.proofs.Alike.{among_firsts}
@@ -51,7 +51,7 @@ found_at names (n ∷ ns) w h = elim (or_cases (bytes_eq (word_at names n) w) (h
   | inr e ↦ let f = found_at names ns w e in record { place = suc f.place; inside = omega (arith, f.inside); is = f.is }
 ]
 
-pub lits_are : (lit : List ℕ → Lit) (g : Graph) (numbers : List ℕ) (found : List Lit) → words_at g.frame.names numbers ≡ observed (frame_in g.frame) → all_below (length g.frame.names) numbers ≡ true → distinct g.frame.names ≡ true
+pub lits_are : (lit : List ℕ → Lit) (g : Network) (numbers : List ℕ) (found : List Lit) → words_at g.frame.names numbers ≡ observed (frame_in g.frame) → all_below (length g.frame.names) numbers ≡ true → distinct g.frame.names ≡ true
     → ((k : ℕ) → k < length numbers → lit_in found (get_or numbers k 0) ≡ lit (word_at g.frame.names (get_or numbers k 0))) → AreLitsBy lit (network_of g) g.frame.names found
 lits_are lit g numbers found e b d h i lt t =
     let names : List (List ℕ) = g.frame.names in
@@ -67,7 +67,7 @@ each_lit n names lits k (i ∷ is) b h =
     ap₂ (λ (x : Lit) (xs : List Lit). x ∷ xs) (k i p.0 (h (word_at names i) (has_head (word_at names i) (words_at names is))))
     (each_lit n names lits k is p.1 (λ w t. h w (has_tail (word_at names i) w (words_at names is) t)))
 
-pub outputs_are : (g : Graph) (lits : List Lit) → AreLits (network_of g) g.frame.names lits → map (lit_in lits) g.frame.outputs ≡ output_lits (network_of g)
+pub outputs_are : (g : Network) (lits : List Lit) → AreLits (network_of g) g.frame.names lits → map (lit_in lits) g.frame.outputs ≡ output_lits (network_of g)
 outputs_are g lits k =
     let outs : List (List ℕ) = words_at g.frame.names g.frame.outputs in
     let reads : List (List ℕ) = flat_map latch_reads (frame_in g.frame).latches in

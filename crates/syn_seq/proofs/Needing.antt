@@ -15,10 +15,10 @@ use Rattle.syn_netlist.specs.Numbers.{all_below, kind_at, word_at, words_at}
 use Rattle.syn_netlist.specs.Words.{has_word}
 use Rattle.syn_netlist.proofs.Places.{below_parts, words_at-control}
 use Rattle.syn_netlist.proofs.Sets.{has_head, has_left, has_right, has_tail}
-use Rattle.syn_shapes.specs.GraphShape.{and_tables, lit_of, node_names, row_of, source_row}
-use Rattle.syn_shapes.specs.Spelling.{NetworkOfGraph}
-use Rattle.syn_graph.specs.declared.Graph.{Graph}
-use Rattle.syn_graph.specs.Graphs.{network_of}
+use Rattle.syn_network.specs.GraphShape.{and_tables, lit_of, node_names, row_of, source_row}
+use Rattle.syn_network.specs.Spelling.{NetworkOfGraph}
+use Rattle.syn_network.specs.declared.networks.Network.{Network}
+use Rattle.syn_network.specs.Written.{network_of}
 use Rattle.syn_seq.specs.Code.{AreLits, lit_in, needs_by, row_by}
 use Rattle.syn_seq.specs.Runs.{free_signals}
 use Rattle.syn_seq.specs.Sweeping.{latch_row, needing_rows, needs_of}
@@ -49,7 +49,7 @@ each_row n names lits k (l ∷ ls) b h =
     (subst (λ (ws : List (List ℕ)). has_word ws (word_at names i) ≡ true) (ap (words_at names) (sym e) ∙ words_at-control names l.kind) (has_head (word_at names i) [])))))))
     (each_row n names lits k ls p.1 (λ w t. h w (has_right reads rest w t)))
 
-pub latch_rows_are : (g : Graph) (lits : List Lit) → AreLits (network_of g) g.frame.names lits → map (row_by lits) g.frame.latches ≡ map (latch_row (network_of g)) (frame_in g.frame).latches
+pub latch_rows_are : (g : Network) (lits : List Lit) → AreLits (network_of g) g.frame.names lits → map (row_by lits) g.frame.latches ≡ map (latch_row (network_of g)) (frame_in g.frame).latches
 latch_rows_are g lits k =
     let outs : List (List ℕ) = words_at g.frame.names g.frame.outputs in
     let reads : List (List ℕ) = flat_map latch_reads (frame_in g.frame).latches in
@@ -61,8 +61,8 @@ parts_are front outs gates rows needs first end e f n =
     (ap (take first) (e ∙ append_assoc front outs gates) ∙ take_at front (outs ++ gates) first f)
     (ap (drop end) e ∙ drop_at (front ++ outs) gates end n)
 
-pub needing_are : NetworkOfGraph → (g : Graph) (lits : List Lit) → AreLits (network_of g) g.frame.names lits → (all needs : List Row) (ls : List Latch) → all ≡ g.rows → needs ≡ map (row_by lits) ls → ls ≡ g.frame.latches
-    → take (g.source_count + 1 - length ls) all ++ (needs ++ drop (g.source_count + 1) all) ≡ needing_rows (network_of g)
+pub needing_are : NetworkOfGraph → (g : Network) (lits : List Lit) → AreLits (network_of g) g.frame.names lits → (all needs : List Row) (ls : List Latch) → all ≡ g.body.rows → needs ≡ map (row_by lits) ls → ls ≡ g.frame.latches
+    → take (g.body.source_count + 1 - length ls) all ++ (needs ++ drop (g.body.source_count + 1) all) ≡ needing_rows (network_of g)
 needing_are law g lits k all needs ls ea en el =
     let n : Netlist = network_of g in
     let free : List (List ℕ) = free_signals n.frame in
@@ -72,10 +72,10 @@ needing_are law g lits k all needs ls ea en el =
     let gates : List Row = map (row_of (node_names n)) (and_tables n) in
     let split : Source ∷ map source_row (sources n.frame) ≡ front ++ back = ap (λ (ws : List (List ℕ)). Source ∷ map source_row ws) (sym (sources_are n.frame)) ∙ ap (λ (x : List Row). Source ∷ x) (map-append source_row free outs) in
     let rows : all ≡ (front ++ back) ++ gates = ea ∙ sym (spells law g).same_rows ∙ ap (λ (x : List Row). x ++ gates) split in
-    let long : length (free ++ outs) ≡ g.source_count = ap length (sources_are n.frame) ∙ sym g.source_count_is in
-    let many : length free + length outs ≡ g.source_count = sym (length-append free outs) ∙ long in
+    let long : length (free ++ outs) ≡ g.body.source_count = ap length (sources_are n.frame) ∙ sym g.named.sources_are in
+    let many : length free + length outs ≡ g.body.source_count = sym (length-append free outs) ∙ long in
     let latches : length outs ≡ length ls = length-map n.frame.latches latch_output ∙ length-map g.frame.latches (latch_in g.frame.names) ∙ ap length (sym el) in
-    let first : length front ≡ g.source_count + 1 - length ls = omega (arith, many, latches, length-map free source_row) in
-    let end : length (front ++ back) ≡ g.source_count + 1 = length-append front back ∙ omega (arith, many, length-map free source_row, length-map outs source_row) in
+    let first : length front ≡ g.body.source_count + 1 - length ls = omega (arith, many, latches, length-map free source_row) in
+    let end : length (front ++ back) ≡ g.body.source_count + 1 = length-append front back ∙ omega (arith, many, length-map free source_row, length-map outs source_row) in
     let rows_needed : needs ≡ map (latch_row n) n.frame.latches = en ∙ ap (map (row_by lits)) el ∙ latch_rows_are g lits k in
-    parts_are front back gates all needs (g.source_count + 1 - length ls) (g.source_count + 1) rows first end ∙ ap (λ (x : List Row). front ++ (x ++ gates)) rows_needed
+    parts_are front back gates all needs (g.body.source_count + 1 - length ls) (g.body.source_count + 1) rows first end ∙ ap (λ (x : List Row). front ++ (x ++ gates)) rows_needed

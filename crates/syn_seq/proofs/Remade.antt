@@ -22,13 +22,14 @@ use Rattle.syn_netlist.specs.Numbers.{all_below, word_at, words_at}
 use Rattle.syn_netlist.specs.Values.{Consistent}
 use Rattle.syn_netlist.specs.Words.{firsts, has_word, without}
 use Rattle.syn_netlist.proofs.Sets.{has_head, has_left, has_right, has_tail, has_word-append, same_word}
-use Rattle.syn_shapes.specs.GraphShape.{and_tables, lit_of, node_names, observed_of, place, rows_of, shown}
-use Rattle.syn_shapes.specs.Graphs.{source_lit}
-use Rattle.syn_shapes.specs.Spelling.{NetworkOfGraph}
-use Rattle.syn_shapes.proofs.Gates.{has_at, place_back}
-use Rattle.syn_shapes.proofs.Spelled.{in_rest, place_in_front, place_lt}
-use Rattle.syn_graph.specs.declared.Graph.{Graph}
-use Rattle.syn_graph.specs.Graphs.{HasOwnSources, network_of}
+use Rattle.syn_network.specs.GraphShape.{and_tables, lit_of, node_names, observed_of, place, rows_of, shown}
+use Rattle.syn_network.specs.NamedGraphs.{source_lit}
+use Rattle.syn_network.specs.Spelling.{NetworkOfGraph}
+use Rattle.syn_network.proofs.Gates.{has_at, place_back}
+use Rattle.syn_network.proofs.Spelled.{in_rest, place_in_front, place_lt}
+use Rattle.syn_network.specs.declared.networks.Network.{Network}
+use Rattle.syn_network.specs.Networks.{HasOwnSources}
+use Rattle.syn_network.specs.Written.{network_of}
 use Rattle.syn_seq.specs.Code.{AreLits, HasValues, SmallTargets, first_of, left_of, lit_in, lits_left, lits_of, moved, place_after, place_list, places_of, rows_left, rows_of_left, swept_of}
 use Rattle.syn_seq.specs.Rounds.{AreFates, Dropped, Fate, HasFate, IsFate, Kept, Merged, fate_at, kept_by, latch_at, no_latch, swept_frame}
 use Rattle.syn_seq.specs.Runs.{free_signals}
@@ -45,10 +46,10 @@ pub many_sources : (f : Frame) → length (sources f) ≡ length (free_signals f
 many_sources f =
     ap length (sym (sources_are f)) ∙ length-append (free_signals f) (map latch_output f.latches) ∙ ap (λ (k : ℕ). length (free_signals f) + k) (length-map f.latches latch_output)
 
-first_is : (g : Graph) (fates : List Fate) → AreFates (network_of g) fates → first_of g fates ≡ length (free_signals (network_of g).frame) + 1
-first_is g fates f = omega (arith, many_sources (network_of g).frame, g.source_count_is, f.count)
+first_is : (g : Network) (fates : List Fate) → AreFates (network_of g) fates → first_of g fates ≡ length (free_signals (network_of g).frame) + 1
+first_is g fates f = omega (arith, many_sources (network_of g).frame, g.named.sources_are, f.count)
 
-pub sources_left : (g : Graph) (fates : List Fate) → AreFates (network_of g) fates → length (sources (swept_of g fates)) ≡ left_of g fates
+pub sources_left : (g : Network) (fates : List Fate) → AreFates (network_of g) fates → length (sources (swept_of g fates)) ≡ left_of g fates
 sources_left g fates f =
     let many : length (sources (swept_of g fates)) ≡ length (free_signals (network_of g).frame) + length (kept_by fates (network_of g).frame.latches) = many_sources (swept_of g fates) in
     omega (arith, many, first_is g fates f)
@@ -64,14 +65,14 @@ target_kept n fates f j i e = elim (cases_lt j (length fates)) [
     none_past (x ∷ xs) zero i le e = omega (arith, le)
     none_past (x ∷ xs) (suc j) i le e = none_past xs j i (omega (arith, le)) e
 
-pub can_move : (g : Graph) (fates : List Fate) → AreFates (network_of g) fates → CanMove g.source_count (left_of g fates) g.rows (places_of g fates)
+pub can_move : (g : Network) (fates : List Fate) → AreFates (network_of g) fates → CanMove g.body.source_count (left_of g fates) g.body.rows (places_of g fates)
 can_move g fates f =
     let few = fates_few g fates f in
     let many = count_places (first_of g fates) fates in
     let most : length (kept_by fates (network_of g).frame.latches) ≤ length fates = kept_by_most fates (network_of g).frame.latches in
     let some : 0 < first_of g fates = omega (arith, few) in
     record {
-      hashed = subst (λ (k : ℕ). IsHashed k g.rows) (sym g.source_count_is) g.graph.hashed;
+      hashed = subst (λ (k : ℕ). IsHashed k g.body.rows) (sym g.named.sources_are) g.graph.hashed;
       many = omega (arith, many, few);
       few = omega (arith, many, most, some);
       low = place_low (first_of g fates) fates (network_of g).frame.latches some f.count (targets_small (network_of g) fates f) (target_kept (network_of g) fates f);
@@ -95,9 +96,9 @@ value_latch v f j k lt e =
     ∙ get_or-map v (map latch_output f.latches) j [] false inside ∙ ap v (get_or-map latch_output f.latches j no_latch [] lt)
 
 -- Each source's value before is that of the source to whose place it moves.
-sources_move : (g : Graph) (fates : List Fate) → AreFates (network_of g) fates → (v w : List ℕ → Bool) → map v (free_signals (network_of g).frame) ≡ map w (free_signals (network_of g).frame)
+sources_move : (g : Network) (fates : List Fate) → AreFates (network_of g) fates → (v w : List ℕ → Bool) → map v (free_signals (network_of g).frame) ≡ map w (free_signals (network_of g).frame)
     → ((j : ℕ) → j < length fates → HasFate (network_of g) fates v w j (fate_at fates j))
-    → (k : ℕ) → k < g.source_count + 1 → given_by (map w (sources (swept_of g fates))) (get_or (places_of g fates) k 0) ≡ given_by (map v (sources (network_of g).frame)) k
+    → (k : ℕ) → k < g.body.source_count + 1 → given_by (map w (sources (swept_of g fates))) (get_or (places_of g fates) k 0) ≡ given_by (map v (sources (network_of g).frame)) k
 sources_move g fates f v w same has k lt = elim (cases_lt k first) [
   | inl free ↦ ap after (place_free first fates k free) ∙ at_free k free
   | inr past ↦
@@ -112,7 +113,7 @@ sources_move g fates f v w same has k lt = elim (cases_lt k first) [
     first : ℕ
     first = first_of g fates
 
-    few : length fates ≤ g.source_count
+    few : length fates ≤ g.body.source_count
     few = fates_few g fates f
 
     small : SmallTargets fates
@@ -200,31 +201,31 @@ observed_before f fates w h =
       | inr read ↦ has_right f.outputs reads w (reads_before fates f.latches w read)
     ])
 
-pub lits_within : NetworkOfGraph → (g : Graph) (fates : List Fate) → All (λ l. node_of l < length g.rows) (lits_of g fates)
-lits_within law g fates = All-from_get_or (λ l. node_of l < length g.rows) (lits_of g fates) (record { 0 = 0 }) (λ i lt.
+pub lits_within : NetworkOfGraph → (g : Network) (fates : List Fate) → All (λ l. node_of l < length g.body.rows) (lits_of g fates)
+lits_within law g fates = All-from_get_or (λ l. node_of l < length g.body.rows) (lits_of g fates) (record { 0 = 0 }) (λ i lt.
     let ws : List (List ℕ) = observed (swept_of g fates) in
     let inside : i < length ws = omega (arith, lt, length-map ws (lit_of (network_of g))) in
     let at : get_or (lits_of g fates) i (record { 0 = 0 }) ≡ lit_of (network_of g) (word_at ws i) = get_or-map (lit_of (network_of g)) ws i [] (record { 0 = 0 }) inside in
-    subst (λ (l : Lit). node_of l < length g.rows) (sym at) (lit_within law g (word_at ws i) (observed_before (network_of g).frame fates (word_at ws i) (has_at ws i inside))))
+    subst (λ (l : Lit). node_of l < length g.body.rows) (sym at) (lit_within law g (word_at ws i) (observed_before (network_of g).frame fates (word_at ws i) (has_at ws i inside))))
 
 -- the values of observed signals by nodes
-pub node_values : Graph → (List ℕ → Bool) → ℕ → Bool
-node_values g v = value_in (values_of (given_by (map v (sources (network_of g).frame))) g.rows)
+pub node_values : Network → (List ℕ → Bool) → ℕ → Bool
+node_values g v = value_in (values_of (given_by (map v (sources (network_of g).frame))) g.body.rows)
 
-in_order_of : NetworkOfGraph → (g : Graph) → InOrder g.rows
+in_order_of : NetworkOfGraph → (g : Network) → InOrder g.body.rows
 in_order_of law g = let s = spells law g in subst InOrder s.same_rows (graphs_have_functions (network_of g) s.shape s.ordered).0
 
-one_of : NetworkOfGraph → (g : Graph) (v : List ℕ → Bool) → OneValuation g.rows (given_by (map v (sources (network_of g).frame)))
-one_of law g v = one_valuation_is g.rows (given_by (map v (sources (network_of g).frame))) (in_order_of law g) refl
+one_of : NetworkOfGraph → (g : Network) (v : List ℕ → Bool) → OneValuation g.body.rows (given_by (map v (sources (network_of g).frame)))
+one_of law g v = one_valuation_is g.body.rows (given_by (map v (sources (network_of g).frame))) (in_order_of law g) refl
 
-pub source_value : NetworkOfGraph → (g : Graph) (v : List ℕ → Bool) (k : ℕ) → k < g.source_count + 1 → given_by (map v (sources (network_of g).frame)) k ≡ node_values g v k
+pub source_value : NetworkOfGraph → (g : Network) (v : List ℕ → Bool) (k : ℕ) → k < g.body.source_count + 1 → given_by (map v (sources (network_of g).frame)) k ≡ node_values g v k
 unfolding node_values
 source_value law g v k lt =
-    let inside : k < length g.rows = omega (arith, lt, g.source_count_is, g.graph.hashed.there) in
-    let front : row_at g.rows k ≡ Source = g.graph.hashed.front k (omega (arith, lt, g.source_count_is)) in
+    let inside : k < length g.body.rows = omega (arith, lt, g.named.sources_are, g.graph.hashed.there) in
+    let front : row_at g.body.rows k ≡ Source = g.graph.hashed.front k (omega (arith, lt, g.named.sources_are)) in
     sym ((one_of law g v).1 k inside (ap is_open front))
 
-pub observed_by_nodes : NetworkOfGraph → (g : Graph) (v : List ℕ → Bool) → Consistent (network_of g) v → (x : List ℕ) → has_word (observed (network_of g).frame) x ≡ true → v x ≡ lit_value (node_values g v) (lit_of (network_of g) x)
+pub observed_by_nodes : NetworkOfGraph → (g : Network) (v : List ℕ → Bool) → Consistent (network_of g) v → (x : List ℕ) → has_word (observed (network_of g).frame) x ≡ true → v x ≡ lit_value (node_values g v) (lit_of (network_of g) x)
 unfolding node_values
 observed_by_nodes law g v c x t =
     let s = spells law g in
@@ -239,13 +240,13 @@ pub values_moved : (value moved_value : Lit → Bool) (move : Lit → Lit) (ls :
 values_moved value after move [] h = refl
 values_moved value after move (l ∷ ls) h = ap₂ (λ (b : Bool) (bs : List Bool). b ∷ bs) (sym (h l)) (values_moved value after move ls h)
 
-pub fits_nodes : NetworkOfGraph → (g : Graph) (v : List ℕ → Bool) → Fits g.rows (node_values g v)
+pub fits_nodes : NetworkOfGraph → (g : Network) (v : List ℕ → Bool) → Fits g.body.rows (node_values g v)
 unfolding node_values
 fits_nodes law g v = (one_of law g v).0
 
 -- What compaction made of the moved rows has the values of the observed signals.
-pub has_values : NetworkOfGraph → (g next : Graph) (fates : List Fate) → AreFates (network_of g) fates → (network_of next).frame ≡ swept_of g fates
-    → SameValues (left_of g fates) (rows_left (left_of g fates) g.rows (places_of g fates)) (map (moved (places_of g fates)) (lits_of g fates)) next.rows next.observed
+pub has_values : NetworkOfGraph → (g next : Network) (fates : List Fate) → AreFates (network_of g) fates → (network_of next).frame ≡ swept_of g fates
+    → SameValues (left_of g fates) (rows_left (left_of g fates) g.body.rows (places_of g fates)) (map (moved (places_of g fates)) (lits_of g fates)) next.body.rows next.body.observed
     → HasValues (network_of g) (network_of next) fates
 has_values law g next fates f frame same v w cv cw free has =
     let places : List ℕ = places_of g fates in
@@ -253,13 +254,13 @@ has_values law g next fates f frame same v w cv cw free has =
     let x : ℕ → Bool = node_values g v in
     let given : ℕ → Bool = given_by bits in
     let c = can_move g fates f in
-    let moves = λ (k : ℕ) (lt : k < g.source_count + 1). sources_move g fates f v w free has k lt ∙ source_value law g v k lt in
+    let moves = λ (k : ℕ) (lt : k < g.body.source_count + 1). sources_move g fates f v w free has k lt ∙ source_value law g v k lt in
     let s = spells law next in
     let ws : List (List ℕ) = observed (swept_of g fates) in
     ap (λ (fr : Frame). map v (observed fr)) frame
     ∙ values_of_words v (lit_value x) (lit_of (network_of g)) ws (λ y t. observed_by_nodes law g v cv y (observed_before (network_of g).frame fates y t))
-    ∙ values_moved (lit_value x) (lit_value (values_left (left_of g fates) given x)) (moved places) (lits_of g fates) (moved_value g.source_count (left_of g fates) g.rows places c given x moves)
-    ∙ same bits (values_left (left_of g fates) given x) (fits_left g.source_count (left_of g fates) g.rows places c given x refl moves (fits_nodes law g v)) (has_sources (left_of g fates) given x)
+    ∙ values_moved (lit_value x) (lit_value (values_left (left_of g fates) given x)) (moved places) (lits_of g fates) (moved_value g.body.source_count (left_of g fates) g.body.rows places c given x moves)
+    ∙ same bits (values_left (left_of g fates) given x) (fits_left g.body.source_count (left_of g fates) g.body.rows places c given x refl moves (fits_nodes law g v)) (has_sources (left_of g fates) given x)
     ∙ ap₂ (λ (rows : List Row) (lits : List Lit). rows_function rows lits bits) (sym s.same_rows) (sym s.same_lits)
     ∙ ap (λ (fr : Frame). rows_function (rows_of (network_of next)) (observed_of (network_of next)) (map w (sources fr))) (sym frame)
     ∙ sym ((graphs_have_functions (network_of next) s.shape s.ordered).1.value w cw)
@@ -274,7 +275,7 @@ word_placed (x ∷ xs) w h = elim (cases_Bool (bytes_eq x w)) [
 ]
 
 -- where the source at a place afterwards came from
-record CameFrom (g : Graph) (fates : List Fate) (q : ℕ) : Type 0 where
+record CameFrom (g : Network) (fates : List Fate) (q : ℕ) : Type 0 where
   number : ℕ
   inside : number < length (sources (network_of g).frame)
   word : word_at (sources (network_of g).frame) number ≡ word_at (sources (swept_of g fates)) q
@@ -288,7 +289,7 @@ word_latch f j k lt e =
     ap (word_at (sources f)) e ∙ ap (λ (ws : List (List ℕ)). word_at ws (length (free_signals f) + j)) (sym (sources_are f))
     ∙ get_or-append-add (free_signals f) (map latch_output f.latches) j [] ∙ get_or-map latch_output f.latches j no_latch [] lt
 
-came_from : (g : Graph) (fates : List Fate) → AreFates (network_of g) fates → (q : ℕ) → q < length (sources (swept_of g fates)) → CameFrom g fates q
+came_from : (g : Network) (fates : List Fate) → AreFates (network_of g) fates → (q : ℕ) → q < length (sources (swept_of g fates)) → CameFrom g fates q
 came_from g fates f q lt = elim (cases_lt q (length (free_signals n.frame))) [
   | inl free ↦ record {
     number = q;
@@ -348,7 +349,7 @@ source_before f fates w h =
       | inr later ↦ has_right (free_signals f) outs w (output_before fates f.latches w later)
     ])
 
-own_literal : (g : Graph) (fates : List Fate) → AreFates (network_of g) fates → (w : List ℕ) → has_word (sources (swept_of g fates)) w ≡ true
+own_literal : (g : Network) (fates : List Fate) → AreFates (network_of g) fates → (w : List ℕ) → has_word (sources (swept_of g fates)) w ≡ true
     → moved (places_of g fates) (lit_of (network_of g) w) ≡ source_lit (place w (sources (swept_of g fates)))
 own_literal g fates f w t =
     let n : Netlist = network_of g in
@@ -362,12 +363,12 @@ own_literal g fates f w t =
     let l : Lit = lit_of n w in
     let value : l.0 ≡ 2 * (c.number + 1) = ap (λ (x : Lit). x.0) (cond-true (has_word (sources n.frame) w) (shown (node_names n) w 49) _ before) ∙ omega (arith, at) in
     let node : node_of l ≡ c.number + 1 = omega (arith, value) in
-    let inside : node_of l < length places = omega (arith, node, c.inside, (can_move g fates f).many, g.source_count_is) in
+    let inside : node_of l < length places = omega (arith, node, c.inside, (can_move g fates f).many, g.named.sources_are) in
     let even : l.0 % 2 ≡ 0 = omega (arith, value) in
     let to : 2 * get_or places (node_of l) 0 + l.0 % 2 ≡ 2 * (q + 1) = omega (arith, even, ap (λ (i : ℕ). get_or places i 0) node ∙ c.place) in
     cond-true (nat_lt (node_of l) (length places)) (record { 0 = 2 * get_or places (node_of l) 0 + l.0 % 2 }) l (lt-ltb _ _ inside) ∙ ap (λ (x : ℕ). let y : Lit = record { 0 = x } in y) to
 
-pub own_sources : (g : Graph) (fates : List Fate) → AreFates (network_of g) fates → HasOwnSources (swept_of g fates) (map (moved (places_of g fates)) (lits_of g fates))
+pub own_sources : (g : Network) (fates : List Fate) → AreFates (network_of g) fates → HasOwnSources (swept_of g fates) (map (moved (places_of g fates)) (lits_of g fates))
 own_sources g fates f i lt t =
     let ws : List (List ℕ) = observed (swept_of g fates) in
     let places : List ℕ = places_of g fates in
@@ -378,7 +379,7 @@ own_sources g fates f i lt t =
     ∙ own_literal g fates f (word_at ws i) t
 
 -- the literals of numbers, moved
-pub lits_are_left : (g : Graph) (lits : List Lit) (fates : List Fate) (places numbers : List ℕ) (names : List (List ℕ)) → AreLits (network_of g) g.frame.names lits → places ≡ places_of g fates → names ≡ g.frame.names
+pub lits_are_left : (g : Network) (lits : List Lit) (fates : List Fate) (places numbers : List ℕ) (names : List (List ℕ)) → AreLits (network_of g) g.frame.names lits → places ≡ places_of g fates → names ≡ g.frame.names
     → words_at names numbers ≡ observed (swept_of g fates) → all_below (length names) numbers ≡ true → map (λ i. moved places (lit_in lits i)) numbers ≡ lits_left g fates
 lits_are_left g lits fates places numbers names k p e words below =
     let own : words_at g.frame.names numbers ≡ observed (swept_of g fates) = ap (λ (ns : List (List ℕ)). words_at ns numbers) (sym e) ∙ words in
@@ -387,52 +388,52 @@ lits_are_left g lits fates places numbers names k p e words below =
     ∙ ap (map (moved places)) (each_lit (network_of g) g.frame.names lits k numbers inside (λ w t. observed_before (network_of g).frame fates w (subst (λ (ws : List (List ℕ)). has_word ws w ≡ true) own t)) ∙ ap (map (lit_of (network_of g))) own)
     ∙ ap (λ (ps : List ℕ). map (moved ps) (lits_of g fates)) p
 
-pub fits_rows : (g : Graph) (fates : List Fate) → AreFates (network_of g) fates → length (places_of g fates) ≤ length g.rows
-fits_rows g fates f = omega (arith, (can_move g fates f).many, g.source_count_is, g.graph.hashed.there)
+pub fits_rows : (g : Network) (fates : List Fate) → AreFates (network_of g) fates → length (places_of g fates) ≤ length g.body.rows
+fits_rows g fates f = omega (arith, (can_move g fates f).many, g.named.sources_are, g.graph.hashed.there)
 
-pub can_remake : NetworkOfGraph → (g : Graph) (fates : List Fate) → AreFates (network_of g) fates → CanCompact (left_of g fates) (rows_of_left g fates) (lits_left g fates)
-can_remake law g fates f = can_compact g.source_count (left_of g fates) g.rows (places_of g fates) (can_move g fates f) (fits_rows g fates f) (lits_of g fates) (lits_within law g fates)
+pub can_remake : NetworkOfGraph → (g : Network) (fates : List Fate) → AreFates (network_of g) fates → CanCompact (left_of g fates) (rows_of_left g fates) (lits_left g fates)
+can_remake law g fates f = can_compact g.body.source_count (left_of g fates) g.body.rows (places_of g fates) (can_move g fates f) (fits_rows g fates f) (lits_of g fates) (lits_within law g fates)
 
-pub rows_count : (g : Graph) (fates : List Fate) → AreFates (network_of g) fates → length (rows_of_left g fates) ≡ length g.rows
-rows_count g fates f = moved_count (left_of g fates) (places_of g fates) g.rows (can_move g fates f).few (fits_rows g fates f)
+pub rows_count : (g : Network) (fates : List Fate) → AreFates (network_of g) fates → length (rows_of_left g fates) ≡ length g.body.rows
+rows_count g fates f = moved_count (left_of g fates) (places_of g fates) g.body.rows (can_move g fates f).few (fits_rows g fates f)
 
 -- no more ANDs than before
-pub fewer_ands : NetworkOfGraph → (g next : Graph) (fates : List Fate) → AreFates (network_of g) fates → (network_of next).frame ≡ swept_of g fates
-    → ((k : ℕ) → Ands (rows_of_left g fates) (lits_left g fates) k → length next.rows ≤ left_of g fates + 1 + k) → length (and_tables (network_of next)) ≤ length (and_tables (network_of g))
+pub fewer_ands : NetworkOfGraph → (g next : Network) (fates : List Fate) → AreFates (network_of g) fates → (network_of next).frame ≡ swept_of g fates
+    → ((k : ℕ) → Ands (rows_of_left g fates) (lits_left g fates) k → length next.body.rows ≤ left_of g fates + 1 + k) → length (and_tables (network_of next)) ≤ length (and_tables (network_of g))
 fewer_ands law g next fates f frame h =
-    let (k, ands, few) = ands_left g.source_count (left_of g fates) g.rows (places_of g fates) (can_move g fates f) (fits_rows g fates f) (lits_left g fates) in
-    let count = λ (x : Graph). (spells law x).ands ∙ length-drop (length (sources (network_of x).frame) + 1) x.rows in
+    let (k, ands, few) = ands_left g.body.source_count (left_of g fates) g.body.rows (places_of g fates) (can_move g fates f) (fits_rows g fates f) (lits_left g fates) in
+    let count = λ (x : Network). (spells law x).ands ∙ length-drop (length (sources (network_of x).frame) + 1) x.body.rows in
     let many : length (sources (network_of next).frame) ≡ left_of g fates = ap (λ (fr : Frame). length (sources fr)) frame ∙ sources_left g fates f in
-    omega (arith, h k ands, few, count g, count next, many, (can_move g fates f).many, g.source_count_is)
+    omega (arith, h k ands, few, count g, count next, many, (can_move g fates f).many, g.named.sources_are)
 
 -- the kept latches of a frame
-pub latches_left : (g : Graph) (fates : List Fate) (frame : frames.Frame) → frame_in frame ≡ swept_of g fates → length frame.latches ≡ length (kept_by fates (network_of g).frame.latches)
+pub latches_left : (g : Network) (fates : List Fate) (frame : frames.Frame) → frame_in frame ≡ swept_of g fates → length frame.latches ≡ length (kept_by fates (network_of g).frame.latches)
 latches_left g fates frame e = sym (length-map frame.latches (latch_in frame.names)) ∙ ap (λ (f : Frame). length f.latches) e
 
-pub kept_few : (g : Graph) (fates : List Fate) → AreFates (network_of g) fates → length (kept_by fates (network_of g).frame.latches) ≤ length fates
+pub kept_few : (g : Network) (fates : List Fate) → AreFates (network_of g) fates → length (kept_by fates (network_of g).frame.latches) ≤ length fates
 kept_few g fates f = kept_by_most fates (network_of g).frame.latches
 
 -- the same of what is equal to these
 
-pub can_with : NetworkOfGraph → (g : Graph) (fates : List Fate) → AreFates (network_of g) fates → (frame : Frame) (rows : List Row) (lits : List Lit) → frame ≡ swept_of g fates → rows ≡ rows_of_left g fates → lits ≡ lits_left g fates → CanCompact (length (sources frame)) rows lits
+pub can_with : NetworkOfGraph → (g : Network) (fates : List Fate) → AreFates (network_of g) fates → (frame : Frame) (rows : List Row) (lits : List Lit) → frame ≡ swept_of g fates → rows ≡ rows_of_left g fates → lits ≡ lits_left g fates → CanCompact (length (sources frame)) rows lits
 can_with law g fates f frame rows lits e r l =
     subst (λ (ls : List Lit). CanCompact (length (sources frame)) rows ls) (sym l)
     (subst (λ (rs : List Row). CanCompact (length (sources frame)) rs (lits_left g fates)) (sym r)
     (subst (λ (k : ℕ). CanCompact k (rows_of_left g fates) (lits_left g fates)) (sym (ap (λ (fr : Frame). length (sources fr)) e ∙ sources_left g fates f)) (can_remake law g fates f)))
 
-pub own_with : (g : Graph) (fates : List Fate) → AreFates (network_of g) fates → (frame : Frame) (lits : List Lit) → frame ≡ swept_of g fates → lits ≡ lits_left g fates → HasOwnSources frame lits
+pub own_with : (g : Network) (fates : List Fate) → AreFates (network_of g) fates → (frame : Frame) (lits : List Lit) → frame ≡ swept_of g fates → lits ≡ lits_left g fates → HasOwnSources frame lits
 own_with g fates f frame lits e l = subst (λ (ls : List Lit). HasOwnSources frame ls) (sym l) (subst (λ (fr : Frame). HasOwnSources fr (lits_left g fates)) (sym e) (own_sources g fates f))
 
-pub values_with : NetworkOfGraph → (g next : Graph) (fates : List Fate) → AreFates (network_of g) fates → (frame : Frame) (rows : List Row) (lits : List Lit) → frame ≡ swept_of g fates → rows ≡ rows_of_left g fates → lits ≡ lits_left g fates → frame_in next.frame ≡ frame
-    → SameValues (length (sources frame)) rows lits next.rows next.observed → HasValues (network_of g) (network_of next) fates
+pub values_with : NetworkOfGraph → (g next : Network) (fates : List Fate) → AreFates (network_of g) fates → (frame : Frame) (rows : List Row) (lits : List Lit) → frame ≡ swept_of g fates → rows ≡ rows_of_left g fates → lits ≡ lits_left g fates → frame_in next.frame ≡ frame
+    → SameValues (length (sources frame)) rows lits next.body.rows next.body.observed → HasValues (network_of g) (network_of next) fates
 values_with law g next fates f frame rows lits e r l n same =
     has_values law g next fates f (n ∙ e)
-    (subst (λ (k : ℕ). SameValues k (rows_of_left g fates) (lits_left g fates) next.rows next.observed) (ap (λ (fr : Frame). length (sources fr)) e ∙ sources_left g fates f)
-    (subst (λ (rs : List Row). SameValues (length (sources frame)) rs (lits_left g fates) next.rows next.observed) r
-    (subst (λ (ls : List Lit). SameValues (length (sources frame)) rows ls next.rows next.observed) l same)))
+    (subst (λ (k : ℕ). SameValues k (rows_of_left g fates) (lits_left g fates) next.body.rows next.body.observed) (ap (λ (fr : Frame). length (sources fr)) e ∙ sources_left g fates f)
+    (subst (λ (rs : List Row). SameValues (length (sources frame)) rs (lits_left g fates) next.body.rows next.body.observed) r
+    (subst (λ (ls : List Lit). SameValues (length (sources frame)) rows ls next.body.rows next.body.observed) l same)))
 
-pub fewer_with : NetworkOfGraph → (g next : Graph) (fates : List Fate) → AreFates (network_of g) fates → (frame : Frame) (rows : List Row) (lits : List Lit) → frame ≡ swept_of g fates → rows ≡ rows_of_left g fates → lits ≡ lits_left g fates → frame_in next.frame ≡ frame
-    → ((k : ℕ) → Ands rows lits k → length next.rows ≤ length (sources frame) + 1 + k) → length (and_tables (network_of next)) ≤ length (and_tables (network_of g))
+pub fewer_with : NetworkOfGraph → (g next : Network) (fates : List Fate) → AreFates (network_of g) fates → (frame : Frame) (rows : List Row) (lits : List Lit) → frame ≡ swept_of g fates → rows ≡ rows_of_left g fates → lits ≡ lits_left g fates → frame_in next.frame ≡ frame
+    → ((k : ℕ) → Ands rows lits k → length next.body.rows ≤ length (sources frame) + 1 + k) → length (and_tables (network_of next)) ≤ length (and_tables (network_of g))
 fewer_with law g next fates f frame rows lits e r l n h =
     fewer_ands law g next fates f (n ∙ e) (λ k ands.
     let most = h k (subst (λ (rs : List Row). Ands rs lits k) (sym r) (subst (λ (ls : List Lit). Ands (rows_of_left g fates) ls k) (sym l) ands)) in

@@ -11,8 +11,8 @@ use Rattle.syn_netlist.specs.Values.{Consistent}
 use Rattle.syn_netlist.specs.Words.{has_word}
 use Rattle.syn_netlist.proofs.Sets.{same_word, has_left, has_right, map_from_each, each_from_map}
 use Rattle.syn_netlist.proofs.Evaluation.{ordered_has_one}
-use Rattle.syn_shapes.specs.GraphShape.{GraphHasFunction, GraphShape, lit_of}
-use Rattle.syn_shapes.proofs.Spelled.{graph_has_function_is}
+use Rattle.syn_network.specs.GraphShape.{GraphHasFunction, GraphShape, lit_of}
+use Rattle.syn_network.proofs.Spelled.{graph_has_function_is}
 use Rattle.syn_seq.specs.Runs.{BeginAlike, Follows, GoesOn, IsRun, before_all, free_signals, values_in}
 use Rattle.syn_seq.specs.Rounds.{AreFates, Dropped, Fate, HasFate, HoldMerged, IsFate, Kept, Merged, fate_at, kept_by, latch_at, latch_node, swept_frame}
 use Rattle.syn_seq.specs.Sequential.{AreSomeOf}

@@ -4,11 +4,10 @@ use Rattle.std.proofs.lemmas.List.{get_or_past, length-append, length-drop, leng
 use Rattle.std.proofs.lemmas.Bool.{both_ways, cases_lt}
 use Rattle.syn_rows.specs.declared.Row.{Row}
 use Rattle.syn_rows.specs.declared.Row.TheVariants.{Free}
-use Rattle.syn_netlist.specs.declared.Latch.{Latch}
 use Rattle.syn_netlist.specs.Lists as lists
 use Rattle.syn_netlist.specs.Lists.{Netlist, latch_output, sources}
-use Rattle.syn_graph.specs.declared.Graph.{Graph}
-use Rattle.syn_graph.specs.Graphs.{network_of}
+use Rattle.syn_network.specs.declared.networks.Network.{Network}
+use Rattle.syn_network.specs.Written.{network_of}
 use Rattle.syn_seq.specs.Runs.{free_signals}
 use Rattle.syn_seq.proofs.Alike.{sources_are}
 use Rattle.syn_seq.specs.Code.{SmallTargets, moved_row}
@@ -25,16 +24,16 @@ targets_small n fates f j i e = elim (cases_lt j (length fates)) [
   | inr past ↦ absurd (both_ways false refl (ap is_merged (sym (get_or_past fates j Dropped past) ∙ e)))
 ]
 
-pub fates_few : (g : Graph) (fates : List Fate) → AreFates (network_of g) fates → length fates ≤ g.source_count
+pub fates_few : (g : Network) (fates : List Fate) → AreFates (network_of g) fates → length fates ≤ g.body.source_count
 fates_few g fates f =
     let n : Netlist = network_of g in
     let free : List (List ℕ) = free_signals n.frame in
     let outs : List (List ℕ) = map latch_output n.frame.latches in
     let many : length (sources n.frame) ≡ length free + length outs = ap length (sym (sources_are n.frame)) ∙ length-append free outs in
-    omega (arith, many, f.count, g.source_count_is, length-map n.frame.latches latch_output)
+    omega (arith, many, f.count, g.named.sources_are, length-map n.frame.latches latch_output)
 
-pub sources_few : (g : Graph) → g.source_count < 536870912
-sources_few g = omega (arith, g.few, g.graph.hashed.there, g.source_count_is)
+pub sources_few : (g : Network) → g.body.source_count < 536870912
+sources_few g = omega (arith, g.body.few, g.graph.hashed.there, g.named.sources_are)
 
 pub kept_by_most : (fates : List Fate) (ls : List lists.Latch) → length (kept_by fates ls) ≤ length fates
 kept_by_most [] ls = omega arith

@@ -11,9 +11,9 @@ use Rattle.syn_netlist.specs.Kept.{control_number}
 use Rattle.syn_netlist.specs.Numbers.{word_at}
 use Rattle.syn_netlist.specs.Values.{Consistent}
 use Rattle.syn_netlist.specs.Words.{has_word}
-use Rattle.syn_shapes.specs.GraphShape.{and_tables, lit_of}
-use Rattle.syn_graph.specs.declared.Graph.{Graph}
-use Rattle.syn_graph.specs.Graphs.{network_of}
+use Rattle.syn_network.specs.GraphShape.{and_tables, lit_of}
+use Rattle.syn_network.specs.declared.networks.Network.{Network}
+use Rattle.syn_network.specs.Written.{network_of}
 use Rattle.syn_seq.specs.Runs.{free_signals}
 use Rattle.syn_seq.specs.Sequential.{SameSequentially}
 use Rattle.syn_seq.specs.Sweeping.{IsSwept}
@@ -97,13 +97,13 @@ HasValues n m fates =
     → map v (observed m.frame) ≡ map w (observed m.frame)
 
 -- what one round or more make of a graph
-pub record IsPartOf (graph g : Graph) : Type 0 where
+pub record IsPartOf (graph g : Network) : Type 0 where
   pub same : SameSequentially (network_of graph) (network_of g)
   pub fewer : length (and_tables (network_of g)) ≤ length (and_tables (network_of graph))
   pub few : length g.frame.names ≤ length graph.frame.names
 
 -- what one round makes of a graph, where something is left to sweep
-pub record IsRound (graph g : Graph) : Type 0 where
+pub record IsRound (graph g : Network) : Type 0 where
   pub part : IsPartOf graph g
   pub less : length g.frame.latches < length graph.frame.latches
 
@@ -112,38 +112,38 @@ abbrev pub SmallTargets : List Fate → Type 0
 SmallTargets fates = (j i : ℕ) → fate_at fates j ≡ Merged i → i < j
 
 -- what a round answers: nothing where nothing is left to sweep, else a graph with fewer latches
-abbrev pub Answers : Graph → Option Graph → Type 0
+abbrev pub Answers : Network → Option Network → Type 0
 Answers graph None = IsSwept (network_of graph)
 Answers graph (Some g) = IsRound graph g
 
 -- the node of the first latch
-abbrev pub first_of : Graph → List Fate → ℕ
-first_of g fates = g.source_count + 1 - length fates
+abbrev pub first_of : Network → List Fate → ℕ
+first_of g fates = g.body.source_count + 1 - length fates
 
 -- the last node of a source that is left
-abbrev pub left_of : Graph → List Fate → ℕ
+abbrev pub left_of : Network → List Fate → ℕ
 left_of g fates = first_of g fates - 1 + length (kept_by fates (network_of g).frame.latches)
 
 -- where node 0 and the sources of a graph move to
-abbrev pub places_of : Graph → List Fate → List ℕ
+abbrev pub places_of : Network → List Fate → List ℕ
 places_of g fates = place_list (first_of g fates) fates
 
 -- the frame of a graph with the kept latches alone, in words
-abbrev pub swept_of : Graph → List Fate → Frame
+abbrev pub swept_of : Network → List Fate → Frame
 swept_of g fates = swept_frame (network_of g).frame fates
 
 -- the rows over the sources that are left: no row at the nodes of the others, and each gate at its node
 abbrev pub rows_left : ℕ → List Row → List ℕ → List Row
 rows_left left rows places = take (left + 1) rows ++ (replicate (length places - (left + 1)) Free ++ map (moved_row places) (drop (length places) rows))
 
-abbrev pub rows_of_left : Graph → List Fate → List Row
-rows_of_left g fates = rows_left (left_of g fates) g.rows (places_of g fates)
+abbrev pub rows_of_left : Network → List Fate → List Row
+rows_of_left g fates = rows_left (left_of g fates) g.body.rows (places_of g fates)
 
 -- the literals of the signals that are observed afterwards, before and after sources move
-abbrev pub lits_of : Graph → List Fate → List Lit
+abbrev pub lits_of : Network → List Fate → List Lit
 lits_of g fates = map (lit_of (network_of g)) (observed (swept_of g fates))
 
-abbrev pub lits_left : Graph → List Fate → List Lit
+abbrev pub lits_left : Network → List Fate → List Lit
 lits_left g fates = map (moved (places_of g fates)) (lits_of g fates)
 
 -- a latch that is merged is so into an earlier one that is kept

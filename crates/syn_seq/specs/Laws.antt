@@ -4,7 +4,7 @@ use Rattle.syn_netlist.specs.Lists.{Netlist, observed}
 use Rattle.syn_netlist.specs.Meaning.{SameMeaning}
 use Rattle.syn_netlist.specs.Order.{DefinedOnce, Ordered}
 use Rattle.syn_netlist.specs.Values.{Consistent, IsTotal}
-use Rattle.syn_shapes.specs.GraphShape.{GraphShape}
+use Rattle.syn_network.specs.GraphShape.{GraphShape}
 use Rattle.syn_seq.specs.Runs.{BeginAlike, Begins, IsRun, free_signals, values_in}
 use Rattle.syn_seq.specs.Sequential.{SameSequentially}
 use Rattle.syn_seq.specs.Rounds.{AreFates, Fate, HasFate, fate_at, swept_frame}

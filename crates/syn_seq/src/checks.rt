@@ -4,7 +4,7 @@ ghost use Rattle.std.specs.Prelude.{◌≡◌, ◌+◌, ◌-◌, ◌<◌, ◌^�
 ghost use Rattle.syn_netlist.specs.declared.Latch.{Latch};
 ghost use Rattle.syn_netlist.specs.Kept.{latches_below};
 ghost use Rattle.syn_seq.specs.declared.Fate.{Fate};
-ghost use Rattle.syn_graph.specs.Graphs.{network_of};
+ghost use Rattle.syn_network.specs.Written.{network_of};
 ghost use Rattle.syn_rows.specs.Reach.{IsReachedSet};
 ghost use Rattle.syn_rows.specs.Values.{value_in};
 ghost use Rattle.syn_seq.specs.Code.{AreAlikeLits, AreTargets, is_target, merged_place, merged_places};
@@ -17,9 +17,9 @@ use crate::kept_graph::{moved_all, moved_rows};
 use crate::keys::key_of;
 use crate::signals::literals_of;
 use std::alloc::{AllocError, Global};
-use syn_graph::Graph;
 use syn_hashed::compact_rows;
 use syn_netlist::Latch;
+use syn_network::Network;
 use syn_rows::Lit;
 
 // Whether a latch, where it is merged, is so into an earlier one that is kept.
@@ -77,23 +77,28 @@ fn merged_places(alloc: Global, first: u32, fates: &[Fate]) -> Result<Vec<u32>, 
 }
 
 // Literals of observed signals by numbers of names, equal ones of signals with one value wherever merged latches have one.
-fn merged_literals(alloc: Global, graph: &Graph, fates: &[Fate]) -> Result<Vec<Lit>, AllocError>
+fn merged_literals(alloc: Global, graph: &Network, fates: &[Fate]) -> Result<Vec<Lit>, AllocError>
     requires count { length fates.now ≡ length graph.now.frame.latches }
     requires targets { AreTargets fates.now }
     ensures count { IfOk result (λ v. length v.items ≡ length graph.now.frame.names) }
     ensures alike { IfOk result (λ v. AreAlikeLits (network_of graph.now) fates.now graph.now.frame.names v.items) }
 {
-    syn_shapes::network_of_graph();
-    let first = graph.source_count + 1 - fates.len() as u32;
+    syn_network::network_of_graph();
+    let first = graph.body.source_count + 1 - fates.len() as u32;
     let places = merged_places(alloc, first, fates)?;
     let rows = moved_rows(
         alloc,
-        graph.rows.as_slice(),
+        graph.body.rows.as_slice(),
         places.as_slice(),
-        graph.source_count,
+        graph.body.source_count,
     )?;
-    let lits = moved_all(alloc, places.as_slice(), graph.observed.as_slice())?;
-    let compacted = compact_rows(alloc, graph.source_count, rows.as_slice(), lits.as_slice())?;
+    let lits = moved_all(alloc, places.as_slice(), graph.body.observed.as_slice())?;
+    let compacted = compact_rows(
+        alloc,
+        graph.body.source_count,
+        rows.as_slice(),
+        lits.as_slice(),
+    )?;
     let found = literals_of(alloc, graph, compacted.observed.as_slice())?;
     Ok(found)
 }
@@ -110,17 +115,17 @@ fn loads_alike(lits: &[Lit], latches: &[Latch], number: usize, earlier: usize) -
 }
 
 // Whether a fate is right: a merged latch loads like the one that it is merged into, and begins with the same value.
-fn is_right(lits: &[Lit], graph: &Graph, fates: &[Fate], needed: &[bool], number: usize) -> bool
+fn is_right(lits: &[Lit], graph: &Network, fates: &[Fate], needed: &[bool], number: usize) -> bool
     requires count { length lits.now ≡ length graph.now.frame.names }
     requires number { number < length graph.now.frame.latches }
     requires fates { length fates.now ≡ length graph.now.frame.latches }
-    requires needed { length needed.now ≡ length graph.now.rows }
+    requires needed { length needed.now ≡ length graph.now.body.rows }
     requires targets { AreTargets fates.now }
-    ensures { result ≡ true → (d : Latch) → IsFateBy (λ j. value_in needed.now (graph.now.source_count + 1 - length graph.now.frame.latches + j)) (λ j. key_by lits.now (slice_index_or graph.now.frame.latches j d)) fates.now number (fate_at fates.now number) }
+    ensures { result ≡ true → (d : Latch) → IsFateBy (λ j. value_in needed.now (graph.now.body.source_count + 1 - length graph.now.frame.latches + j)) (λ j. key_by lits.now (slice_index_or graph.now.frame.latches j d)) fates.now number (fate_at fates.now number) }
 {
-    syn_shapes::network_of_graph();
+    syn_network::network_of_graph();
     let latches = graph.frame.latches.as_slice();
-    let first = graph.source_count as usize + 1 - latches.len();
+    let first = graph.body.source_count as usize + 1 - latches.len();
     match fates[number] {
         Fate::Kept => needed[first + number],
         Fate::Dropped => !needed[first + number],
@@ -131,16 +136,16 @@ fn is_right(lits: &[Lit], graph: &Graph, fates: &[Fate], needed: &[bool], number
 /// Whether fates are right, by marks of what is needed.
 pub(crate) fn are_right(
     alloc: Global,
-    graph: &Graph,
+    graph: &Network,
     fates: &[Fate],
     needed: &[bool],
 ) -> Result<bool, AllocError>
     requires count { length fates.now ≡ length graph.now.frame.latches }
-    requires length { length needed.now ≡ length graph.now.rows }
+    requires length { length needed.now ≡ length graph.now.body.rows }
     requires needed { IsReachedSet (needing_rows (network_of graph.now)) (output_lits (network_of graph.now)) (value_in needed.now) }
     ensures { IfOk result (λ b. b ≡ true → AreFates (network_of graph.now) fates.now) }
 {
-    syn_shapes::network_of_graph();
+    syn_network::network_of_graph();
     if !are_targets(fates) {
         return Ok(false);
     }

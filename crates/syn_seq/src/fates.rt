@@ -2,7 +2,7 @@
 
 ghost use Rattle.std.specs.Prelude.{◌≡◌, IfOk, length, true};
 ghost use Rattle.std.specs.HashMap.{get};
-ghost use Rattle.syn_graph.specs.Graphs.{network_of};
+ghost use Rattle.syn_network.specs.Written.{network_of};
 ghost use Rattle.syn_rows.specs.Reach.{IsReachedSet};
 ghost use Rattle.syn_rows.specs.Values.{value_in};
 ghost use Rattle.syn_seq.specs.Code.{AreLits, all_kept};
@@ -15,7 +15,7 @@ use crate::Fate;
 use crate::keys::{Key, key_of};
 use std::alloc::{AllocError, Global};
 use std::collections::HashMap;
-use syn_graph::Graph;
+use syn_network::Network;
 use syn_rows::Lit;
 
 // What becomes of a latch with a key: it is dropped where it isn't needed, merged into the one that was seen with the key, or
@@ -46,20 +46,20 @@ fn found(
 /// What becomes of each latch: it is dropped where it isn't needed, and merged into the first that loads alike.
 pub(crate) fn fates(
     alloc: Global,
-    graph: &Graph,
+    graph: &Network,
     lits: &[Lit],
     needed: &[bool],
 ) -> Result<Vec<Fate>, AllocError>
     requires count { length lits.now ≡ length graph.now.frame.names }
     requires lits { AreLits (network_of graph.now) graph.now.frame.names lits.now }
-    requires length { length needed.now ≡ length graph.now.rows }
+    requires length { length needed.now ≡ length graph.now.body.rows }
     requires needed { IsReachedSet (needing_rows (network_of graph.now)) (output_lits (network_of graph.now)) (value_in needed.now) }
     ensures fates { IfOk result (λ v. AreFates (network_of graph.now) v.items) }
     ensures swept { IfOk result (λ v. all_kept v.items ≡ true → IsSwept (network_of graph.now)) }
 {
-    syn_shapes::network_of_graph();
+    syn_network::network_of_graph();
     let latches = graph.frame.latches.as_slice();
-    let first = graph.source_count as usize + 1 - latches.len();
+    let first = graph.body.source_count as usize + 1 - latches.len();
     let mut seen = HashMap::new(alloc);
     let mut fates = Vec::new(alloc);
     for j in 0..latches.len() {

@@ -2,7 +2,7 @@
 
 ghost use Rattle.std.specs.Prelude.{◌≡◌, ◌<◌, ◌^◌, IfOk, length, true};
 ghost use Rattle.syn_netlist.specs.Kept.{latches_below};
-ghost use Rattle.syn_graph.specs.Graphs.{network_of};
+ghost use Rattle.syn_network.specs.Written.{network_of};
 ghost use Rattle.syn_seq.specs.Code.{AreLits};
 
 use crate::Fate;
@@ -11,9 +11,9 @@ use crate::needs::{needing_rows, output_lits};
 use crate::orders::visited;
 use std::alloc::{AllocError, Global};
 use std::collections::HashMap;
-use syn_graph::Graph;
 use syn_hashed::HashedRows;
 use syn_netlist::Latch;
+use syn_network::Network;
 use syn_rows::{FALSE, Lit, NODE_LIMIT, Row};
 
 // The literal of each node among rows in which latches that load alike are one, and the literals that stand for keys.
@@ -26,16 +26,16 @@ struct Images {
 
 impl Images {
     // No latches are one, and no ANDs are there yet.
-    fn new(alloc: Global, graph: &Graph) -> Result<Images, AllocError> {
+    fn new(alloc: Global, graph: &Network) -> Result<Images, AllocError> {
         let mut lits = Vec::new(alloc);
-        for node in 0..graph.source_count + 1 {
+        for node in 0..graph.body.source_count + 1 {
             lits.push(Lit::of(node, false))?;
         }
-        for _ in lits.len()..graph.rows.as_slice().len() {
+        for _ in lits.len()..graph.body.rows.as_slice().len() {
             lits.push(FALSE)?;
         }
         Ok(Images {
-            hashed: HashedRows::new(alloc, graph.source_count as usize)?,
+            hashed: HashedRows::new(alloc, graph.body.source_count as usize)?,
             lits,
             seen: HashMap::new(alloc),
         })
@@ -109,13 +109,13 @@ fn keys_of(alloc: Global, lits: &[Lit], latches: &[Latch]) -> Result<Vec<Key>, A
 }
 
 // The images of all nodes that the outputs need, each node behind what it reads.
-fn images_of(alloc: Global, graph: &Graph, lits: &[Lit]) -> Result<Vec<Lit>, AllocError>
+fn images_of(alloc: Global, graph: &Network, lits: &[Lit]) -> Result<Vec<Lit>, AllocError>
     requires count { length lits.now ≡ length graph.now.frame.names }
     requires lits { AreLits (network_of graph.now) graph.now.frame.names lits.now }
 {
     let latches = graph.frame.latches.as_slice();
-    let rows = graph.rows.as_slice();
-    let first = graph.source_count + 1 - latches.len() as u32;
+    let rows = graph.body.rows.as_slice();
+    let first = graph.body.source_count + 1 - latches.len() as u32;
     let keys = keys_of(alloc, lits, latches)?;
     let needing = needing_rows(alloc, graph, lits)?;
     let outputs = output_lits(alloc, graph, lits)?;
@@ -123,7 +123,7 @@ fn images_of(alloc: Global, graph: &Graph, lits: &[Lit]) -> Result<Vec<Lit>, All
     let mut images = Images::new(alloc, graph)?;
     for node in order.as_slice() {
         let node = *node;
-        if node <= graph.source_count {
+        if node <= graph.body.source_count {
             if node >= first {
                 images.add_latch(node, keys[(node - first) as usize])?;
             }
@@ -140,18 +140,18 @@ fn images_of(alloc: Global, graph: &Graph, lits: &[Lit]) -> Result<Vec<Lit>, All
 /// The latches that outputs don't need are dropped, and of those with one image the first is kept.
 pub(crate) fn guessed(
     alloc: Global,
-    graph: &Graph,
+    graph: &Network,
     lits: &[Lit],
     needed: &[bool],
 ) -> Result<Vec<Fate>, AllocError>
     requires count { length lits.now ≡ length graph.now.frame.names }
     requires lits { AreLits (network_of graph.now) graph.now.frame.names lits.now }
-    requires length { length needed.now ≡ length graph.now.rows }
+    requires length { length needed.now ≡ length graph.now.body.rows }
     ensures { IfOk result (λ v. length v.items ≡ length graph.now.frame.latches) }
 {
     let images = images_of(alloc, graph, lits)?;
     let count = graph.frame.latches.as_slice().len();
-    let first = graph.source_count as usize + 1 - count;
+    let first = graph.body.source_count as usize + 1 - count;
     let mut leaders = vec![in alloc; None; images.len()]?;
     let mut fates = Vec::new(alloc);
     for j in 0..count {

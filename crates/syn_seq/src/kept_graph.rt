@@ -4,8 +4,8 @@ ghost use Rattle.std.specs.Prelude.{◌≡◌, ◌≤◌, ◌<◌, ◌+◌, ◌-
 ghost use Rattle.syn_netlist.specs.Frames.{frame_in};
 ghost use Rattle.syn_netlist.specs.Numbers.{all_below};
 ghost use Rattle.syn_rows.specs.declared.Row.{Row};
-ghost use Rattle.syn_graph.specs.Graphs.{network_of};
-ghost use Rattle.syn_shapes.specs.GraphShape.{and_tables};
+ghost use Rattle.syn_network.specs.Written.{network_of};
+ghost use Rattle.syn_network.specs.GraphShape.{and_tables};
 ghost use Rattle.syn_seq.specs.Code.{AreLits, HasValues, SmallTargets, lit_in, lits_left, moved, moved_row, next_after, place_after, place_list, rows_of_left, swept_of};
 ghost use Rattle.syn_seq.specs.declared.Fate.{Fate};
 ghost use Rattle.syn_seq.specs.Rounds.{AreFates};
@@ -13,11 +13,10 @@ ghost use Rattle.syn_seq.specs.Rounds.{AreFates};
 use crate::Fate;
 use crate::kept::swept_frame;
 use std::alloc::{AllocError, Global};
-use syn_graph::Graph;
 use syn_hashed::Rows;
 use syn_netlist::Frame;
+use syn_network::{Network, compact};
 use syn_rows::{Lit, Row};
-use syn_strash::compact;
 
 // Where a latch moves to.
 fn place_after(places: &[u32], first: u32, next: u32, fate: Fate) -> u32
@@ -159,7 +158,7 @@ fn moved_gates(alloc: Global, places: &[u32], gates: &[Row]) -> Result<Vec<Row>,
 // The rows over the sources that are left, and the literals of the signals that the frame observes.
 fn moved_graph(
     alloc: Global,
-    graph: &Graph,
+    graph: &Network,
     lits: &[Lit],
     fates: &[Fate],
     frame: &Frame,
@@ -172,22 +171,51 @@ fn moved_graph(
     ensures rows { IfOk result (λ r. r.rows.items ≡ rows_of_left graph.now fates.now) }
     ensures observed { IfOk result (λ r. r.observed.items ≡ lits_left graph.now fates.now) }
 {
-    let first = graph.source_count + 1 - fates.len() as u32;
+    let first = graph.body.source_count + 1 - fates.len() as u32;
     let places = places(alloc, first, fates)?;
     let left = first - 1 + frame.latches.as_slice().len() as u32;
-    let rows = moved_rows(alloc, graph.rows.as_slice(), places.as_slice(), left)?;
+    let rows = moved_rows(alloc, graph.body.rows.as_slice(), places.as_slice(), left)?;
     let numbers = frame.observed(alloc)?;
     let observed = moved_lits(alloc, places.as_slice(), lits, numbers.as_slice())?;
     Ok(Rows { rows, observed })
 }
 
-/// The graph with the kept latches alone.
-pub(crate) fn remade(
+// The network over a frame with the kept latches alone.
+fn over_frame(
     alloc: Global,
-    graph: &Graph,
+    graph: &Network,
     lits: &[Lit],
     fates: &[Fate],
-) -> Result<Graph, AllocError>
+    frame: &Frame,
+) -> Result<Network, AllocError>
+    requires count { length lits.now ≡ length graph.now.frame.names }
+    requires lits { AreLits (network_of graph.now) graph.now.frame.names lits.now }
+    requires fates { AreFates (network_of graph.now) fates.now }
+    requires frame { frame_in frame.now ≡ swept_of graph.now fates.now }
+    requires names { frame.now.names ≡ graph.now.frame.names }
+    ensures frame { IfOk result (λ g. frame_in g.frame ≡ swept_of graph.now fates.now) }
+    ensures names { IfOk result (λ g. g.frame.names ≡ graph.now.frame.names) }
+    ensures values { IfOk result (λ g. HasValues (network_of graph.now) (network_of g) fates.now) }
+    ensures fewer { IfOk result (λ g. length (and_tables (network_of g)) ≤ length (and_tables (network_of graph.now))) }
+{
+    syn_network::network_of_graph();
+    let moved = moved_graph(alloc, graph, lits, fates, frame)?;
+    let next = compact(
+        alloc,
+        frame,
+        moved.rows.as_slice(),
+        moved.observed.as_slice(),
+    )?;
+    Ok(next)
+}
+
+/// The network with the kept latches alone.
+pub(crate) fn remade(
+    alloc: Global,
+    graph: &Network,
+    lits: &[Lit],
+    fates: &[Fate],
+) -> Result<Network, AllocError>
     requires count { length lits.now ≡ length graph.now.frame.names }
     requires lits { AreLits (network_of graph.now) graph.now.frame.names lits.now }
     requires fates { AreFates (network_of graph.now) fates.now }
@@ -196,14 +224,8 @@ pub(crate) fn remade(
     ensures values { IfOk result (λ g. HasValues (network_of graph.now) (network_of g) fates.now) }
     ensures fewer { IfOk result (λ g. length (and_tables (network_of g)) ≤ length (and_tables (network_of graph.now))) }
 {
-    syn_shapes::network_of_graph();
     let frame = swept_frame(alloc, &graph.frame, fates)?;
-    let moved = moved_graph(alloc, graph, lits, fates, &frame)?;
-    let next = compact(
-        alloc,
-        &frame,
-        moved.rows.as_slice(),
-        moved.observed.as_slice(),
-    )?;
-    Ok(next)
+    let next = over_frame(alloc, graph, lits, fates, &frame);
+    drop(frame);
+    next
 }

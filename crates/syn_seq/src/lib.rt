@@ -1,9 +1,10 @@
 //! Netlists with latches over sequences of inputs, and the sweep of latches.
 //!
-//! A run of a netlist is a list of valuations, one a step. The sweep takes a graph and gives one with fewer latches that has the
-//! same outputs over every sequence of inputs. It works in rounds: the latches that outputs need are marked, latches that load
-//! alike are looked up by their keys, each latch gets its fate, and the graph is made anew over the latches that are kept.
-//! Before a graph is made anew, the fates of all rounds together are guessed and checked: so few rounds are left to do.
+//! A run of a netlist is a list of valuations, one a step. The sweep takes a network and gives one with fewer latches that
+//! has the same outputs over every sequence of inputs. It works in rounds: the latches that outputs need are marked, latches
+//! that load alike are looked up by their keys, each latch gets its fate, and the graph is made anew over the latches that
+//! are kept. Before a graph is made anew, the fates of all rounds together are guessed and checked: so few rounds are left to
+//! do.
 #![tactic(auto)]
 
 ghost use Rattle.std.specs.Prelude.{◌≡◌};

@@ -3,15 +3,15 @@
 ghost use Rattle.std.specs.Prelude.{◌≡◌, ◌<◌, ◌++◌, IfOk, length, map, true};
 ghost use Rattle.syn_netlist.specs.Kept.{control_number, latches_below};
 ghost use Rattle.syn_netlist.specs.Numbers.{all_below};
-ghost use Rattle.syn_graph.specs.Graphs.{network_of};
+ghost use Rattle.syn_network.specs.Written.{network_of};
 ghost use Rattle.syn_rows.specs.Reach.{IsReachedSet};
 ghost use Rattle.syn_rows.specs.Values.{value_in};
 ghost use Rattle.syn_seq.specs.Code.{AreLits, lit_in, row_by};
 ghost use Rattle.syn_seq.specs.Sweeping.{latch_row, needing_rows, output_lits};
 
 use std::alloc::{AllocError, Global};
-use syn_graph::Graph;
 use syn_netlist::Latch;
+use syn_network::Network;
 use syn_rows::{Lit, Row};
 
 // The row that stands for a latch where it is asked what it needs.
@@ -58,19 +58,19 @@ fn joined(
 /// The rows of the graph, each latch's with what it needs in place of its source.
 pub(crate) fn needing_rows(
     alloc: Global,
-    graph: &Graph,
+    graph: &Network,
     lits: &[Lit],
 ) -> Result<Vec<Row>, AllocError>
     requires count { length lits.now ≡ length graph.now.frame.names }
     requires lits { AreLits (network_of graph.now) graph.now.frame.names lits.now }
     ensures { IfOk result (λ v. v.items ≡ needing_rows (network_of graph.now)) }
 {
-    syn_shapes::network_of_graph();
+    syn_network::network_of_graph();
     let latches = graph.frame.latches.as_slice();
     let needs = latch_rows(alloc, lits, latches)?;
-    let end = graph.source_count as usize + 1;
+    let end = graph.body.source_count as usize + 1;
     let first = end - latches.len();
-    let all = graph.rows.as_slice();
+    let all = graph.body.rows.as_slice();
     let rows = joined(alloc, &all[..first], &needs, &all[end..])?;
     Ok(rows)
 }
@@ -90,7 +90,7 @@ fn lits_at(alloc: Global, lits: &[Lit], numbers: &[u32]) -> Result<Vec<Lit>, All
 /// The literals of the outputs.
 pub(crate) fn output_lits(
     alloc: Global,
-    graph: &Graph,
+    graph: &Network,
     lits: &[Lit],
 ) -> Result<Vec<Lit>, AllocError>
     requires count { length lits.now ≡ length graph.now.frame.names }
@@ -102,13 +102,13 @@ pub(crate) fn output_lits(
 }
 
 /// The nodes that the outputs need, from latch to latch.
-pub(crate) fn needed(alloc: Global, graph: &Graph, lits: &[Lit]) -> Result<Vec<bool>, AllocError>
+pub(crate) fn needed(alloc: Global, graph: &Network, lits: &[Lit]) -> Result<Vec<bool>, AllocError>
     requires count { length lits.now ≡ length graph.now.frame.names }
     requires lits { AreLits (network_of graph.now) graph.now.frame.names lits.now }
-    ensures length { IfOk result (λ v. length v.items ≡ length graph.now.rows) }
+    ensures length { IfOk result (λ v. length v.items ≡ length graph.now.body.rows) }
     ensures reached { IfOk result (λ v. IsReachedSet (needing_rows (network_of graph.now)) (output_lits (network_of graph.now)) (value_in v.items)) }
 {
-    syn_shapes::network_of_graph();
+    syn_network::network_of_graph();
     let rows = needing_rows(alloc, graph, lits)?;
     let outputs = output_lits(alloc, graph, lits)?;
     let marks = syn_rows::reached(alloc, rows.as_slice(), outputs.as_slice())?;

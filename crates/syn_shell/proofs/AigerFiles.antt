@@ -1,4 +1,4 @@
--- Refusals of files as those of reads and writes; an AIGER file of a network's graph as one of the network; how large the graph of a file is.
+-- An AIGER file of a network's graph as one of the network; how large the graph of a file is.
 use Rattle.std.proofs.Common.{◌≡◌, ◌⊎◌, ℕ, suc, ◌≤◌, ◌<◌, ◌^◌, Bool, true, List, [], ◌∷◌, ◌++◌, length, map, flat_map, refl, sym, ap, ap₂, ◌∙◌, subst, arith, IfOk, Result, Ok, Err, Vec, Global}
 use Rattle.std.proofs.lemmas.List.{length-append, length-map}
 use Rattle.syn_netlist.specs.Lists.{Frame, Latch, Netlist, control_of, latch_output, latch_reads, observed, sources}
@@ -20,14 +20,9 @@ use Rattle.syn_aiger.specs.Networks.{IsGraphOfAig, frame_of, latches_from}
 use Rattle.syn_aiger.specs.Values.{source_literals, source_variables}
 use Rattle.syn_aiger.specs.Writing.{IsWrittenAs, feed_of, first_typed, free_signals, init_again}
 use Rattle.syn_shell.specs.declared.refusal.Refusal.{Refusal}
-use Rattle.syn_shell.specs.Networks.{IsSmall, Network, gates_in, graph_network, mapped_network}
-use Rattle.syn_shell.specs.Steps.{IsAigerOf, IsRemade}
-
--- bytes that are not there are not read, in either format
-
--- a network that isn't made a graph has no AIGER file, and one whose graph has none has none
-
--- refused before anything is put, or at the put
+use Rattle.syn_shell.specs.Networks.{IsSmall, Written, gates_in, graph_network, mapped_network}
+use Rattle.syn_shell.specs.Makes.{IsRemade}
+use Rattle.syn_shell.specs.Steps.{IsAigerOf}
 
 -- what latches load has the same values where observed signals have
 
@@ -41,6 +36,7 @@ feeds_same w w' (l ∷ ls) h =
 -- a file that keeps what a netlist means keeps what another one of the same meaning does
 written_alike : (old graph : Netlist) (g : Aig) → SameMeaning old graph → IsWrittenAs graph g → IsWrittenAs old g
 written_alike old graph g same h = record {
+  untyped = ap first_typed e ∙ h.untyped;
   inputs = h.inputs ∙ sym (ap free_signals e);
   outputs = h.outputs ∙ sym (ap (λ (f : Frame). f.outputs) e);
   latches = h.latches ∙ sym (ap (λ (f : Frame). map latch_output f.latches) e);
@@ -76,9 +72,9 @@ aiger_of_luts ascii old graph bytes made few are = record {
   keeps = written_alike old graph _ made.same are.keeps;
 }
 
-pub aiger_of_network : (ascii : Bool) (network : Network) (old graph : Netlist) (r : Result (Vec ℕ Global) Refusal) → network ≡ mapped_network old → IsRemade (mapped_network old) (graph_network graph) → gates_in (mapped_network old) ≤ most_gates
+pub aiger_of_network : (ascii : Bool) (network : Written) (old graph : Netlist) (r : Result (Vec ℕ Global) Refusal) → network ≡ mapped_network old → IsRemade (mapped_network old) (graph_network graph) → gates_in (mapped_network old) ≤ most_gates
     → IfOk r (λ (bytes : Vec ℕ Global). IsAigerOf ascii (graph_network graph) bytes.items) → IfOk r (λ (bytes : Vec ℕ Global). IsAigerOf ascii network bytes.items)
-aiger_of_network ascii network old graph (Ok bytes) is made few are = subst (λ (n : Network). IsAigerOf ascii n bytes.items) (sym is) (aiger_of_luts ascii old graph bytes.items made few are)
+aiger_of_network ascii network old graph (Ok bytes) is made few are = subst (λ (n : Written). IsAigerOf ascii n bytes.items) (sym is) (aiger_of_luts ascii old graph bytes.items made few are)
 aiger_of_network ascii network old graph (Err cause) is made few are = tt
 
 -- the graph of a file has as many sources as the file

@@ -14,15 +14,16 @@ use Rattle.syn_aiger.specs.Faults as aiger
 use Rattle.syn_aiger.specs.Laws as aiger_laws
 use Rattle.syn_aiger.specs.Writing.{first_typed}
 use Rattle.syn_words.specs.declared.Command.{Command}
+use Rattle.syn_words.specs.declared.Command.TheVariants as commands
 use Rattle.syn_words.specs.Scripts.{IsScript}
 use Rattle.syn_words.proofs.Deciding.{script_has_no_fault}
 use Rattle.syn_shell.specs.declared.refusal.Refusal.{Refusal}
 use Rattle.syn_shell.specs.declared.refusal.Refusal.TheVariants.{Script, Read, ReadAiger, FileTooLong, LineTooLong, TooManyGates, LatchType, NoNetwork, GetFailed, PutFailed, LineFailed, SinkFailed, NoMemory}
 use Rattle.syn_build.specs.BuildFaults.{most_gates}
-use Rattle.syn_shell.specs.Networks.{Network, gates_in}
+use Rattle.syn_shell.specs.Networks.{Written, gates_in}
 use Rattle.syn_shell.specs.Outside.{State, script_limit}
 use Rattle.syn_shell.specs.Lines.{refusal_status}
-use Rattle.syn_shell.specs.Steps.{Denied, Kind, Reading, ReadingAiger, Generating, Printing, Writing, WritingAiger, Making, kind_of, file_limit, AigerReadRefused, AigerRefused, AigerWriteRefused, GeneratingRefused, GetRefused, MakingRefused, PrintRefused, ReadRefused, WriteRefused}
+use Rattle.syn_shell.specs.Steps.{Denied, file_limit, AigerReadRefused, AigerRefused, AigerWriteRefused, GeneratingRefused, GetRefused, MakingRefused, PrintRefused, ReadRefused, WriteRefused}
 use Rattle.syn_shell.specs.Scripts.{Refused, RunsCommands, RunsScript, ScriptRefused, nameless}
 use Rattle.syn_shell.specs.LineMode.{LineRefused, NoFurther, RunsLines, listed, most_lines}
 use Rattle.syn_shell.specs.Usage.{Usage, OneScript, EachLine, Faulty, usage_of}
@@ -84,11 +85,11 @@ no_fault_here : NotBoth → (bytes : List ℕ) (fault : Option Fault) → ReadsW
 no_fault_here not_both bytes None needs first = first
 no_fault_here not_both bytes (Some fault) (short, net, reads, within) first = not_both bytes net fault reads within first
 
-there_is_one : (m : Option Network) → IsSome m → m ≡ None → ⊥
+there_is_one : (m : Option Written) → IsSome m → m ≡ None → ⊥
 there_is_one None some none = cc
 there_is_one (Some net) some none = cc
 
--- a refused command whose needs are met, by its kind
+-- a refused command whose needs are met
 
 get_fine : (needed : List ℕ → Type 0) → ((b : List ℕ) → needed b → length b ≤ file_limit) → (name : List ℕ) (before after : Disk) (cause : Refusal)
     → IsSomeAnd before.told (λ list. IsSomeAnd (file_at name list) needed) → GetRefused name before after cause → IsFine (refusal_status cause)
@@ -107,27 +108,27 @@ aiger_read_fine not_both name before after (ReadAiger fault) needs why =
     absurd (not_both.aiger why.bytes g fault spells within why.first)
 aiger_read_fine not_both name before after other needs why = get_fine SpellsWithin (λ b h. h.0) name before after other needs why
 
-print_fine : (m : Option Network) (before after : Screen) (cause : Refusal) → IsSome m → PrintRefused m before after cause → IsFine (refusal_status cause)
+print_fine : (m : Option Written) (before after : Screen) (cause : Refusal) → IsSome m → PrintRefused m before after cause → IsFine (refusal_status cause)
 print_fine m before after NoNetwork needs why = absurd (there_is_one m needs why.0)
 print_fine m before after SinkFailed needs why = failed
 print_fine m before after NoMemory needs why = no_memory
 print_fine m before after other needs why = absurd why
 
-write_fine : (m : Option Network) (name : List ℕ) (before after : Disk) (cause : Refusal) → IsSome m → WriteRefused m name before after cause → IsFine (refusal_status cause)
+write_fine : (m : Option Written) (name : List ℕ) (before after : Disk) (cause : Refusal) → IsSome m → WriteRefused m name before after cause → IsFine (refusal_status cause)
 write_fine m name before after NoNetwork needs why = absurd (there_is_one m needs why.0)
 write_fine m name before after PutFailed needs why = failed
 write_fine m name before after NoMemory needs why = no_memory
 write_fine m name before after other needs why = absurd why
 
 -- not too many gates make the network a graph, and no latch has a type
-abbrev HasAiger : Option Network → Type 0
+abbrev HasAiger : Option Written → Type 0
 HasAiger m = IsSomeAnd m (λ net. (gates_in net ≤ most_gates) × (first_typed net.netlist.frame ≡ None))
 
-there_is_an_aiger : (m : Option Network) → HasAiger m → IsSome m
+there_is_an_aiger : (m : Option Written) → HasAiger m → IsSome m
 there_is_an_aiger None needs = absurd needs
 there_is_an_aiger (Some net) needs = refl
 
-has_aiger : (m : Option Network) (cause : Refusal) → HasAiger m → IsSomeAnd m (λ net. AigerRefused net cause) → IsFine (refusal_status cause)
+has_aiger : (m : Option Written) (cause : Refusal) → HasAiger m → IsSomeAnd m (λ net. AigerRefused net cause) → IsFine (refusal_status cause)
 has_aiger None cause needs why = absurd needs
 has_aiger (Some net) cause needs why = by cause why
   where
@@ -140,24 +141,24 @@ has_aiger (Some net) cause needs why = by cause why
     by NoMemory why = no_memory
     by other why = absurd why
 
-aiger_write_fine : (m : Option Network) (name : List ℕ) (before after : Disk) (cause : Refusal) → HasAiger m → AigerWriteRefused m name before after cause → IsFine (refusal_status cause)
+aiger_write_fine : (m : Option Written) (name : List ℕ) (before after : Disk) (cause : Refusal) → HasAiger m → AigerWriteRefused m name before after cause → IsFine (refusal_status cause)
 aiger_write_fine m name before after (TooManyGates gates) needs why = has_aiger m (TooManyGates gates) needs why.0
 aiger_write_fine m name before after (LatchType latch) needs why = has_aiger m (LatchType latch) needs why.0
 aiger_write_fine m name before after other needs why = write_fine m name before after other (there_is_an_aiger m needs) why
 
 -- not too many gates make the network a graph
-abbrev IsGraphable : Option Network → Type 0
+abbrev IsGraphable : Option Written → Type 0
 IsGraphable m = IsSomeAnd m (λ net. gates_in net ≤ most_gates)
 
-there_is_a_graph : (m : Option Network) → IsGraphable m → m ≡ None → ⊥
+there_is_a_graph : (m : Option Written) → IsGraphable m → m ≡ None → ⊥
 there_is_a_graph None needs none = needs
 there_is_a_graph (Some net) needs none = cc
 
-not_too_many : (m : Option Network) (gates : ℕ) → IsGraphable m → MakingRefused m (TooManyGates gates) → ⊥
+not_too_many : (m : Option Written) (gates : ℕ) → IsGraphable m → MakingRefused m (TooManyGates gates) → ⊥
 not_too_many None gates needs many = needs
 not_too_many (Some net) gates needs many = absurd (omega (arith, needs, many.0, many.1))
 
-making_fine : (m : Option Network) (cause : Refusal) → IsGraphable m → MakingRefused m cause → IsFine (refusal_status cause)
+making_fine : (m : Option Written) (cause : Refusal) → IsGraphable m → MakingRefused m cause → IsFine (refusal_status cause)
 making_fine m NoNetwork needs why = absurd (there_is_a_graph m needs why)
 making_fine m (TooManyGates gates) needs why = absurd (not_too_many m gates needs why)
 making_fine m NoMemory needs why = no_memory
@@ -167,14 +168,14 @@ generating_fine : (cause : Refusal) → GeneratingRefused cause → IsFine (refu
 generating_fine NoMemory why = no_memory
 generating_fine other why = absurd why
 
-denied_fine : NothingIsBoth → (kind : Kind) (before after : State) (cause : Refusal) → Needs kind before → Denied kind before cause after → IsFine (refusal_status cause)
-denied_fine not_both (Reading name) before after cause needs (stays, why, stand, same) = read_fine not_both name before.files after.files cause needs why
-denied_fine not_both (ReadingAiger name) before after cause needs (stays, why, stand, same) = aiger_read_fine not_both name before.files after.files cause needs why
-denied_fine not_both (Generating seed size) before after cause needs (stays, why, stand, same) = generating_fine cause why
-denied_fine not_both Printing before after cause needs (stays, why, same) = print_fine before.network before.sink after.sink cause needs why
-denied_fine not_both (Writing name) before after cause needs (stays, why, same) = write_fine before.network name before.files after.files cause needs why
-denied_fine not_both (WritingAiger ascii name) before after cause needs (stays, why, same) = aiger_write_fine before.network name before.files after.files cause needs why
-denied_fine not_both Making before after cause needs (stays, why, stand, same) = making_fine before.network cause needs why
+denied_fine : NothingIsBoth → (c : Command) (before after : State) (cause : Refusal) → Needs c before → Denied c before cause after → IsFine (refusal_status cause)
+denied_fine not_both (commands.Read name) before after cause needs (stays, why, stand, same) = read_fine not_both name before.files after.files cause needs why
+denied_fine not_both (commands.ReadAiger name) before after cause needs (stays, why, stand, same) = aiger_read_fine not_both name before.files after.files cause needs why
+denied_fine not_both (commands.Generate seed size) before after cause needs (stays, why, stand, same) = generating_fine cause why
+denied_fine not_both commands.Stats before after cause needs (stays, why, same) = print_fine before.network before.sink after.sink cause needs why
+denied_fine not_both (commands.Write name) before after cause needs (stays, why, same) = write_fine before.network name before.files after.files cause needs why
+denied_fine not_both (commands.WriteAiger ascii name) before after cause needs (stays, why, same) = aiger_write_fine before.network name before.files after.files cause needs why
+denied_fine not_both (commands.Make recipe) before after cause needs (stays, why, stand, same) = making_fine before.network cause needs why
 
 abbrev OutcomeFine : Option Refused → Type 0
 OutcomeFine outcome = IsFine (status_of (listed outcome))
@@ -185,7 +186,7 @@ outcome_as outcome other is fine = subst OutcomeFine (sym is) fine
 commands_fine : NothingIsBoth → (cs : List Command) (before after : State) (outcome : Option Refused) (runs : RunsCommands cs before outcome after) → CommandsReady cs before outcome after runs → OutcomeFine outcome
 commands_fine not_both [] before after outcome (none, same) ready = outcome_as outcome None none (inl refl)
 commands_fine not_both (c ∷ cs) before after outcome (inl (between, step, more)) (needs, ready) = commands_fine not_both cs between after outcome more ready
-commands_fine not_both (c ∷ cs) before after outcome (inr (cause, is, step)) needs = outcome_as outcome _ is (denied_fine not_both (kind_of c) before after cause needs step)
+commands_fine not_both (c ∷ cs) before after outcome (inr (cause, is, step)) needs = outcome_as outcome _ is (denied_fine not_both c before after cause needs step)
 
 unrun_fine : (text : List ℕ) (cause : Refusal) → (length text ≤ script_limit) × (commands : List Command) × IsScript text commands → ScriptRefused text cause → IsFine (refusal_status cause)
 unrun_fine text LineTooLong (short, commands, script) why = absurd (omega (arith, short, why))

@@ -1,12 +1,13 @@
 -- Refusals of the files, of the lines and of the sink, and their counts of faults.
 use Rattle.std.proofs.Common.{◌≡◌, ◌⊎◌, ℕ, ◌+◌, ◌-◌, ◌^◌, ◌<◌, ◌≤◌, Bool, List, [], ◌∷◌, ◌++◌, refl, sym, ap, subst, arith, inl, inr, Option, None, Some}
 use Rattle.syn_io.specs.Outside.{Rose, Disk, Screen, Input}
-use Rattle.syn_shell.specs.Networks.{Network}
+use Rattle.syn_shell.specs.Networks.{Written}
 use Rattle.syn_words.specs.declared.Command.{Command}
+use Rattle.syn_words.specs.declared.Command.TheVariants as commands
 use Rattle.syn_shell.specs.declared.refusal.Refusal.{Refusal}
 use Rattle.syn_shell.specs.declared.refusal.Refusal.TheVariants.{Words, Script, Read, ReadAiger, FileTooLong, LineTooLong, TooManyGates, LatchType, NoNetwork, GetFailed, PutFailed, LineFailed, SinkFailed, NoMemory}
 use Rattle.syn_shell.specs.Outside.{State}
-use Rattle.syn_shell.specs.Steps.{Accepted, Denied, Kind, Reading, ReadingAiger, Generating, Printing, Writing, WritingAiger, Making, kind_of, GetRefused, ReadRefused, AigerReadRefused, GeneratingRefused, MakingRefused, PrintRefused, WriteRefused, AigerWriteRefused}
+use Rattle.syn_shell.specs.Steps.{Accepted, Denied, GetRefused, ReadRefused, AigerReadRefused, GeneratingRefused, MakingRefused, PrintRefused, WriteRefused, AigerWriteRefused}
 use Rattle.syn_shell.specs.Scripts.{Refused, RunsCommands, RunsScript, ScriptRefused, SinkGaveUp, Announced, nameless}
 use Rattle.syn_shell.specs.LineMode.{EndsBySink, GoesOn, LineRefused, NoFurther, RunsLines, listed}
 use Rattle.syn_shell.specs.Usage.{Usage, OneScript, EachLine, Faulty, usage_of}
@@ -62,24 +63,24 @@ aiger_read_counted : (file name : List ℕ) (cause : Refusal) (d d' : Disk) (s s
 aiger_read_counted file name (ReadAiger fault) d d' s s' why le e = record { files = covers_none d.faults d'.faults le; sink = sink_same s s' e; lines = refl }
 aiger_read_counted file name other d d' s s' why le e = get_counted file name other d d' s s' why le e
 
-print_counted : (m : Option Network) (name : List ℕ) (cause : Refusal) (d d' : Disk) (s s' : Screen) → PrintRefused m s s' cause → d' ≡ d → Counted (record { cause = cause; name = name } ∷ []) d s d' s'
+print_counted : (m : Option Written) (name : List ℕ) (cause : Refusal) (d d' : Disk) (s s' : Screen) → PrintRefused m s s' cause → d' ≡ d → Counted (record { cause = cause; name = name } ∷ []) d s d' s'
 print_counted m name NoNetwork d d' s s' (none, same) e = record { files = disk_same d d' e; sink = sink_same s s' same; lines = refl }
 print_counted m name SinkFailed d d' s s' (net, line, is, text, part) e = record { files = disk_same d d' e; sink = covers_one s.faults s'.faults part.later part.failed; lines = refl }
 print_counted m name NoMemory d d' s s' same e = record { files = disk_same d d' e; sink = sink_same s s' same; lines = refl }
 print_counted m name other d d' s s' why e = absurd why
 
-write_counted : (m : Option Network) (file name : List ℕ) (cause : Refusal) (d d' : Disk) (s s' : Screen) → WriteRefused m file d d' cause → s' ≡ s → Counted (record { cause = cause; name = name } ∷ []) d s d' s'
+write_counted : (m : Option Written) (file name : List ℕ) (cause : Refusal) (d d' : Disk) (s s' : Screen) → WriteRefused m file d d' cause → s' ≡ s → Counted (record { cause = cause; name = name } ∷ []) d s d' s'
 write_counted m file name NoNetwork d d' s s' (none, same) e = record { files = disk_same d d' same; sink = sink_same s s' e; lines = refl }
 write_counted m file name PutFailed d d' s s' (some, rose, others) e = record { files = covers_one d.faults d'.faults others.later rose; sink = sink_same s s' e; lines = refl }
 write_counted m file name NoMemory d d' s s' others e = record { files = covers_none d.faults d'.faults others.later; sink = sink_same s s' e; lines = refl }
 write_counted m file name other d d' s s' why e = absurd why
 
-aiger_write_counted : (m : Option Network) (file name : List ℕ) (cause : Refusal) (d d' : Disk) (s s' : Screen) → AigerWriteRefused m file d d' cause → s' ≡ s → Counted (record { cause = cause; name = name } ∷ []) d s d' s'
+aiger_write_counted : (m : Option Written) (file name : List ℕ) (cause : Refusal) (d d' : Disk) (s s' : Screen) → AigerWriteRefused m file d d' cause → s' ≡ s → Counted (record { cause = cause; name = name } ∷ []) d s d' s'
 aiger_write_counted m file name (TooManyGates gates) d d' s s' why e = record { files = disk_same d d' why.1; sink = sink_same s s' e; lines = refl }
 aiger_write_counted m file name (LatchType latch) d d' s s' why e = record { files = disk_same d d' why.1; sink = sink_same s s' e; lines = refl }
 aiger_write_counted m file name other d d' s s' why e = write_counted m file name other d d' s s' why e
 
-making_counted : (m : Option Network) (name : List ℕ) (cause : Refusal) (d d' : Disk) (s s' : Screen) → MakingRefused m cause → d' ≡ d → s' ≡ s → Counted (record { cause = cause; name = name } ∷ []) d s d' s'
+making_counted : (m : Option Written) (name : List ℕ) (cause : Refusal) (d d' : Disk) (s s' : Screen) → MakingRefused m cause → d' ≡ d → s' ≡ s → Counted (record { cause = cause; name = name } ∷ []) d s d' s'
 making_counted m name NoNetwork d d' s s' why e f = record { files = disk_same d d' e; sink = sink_same s s' f; lines = refl }
 making_counted m name (TooManyGates gates) d d' s s' why e f = record { files = disk_same d d' e; sink = sink_same s s' f; lines = refl }
 making_counted m name NoMemory d d' s s' why e f = record { files = disk_same d d' e; sink = sink_same s s' f; lines = refl }
@@ -89,25 +90,25 @@ generating_counted : (name : List ℕ) (cause : Refusal) (d d' : Disk) (s s' : S
 generating_counted name NoMemory d d' s s' why e f = record { files = disk_same d d' e; sink = sink_same s s' f; lines = refl }
 generating_counted name other d d' s s' why e f = absurd why
 
--- a command that is refused, and one that is accepted, by its kind
+-- a command that is refused, and one that is accepted
 
-refused_counted : (kind : Kind) (name : List ℕ) (cause : Refusal) (before after : State) → Denied kind before cause after → Counted (record { cause = cause; name = name } ∷ []) before.files before.sink after.files after.sink
-refused_counted (Reading file) name cause before after (stays, why, stand, e) = read_counted file name cause before.files after.files before.sink after.sink why stand.later e
-refused_counted (ReadingAiger file) name cause before after (stays, why, stand, e) = aiger_read_counted file name cause before.files after.files before.sink after.sink why stand.later e
-refused_counted (Generating seed size) name cause before after (stays, why, e, f) = generating_counted name cause before.files after.files before.sink after.sink why e f
-refused_counted Printing name cause before after (stays, why, e) = print_counted before.network name cause before.files after.files before.sink after.sink why e
-refused_counted (Writing file) name cause before after (stays, why, e) = write_counted before.network file name cause before.files after.files before.sink after.sink why e
-refused_counted (WritingAiger ascii file) name cause before after (stays, why, e) = aiger_write_counted before.network file name cause before.files after.files before.sink after.sink why e
-refused_counted Making name cause before after (stays, why, e, f) = making_counted before.network name cause before.files after.files before.sink after.sink why e f
+refused_counted : (c : Command) (name : List ℕ) (cause : Refusal) (before after : State) → Denied c before cause after → Counted (record { cause = cause; name = name } ∷ []) before.files before.sink after.files after.sink
+refused_counted (commands.Read file) name cause before after (stays, why, stand, e) = read_counted file name cause before.files after.files before.sink after.sink why stand.later e
+refused_counted (commands.ReadAiger file) name cause before after (stays, why, stand, e) = aiger_read_counted file name cause before.files after.files before.sink after.sink why stand.later e
+refused_counted (commands.Generate seed size) name cause before after (stays, why, e, f) = generating_counted name cause before.files after.files before.sink after.sink why e f
+refused_counted commands.Stats name cause before after (stays, why, e) = print_counted before.network name cause before.files after.files before.sink after.sink why e
+refused_counted (commands.Write file) name cause before after (stays, why, e) = write_counted before.network file name cause before.files after.files before.sink after.sink why e
+refused_counted (commands.WriteAiger ascii file) name cause before after (stays, why, e) = aiger_write_counted before.network file name cause before.files after.files before.sink after.sink why e
+refused_counted (commands.Make recipe) name cause before after (stays, why, e, f) = making_counted before.network name cause before.files after.files before.sink after.sink why e f
 
-accepted_counted : (kind : Kind) (c : Command) (before after : State) → Accepted kind c before after → Counted [] before.files before.sink after.files after.sink
-accepted_counted (Reading file) c before after (net, is, read, stand, e) = record { files = covers_none before.files.faults after.files.faults stand.later; sink = sink_same before.sink after.sink e; lines = refl }
-accepted_counted (ReadingAiger file) c before after (net, is, read, stand, e) = record { files = covers_none before.files.faults after.files.faults stand.later; sink = sink_same before.sink after.sink e; lines = refl }
-accepted_counted (Generating seed size) c before after (net, is, graph, e, f) = record { files = disk_same before.files after.files e; sink = sink_same before.sink after.sink f; lines = refl }
-accepted_counted Printing c before after (net, line, some, stays, e, text, took) = record { files = disk_same before.files after.files e; sink = covers_none before.sink.faults after.sink.faults took.later; lines = refl }
-accepted_counted (Writing file) c before after (net, some, stays, bytes, reads, others, e) = record { files = covers_none before.files.faults after.files.faults others.later; sink = sink_same before.sink after.sink e; lines = refl }
-accepted_counted (WritingAiger ascii file) c before after (net, bytes, some, stays, there, are, others, e) = record { files = covers_none before.files.faults after.files.faults others.later; sink = sink_same before.sink after.sink e; lines = refl }
-accepted_counted Making c before after (made, e, f) = record { files = disk_same before.files after.files e; sink = sink_same before.sink after.sink f; lines = refl }
+accepted_counted : (c : Command) (before after : State) → Accepted c before after → Counted [] before.files before.sink after.files after.sink
+accepted_counted (commands.Read file) before after (net, is, read, stand, e) = record { files = covers_none before.files.faults after.files.faults stand.later; sink = sink_same before.sink after.sink e; lines = refl }
+accepted_counted (commands.ReadAiger file) before after (net, is, read, stand, e) = record { files = covers_none before.files.faults after.files.faults stand.later; sink = sink_same before.sink after.sink e; lines = refl }
+accepted_counted (commands.Generate seed size) before after (net, is, graph, e, f) = record { files = disk_same before.files after.files e; sink = sink_same before.sink after.sink f; lines = refl }
+accepted_counted commands.Stats before after (net, line, some, stays, e, text, took) = record { files = disk_same before.files after.files e; sink = covers_none before.sink.faults after.sink.faults took.later; lines = refl }
+accepted_counted (commands.Write file) before after (net, some, stays, bytes, reads, others, e) = record { files = covers_none before.files.faults after.files.faults others.later; sink = sink_same before.sink after.sink e; lines = refl }
+accepted_counted (commands.WriteAiger ascii file) before after (net, bytes, some, stays, there, are, others, e) = record { files = covers_none before.files.faults after.files.faults others.later; sink = sink_same before.sink after.sink e; lines = refl }
+accepted_counted (commands.Make recipe) before after (made, e, f) = record { files = disk_same before.files after.files e; sink = sink_same before.sink after.sink f; lines = refl }
 
 -- parts one after the other
 
@@ -128,9 +129,9 @@ commands_counted : (cs : List Command) (before after : State) (outcome : Option 
 commands_counted [] before after outcome (none, same) = subst (λ (o : Option Refused). CountedIn (listed o) before after) (sym none) (state_counted before after same)
 commands_counted (c ∷ cs) before after outcome (inl (between, step, more)) =
     counted_both [] (listed outcome) before.files between.files after.files before.sink between.sink after.sink
-    (accepted_counted (kind_of c) c before between step) (commands_counted cs between after outcome more)
+    (accepted_counted c before between step) (commands_counted cs between after outcome more)
 commands_counted (c ∷ cs) before after outcome (inr (cause, is, step)) =
-    subst (λ (o : Option Refused). CountedIn (listed o) before after) (sym is) (refused_counted (kind_of c) _ cause before after step)
+    subst (λ (o : Option Refused). CountedIn (listed o) before after) (sym is) (refused_counted c _ cause before after step)
 
 nothing_counted : (refused : Refused) (before after : State) → how_many is_of_files (refused ∷ []) ≡ 0 → how_many is_of_sink (refused ∷ []) ≡ 0 → how_many is_of_lines (refused ∷ []) ≡ 0 → CountedIn [] before after → CountedIn (refused ∷ []) before after
 nothing_counted refused before after f s l h = record {

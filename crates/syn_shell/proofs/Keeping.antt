@@ -1,27 +1,27 @@
 -- Each write of a run gives what was read or generated last before it: step by step the network keeps that.
-use Rattle.std.proofs.Common.{◌≡◌, ℕ, ◌+◌, Bool, true, false, if◌then◌else◌, List, [], ◌∷◌, ◌++◌, refl, sym, ap, subst, inl, inr, Option, None, Some, Result, Ok, Err}
+use Rattle.std.proofs.Common.{◌≡◌, ℕ, ◌+◌, Bool, true, false, if◌then◌else◌, List, [], ◌∷◌, ◌++◌, refl, sym, ap, subst, subst₂, inl, inr, Option, None, Some, Result, Ok, Err}
 use Rattle.syn_io.specs.Outside.{Input}
 use Rattle.syn_netlist.specs.Lists.{Netlist}
 use Rattle.syn_netlist.specs.Meaning.{SameFromFunction, SameMeaning, SameIsTransitive}
 use Rattle.syn_netlist.specs.Order.{Ordered}
-use Rattle.syn_shapes.specs.GraphShape.{GraphHasFunction, GraphShape}
+use Rattle.syn_network.specs.GraphShape.{GraphHasFunction, GraphShape}
 use Rattle.syn_seq.specs.Laws.{SameMeaningIsSequential, SequentialIsTransitive}
 use Rattle.syn_aiger.specs.Writing.{aig_of}
-use Rattle.syn_refactor.specs.Refactoring.{refactorings}
-use Rattle.syn_resub.specs.Resubstitution.{resubstitutions}
-use Rattle.syn_rewrite.specs.Rewriting.{rewritings}
 use Rattle.syn_words.specs.declared.Command.{Command}
 use Rattle.syn_words.specs.declared.Command.TheVariants as commands
+use Rattle.syn_words.specs.declared.recipes.Recipe.{Recipe}
+use Rattle.syn_words.specs.declared.recipes.Recipe.TheVariants as recipes
 use Rattle.syn_shell.specs.declared.refusal.Refusal.{Refusal}
-use Rattle.syn_shell.specs.Networks.{Network, graph_network}
+use Rattle.syn_shell.specs.Networks.{Written, graph_network}
 use Rattle.syn_shell.specs.Outside.{State}
-use Rattle.syn_shell.specs.Steps.{Denied, IsPassed, IsSweptTo, Kind, Reading, ReadingAiger, Generating, Printing, Writing, WritingAiger, Making, Makes, OnGraph, Remakes, SessionStep, kind_of}
+use Rattle.syn_shell.specs.Makes.{Makes, MakesOfGraph, OnGraph}
+use Rattle.syn_shell.specs.Steps.{Denied, Remakes, SessionStep}
 use Rattle.syn_shell.specs.Scripts.{Refused, RunsCommands, RunsScript}
 use Rattle.syn_shell.specs.LineMode.{EndsBySink, GoesOn, RunsLines}
 use Rattle.syn_shell.specs.Usage.{Usage, OneScript, EachLine, Faulty, usage_of}
 use Rattle.syn_shell.specs.Runs.{RunsUsage, RunsWords}
-use Rattle.syn_shell.proofs.Staying.{passed_remade}
-use Rattle.syn_shell.specs.Origins.{EachWriteKeeps, Gives, IsSameBy, Keeps, Origin, Step, origin_after, origin_behind, swept_since, steps_of_commands, steps_of_lines, steps_of_script, steps_of_usage, steps_of_words, writes}
+use Rattle.syn_shell.proofs.Recipes.{kept_of, sweeps}
+use Rattle.syn_shell.specs.Origins.{EachWriteKeeps, Gives, IsSameBy, Keeps, Origin, Step, origin_after, origin_behind, origin_made, swept_since, steps_of_commands, steps_of_lines, steps_of_script, steps_of_usage, steps_of_words, writes}
 
 -- the laws that say how sameness begins, at a graph, and goes on from step to step
 record AreLaws : Type 0 where
@@ -35,14 +35,9 @@ record AreLaws : Type 0 where
 means_itself : AreLaws → (m : Netlist) → Ordered m → GraphShape m → SameMeaning m m
 means_itself laws m ordered shape = let has = (laws.graph_has m shape ordered).1 in laws.same_function m m _ refl has has
 
--- whether a command sweeps latches
-abbrev sweeps : Command → Bool
-sweeps commands.Sweep = true
-sweeps other = false
+-- what a recipe makes of a network is the same, by whether it sweeps, and reads only earlier signals
 
--- what a command makes of a network is the same, by whether it sweeps, and reads only earlier signals
-
-abbrev IsKeptIn : Bool → Network → Network → Type 0
+abbrev IsKeptIn : Bool → Written → Written → Type 0
 IsKeptIn swept old new = IsSameBy swept old.netlist new.netlist × Ordered new.netlist
 
 -- the same behind one that means the same
@@ -60,63 +55,50 @@ both_same laws false after n m p ordered first second = subst (λ (swept : Bool)
 both_same laws true true n m p ordered first second = laws.runs n m p ordered.once first second
 both_same laws true false n m p ordered first second = laws.runs n m p ordered.once first (laws.weaker m p second)
 
-kept_on_graph : AreLaws → (swept : Bool) (makes : Network → Network → Type 0) → ((old new : Network) → makes old new → IsKeptIn swept old new) → (mark : Bool) (old new : Network) → OnGraph makes mark old new → IsKeptIn swept old new
-kept_on_graph laws swept makes kept false old new made = kept old new made
-kept_on_graph laws swept makes kept true old new (graph, is, made) = (same_then laws swept old.netlist graph.netlist new.netlist is.ordered is.same (kept graph new made).0, (kept graph new made).1)
+kept_on_graph : AreLaws → (r : Recipe) (mark : Bool) (old new : Written) → old.mapped ≡ mark → OnGraph (MakesOfGraph r) mark old new → IsKeptIn (sweeps r) old new
+kept_on_graph laws r false old new is made = let h = kept_of r old new is made in (h.same, h.ordered)
+kept_on_graph laws r true old new is (graph, remade, made) =
+    let h = kept_of r graph new remade.graph made in
+    (same_then laws (sweeps r) old.netlist graph.netlist new.netlist remade.ordered remade.same h.same, h.ordered)
 
-made_kept : AreLaws → (c : Command) (old new : Network) → kind_of c ≡ Making → Makes c old new → IsKeptIn (sweeps c) old new
-made_kept laws commands.Strash old new making made = (made.same, made.ordered)
-made_kept laws commands.Balance old new making made = kept_on_graph laws false _ (λ a b h. (h.remade.same, h.remade.ordered)) old.mapped old new made
-made_kept laws (commands.Rewrite options) old new making made =
-    kept_on_graph laws false (IsPassed options.levels rewritings) (λ a b h. let remade = passed_remade options.levels rewritings a b h in (remade.same, remade.ordered)) old.mapped old new made
-made_kept laws (commands.Refactor options) old new making made =
-    kept_on_graph laws false (IsPassed options.levels refactorings) (λ a b h. let remade = passed_remade options.levels refactorings a b h in (remade.same, remade.ordered)) old.mapped old new made
-made_kept laws (commands.Resubstitute options) old new making made =
-    kept_on_graph laws false (IsPassed options.levels resubstitutions) (λ a b h. let remade = passed_remade options.levels resubstitutions a b h in (remade.same, remade.ordered)) old.mapped old new made
-made_kept laws (commands.Map false inputs) old new making made = kept_on_graph laws false _ (λ a b h. (h.luts.same, h.luts.ordered)) old.mapped old new made
-made_kept laws (commands.Map true inputs) old new making made = kept_on_graph laws false _ (λ a b h. (h.luts.same, h.luts.ordered)) old.mapped old new made
-made_kept laws (commands.MapByFlow inputs) old new making made = kept_on_graph laws false _ (λ a b h. (h.luts.same, h.luts.ordered)) old.mapped old new made
-made_kept laws commands.Sweep old new making made = kept_on_graph laws true IsSweptTo (λ a b h. (h.sweep.same, h.sweep.ordered)) old.mapped old new made
-made_kept laws (commands.Read name) old new making made = absurd (cc)
-made_kept laws (commands.Write name) old new making made = absurd (cc)
-made_kept laws (commands.ReadAiger name) old new making made = absurd (cc)
-made_kept laws (commands.WriteAiger ascii name) old new making made = absurd (cc)
-made_kept laws commands.Stats old new making made = absurd (cc)
-made_kept laws (commands.Generate seed size) old new making made = absurd (cc)
+made_kept : AreLaws → (r : Recipe) (old new : Written) → Makes r old new → IsKeptIn (sweeps r) old new
+made_kept laws recipes.Strash old new made = (made.same, made.ordered)
+made_kept laws other old new made = kept_on_graph laws other old.mapped old new refl made
 
 -- the network keeps what it came from; or there is neither
-abbrev IsKept : Option Origin → Option Network → Type 0
+abbrev IsKept : Option Origin → Option Written → Type 0
 IsKept None m = m ≡ None
-IsKept (Some origin) m = (net : Network) × (m ≡ Some net) × Keeps origin net.netlist
+IsKept (Some origin) m = (net : Written) × (m ≡ Some net) × Keeps origin net.netlist
 
-same_network : (a b : Network) (m : Option Network) → m ≡ Some a → m ≡ Some b → a ≡ b
+same_network : (a b : Written) (m : Option Written) → m ≡ Some a → m ≡ Some b → a ≡ b
 same_network a b m x y = cc
 
 stays_kept : (origin : Option Origin) (before after : State) → after.network ≡ before.network → IsKept origin before.network → IsKept origin after.network
 stays_kept origin before after same kept = subst (IsKept origin) (sym same) kept
 
--- where the network comes from behind a command that makes it anew
-abbrev origin_made : Command → Option Origin → Option Origin
-origin_made c origin = if sweeps c then swept_since origin else origin
+-- where the network comes from that a recipe made
+made_origin : (r : Recipe) (origin : Option Origin) → (if sweeps r then swept_since origin else origin) ≡ origin_made r origin
+made_origin recipes.Sweep origin = refl
+made_origin other origin = refl
 
-kept_by : AreLaws → (swept : Bool) (c : Command) (origin : Origin) (old new : Network) → sweeps c ≡ swept → IsKeptIn swept old new → Keeps origin old.netlist → IsKept (if swept then swept_since (Some origin) else Some origin) (Some new)
-kept_by laws true c origin old new is (same, ordered) (n, from, first, above) = (new, refl, (n, from, both_same laws origin.swept true n old.netlist new.netlist above first same, ordered))
-kept_by laws false c origin old new is (same, ordered) (n, from, first, above) = (new, refl, (n, from, both_same laws origin.swept false n old.netlist new.netlist above first same, ordered))
+kept_by : AreLaws → (swept : Bool) (origin : Origin) (old new : Written) → IsKeptIn swept old new → Keeps origin old.netlist → IsKept (if swept then swept_since (Some origin) else Some origin) (Some new)
+kept_by laws true origin old new (same, ordered) (n, from, first, above) = (new, refl, (n, from, both_same laws origin.swept true n old.netlist new.netlist above first same, ordered))
+kept_by laws false origin old new (same, ordered) (n, from, first, above) = (new, refl, (n, from, both_same laws origin.swept false n old.netlist new.netlist above first same, ordered))
 
-remade_kept : AreLaws → (c : Command) (origin : Option Origin) (m m' : Option Network) → kind_of c ≡ Making → Remakes c m m' → IsKept origin m → IsKept (origin_made c origin) m'
-remade_kept laws c None m m' making (old, new, was, is, gates, made) none = absurd (cc)
-remade_kept laws c (Some origin) m m' making (old, new, was, is, gates, made) (net, there, keeps) =
-    let here : Keeps origin old.netlist = subst (λ (a : Network). Keeps origin a.netlist) (same_network net old m there was) keeps in
-    subst (IsKept (origin_made c (Some origin))) (sym is) (kept_by laws (sweeps c) c origin old new refl (made_kept laws c old new making made) here)
+remade_kept : AreLaws → (r : Recipe) (origin : Option Origin) (m m' : Option Written) → Remakes r m m' → IsKept origin m → IsKept (origin_made r origin) m'
+remade_kept laws r None m m' (old, new, was, is, gates, made) none = absurd (cc)
+remade_kept laws r (Some origin) m m' (old, new, was, is, gates, made) (net, there, keeps) =
+    let here : Keeps origin old.netlist = subst (λ (a : Written). Keeps origin a.netlist) (same_network net old m there was) keeps in
+    subst₂ IsKept (made_origin r (Some origin)) (sym is) (kept_by laws (sweeps r) origin old new (made_kept laws r old new made) here)
 
-denied_stays : (kind : Kind) (before : State) (cause : Refusal) (after : State) → Denied kind before cause after → after.network ≡ before.network
-denied_stays (Reading name) before cause after h = h.0
-denied_stays (ReadingAiger name) before cause after h = h.0
-denied_stays (Generating seed size) before cause after h = h.0
-denied_stays Printing before cause after h = h.0
-denied_stays (Writing name) before cause after h = h.0
-denied_stays (WritingAiger ascii name) before cause after h = h.0
-denied_stays Making before cause after h = h.0
+denied_stays : (c : Command) (before : State) (cause : Refusal) (after : State) → Denied c before cause after → after.network ≡ before.network
+denied_stays (commands.Read name) before cause after h = h.0
+denied_stays (commands.ReadAiger name) before cause after h = h.0
+denied_stays (commands.Generate seed size) before cause after h = h.0
+denied_stays commands.Stats before cause after h = h.0
+denied_stays (commands.Write name) before cause after h = h.0
+denied_stays (commands.WriteAiger ascii name) before cause after h = h.0
+denied_stays (commands.Make recipe) before cause after h = h.0
 
 accepted_kept : AreLaws → (c : Command) (before after : State) (origin : Option Origin) → SessionStep c before (Ok tt) after → IsKept origin before.network → IsKept (origin_behind c before.files (Ok tt) origin) after.network
 accepted_kept laws (commands.Read name) before after origin (net, is, read, stand, same) kept = (graph_network net, is, (read.netlist, (read.bytes, read.file, read.reads), read.graph.same, read.graph.ordered))
@@ -126,31 +108,24 @@ accepted_kept laws (commands.Generate seed size) before after origin (net, is, g
 accepted_kept laws commands.Stats before after origin (net, line, is, stays, files, text, took) kept = stays_kept origin before after stays kept
 accepted_kept laws (commands.Write name) before after origin (net, is, stays, file, reads, others, sink) kept = stays_kept origin before after stays kept
 accepted_kept laws (commands.WriteAiger ascii name) before after origin (net, bytes, is, stays, file, are, others, sink) kept = stays_kept origin before after stays kept
-accepted_kept laws commands.Sweep before after origin (made, files, sink) kept = remade_kept laws commands.Sweep origin before.network after.network refl made kept
-accepted_kept laws commands.Strash before after origin (made, files, sink) kept = remade_kept laws commands.Strash origin before.network after.network refl made kept
-accepted_kept laws commands.Balance before after origin (made, files, sink) kept = remade_kept laws commands.Balance origin before.network after.network refl made kept
-accepted_kept laws (commands.Rewrite options) before after origin (made, files, sink) kept = remade_kept laws (commands.Rewrite options) origin before.network after.network refl made kept
-accepted_kept laws (commands.Refactor options) before after origin (made, files, sink) kept = remade_kept laws (commands.Refactor options) origin before.network after.network refl made kept
-accepted_kept laws (commands.Resubstitute options) before after origin (made, files, sink) kept = remade_kept laws (commands.Resubstitute options) origin before.network after.network refl made kept
-accepted_kept laws (commands.MapByFlow inputs) before after origin (made, files, sink) kept = remade_kept laws (commands.MapByFlow inputs) origin before.network after.network refl made kept
-accepted_kept laws (commands.Map area inputs) before after origin (made, files, sink) kept = remade_kept laws (commands.Map area inputs) origin before.network after.network refl made kept
+accepted_kept laws (commands.Make recipe) before after origin (made, files, sink) kept = remade_kept laws recipe origin before.network after.network made kept
 
 step_kept : AreLaws → (c : Command) (before : State) (answer : Result (Unit {0}) Refusal) (after : State) (origin : Option Origin) → SessionStep c before answer after → IsKept origin before.network
     → IsKept (origin_behind c before.files answer origin) after.network
 step_kept laws c before (Ok tt) after origin step kept = accepted_kept laws c before after origin step kept
-step_kept laws c before (Err cause) after origin step kept = stays_kept origin before after (denied_stays (kind_of c) before cause after step) kept
+step_kept laws c before (Err cause) after origin step kept = stays_kept origin before after (denied_stays c before cause after step) kept
 
 -- the steps of a run lead from network to network
 
-abbrev Leads : Option Network → List Step → Option Network → Type 0
+abbrev Leads : Option Written → List Step → Option Written → Type 0
 Leads m [] m' = m' ≡ m
 Leads m (s ∷ ss) m' = (s.before.network ≡ m) × SessionStep s.command s.before s.answer s.after × Leads s.after.network ss m'
 
-leads_on : (m k m' : Option Network) (xs ys : List Step) → Leads m xs k → Leads k ys m' → Leads m (xs ++ ys) m'
-leads_on m k m' [] ys same more = subst (λ (x : Option Network). Leads x ys m') same more
+leads_on : (m k m' : Option Written) (xs ys : List Step) → Leads m xs k → Leads k ys m' → Leads m (xs ++ ys) m'
+leads_on m k m' [] ys same more = subst (λ (x : Option Written). Leads x ys m') same more
 leads_on m k m' (x ∷ xs) ys (from, step, rest) more = (from, step, leads_on x.after.network k m' xs ys rest more)
 
-leads_to : (m k m' : Option Network) (xs : List Step) → Leads m xs k → m' ≡ k → Leads m xs m'
+leads_to : (m k m' : Option Written) (xs : List Step) → Leads m xs k → m' ≡ k → Leads m xs m'
 leads_to m k m' xs leads same = subst (Leads m xs) (sym same) leads
 
 commands_lead : (cs : List Command) (before : State) (outcome : Option Refused) (after : State) (runs : RunsCommands cs before outcome after)
@@ -184,13 +159,13 @@ lines_lead (line ∷ lines) taken before i refusals after i' (j, outcome, done, 
     leads_to before.network done.network after.network _ (script_leads line before outcome done runs) (ends_stays outcome done after ends)
 
 usage_leads : (usage : Usage) (before : State) (i : Input) (refusals : List Refused) (after : State) (i' : Input) (runs : RunsUsage usage before i refusals after i')
-    → (m : Option Network) × Leads before.network (steps_of_usage usage before i refusals after i' runs) m
+    → (m : Option Written) × Leads before.network (steps_of_usage usage before i refusals after i' runs) m
 usage_leads (OneScript text) before i refusals after i' ((outcome, done, runs, is, ends), same) = (done.network, script_leads text before outcome done runs)
 usage_leads EachLine before i refusals after i' (lines, runs) = (after.network, lines_lead lines 0 before i refusals after i' runs)
 usage_leads Faulty before i refusals after i' runs = (before.network, refl)
 
 words_lead : (words : List (List ℕ)) (before : State) (i : Input) (refusals : List Refused) (after : State) (i' : Input) (runs : RunsWords words before i refusals after i')
-    → (m : Option Network) × Leads before.network (steps_of_words words before i refusals after i' runs) m
+    → (m : Option Written) × Leads before.network (steps_of_words words before i refusals after i' runs) m
 words_lead words before i refusals after i' (inl runs) = usage_leads (usage_of words) before i refusals after i' runs
 words_lead words before i refusals after i' (inr nothing) = (before.network, refl)
 
@@ -199,7 +174,7 @@ words_lead words before i refusals after i' (inr nothing) = (before.network, ref
 abbrev IsReachedFrom : Option Origin → List Step → Step → Type 0
 IsReachedFrom origin front s = IsKept (origin_after front origin) s.before.network × SessionStep s.command s.before s.answer s.after
 
-step_among : AreLaws → (front back : List Step) (s : Step) (origin : Option Origin) (m m' : Option Network) → IsKept origin m → Leads m (front ++ s ∷ back) m' → IsReachedFrom origin front s
+step_among : AreLaws → (front back : List Step) (s : Step) (origin : Option Origin) (m m' : Option Written) → IsKept origin m → Leads m (front ++ s ∷ back) m' → IsReachedFrom origin front s
 step_among laws [] back s origin m m' kept (from, step, rest) = (subst (IsKept origin) (sym from) kept, step)
 step_among laws (f ∷ front) back s origin m m' kept (from, step, rest) =
     let here : IsKept origin f.before.network = subst (IsKept origin) (sym from) kept in
@@ -210,10 +185,10 @@ Given found c after = (origin : Origin) × (m : Netlist) × (found ≡ Some orig
 
 -- what a write gives, where the netlist that it writes is that of the network
 
-given_of : (found : Option Origin) (c : Command) (net : Network) (before after : State) → before.network ≡ Some net → Gives c after.files net.netlist → IsKept found before.network → Given found c after
+given_of : (found : Option Origin) (c : Command) (net : Written) (before after : State) → before.network ≡ Some net → Gives c after.files net.netlist → IsKept found before.network → Given found c after
 given_of None c net before after is gives none = absurd (cc)
 given_of (Some origin) c net before after is gives (kept, there, keeps) =
-    (origin, net.netlist, refl, gives, subst (λ (a : Network). Keeps origin a.netlist) (same_network kept net before.network there is) keeps)
+    (origin, net.netlist, refl, gives, subst (λ (a : Written). Keeps origin a.netlist) (same_network kept net before.network there is) keeps)
 
 write_gives : (found : Option Origin) (c : Command) (before after : State) → writes c ≡ true → IsKept found before.network → SessionStep c before (Ok tt) after → Given found c after
 write_gives found (commands.Write name) before after writing kept (net, is, stays, file, reads, others, sink) = given_of found (commands.Write name) net before after is (file, reads) kept

@@ -4,8 +4,9 @@ mod Numbers
 mod Taking
 mod Putting
 mod Following
-mod Staying
-mod Mapping
+mod RemadeGraphs
+mod MappedGraphs
+mod Recipes
 mod AigerFiles
 mod Hearing
 mod Giving

@@ -8,13 +8,13 @@ use Rattle.syn_rows.specs.Reach.{Ands}
 use Rattle.syn_rows.specs.Levels.{level_in, levels_of}
 use Rattle.syn_netlist.specs.Words.{distinct}
 use Rattle.syn_netlist.specs.Lists.{Frame, Netlist, sources}
-use Rattle.syn_shapes.specs.GraphShape.{GraphCountsAnds, and_tables, rows_of, observed_of}
-use Rattle.syn_shapes.specs.Graphs.{IsGraph}
-use Rattle.syn_shapes.specs.Spelling.{NetworkOfGraph, NetworkSpells, network}
+use Rattle.syn_network.specs.GraphShape.{GraphCountsAnds, and_tables, rows_of, observed_of}
+use Rattle.syn_network.specs.NamedGraphs.{IsNamedGraph}
+use Rattle.syn_network.specs.Spelling.{NetworkOfGraph, NetworkSpells, network}
 use Rattle.syn_shell.specs.Lines.{greatest, greatest_level, numbers_text, IsGraphLine}
 
 pub graph_line_is : NetworkOfGraph → GraphCountsAnds → (frame : Frame) (rows : List Row) (lits : List Lit) (ands depth : ℕ) (line : List ℕ) → distinct frame.clocks ≡ true → distinct (sources frame) ≡ true
-    → IsGraph frame rows lits → ands ≡ length rows - length (sources frame) - 1 → depth ≡ greatest (map (λ l. level_in (levels_of rows) (node_of l)) lits) → line ≡ numbers_text frame (codes " and = ") ands depth
+    → IsNamedGraph frame rows lits → ands ≡ length rows - length (sources frame) - 1 → depth ≡ greatest (map (λ l. level_in (levels_of rows) (node_of l)) lits) → line ≡ numbers_text frame (codes " and = ") ands depth
     → IsGraphLine (network frame rows lits) line
 graph_line_is spells counts frame rows lits ands depth line clocks once graph ands_is depth_is line_is = record {
   ands = ands;

@@ -1,6 +1,8 @@
 pub mod Networks
 pub mod Outside
 pub mod Lines
+pub mod Makes
+pub mod Bodies
 pub mod Steps
 pub mod CommandLine
 pub mod WorkedCommandLines

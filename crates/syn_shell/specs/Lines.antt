@@ -4,15 +4,15 @@ use Rattle.syn_rows.specs.Rows.{node_of}
 use Rattle.syn_rows.specs.Reach.{Ands}
 use Rattle.syn_rows.specs.Levels.{level_in, levels_of}
 use Rattle.syn_netlist.specs.Lists.{Frame, Netlist}
-use Rattle.syn_shapes.specs.GraphShape.{rows_of, observed_of}
-use Rattle.syn_lutshapes.specs.LutShape.{count_of, depth_of}
+use Rattle.syn_network.specs.GraphShape.{rows_of, observed_of}
+use Rattle.syn_network.specs.LutShape.{count_of, depth_of}
 use Rattle.syn_words.specs.declared.ScriptFault.{ScriptFault}
 use Rattle.syn_words.specs.declared.ScriptFault.TheVariants as script
 use Rattle.syn_reader.specs.declared.ReadFault.{ReadFault}
 use Rattle.syn_reader.specs.declared.ReadFault.TheVariants as read
 use Rattle.syn_aiger_files.specs.declared.fault.AigFault.{AigFault}
 use Rattle.syn_aiger_files.specs.declared.fault.AigFault.TheVariants as aiger
-use Rattle.syn_shell.specs.Networks.{Network}
+use Rattle.syn_shell.specs.Networks.{Written}
 use Rattle.syn_shell.specs.declared.refusal.Refusal.{Refusal}
 use Rattle.syn_shell.specs.declared.refusal.Refusal.TheVariants.{Words, Script, Read, ReadAiger, FileTooLong, LineTooLong, TooManyLines, TooManyGates, LatchType, NoNetwork, GetFailed, PutFailed, LineFailed, SinkFailed, NoMemory}
 
@@ -47,7 +47,7 @@ LineBy false netlist bytes = IsGraphLine netlist bytes
 LineBy true netlist bytes = IsLutsLine netlist bytes
 
 -- The bytes are the network's line of statistics.
-abbrev pub IsStatsLine : Network → List ℕ → Type 0
+abbrev pub IsStatsLine : Written → List ℕ → Type 0
 IsStatsLine network bytes = LineBy network.mapped network.netlist bytes
 
 -- pieces of text, one after the other

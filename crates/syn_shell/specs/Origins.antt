@@ -5,7 +5,7 @@ use Rattle.syn_io.specs.Outside.{Disk, Input, Screen}
 use Rattle.syn_netlist.specs.Lists.{Netlist}
 use Rattle.syn_netlist.specs.Meaning.{SameMeaning}
 use Rattle.syn_netlist.specs.Order.{Ordered}
-use Rattle.syn_shapes.specs.Printed.{printed}
+use Rattle.syn_text.specs.Printed.{printed}
 use Rattle.syn_gen.specs.Generated.{generated}
 use Rattle.syn_reader.specs.Reading.{Reads}
 use Rattle.syn_seq.specs.Sequential.{SameSequentially}
@@ -15,6 +15,8 @@ use Rattle.syn_aiger.specs.Networks.{IsGraphOfAig}
 use Rattle.syn_aiger.specs.Writing.{IsWrittenAs}
 use Rattle.syn_words.specs.declared.Command.{Command}
 use Rattle.syn_words.specs.declared.Command.TheVariants as commands
+use Rattle.syn_words.specs.declared.recipes.Recipe.{Recipe}
+use Rattle.syn_words.specs.declared.recipes.Recipe.TheVariants as recipes
 use Rattle.syn_shell.specs.declared.refusal.Refusal.{Refusal}
 use Rattle.syn_shell.specs.Outside.{State, FileIs}
 use Rattle.syn_shell.specs.Scripts.{Refused, RunsCommands, RunsScript}
@@ -84,12 +86,17 @@ abbrev pub swept_since : Option Origin → Option Origin
 swept_since None = None
 swept_since (Some origin) = Some (record { place = origin.place; swept = true })
 
+-- where a network comes from that a recipe made anew: from where it came before, with latches swept where the recipe sweeps them
+abbrev pub origin_made : Recipe → Option Origin → Option Origin
+origin_made recipes.Sweep origin = swept_since origin
+origin_made other origin = origin
+
 -- where the network comes from behind a command that was accepted: from what it reads or generates, else from where it came before
 abbrev pub origin_by : Command → Disk → Option Origin → Option Origin
 origin_by (commands.Read name) files origin = fresh (OfFile name files)
 origin_by (commands.ReadAiger name) files origin = fresh (OfAiger name files)
 origin_by (commands.Generate seed size) files origin = fresh (OfSeed seed size)
-origin_by commands.Sweep files origin = swept_since origin
+origin_by (commands.Make recipe) files origin = origin_made recipe origin
 origin_by other files origin = origin
 
 -- the same behind a command, accepted or refused: one that is refused leaves the network

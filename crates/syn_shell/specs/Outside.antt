@@ -2,15 +2,15 @@
 use Rattle.std.specs.Prelude.{◌≡◌, ℕ, ◌≤◌, ◌<◌, List, ◌++◌, length, Option, Some, None, IfSome, IsSomeAnd, Result, Ok, Err}
 use Rattle.syn_io.specs.declared.SinkFailed.{SinkFailed}
 use Rattle.syn_io.specs.Outside.{Disk, Input, Screen, Rose, file_at, without_file, GrewByPart, next_line, after_line}
-use Rattle.syn_shell.specs.Networks.{Network}
+use Rattle.syn_shell.specs.Networks.{Written}
 
 -- What commands work on: the session's network, the files and the sink.
 pub record State : Type 0 where
-  pub network : Option Network
+  pub network : Option Written
   pub files : Disk
   pub sink : Screen
 
-abbrev pub state : Option Network → Disk → Screen → State
+abbrev pub state : Option Written → Disk → Screen → State
 state network files sink = record { network = network; files = files; sink = sink }
 
 -- No file changed.

@@ -11,10 +11,11 @@ use Rattle.syn_aiger.specs.Faults.{Spells}
 use Rattle.syn_aiger.specs.Faults as aiger
 use Rattle.syn_aiger.specs.Writing.{first_typed}
 use Rattle.syn_words.specs.declared.Command.{Command}
+use Rattle.syn_words.specs.declared.Command.TheVariants as commands
 use Rattle.syn_words.specs.Scripts.{IsScript}
 use Rattle.syn_shell.specs.Networks.{gates_in}
 use Rattle.syn_shell.specs.Outside.{State, script_limit}
-use Rattle.syn_shell.specs.Steps.{Kind, Reading, ReadingAiger, Generating, Printing, Writing, WritingAiger, Making, kind_of, file_limit}
+use Rattle.syn_shell.specs.Steps.{file_limit}
 use Rattle.syn_shell.specs.Scripts.{Refused, RunsCommands, RunsScript}
 use Rattle.syn_shell.specs.LineMode.{RunsLines, most_lines}
 use Rattle.syn_shell.specs.Usage.{Usage, OneScript, EachLine, Faulty, usage_of}
@@ -29,21 +30,21 @@ IsReadable name files = IsSomeAnd files.told (λ list. IsSomeAnd (file_at name l
 abbrev pub IsReadableAiger : List ℕ → Disk → Type 0
 IsReadableAiger name files = IsSomeAnd files.told (λ list. IsSomeAnd (file_at name list) (λ bytes. (length bytes ≤ file_limit) × (g : Aig) × Spells bytes g × aiger.Within g))
 
--- What a command needs, by its kind: its file, nothing, or a network, to make it anew or to write it as an AIGER file one that not too many gates make a graph, and for the latter one without types of latches.
-abbrev pub Needs : Kind → State → Type 0
-Needs (Reading name) before = IsReadable name before.files
-Needs (ReadingAiger name) before = IsReadableAiger name before.files
-Needs (Generating seed size) before = ⊤
-Needs Printing before = IsSome before.network
-Needs (Writing name) before = IsSome before.network
-Needs (WritingAiger ascii name) before = IsSomeAnd before.network (λ net. (gates_in net ≤ most_gates) × (first_typed net.netlist.frame ≡ None))
-Needs Making before = IsSomeAnd before.network (λ net. gates_in net ≤ most_gates)
+-- What a command needs: its file, nothing, or a network, to make it anew or to write it as an AIGER file one that not too many gates make a graph, and for the latter one without types of latches.
+abbrev pub Needs : Command → State → Type 0
+Needs (commands.Read name) before = IsReadable name before.files
+Needs (commands.ReadAiger name) before = IsReadableAiger name before.files
+Needs (commands.Generate seed size) before = ⊤
+Needs commands.Stats before = IsSome before.network
+Needs (commands.Write name) before = IsSome before.network
+Needs (commands.WriteAiger ascii name) before = IsSomeAnd before.network (λ net. (gates_in net ≤ most_gates) × (first_typed net.netlist.frame ≡ None))
+Needs (commands.Make recipe) before = IsSomeAnd before.network (λ net. gates_in net ≤ most_gates)
 
 -- What each command that was run needs is there.
 abbrev pub CommandsReady : (commands : List Command) (before : State) (outcome : Option Refused) (after : State) → RunsCommands commands before outcome after → Type 0
 CommandsReady [] before outcome after runs = ⊤
-CommandsReady (c ∷ cs) before outcome after (inl (between, step, more)) = Needs (kind_of c) before × CommandsReady cs between outcome after more
-CommandsReady (c ∷ cs) before outcome after (inr refused) = Needs (kind_of c) before
+CommandsReady (c ∷ cs) before outcome after (inl (between, step, more)) = Needs c before × CommandsReady cs between outcome after more
+CommandsReady (c ∷ cs) before outcome after (inr refused) = Needs c before
 
 -- A script is within its limit and spells commands, and what they need is there.
 abbrev pub ScriptReady : (text : List ℕ) (before : State) (outcome : Option Refused) (after : State) → RunsScript text before outcome after → Type 0

@@ -1,6 +1,6 @@
 -- A whole run: what the words mean, the scripts one after the other, the lines of the refusals, the status.
 use Rattle.std.specs.Prelude.{◌≡◌, ◌⊎◌, ℕ, List, [], ◌∷◌, Option, None}
-use Rattle.syn_shell.specs.Networks.{Network}
+use Rattle.syn_shell.specs.Networks.{Written}
 use Rattle.syn_shell.specs.declared.refusal.Refusal.{Refusal}
 use Rattle.syn_shell.specs.declared.refusal.Refusal.TheVariants.{Words, NoMemory}
 use Rattle.syn_io.specs.Outside.{Disk, Screen, Input}
@@ -39,11 +39,11 @@ status_of (refused ∷ more) = refusal_status refused.cause
 
 -- Nothing was refused: the script was run to its end, or the lines until none was left.
 abbrev pub RanAccepted : List (List ℕ) → Disk → Screen → Input → Disk → Screen → Input → Type 0
-RanAccepted words d s i d' s' i' = (network : Option Network) × RunsUsage (usage_of words) (state None d s) i [] (state network d' s') i'
+RanAccepted words d s i d' s' i' = (network : Option Written) × RunsUsage (usage_of words) (state None d s) i [] (state network d' s') i'
 
 -- A whole run on words, from the files, the sink and the lines before it to those after it, and its status. It begins with no network. No more refusals are of the files, the lines or the sink than their counts of faults rose by.
 pub record Ran (words : List (List ℕ)) (d : Disk) (s : Screen) (i : Input) (d' : Disk) (s' : Screen) (i' : Input) (status : ℕ) : Type 0 where
-  pub network : Option Network
+  pub network : Option Written
   pub refusals : List Refused
   pub runs : RunsWords words (state None d s) i refusals (state network d' s') i'
   pub status_is : status ≡ status_of refusals

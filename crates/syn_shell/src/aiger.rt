@@ -1,7 +1,7 @@
 //! AIGER files: the graph of one, and the one of a network.
 
 ghost use Rattle.std.specs.Prelude.{◌≡◌, ◌≤◌, length, IfOk, IfErr, List, OnOk, Some, ℕ};
-ghost use Rattle.syn_graph.specs.Graphs as graphs;
+ghost use Rattle.syn_network.specs.Written as graphs;
 ghost use Rattle.syn_aiger_files.specs.declared.files.Aig.{Aig};
 ghost use Rattle.syn_aiger.specs.Faults.{Spells};
 ghost use Rattle.syn_aiger.specs.Faults as aiger;
@@ -17,11 +17,11 @@ use crate::refusal::Refusal;
 use std::alloc::Global;
 use syn_aiger::{AigWriteFault, read_aig, write_aig};
 use syn_aiger_files::AigFault;
-use syn_graph::Graph;
 use syn_io::Files;
+use syn_network::Network;
 
 // The graph of the file that bytes spell, or their first fault.
-fn parse(alloc: Global, bytes: &[u8]) -> Result<Graph, Refusal>
+fn parse(alloc: Global, bytes: &[u8]) -> Result<Network, Refusal>
     requires { length bytes.now ≤ file_limit }
     ensures graph { IfOk result (λ graph. (g : Aig) × Spells bytes.now g × aiger.Within g × IsGraphOfAig g (graphs.network_of graph)) }
     ensures small { IfOk result (λ graph. IsSmall (graph_network (graphs.network_of graph))) }
@@ -35,7 +35,7 @@ fn parse(alloc: Global, bytes: &[u8]) -> Result<Graph, Refusal>
 }
 
 /// The graph of an AIGER file.
-pub(crate) fn read<F: Files>(alloc: Global, name: &str, files: &mut F) -> Result<Graph, Refusal>
+pub(crate) fn read<F: Files>(alloc: Global, name: &str, files: &mut F) -> Result<Network, Refusal>
     ensures read { IfOk result (λ graph. IsReadAsAiger name.now (F.disk files.old) (graphs.network_of graph)) }
     ensures small { IfOk result (λ graph. IsSmall (graph_network (graphs.network_of graph))) }
     ensures refused { IfErr result (AigerReadRefused name.now (F.disk files.old) (F.disk files.new)) }
@@ -47,12 +47,12 @@ pub(crate) fn read<F: Files>(alloc: Global, name: &str, files: &mut F) -> Result
 }
 
 // The bytes of a graph's AIGER file.
-fn bytes_of(alloc: Global, graph: &Graph, ascii: bool) -> Result<Vec<u8>, Refusal>
+fn bytes_of(alloc: Global, graph: &Network, ascii: bool) -> Result<Vec<u8>, Refusal>
     requires { IsSmall (graph_network (graphs.network_of graph.now)) }
     ensures bytes { IfOk result (λ bytes. IsAigerOf ascii (graph_network (graphs.network_of graph.now)) bytes.items) }
     ensures refused { IfErr result (AigerRefused (graph_network (graphs.network_of graph.now))) }
 {
-    syn_shapes::network_of_graph();
+    syn_network::network_of_graph();
     match write_aig(alloc, graph, ascii) {
         Ok(bytes) => Ok(bytes),
         Err(AigWriteFault::Latch(latch)) => Err(Refusal::LatchType(latch)),

@@ -1,54 +1,40 @@
-//! What commands make of the network.
+//! What recipes make of a graph and of a net of LUTs.
 
-ghost use Rattle.std.specs.Prelude.{◌≡◌, ◌≤◌, ℕ, Bool, List, IfOk, IfErr, Some};
+ghost use Rattle.std.specs.Prelude.{◌≡◌, ◌≤◌, ℕ, Bool, List, IfOk, IfErr, IfSome, Some};
 ghost use Rattle.syn_rows.specs.declared.Row.{Row};
-ghost use Rattle.syn_graph.specs.declared.Graph.{Graph};
-ghost use Rattle.syn_graph.specs.Graphs as graphs;
-ghost use Rattle.syn_lutnet.specs.Nets as nets;
+ghost use Rattle.syn_network.specs.Written as graphs;
+ghost use Rattle.syn_network.specs.WrittenLuts as luts;
 ghost use Rattle.syn_build.specs.BuildFaults.{most_gates};
+ghost use Rattle.syn_graph.specs.Relations.{SameFunction};
+ghost use Rattle.syn_lutnet.specs.Nets.{HasFunctionOf};
+ghost use Rattle.syn_balance.specs.Balanced as balanced;
 ghost use Rattle.syn_gain.specs.Replacements.{Replacement};
-ghost use Rattle.syn_pool.specs.Improving.{IsImproved};
-ghost use Rattle.syn_shell.specs.Networks.{gates_in, graph_network, IsSmall, mapped_network, network_of};
-ghost use Rattle.syn_shell.specs.Steps.{IsBalanced, IsLeastMappedTo, IsMappedForArea, IsMappedTo, IsPassed, IsRemade, IsSweptTo, kind_of, Makes, Making, MakingRefused};
+ghost use Rattle.syn_shell.specs.Networks.{gates_in, graph_network, IsSmall, mapped_network, network_of, made_in};
+ghost use Rattle.syn_shell.specs.Bodies.{AreFewLuts, AreLeastLuts, AreMerged, ArePlainLuts, IsLeftBy};
+ghost use Rattle.syn_shell.specs.Makes.{IsBalanced, IsLeastMappedTo, IsMappedForArea, IsMappedTo, IsMerged, IsPassed, IsRemade, Makes, MakesOfGraph};
+ghost use Rattle.syn_words.specs.declared.recipes.Recipe.TheVariants as recipes;
+ghost use Rattle.syn_shell.specs.Steps.{MakingRefused};
 
 use crate::network::HeldNetwork;
 use crate::refusal::Refusal;
 use std::alloc::{AllocError, Global};
 use std::thread::Threads;
+use syn_balance::balance;
 use syn_build::{BuildFault, build_luts};
-use syn_commit::Gate;
+use syn_commit::CommitHook;
+use syn_fraig::{Limits, fraig};
 use syn_graph::Graph;
 use syn_lutnet::LutNet;
+use syn_map::map;
+use syn_network::{LutNetwork, Network};
 use syn_pool::PassSettings;
 use syn_refactor::refactor;
 use syn_resub::resub;
 use syn_rewrite::rewrite;
-use syn_words::{Command, LutInputs, PassOptions};
+use syn_seq::sweep;
+use syn_settled::{few_luts, least_luts};
+use syn_words::{LutInputs, PassOptions, Recipe, SearchLimits};
 use syn_workers::Workers;
-
-// A graph, hashed and compacted: it is so already, and stays.
-fn hashed(graph: Graph) -> HeldNetwork
-    ensures { IsRemade (graph_network (graphs.network_of graph)) (network_of result) }
-{
-    syn_shapes::network_of_graph();
-    syn_shapes::graph_has_function();
-    syn_netlist::same_from_function();
-    HeldNetwork::Graph(graph)
-}
-
-// A graph, balanced; refused, the graph as it was.
-fn balanced(alloc: Global, graph: Graph) -> Result<HeldNetwork, (Graph, Refusal)>
-    ensures balanced { IfOk result (λ new. IsBalanced (graph_network (graphs.network_of graph)) (network_of new)) }
-    ensures refused { IfErr result (λ back. (graphs.network_of back.0 ≡ graphs.network_of graph) × (back.1 ≡ Refusal.NoMemory)) }
-{
-    syn_shapes::network_of_graph();
-    syn_shapes::graph_has_function();
-    syn_netlist::same_from_function();
-    match syn_balance::balance(alloc, graph) {
-        Ok(new) => Ok(HeldNetwork::Graph(new)),
-        Err((graph, _)) => Err((graph, Refusal::NoMemory)),
-    }
-}
 
 // How a pass is to go: as the options say, with so many workers where these name none.
 fn settings_of(options: &PassOptions, workers: Workers) -> PassSettings
@@ -61,147 +47,151 @@ fn settings_of(options: &PassOptions, workers: Workers) -> PassSettings
     }
 }
 
-// What a pass left of a graph, as the network; refused, the graph as it was.
-fn passed(left: Result<Graph, (Graph, AllocError)>) -> Result<HeldNetwork, (Graph, Refusal)>
-    ensures passed { (proposals : List Row → ℕ → List Replacement) (levels : Bool) (graph : Graph) → IfOk left (IsImproved proposals levels graph) → IfOk result (λ new. IsPassed levels proposals (graph_network (graphs.network_of graph)) (network_of new)) }
-    ensures refused { (graph : Graph) → IfErr left (λ e. e.0 ≡ graph) → IfErr result (λ back. (graphs.network_of back.0 ≡ graphs.network_of graph) × (back.1 ≡ Refusal.NoMemory)) }
+// How far a search for nodes of one value goes, as the command says.
+fn limits_of(limits: &SearchLimits) -> Limits
+    ensures levels { result.levels ≡ limits.now.levels }
 {
-    syn_shapes::network_of_graph();
-    syn_shapes::graph_has_function();
-    syn_netlist::same_from_function();
-    match left {
-        Ok(new) => Ok(HeldNetwork::Graph(new)),
-        Err((graph, _)) => Err((graph, Refusal::NoMemory)),
+    Limits {
+        conflicts: limits.conflicts,
+        levels: limits.levels,
     }
 }
 
-// A graph, mapped to LUTs of so many inputs, with cuts that so many workers list; refused, the graph as it was.
-fn mapped<R: Threads + Sync>(
+// What hashing makes of a graph: it is hashed already, and stays.
+fn hashed(network: &Network)
+    ensures { IsRemade (graph_network (graphs.network_of network.now)) (graph_network (graphs.network_of network.now)) }
+{
+    syn_network::network_of_graph();
+    syn_network::same_function_keeps_meaning();
+}
+
+// Puts what was made of a graph under its names; it stays where nothing was made.
+fn remade(network: &mut Network, new: Option<Graph>)
+    requires { IfSome new (SameFunction network.old.body) }
+    ensures balanced { IfSome new (λ body. balanced.IsBalanced network.old.body body → IsBalanced (graph_network (graphs.network_of network.old)) (graph_network (graphs.network_of network.new))) }
+    ensures merged { (levels : Bool) → IfSome new (λ body. AreMerged levels network.old.body body → IsMerged levels (graph_network (graphs.network_of network.old)) (graph_network (graphs.network_of network.new))) }
+    ensures passed { (proposals : List Row → ℕ → List Replacement) (levels : Bool) → IsLeftBy proposals levels network.old.body new → IsPassed levels proposals (graph_network (graphs.network_of network.old)) (graph_network (graphs.network_of network.new)) }
+{
+    syn_network::network_of_graph();
+    syn_network::same_function_keeps_meaning();
+    match new {
+        None => {}
+        Some(body) => network.put(body),
+    }
+}
+
+// Puts another network in place of one.
+fn put(network: &mut Network, new: Network)
+    ensures { network.new ≡ new }
+{
+    *network = new;
+}
+
+// LUTs of a graph under a copy of its names.
+fn mapped(alloc: Global, network: &Network, net: LutNet) -> Result<LutNetwork, AllocError>
+    requires { HasFunctionOf network.now.body net }
+    ensures plain { (k : ℕ) → ArePlainLuts k network.now.body net → IfOk result (λ made. IsMappedTo k (graph_network (graphs.network_of network.now)) (mapped_network (luts.network_of made))) }
+    ensures few { (k : ℕ) → AreFewLuts k network.now.body net → IfOk result (λ made. IsMappedForArea k (graph_network (graphs.network_of network.now)) (mapped_network (luts.network_of made))) }
+    ensures least { (k : ℕ) → AreLeastLuts k network.now.body net → IfOk result (λ made. IsLeastMappedTo k (graph_network (graphs.network_of network.now)) (mapped_network (luts.network_of made))) }
+{
+    syn_network::network_of_graph();
+    syn_network::network_of_luts();
+    syn_network::mapped_keeps_meaning();
+    network.mapped_copy(alloc, net)
+}
+
+// LUTs of so many inputs at most under a copy of a graph's names: few of them where that is asked, else those of the chosen cuts.
+fn mapped_by<R: Threads + Sync>(
     rt: &R,
     alloc: Global,
-    graph: Graph,
+    network: &Network,
+    area: &bool,
     inputs: &LutInputs,
     workers: Workers,
-) -> Result<HeldNetwork, (Graph, Refusal)>
-    ensures mapped { IfOk result (λ new. IsMappedTo inputs.now (graph_network (graphs.network_of graph)) (network_of new)) }
-    ensures refused { IfErr result (λ back. (graphs.network_of back.0 ≡ graphs.network_of graph) × (back.1 ≡ Refusal.NoMemory)) }
+) -> Result<LutNetwork, AllocError>
+    ensures { IfOk result (λ made. MakesOfGraph (recipes.Map area.now inputs.now) (graph_network (graphs.network_of network.now)) (mapped_network (luts.network_of made))) }
 {
-    syn_shapes::network_of_graph();
-    syn_shapes::graph_has_function();
-    syn_lutshapes::network_of_luts();
-    syn_lutshapes::luts_have_function();
-    syn_netlist::same_from_function();
-    match syn_map::map(rt, alloc, &graph, inputs.number(), workers) {
-        Ok(net) => Ok(HeldNetwork::Luts(net)),
-        Err(_) => Err((graph, Refusal::NoMemory)),
+    let number = inputs.number();
+    if *area {
+        let few = few_luts(rt, alloc, &network.body, number, workers)?;
+        mapped(alloc, network, few)
+    } else {
+        let plain = map(rt, alloc, &network.body, number, workers)?;
+        mapped(alloc, network, plain)
     }
 }
 
-// A graph without the latches that no output needs, and with one for those that load alike; refused, the graph as it was.
-fn swept(alloc: Global, graph: Graph) -> Result<HeldNetwork, (Graph, Refusal)>
-    ensures swept { IfOk result (λ new. IsSweptTo (graph_network (graphs.network_of graph)) (network_of new)) }
-    ensures refused { IfErr result (λ back. (graphs.network_of back.0 ≡ graphs.network_of graph) × (back.1 ≡ Refusal.NoMemory)) }
-{
-    match syn_seq::sweep(alloc, graph) {
-        Ok(new) => Ok(HeldNetwork::Graph(new)),
-        Err((graph, _)) => Err((graph, Refusal::NoMemory)),
-    }
-}
-
-// A graph, mapped to few LUTs of so many inputs, with cuts that so many workers list; refused, the graph as it was.
-fn mapped_for_area<R: Threads + Sync>(
+/// Makes a graph anew by a recipe, under its names; or gives the LUTs that the recipe makes of it, under these names too. So
+/// many workers do it where the recipe names none. Refused, for want of memory alone, the graph stays.
+pub(crate) fn remake_graph<R: Threads + Sync, G: CommitHook>(
     rt: &R,
     alloc: Global,
-    graph: Graph,
-    inputs: &LutInputs,
+    recipe: &Recipe,
+    network: &mut Network,
     workers: Workers,
-) -> Result<HeldNetwork, (Graph, Refusal)>
-    ensures mapped { IfOk result (λ new. IsMappedForArea inputs.now (graph_network (graphs.network_of graph)) (network_of new)) }
-    ensures refused { IfErr result (λ back. (graphs.network_of back.0 ≡ graphs.network_of graph) × (back.1 ≡ Refusal.NoMemory)) }
+    hook: &G,
+) -> Result<Option<LutNetwork>, AllocError>
+    ensures made { IfOk result (λ made. MakesOfGraph recipe.now (graph_network (graphs.network_of network.old)) (made_in network.new made)) }
+    ensures refused { IfErr result (λ error. network.new ≡ network.old) }
 {
-    syn_shapes::network_of_graph();
-    syn_shapes::graph_has_function();
-    syn_lutshapes::network_of_luts();
-    syn_lutshapes::luts_have_function();
-    syn_netlist::same_from_function();
-    match syn_area::map_for_area(rt, alloc, &graph, inputs.number(), workers) {
-        Ok(net) => Ok(HeldNetwork::Luts(net)),
-        Err(_) => Err((graph, Refusal::NoMemory)),
-    }
-}
-
-// A graph, mapped to LUTs of so many inputs at the least depth that there is; refused, the graph as it was.
-fn mapped_by_flow(
-    alloc: Global,
-    graph: Graph,
-    inputs: &LutInputs,
-) -> Result<HeldNetwork, (Graph, Refusal)>
-    ensures mapped { IfOk result (λ new. IsLeastMappedTo inputs.now (graph_network (graphs.network_of graph)) (network_of new)) }
-    ensures refused { IfErr result (λ back. (graphs.network_of back.0 ≡ graphs.network_of graph) × (back.1 ≡ Refusal.NoMemory)) }
-{
-    syn_shapes::network_of_graph();
-    syn_shapes::graph_has_function();
-    syn_lutshapes::network_of_luts();
-    syn_lutshapes::luts_have_function();
-    syn_netlist::same_from_function();
-    match syn_flow::flow(alloc, &graph, inputs.number()) {
-        Ok((net, _proof)) => Ok(HeldNetwork::Luts(net)),
-        Err(_) => Err((graph, Refusal::NoMemory)),
-    }
-}
-
-// What a command makes of a graph; refused, the graph as it was. A command that makes none leaves it.
-fn remake_graph<R: Threads + Sync, G: Gate>(
-    rt: &R,
-    alloc: Global,
-    command: &Command,
-    graph: Graph,
-    workers: Workers,
-    gate: &G,
-) -> Result<HeldNetwork, (Graph, Refusal)>
-    ensures made { IfOk result (λ new. Makes command.now (graph_network (graphs.network_of graph)) (network_of new)) }
-    ensures refused { IfErr result (λ back. (graphs.network_of back.0 ≡ graphs.network_of graph) × (back.1 ≡ Refusal.NoMemory)) }
-{
-    match command {
-        Command::Strash => Ok(hashed(graph)),
-        Command::Balance => balanced(alloc, graph),
-        Command::Rewrite(options) => {
-            let settings = settings_of(options, workers);
-            passed(rewrite(rt, alloc, graph, settings, gate))
+    match recipe {
+        Recipe::Strash => {
+            hashed(network);
+            Ok(None)
         }
-        Command::Refactor(options) => {
-            let settings = settings_of(options, workers);
-            passed(refactor(rt, alloc, graph, settings, gate))
+        Recipe::Balance => {
+            let new = balance(alloc, &network.body)?;
+            remade(network, Some(new));
+            Ok(None)
         }
-        Command::Resubstitute(options) => {
+        Recipe::Rewrite(options) => {
             let settings = settings_of(options, workers);
-            passed(resub(rt, alloc, graph, settings, gate))
+            let new = rewrite(rt, alloc, &network.body, settings, hook)?;
+            remade(network, new);
+            Ok(None)
         }
-        Command::Map {
-            area: false,
-            inputs,
-        } => mapped(rt, alloc, graph, inputs, workers),
-        Command::Map { area: true, inputs } => mapped_for_area(rt, alloc, graph, inputs, workers),
-        Command::MapByFlow(inputs) => mapped_by_flow(alloc, graph, inputs),
-        Command::Sweep => swept(alloc, graph),
-        Command::Read(_)
-        | Command::ReadAiger(_)
-        | Command::Generate { .. }
-        | Command::Stats
-        | Command::Write(_)
-        | Command::WriteAiger { .. } => Ok(HeldNetwork::Graph(graph)),
+        Recipe::Refactor(options) => {
+            let settings = settings_of(options, workers);
+            let new = refactor(rt, alloc, &network.body, settings, hook)?;
+            remade(network, new);
+            Ok(None)
+        }
+        Recipe::Resubstitute(options) => {
+            let settings = settings_of(options, workers);
+            let new = resub(rt, alloc, &network.body, settings, hook)?;
+            remade(network, new);
+            Ok(None)
+        }
+        Recipe::Merge(limits) => {
+            let new = fraig(alloc, &network.body, &limits_of(limits))?;
+            remade(network, Some(new));
+            Ok(None)
+        }
+        Recipe::Map { area, inputs } => {
+            let made = mapped_by(rt, alloc, network, area, inputs, workers)?;
+            Ok(Some(made))
+        }
+        Recipe::MapByFlow(inputs) => {
+            let net = least_luts(alloc, &network.body, inputs.number())?;
+            Ok(Some(mapped(alloc, network, net)?))
+        }
+        Recipe::Sweep => {
+            let new = sweep(alloc, network)?;
+            put(network, new);
+            Ok(None)
+        }
     }
 }
 
 /// The graph of a net of LUTs.
-pub(crate) fn graph_of(alloc: Global, net: &LutNet) -> Result<Graph, Refusal>
-    requires { IsSmall (mapped_network (nets.network_of net.now)) }
-    ensures graph { IfOk result (λ graph. IsRemade (mapped_network (nets.network_of net.now)) (graph_network (graphs.network_of graph))) }
+pub(crate) fn graph_of(alloc: Global, net: &LutNetwork) -> Result<Network, Refusal>
+    requires { IsSmall (mapped_network (luts.network_of net.now)) }
+    ensures graph { IfOk result (λ graph. IsRemade (mapped_network (luts.network_of net.now)) (graph_network (graphs.network_of graph))) }
     ensures small { IfOk result (λ graph. IsSmall (graph_network (graphs.network_of graph))) }
-    ensures gates { IfOk result (λ graph. gates_in (mapped_network (nets.network_of net.now)) ≤ most_gates) }
-    ensures refused { IfErr result (MakingRefused (Some (mapped_network (nets.network_of net.now)))) }
+    ensures gates { IfOk result (λ graph. gates_in (mapped_network (luts.network_of net.now)) ≤ most_gates) }
+    ensures refused { IfErr result (MakingRefused (Some (mapped_network (luts.network_of net.now)))) }
 {
-    syn_lutshapes::network_of_luts();
+    syn_network::network_of_luts();
     match build_luts(alloc, net) {
         Ok(graph) => Ok(graph),
         Err(BuildFault::TooManyGates(gates)) => Err(Refusal::TooManyGates(gates)),
@@ -209,54 +199,31 @@ pub(crate) fn graph_of(alloc: Global, net: &LutNet) -> Result<Graph, Refusal>
     }
 }
 
-// What a command makes of a net of LUTs: what it makes of its graph.
-fn remake_luts<R: Threads + Sync, G: Gate>(
+/// What a recipe makes of a net of LUTs: what it makes of its graph.
+pub(crate) fn remade_luts<R: Threads + Sync, G: CommitHook>(
     rt: &R,
     alloc: Global,
-    command: &Command,
-    net: &LutNet,
+    recipe: &Recipe,
+    net: &LutNetwork,
     workers: Workers,
-    gate: &G,
+    hook: &G,
 ) -> Result<HeldNetwork, Refusal>
-    requires making { kind_of command.now ≡ Making }
-    requires small { IsSmall (mapped_network (nets.network_of net.now)) }
-    ensures made { IfOk result (λ new. Makes command.now (mapped_network (nets.network_of net.now)) (network_of new)) }
-    ensures gates { IfOk result (λ new. gates_in (mapped_network (nets.network_of net.now)) ≤ most_gates) }
-    ensures refused { IfErr result (MakingRefused (Some (mapped_network (nets.network_of net.now)))) }
+    requires small { IsSmall (mapped_network (luts.network_of net.now)) }
+    ensures made { IfOk result (λ new. Makes recipe.now (mapped_network (luts.network_of net.now)) (network_of new)) }
+    ensures gates { IfOk result (λ new. gates_in (mapped_network (luts.network_of net.now)) ≤ most_gates) }
+    ensures refused { IfErr result (MakingRefused (Some (mapped_network (luts.network_of net.now)))) }
 {
     syn_netlist::same_is_transitive();
-    let graph = graph_of(alloc, net)?;
-    match remake_graph(rt, alloc, command, graph, workers, gate) {
-        Ok(new) => Ok(new),
-        Err((_, cause)) => Err(cause),
-    }
-}
-
-/// What a command that makes the network anew makes of it, with so many workers where it names none; refused, the network
-/// as it was.
-pub(crate) fn remake<R: Threads + Sync, G: Gate>(
-    rt: &R,
-    alloc: Global,
-    command: &Command,
-    network: HeldNetwork,
-    workers: Workers,
-    gate: &G,
-) -> Result<HeldNetwork, (HeldNetwork, Refusal)>
-    requires making { kind_of command.now ≡ Making }
-    requires small { IsSmall (network_of network) }
-    ensures made { IfOk result (λ new. Makes command.now (network_of network) (network_of new)) }
-    ensures gates { IfOk result (λ new. gates_in (network_of network) ≤ most_gates) }
-    ensures small { IfOk result (λ new. IsSmall (network_of new)) }
-    ensures refused { IfErr result (λ back. (network_of back.0 ≡ network_of network) × MakingRefused (Some (network_of network)) back.1) }
-{
-    match network {
-        HeldNetwork::Graph(graph) => match remake_graph(rt, alloc, command, graph, workers, gate) {
-            Ok(new) => Ok(new),
-            Err((graph, cause)) => Err((HeldNetwork::Graph(graph), cause)),
-        },
-        HeldNetwork::Luts(net) => match remake_luts(rt, alloc, command, &net, workers, gate) {
-            Ok(new) => Ok(new),
-            Err(cause) => Err((HeldNetwork::Luts(net), cause)),
-        },
+    let mut graph = graph_of(alloc, net)?;
+    match remake_graph(rt, alloc, recipe, &mut graph, workers, hook) {
+        Ok(None) => Ok(HeldNetwork::Graph(graph)),
+        Ok(Some(luts)) => {
+            drop(graph);
+            Ok(HeldNetwork::Luts(luts))
+        }
+        Err(_) => {
+            drop(graph);
+            Err(Refusal::NoMemory)
+        }
     }
 }

@@ -1,11 +1,17 @@
 //! What follows of a run.
 
 ghost use Rattle.syn_shell.specs.LineMode.{FewLines};
+ghost use Rattle.syn_shell.specs.Makes.{AreaIsNoWorse};
 ghost use Rattle.syn_shell.specs.Origins.{EachWriteKeeps};
 
 /// A run of lines runs at most 1,048,576 of them; one more is taken only to be refused.
 pub fn few_lines()
     ensures { FewLines }
+{}
+
+/// Mapping for few LUTs makes no more of them of a graph than plain mapping does, and none deeper.
+pub fn area_is_no_worse()
+    ensures { AreaIsNoWorse }
 {}
 
 /// Each write of a run, in either format, gives a netlist that means the same as the one that was read or generated last
@@ -17,6 +23,6 @@ pub fn each_write_keeps()
     syn_netlist::same_is_transitive();
     syn_seq::sequential_is_transitive();
     syn_seq::same_meaning_is_sequential();
-    syn_shapes::graph_has_function();
+    syn_network::graph_has_function();
     syn_netlist::same_from_function();
 }

@@ -16,7 +16,7 @@ mod session;
 mod whole_run;
 
 pub use arguments::worked_words;
-pub use laws::{each_write_keeps, few_lines};
+pub use laws::{area_is_no_worse, each_write_keeps, few_lines};
 pub use refusal::Refusal;
 pub use session::Session;
 pub use whole_run::run;

@@ -2,7 +2,7 @@
 
 ghost use Rattle.std.specs.Prelude.{◌≡◌, ◌≤◌, None, Option};
 ghost use Rattle.syn_io.specs.Outside.{Disk};
-ghost use Rattle.syn_shell.specs.Networks.{Network};
+ghost use Rattle.syn_shell.specs.Networks.{Written};
 ghost use Rattle.syn_shell.specs.LineMode.{most_lines};
 ghost use Rattle.syn_shell.specs.Outside.{state};
 ghost use Rattle.syn_shell.specs.Stopping.{first_status, Gave, RanLines, Turned};
@@ -13,7 +13,7 @@ use crate::scripts::{SCRIPT_LIMIT, run_script};
 use crate::session::Session;
 use std::alloc::Global;
 use std::thread::Threads;
-use syn_commit::Gate;
+use syn_commit::CommitHook;
 use syn_io::{Files, LineFault, Lines, Sink};
 use syn_workers::Workers;
 
@@ -47,14 +47,14 @@ fn first_status(status: u8, next: u8) -> u8
 }
 
 // Takes a line and runs it.
-fn take_turn<R: Threads + Sync, F: Files, L: Lines, O: Sink, G: Gate>(
+fn take_turn<R: Threads + Sync, F: Files, L: Lines, O: Sink, G: CommitHook>(
     rt: &R,
     alloc: Global,
     session: &mut Session,
     files: &mut F,
     lines: &mut L,
     out: &mut O,
-    gate: &G,
+    hook: &G,
 ) -> Turn
     ensures { Turned result (state session.old (F.disk files.old) (O.screen out.old)) (L.input lines.old)
         (state session.new (F.disk files.new) (O.screen out.new)) (L.input lines.new) }
@@ -64,7 +64,7 @@ fn take_turn<R: Threads + Sync, F: Files, L: Lines, O: Sink, G: Gate>(
         Ok(None) => return Turn::Ends(0),
         Err(cause) => return Turn::Ends(report_refusal(out, &cause, &[]).status()),
     };
-    match run_script(rt, alloc, session, line.as_slice(), files, out, gate) {
+    match run_script(rt, alloc, session, line.as_slice(), files, out, hook) {
         None => Turn::GoesOn(0),
         Some(Reported::Whole(status)) => Turn::GoesOn(status),
         Some(Reported::Cut(status)) => Turn::Ends(status),
@@ -73,7 +73,7 @@ fn take_turn<R: Threads + Sync, F: Files, L: Lines, O: Sink, G: Gate>(
 
 // Behind as many lines as are run a further one is refused.
 fn refuse_one_more_line<L: Lines, O: Sink>(alloc: Global, lines: &mut L, out: &mut O) -> u8
-    ensures each { (m : Option Network) (files : Disk) → RanLines result most_lines (state m files (O.screen out.old)) (L.input lines.old) (state m files (O.screen out.new)) (L.input lines.new) }
+    ensures each { (m : Option Written) (files : Disk) → RanLines result most_lines (state m files (O.screen out.old)) (L.input lines.old) (state m files (O.screen out.new)) (L.input lines.new) }
 {
     match next_line(alloc, lines) {
         Ok(None) => 0,
@@ -83,22 +83,22 @@ fn refuse_one_more_line<L: Lines, O: Sink>(alloc: Global, lines: &mut L, out: &m
 }
 
 /// Runs the lines, each as a script, and gives the status of the first refusal, 0 where nothing was refused.
-pub(crate) fn run_lines<R: Threads + Sync, F: Files, L: Lines, O: Sink, G: Gate>(
+pub(crate) fn run_lines<R: Threads + Sync, F: Files, L: Lines, O: Sink, G: CommitHook>(
     rt: &R,
     alloc: Global,
     workers: Workers,
     files: &mut F,
     lines: &mut L,
     out: &mut O,
-    gate: &G,
+    hook: &G,
 ) -> u8
-    ensures { (m : Option Network) × RanLines result 0 (state None (F.disk files.old) (O.screen out.old)) (L.input lines.old)
+    ensures { (m : Option Written) × RanLines result 0 (state None (F.disk files.old) (O.screen out.old)) (L.input lines.old)
         (state m (F.disk files.new) (O.screen out.new)) (L.input lines.new) }
 {
     let mut session = Session::new(workers);
     let mut status: u8 = 0;
     for _taken in 0..MAX_LINES {
-        match take_turn(rt, alloc, &mut session, files, lines, out, gate) {
+        match take_turn(rt, alloc, &mut session, files, lines, out, hook) {
             Turn::GoesOn(next) => status = first_status(status, next),
             Turn::Ends(next) => return first_status(status, next),
         }

@@ -6,8 +6,8 @@ ghost use Rattle.syn_rows.specs.Rows.{node_of};
 ghost use Rattle.syn_rows.specs.Levels.{level_in, levels_of};
 ghost use Rattle.syn_netlist.specs.Frames.{frame_in};
 ghost use Rattle.syn_netlist.specs.Lists.{Frame};
-ghost use Rattle.syn_graph.specs.Graphs as graphs;
-ghost use Rattle.syn_lutnet.specs.Nets as nets;
+ghost use Rattle.syn_network.specs.Written as graphs;
+ghost use Rattle.syn_network.specs.WrittenLuts as luts;
 ghost use Rattle.syn_shell.specs.Lines.{greatest, IsGraphLine, IsLutsLine, IsStatsLine, numbers_text};
 ghost use Rattle.syn_shell.specs.Outside.{Took};
 ghost use Rattle.syn_shell.specs.Networks.{network_of};
@@ -19,8 +19,8 @@ use itoa::Buffer;
 use std::alloc::{AllocError, Global};
 use syn_graph::Graph;
 use syn_io::Sink;
-use syn_lutnet::LutNet;
 use syn_netlist::Frame;
+use syn_network::{LutNetwork, Network};
 use syn_rows::Lit;
 
 fn push_text(line: &mut Vec<u8>, text: &[u8]) -> Result<(), AllocError>
@@ -95,25 +95,32 @@ fn numbers_line(
 }
 
 // The line of a graph.
-fn graph_line(alloc: Global, graph: &Graph) -> Result<Vec<u8>, AllocError>
-    ensures { IfOk result (λ line. IsGraphLine (graphs.network_of graph.now) line.items) }
+fn graph_line(alloc: Global, network: &Network) -> Result<Vec<u8>, AllocError>
+    ensures { IfOk result (λ line. IsGraphLine (graphs.network_of network.now) line.items) }
 {
+    let graph = &network.body;
     let depth = depth(alloc, graph)?;
     let ands = graph.rows.as_slice().len() - graph.source_count as usize - 1;
-    syn_shapes::network_of_graph();
-    syn_shapes::graph_counts_ands();
-    let line = numbers_line(alloc, &graph.frame, b" and = ", ands as u64, depth as u64)?;
+    syn_network::network_of_graph();
+    syn_network::graph_counts_ands();
+    let line = numbers_line(alloc, &network.frame, b" and = ", ands as u64, depth as u64)?;
     Ok(line)
 }
 
 // The line of a net of LUTs.
-fn luts_line(alloc: Global, net: &LutNet) -> Result<Vec<u8>, AllocError>
-    ensures { IfOk result (λ line. IsLutsLine (nets.network_of net.now) line.items) }
+fn luts_line(alloc: Global, network: &LutNetwork) -> Result<Vec<u8>, AllocError>
+    ensures { IfOk result (λ line. IsLutsLine (luts.network_of network.now) line.items) }
 {
-    syn_lutshapes::network_of_luts();
-    let depth = net.depth(alloc)?;
-    let count = net.count();
-    let line = numbers_line(alloc, &net.frame, b" lut = ", count as u64, depth as u64)?;
+    syn_network::network_of_luts();
+    let depth = network.body.depth(alloc)?;
+    let count = network.body.count();
+    let line = numbers_line(
+        alloc,
+        &network.frame,
+        b" lut = ",
+        count as u64,
+        depth as u64,
+    )?;
     Ok(line)
 }
 
@@ -122,8 +129,8 @@ fn network_line(alloc: Global, network: &HeldNetwork) -> Result<Vec<u8>, AllocEr
     ensures { IfOk result (λ line. IsStatsLine (network_of network.now) line.items) }
 {
     match network {
-        HeldNetwork::Graph(graph) => graph_line(alloc, graph),
-        HeldNetwork::Luts(net) => luts_line(alloc, net),
+        HeldNetwork::Graph(network) => graph_line(alloc, network),
+        HeldNetwork::Luts(network) => luts_line(alloc, network),
     }
 }
 

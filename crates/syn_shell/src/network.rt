@@ -1,21 +1,29 @@
 //! The network that a session holds.
 
-ghost use Rattle.std.specs.Prelude.{◌≡◌, IfOk};
+ghost use Rattle.std.specs.Prelude.{◌≡◌, ◌≤◌, IfErr, IfOk, OnOk, Some};
 ghost use Rattle.syn_netlist.specs.Faults.{IsChecked};
 ghost use Rattle.syn_netlist.specs.Views.{netlist_in};
-ghost use Rattle.syn_shell.specs.Networks.{network_of};
+ghost use Rattle.syn_build.specs.BuildFaults.{most_gates};
+ghost use Rattle.syn_shell.specs.Networks.{gates_in, IsSmall, network_of};
+ghost use Rattle.syn_shell.specs.Makes.{Makes};
+ghost use Rattle.syn_shell.specs.Steps.{MakingRefused};
 
+use crate::commands::{remade_luts, remake_graph};
+use crate::refusal::Refusal;
 use std::alloc::{AllocError, Global};
-use syn_graph::Graph;
-use syn_lutnet::LutNet;
+use std::thread::Threads;
+use syn_commit::CommitHook;
 use syn_netlist::Netlist;
+use syn_network::{LutNetwork, Network};
 use syn_text::{netlist_of, netlist_of_luts};
+use syn_words::Recipe;
+use syn_workers::Workers;
 
 /// The network that a session holds: a graph, or a net of LUTs.
 #[derive(Debug, Drop)]
 pub(crate) enum HeldNetwork {
-    Graph(Graph),
-    Luts(LutNet),
+    Graph(Network),
+    Luts(LutNetwork),
 }
 
 impl HeldNetwork {
@@ -25,8 +33,41 @@ impl HeldNetwork {
         ensures checked { IfOk result (λ n. IsChecked (netlist_in n)) }
     {
         match self {
-            HeldNetwork::Graph(graph) => netlist_of(alloc, graph),
-            HeldNetwork::Luts(net) => netlist_of_luts(alloc, net),
+            HeldNetwork::Graph(network) => netlist_of(alloc, network),
+            HeldNetwork::Luts(network) => netlist_of_luts(alloc, network),
+        }
+    }
+
+    /// Makes it anew by a recipe, with so many workers where this names none. Refused, it stays.
+    pub(crate) fn remake<R: Threads + Sync, G: CommitHook>(
+        &mut self,
+        rt: &R,
+        alloc: Global,
+        recipe: &Recipe,
+        workers: Workers,
+        hook: &G,
+    ) -> Result<(), Refusal>
+        requires { IsSmall (network_of self.old) }
+        ensures made { OnOk result (Makes recipe.now (network_of self.old) (network_of self.new)) }
+        ensures gates { OnOk result (gates_in (network_of self.old) ≤ most_gates) }
+        ensures small { OnOk result (IsSmall (network_of self.new)) }
+        ensures stays { IfErr result (λ cause. network_of self.new ≡ network_of self.old) }
+        ensures refused { IfErr result (MakingRefused (Some (network_of self.old))) }
+    {
+        match self {
+            HeldNetwork::Graph(network) => {
+                match remake_graph(rt, alloc, recipe, network, workers, hook)? {
+                    None => Ok(()),
+                    Some(luts) => {
+                        *self = HeldNetwork::Luts(luts);
+                        Ok(())
+                    }
+                }
+            }
+            HeldNetwork::Luts(net) => {
+                *self = remade_luts(rt, alloc, recipe, net, workers, hook)?;
+                Ok(())
+            }
         }
     }
 }

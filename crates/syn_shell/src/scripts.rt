@@ -10,7 +10,7 @@ use crate::refusal_lines::{Reported, report_refusal};
 use crate::session::Session;
 use std::alloc::Global;
 use std::thread::Threads;
-use syn_commit::Gate;
+use syn_commit::CommitHook;
 use syn_io::{Files, Sink};
 use syn_words::{Command, ScriptFault, parse_script};
 
@@ -62,20 +62,20 @@ fn commands_in(alloc: Global, text: &[u8]) -> Result<Vec<Command>, Refusal>
 }
 
 // The commands one after the other, up to the first that is refused.
-fn run_commands<'a, R: Threads + Sync, F: Files, O: Sink, G: Gate>(
+fn run_commands<'a, R: Threads + Sync, F: Files, O: Sink, G: CommitHook>(
     rt: &R,
     alloc: Global,
     session: &mut Session,
     commands: &'a [Command],
     files: &mut F,
     out: &mut O,
-    gate: &G,
+    hook: &G,
 ) -> Result<(), Stopped<'a>>
     ensures { RunsCommands commands.now (state session.old (F.disk files.old) (O.screen out.old))
         (outcome_of result) (state session.new (F.disk files.new) (O.screen out.new)) }
 {
     for command in commands {
-        if let Err(cause) = session.step(rt, alloc, command, files, out, gate) {
+        if let Err(cause) = session.step(rt, alloc, command, files, out, hook) {
             return Err(stopped_at(command, cause));
         }
     }
@@ -83,14 +83,14 @@ fn run_commands<'a, R: Threads + Sync, F: Files, O: Sink, G: Gate>(
 }
 
 /// Runs a script and tells its refusal, if there is one.
-pub(crate) fn run_script<R: Threads + Sync, F: Files, O: Sink, G: Gate>(
+pub(crate) fn run_script<R: Threads + Sync, F: Files, O: Sink, G: CommitHook>(
     rt: &R,
     alloc: Global,
     session: &mut Session,
     text: &[u8],
     files: &mut F,
     out: &mut O,
-    gate: &G,
+    hook: &G,
 ) -> Option<Reported>
     ensures { Leaves result text.now (state session.old (F.disk files.old) (O.screen out.old))
         (state session.new (F.disk files.new) (O.screen out.new)) }
@@ -99,7 +99,7 @@ pub(crate) fn run_script<R: Threads + Sync, F: Files, O: Sink, G: Gate>(
         Ok(commands) => commands,
         Err(cause) => return Some(report_refusal(out, &cause, &[])),
     };
-    match run_commands(rt, alloc, session, commands.as_slice(), files, out, gate) {
+    match run_commands(rt, alloc, session, commands.as_slice(), files, out, hook) {
         Ok(()) => None,
         Err(stopped) => Some(report_refusal(out, &stopped.cause, stopped.name)),
     }

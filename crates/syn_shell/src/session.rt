@@ -5,16 +5,15 @@ ghost use Rattle.syn_io.specs.Outside.{Rose};
 ghost use Rattle.syn_netlist.specs.Views.{netlist_in};
 ghost use Rattle.syn_reader.specs.Reading.{Reads};
 ghost use Rattle.syn_reader.specs.Limits.{Within};
-ghost use Rattle.syn_shapes.specs.Printed.{printed};
-ghost use Rattle.syn_graph.specs.Graphs as graphs;
+ghost use Rattle.syn_text.specs.Printed.{printed};
+ghost use Rattle.syn_network.specs.Written as graphs;
 ghost use Rattle.syn_build.specs.Building.{IsGraphOf};
 ghost use Rattle.syn_gen.specs.Generated.{generated};
 ghost use Rattle.syn_shell.specs.Networks.{graph_network, IsSmall, network_of};
 ghost use Rattle.syn_shell.specs.Outside.{FileIs, FilesUnchanged, OthersUnchanged, state};
-ghost use Rattle.syn_shell.specs.Steps.{file_limit, GeneratingRefused, IsReadAs, kind_of, Making, MakingRefused, ParseRefused, ReadRefused, Remakes, SessionStep, WriteRefused};
+ghost use Rattle.syn_shell.specs.Steps.{file_limit, GeneratingRefused, IsReadAs, MakingRefused, ParseRefused, ReadRefused, Remakes, SessionStep, WriteRefused};
 
 use crate::aiger;
-use crate::commands::remake;
 use crate::files::{get, put};
 use crate::lines::print_stats;
 use crate::network::HeldNetwork;
@@ -23,16 +22,16 @@ use std::alloc::{AllocError, Global};
 use std::marker::Model;
 use std::thread::Threads;
 use syn_build::{build, build_checked};
-use syn_commit::Gate;
-use syn_graph::Graph;
+use syn_commit::CommitHook;
 use syn_io::{Files, Sink};
 use syn_netlist::CheckedNetlist;
+use syn_network::Network;
 use syn_reader::ReadFault;
-use syn_words::Command;
+use syn_words::{Command, Recipe};
 use syn_workers::Workers;
 
-/// What is kept from command to command: the network, a graph or a net of LUTs. Contracts see the netlist that it is
-/// written as, with the mark whether it is a net of LUTs. The number of workers changes nothing that they see.
+/// What is kept from command to command: the network, a graph or a net of LUTs. Contracts see it as it is written: the
+/// netlist, with the mark whether it is a net of LUTs. The number of workers changes nothing that they see.
 #[derive(Debug, Drop)]
 pub struct Session {
     network: Option<HeldNetwork>,
@@ -41,9 +40,9 @@ pub struct Session {
 
 impl Model for Session {
     ghost use Rattle.std.specs.Prelude.{◌≤◌, IfSome, Option};
-    ghost use Rattle.syn_shell.specs.Networks.{IsSmall, Network, network_in};
+    ghost use Rattle.syn_shell.specs.Networks.{IsSmall, Written, network_in};
 
-    ghost Value = { Option Network };
+    ghost Value = { Option Written };
 
     ghost view = { λ session. network_in session.network };
 
@@ -66,7 +65,7 @@ fn parse(alloc: Global, bytes: &[u8]) -> Result<CheckedNetlist, Refusal>
 }
 
 // The graph of a file's netlist.
-fn read<F: Files>(alloc: Global, name: &str, files: &mut F) -> Result<Graph, Refusal>
+fn read<F: Files>(alloc: Global, name: &str, files: &mut F) -> Result<Network, Refusal>
     ensures read { IfOk result (λ graph. IsReadAs name.now (F.disk files.old) (graphs.network_of graph)) }
     ensures small { IfOk result (λ graph. IsSmall (graph_network (graphs.network_of graph))) }
     ensures refused { IfErr result (ReadRefused name.now (F.disk files.old) (F.disk files.new)) }
@@ -80,7 +79,7 @@ fn read<F: Files>(alloc: Global, name: &str, files: &mut F) -> Result<Graph, Ref
 }
 
 // The graph of the netlist of a seed and a size.
-fn generated(alloc: Global, seed: u64, size: u16) -> Result<Graph, Refusal>
+fn generated(alloc: Global, seed: u64, size: u16) -> Result<Network, Refusal>
     ensures generated { IfOk result (λ graph. IsGraphOf (generated seed size) (graphs.network_of graph)) }
     ensures small { IfOk result (λ graph. IsSmall (graph_network (graphs.network_of graph))) }
     ensures refused { IfErr result GeneratingRefused }
@@ -130,43 +129,33 @@ impl Session {
         }
     }
 
-    // Makes the network anew.
-    fn make<R: Threads + Sync, G: Gate>(
+    // Makes the network anew by a recipe.
+    fn make<R: Threads + Sync, G: CommitHook>(
         &mut self,
         rt: &R,
         alloc: Global,
-        command: &Command,
-        gate: &G,
+        recipe: &Recipe,
+        hook: &G,
     ) -> Result<(), Refusal>
-        requires { kind_of command.now ≡ Making }
-        ensures made { OnOk result (Remakes command.now self.old self.new) }
+        ensures made { OnOk result (Remakes recipe.now self.old self.new) }
         ensures refused { IfErr result (λ cause. MakingRefused self.old cause × (self.new ≡ self.old)) }
     {
-        let Some(network) = self.network.take() else {
-            return Err(Refusal::NoNetwork);
-        };
-        match remake(rt, alloc, command, network, self.workers, gate) {
-            Ok(new) => {
-                self.network = Some(new);
-                Ok(())
-            }
-            Err((same, cause)) => {
-                self.network = Some(same);
-                Err(cause)
-            }
+        match &mut self.network {
+            None => Err(Refusal::NoNetwork),
+            Some(network) => network.remake(rt, alloc, recipe, self.workers, hook),
         }
     }
 
-    /// Does one command. Refused, it leaves the network. The gate is told of each commit of rewriting, refactoring
+    /// Does one command. Refused, it leaves the network. The hook is told of each commit of rewriting, refactoring
     /// and resubstitution.
-    pub fn step<R: Threads + Sync, F: Files, O: Sink, G: Gate>(
+    pub fn step<R: Threads + Sync, F: Files, O: Sink, G: CommitHook>(
         &mut self,
         rt: &R,
         alloc: Global,
         command: &Command,
         files: &mut F,
         out: &mut O,
-        gate: &G,
+        hook: &G,
     ) -> Result<(), Refusal>
         ensures { SessionStep command.now (state self.old (F.disk files.old) (O.screen out.old)) result (state self.new (F.disk files.new) (O.screen out.new)) }
     {
@@ -198,14 +187,7 @@ impl Session {
                 None => Err(Refusal::NoNetwork),
                 Some(network) => aiger::write(alloc, network, *ascii, name.as_str(), files),
             },
-            Command::Strash
-            | Command::Balance
-            | Command::Rewrite(_)
-            | Command::Refactor(_)
-            | Command::Resubstitute(_)
-            | Command::Map { .. }
-            | Command::MapByFlow(_)
-            | Command::Sweep => self.make(rt, alloc, command, gate),
+            Command::Make(recipe) => self.make(rt, alloc, recipe, hook),
         }
     }
 }

@@ -13,38 +13,38 @@ use crate::scripts::run_script;
 use crate::session::Session;
 use std::alloc::Global;
 use std::thread::Threads;
-use syn_commit::Gate;
+use syn_commit::CommitHook;
 use syn_io::{Files, Lines, Sink};
 use syn_workers::Workers;
 
 // Runs one script, and gives the status of its refusal, 0 where nothing was refused.
-fn run_one<R: Threads + Sync, F: Files, O: Sink, G: Gate>(
+fn run_one<R: Threads + Sync, F: Files, O: Sink, G: CommitHook>(
     rt: &R,
     alloc: Global,
     workers: Workers,
     text: &[u8],
     files: &mut F,
     out: &mut O,
-    gate: &G,
+    hook: &G,
 ) -> u8
     ensures { RanOne result text.now (F.disk files.old) (O.screen out.old) (F.disk files.new) (O.screen out.new) }
 {
     let mut session = Session::new(workers);
-    match run_script(rt, alloc, &mut session, text, files, out, gate) {
+    match run_script(rt, alloc, &mut session, text, files, out, hook) {
         None => 0,
         Some(announcement) => announcement.status(),
     }
 }
 
 // Runs what the words mean.
-fn run_words<R: Threads + Sync, F: Files, L: Lines, O: Sink, G: Gate>(
+fn run_words<R: Threads + Sync, F: Files, L: Lines, O: Sink, G: CommitHook>(
     rt: &R,
     alloc: Global,
     words: &[String],
     files: &mut F,
     lines: &mut L,
     out: &mut O,
-    gate: &G,
+    hook: &G,
 ) -> u8
     ensures ran { Ran (map string_bytes words.now) (F.disk files.old) (O.screen out.old) (L.input lines.old)
         (F.disk files.new) (O.screen out.new) (L.input lines.new) result }
@@ -54,7 +54,7 @@ fn run_words<R: Threads + Sync, F: Files, L: Lines, O: Sink, G: Gate>(
         Err(cause) => return report_refusal(out, &cause, &[]).status(),
     };
     match asked.script {
-        None => run_lines(rt, alloc, asked.workers, files, lines, out, gate),
+        None => run_lines(rt, alloc, asked.workers, files, lines, out, hook),
         Some(script) => run_one(
             rt,
             alloc,
@@ -62,7 +62,7 @@ fn run_words<R: Threads + Sync, F: Files, L: Lines, O: Sink, G: Gate>(
             script.as_bytes(),
             files,
             out,
-            gate,
+            hook,
         ),
     }
 }
@@ -75,14 +75,14 @@ fn run_words<R: Threads + Sync, F: Files, L: Lines, O: Sink, G: Gate>(
 /// A status of 7 comes only where a call of the files, of the lines or of the sink failed. Where the words are well
 /// formed, scripts and lines are within their limits and spell commands, what each command needs is there in the state
 /// in which it is run, and no such call failed, the status is 0, or 8 for want of memory.
-pub fn run<R: Threads + Sync, F: Files, L: Lines, O: Sink, G: Gate>(
+pub fn run<R: Threads + Sync, F: Files, L: Lines, O: Sink, G: CommitHook>(
     rt: &R,
     alloc: Global,
     words: &[String],
     files: &mut F,
     lines: &mut L,
     out: &mut O,
-    gate: &G,
+    hook: &G,
 ) -> u8
     ensures ran { Ran (map string_bytes words.now) (F.disk files.old) (O.screen out.old) (L.input lines.old)
         (F.disk files.new) (O.screen out.new) (L.input lines.new) result }
@@ -94,5 +94,5 @@ pub fn run<R: Threads + Sync, F: Files, L: Lines, O: Sink, G: Gate>(
 {
     syn_reader::not_both();
     syn_aiger::not_both();
-    run_words(rt, alloc, words, files, lines, out, gate)
+    run_words(rt, alloc, words, files, lines, out, hook)
 }

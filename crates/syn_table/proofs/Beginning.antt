@@ -12,10 +12,8 @@ use Rattle.syn_rows.specs.declared.Lit.{Lit}
 use Rattle.syn_rows.specs.Packing.{word_of, Packs}
 use Rattle.syn_rows.specs.Rows.{row_at, node_of, AllRefs}
 use Rattle.syn_rows.specs.References.{refs, refs_by_rows, refs_by_literals, sum_below, times}
-use Rattle.syn_netlist.specs.Lists.{Frame, sources}
 use Rattle.syn_hashed.specs.Hashed.{is_gate, IsHashed}
-use Rattle.syn_shapes.specs.Graphs.{IsGraph}
-use Rattle.syn_netlist.specs.Frames.{frame_in}
+use Rattle.syn_graph.specs.Graphs.{IsGraph}
 use Rattle.syn_graph.specs.declared.Graph.{Graph}
 use Rattle.syn_hashed.proofs.Orders.{hashed_in_order}
 use Rattle.syn_core_laws.specs.declared.View.{View}
@@ -141,12 +139,12 @@ used count rows hashed n lt free = elim (side count n) [
     side count n = grind arith
 
 -- keys that rise along the references of a graph's rows are keys of a start
-pub graph_starts : (frame : Frame) (rows : List Row) (observed : List Lit) (keys : List ℕ) → IsGraph frame rows observed → AreKeys rows keys → IsStart rows observed keys
-graph_starts frame rows observed keys g k = record {
+pub graph_starts : (count : ℕ) (rows : List Row) (observed : List Lit) (keys : List ℕ) → IsGraph count rows observed → AreKeys rows keys → IsStart rows observed keys
+graph_starts count rows observed keys g k = record {
   count = k.count;
   constant = g.hashed.front 0 (omega arith);
   source_keys = k.sources;
-  rests = λ n. rest n (row_at rows n) refl (hashed_in_order (length (sources frame)) rows g.hashed n) (k.rise n);
+  rests = λ n. rest n (row_at rows n) refl (hashed_in_order count rows g.hashed n) (k.rise n);
   observes = there observed g.within;
 }
   where
@@ -158,7 +156,7 @@ graph_starts frame rows observed keys g k = record {
         side m n = grind arith
 
     below_used : (n m : ℕ) → row_at rows n ≢ Free → m < n → row_at rows m ≢ Free
-    below_used n m is lt = let there : n < length rows = inside n is in used (length (sources frame)) rows g.hashed m (omega arith)
+    below_used n m is lt = let there : n < length rows = inside n is in used count rows g.hashed m (omega arith)
 
     rest : (n : ℕ) (r : Row) → row_at rows n ≡ r → AllRefs (λ m. m < n) r → AllRefs (λ m. get_or keys m 0 < get_or keys n 0) r → RowRests rows keys n r
     rest n Free is below less = tt
@@ -170,7 +168,7 @@ graph_starts frame rows observed keys g k = record {
 
     there : (ls : List Lit) → All (λ l. node_of l < length rows) ls → AllThere rows ls
     there [] all = tt
-    there (l ∷ ls) all = (used (length (sources frame)) rows g.hashed (node_of l) (all 0 l (omega arith)), there ls (λ k x lt. all (suc k) x (omega arith)))
+    there (l ∷ ls) all = (used count rows g.hashed (node_of l) (all 0 l (omega arith)), there ls (λ k x lt. all (suc k) x (omega arith)))
 
 -- ---- the state at the start
 -- the only seat is the first
@@ -210,7 +208,7 @@ module _ (o : Opening) (counts keys words : List ℕ) where
 
   pub first_table : CanOpen o.graph.value o.spare counts keys words → IsCore o (Table.opening words [] (first_known o))
   first_table can =
-      let starts : IsStart graph_rows literals keys = graph_starts (frame_in o.graph.value.frame) graph_rows literals keys o.graph.value.graph can.rising in
+      let starts : IsStart graph_rows literals keys = graph_starts o.graph.value.source_count graph_rows literals keys o.graph.value.graph can.rising in
       let sound : IsSound core = openings_are_sound graph_rows literals keys o.spare 1 starts (omega arith) in (
         core,
         record {
@@ -241,9 +239,9 @@ module _ (o : Opening) (counts keys words : List ℕ) where
       first_view v (suc id) at = absurd (some-ne-none v (sym at))
 
 -- ---- the rows of a graph fit words
-pub rows_pack : (frame : Frame) (rows : List Row) (observed : List Lit) → IsGraph frame rows observed → length rows < NODE_LIMIT → (n : ℕ) → Packs (row_at rows n)
-rows_pack frame rows observed g few n = elim (side (length rows) n) [
-  | inl lt ↦ go (row_at rows n) (hashed_in_order (length (sources frame)) rows g.hashed n) lt
+pub rows_pack : (count : ℕ) (rows : List Row) (observed : List Lit) → IsGraph count rows observed → length rows < NODE_LIMIT → (n : ℕ) → Packs (row_at rows n)
+rows_pack count rows observed g few n = elim (side (length rows) n) [
+  | inl lt ↦ go (row_at rows n) (hashed_in_order count rows g.hashed n) lt
   | inr le ↦ subst Packs (sym (row_past rows n le)) tt
 ]
   where

@@ -9,3 +9,4 @@ pub mod SplitLaws
 pub mod JoinLaws
 pub mod CloseLaws
 pub mod Reading
+mod Spreading

@@ -7,3 +7,5 @@ pub mod Events
 pub mod Steps
 pub mod Splitting
 pub mod Closing
+pub mod Keys
+pub mod WorkedKeys

@@ -7,6 +7,7 @@ ghost use Rattle.syn_table.specs.Openings.{opened_literals};
 ghost use Rattle.syn_table.specs.Rule.{IsActive, IsCore, first_known};
 
 mod closed;
+mod keys;
 mod plays;
 mod seats;
 mod starts;
@@ -17,12 +18,13 @@ mod words;
 use arrayvec::ArrayVec;
 use atomic_table::{Table, TableRule};
 pub use closed::Rows;
+pub use keys::{between, spread, worked_keys};
 use std::alloc::Global;
 use std::collections::LinkedList;
 use std::snapshot::Snapshot;
 use syn_core_laws::View;
 use syn_graph::Graph;
-use syn_netlist::Items;
+use syn_lists::Items;
 use syn_rows::{Lit, Row};
 
 /// What a table is opened with.

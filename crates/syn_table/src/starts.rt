@@ -16,7 +16,7 @@ use atomic_table::Table;
 use std::alloc::{AllocError, Global};
 use std::snapshot::Snapshot;
 use syn_graph::Graph;
-use syn_netlist::Items;
+use syn_lists::Items;
 use syn_rows::Row;
 
 impl Shared {

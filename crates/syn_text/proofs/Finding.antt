@@ -7,8 +7,8 @@ use Rattle.syn_netlist.specs.Numbers.{word_at, words_at, with_word, all_below, G
 use Rattle.syn_netlist.specs.Words.{has_word, distinct}
 use Rattle.syn_netlist.proofs.Growing.{Grows-with_word, words_at-grows, all_below-more, length-grows}
 use Rattle.syn_netlist.proofs.Places.{has_words, all_below-append, below_from}
-use Rattle.syn_shapes.specs.Spelling.{inner_word, free_names, inner_names}
-use Rattle.syn_shapes.proofs.Inner.{many_free, free_names_more, free_names_found}
+use Rattle.syn_network.specs.Spelling.{inner_word, free_names, inner_names}
+use Rattle.syn_network.proofs.Inner.{many_free, free_names_more, free_names_found}
 
 -- a mark tells whether the name of its number is in the set
 pub marked_has : (names : List (List ℕ)) (numbers : List ℕ) (marks : List Bool) (i : ℕ) (d : Bool) → distinct names ≡ true → all_below (length names) numbers ≡ true → length marks ≡ length names → AreMarks numbers marks → i < length names

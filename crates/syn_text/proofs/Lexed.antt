@@ -7,7 +7,7 @@ use Rattle.std.proofs.lemmas.Bool.{both_ways, cond-true, cond-false, and_parts, 
 use Rattle.syn_lex.specs.Words.{Word, text_of, is_word_byte, begins_word, grown, words_at}
 use Rattle.syn_lex.specs.Lines.{LogicalLine, is_nil, physical_lines, without_comment, may_stand, is_blank_end, bad_byte_of_line, bad_byte_of_lines, joins, joined, joined_lines, has_words}
 use Rattle.syn_netlist.specs.Words.{is_word}
-use Rattle.syn_shapes.specs.Printed.{blanked, line}
+use Rattle.syn_netlist.specs.TextLines.{blanked, line}
 use Rattle.syn_reader.specs.declared.Kind.{Kind}
 use Rattle.syn_reader.specs.declared.Kind.TheVariants as kinds
 use Rattle.syn_reader.specs.Statements.{Statement, begins_with_dot, statement_at, statement_of, statements}

@@ -11,3 +11,4 @@ mod Tabling
 mod Whole
 mod LutWhole
 pub mod Shaped
+mod Samples

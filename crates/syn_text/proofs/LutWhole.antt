@@ -1,5 +1,5 @@
 -- The whole netlist of a LUT net, from the numbers of its names.
-use Rattle.std.proofs.Common.{◌≡◌, ℕ, zero, suc, ◌+◌, ◌-◌, ◌/◌, ◌%◌, ◌^◌, ◌<◌, ◌≤◌, ◌&&◌, if◌then◌else◌, nat_eq, nat_le, nat_lt, Bool, true, false, List, [], ◌∷◌, ◌++◌, length, map, filter, get_or, drop, refl, sym, ap, ap₂, ◌∙◌, subst, append_assoc, inl, inr, arith}
+use Rattle.std.proofs.Common.{◌≡◌, ℕ, zero, suc, ◌+◌, ◌-◌, ◌/◌, ◌%◌, ◌<◌, ◌≤◌, if◌then◌else◌, nat_eq, nat_le, nat_lt, Bool, true, false, List, [], ◌∷◌, ◌++◌, length, map, filter, get_or, drop, refl, sym, ap, ap₂, ◌∙◌, subst, append_assoc, inl, inr, arith}
 use Rattle.std.specs.List.{list_all}
 use Rattle.std.proofs.lemmas.Bool.{and_parts, and_from, or_cases, le-leb, leb-true, ltb-true, eq-eqb, eqb-true}
 use Rattle.std.proofs.lemmas.List.{drop_more, length-map, length-append, get_or-map}
@@ -13,14 +13,17 @@ use Rattle.syn_netlist.specs.Kept.{is_row_character, polarity_fits, row_fits, ro
 use Rattle.syn_netlist.specs.Lists.{Frame, Table, output_of, sources}
 use Rattle.syn_netlist.specs.Numbers.{word_at, words_at, all_below}
 use Rattle.syn_netlist.specs.Words.{distinct}
-use Rattle.syn_shapes.specs.Spelling.{numbers_from, ends_from}
+use Rattle.syn_network.specs.Spelling.{ends_from}
+use Rattle.syn_lists.specs.Numbers.{numbers_from}
 use Rattle.syn_truth.specs.declared.Truth.{Truth}
 use Rattle.syn_truth.specs.Truth.{value_at}
-use Rattle.syn_lutshapes.specs.Luts as spelled
-use Rattle.syn_lutshapes.specs.Luts.{is_input, is_lut, lut_at, IsLutNet, none_exceeds}
-use Rattle.syn_lutshapes.specs.LutSpelling.{minterm_row, signal_name, lut_table, lut_tables_of, lut_network}
-use Rattle.syn_lutshapes.proofs.LutTables.{lut_parts, length-minterm_row, signs_row}
-use Rattle.syn_lutshapes.proofs.LutNetworks.{network_spells_luts}
+use Rattle.syn_lutnet.specs.LutData as spelled
+use Rattle.syn_lutnet.specs.LutData.{is_input, is_lut, lut_at}
+use Rattle.syn_network.specs.NamedLutNets.{IsNamedLutNet}
+use Rattle.syn_network.specs.LutSpelling.{minterm_row, signal_name, lut_table, lut_tables_of, lut_network}
+use Rattle.syn_lutnet.proofs.LutParts.{lut_parts}
+use Rattle.syn_network.proofs.LutTables.{length-minterm_row, signs_row}
+use Rattle.syn_network.proofs.LutNetworks.{network_spells_luts}
 use Rattle.syn_lutnet.specs.declared.luts.Lut.{Lut}
 use Rattle.syn_lutnet.specs.Data.{lut_data, luts_data}
 use Rattle.syn_text.specs.Numbered.{signal_number, is_signal, is_within, reads_named, IsNumbered}
@@ -113,7 +116,7 @@ luts_named n count (l ∷ ls) fits h =
     and_from (reads_named count l) (list_all (reads_named count) ls) (inputs_named (n + 0) count l.inputs (omega (arith, fits)) (lut_parts (n + 0) l (h 0 (omega arith))).inside)
     (luts_named (n + 1) count ls (omega (arith, fits)) (λ j lt. ap (λ k. is_lut k (lut_at ls j)) (let s : n + 1 + j ≡ n + suc j = omega arith in s) ∙ h (suc j) (omega (arith, lt))))
 
-module _ (frame : Frame) (luts : List spelled.Lut) (lits : List Lit) (names more : List (List ℕ)) (srcs signals inner : List ℕ) (net : IsLutNet frame luts lits) (numbered : IsNumbered frame (length luts) names more srcs signals inner) where
+module _ (frame : Frame) (luts : List spelled.Lut) (lits : List Lit) (names more : List (List ℕ)) (srcs signals inner : List ℕ) (net : IsNamedLutNet frame luts lits) (numbered : IsNumbered frame (length luts) names more srcs signals inner) where
   length-nodes : length (srcs ++ inner) ≡ length (sources frame) + length luts
   length-nodes = omega (arith, length-append srcs inner, length-sources frame names srcs numbered.source_words, length-inner frame (length luts) names more srcs signals inner numbered)
 
@@ -131,13 +134,8 @@ module _ (frame : Frame) (luts : List spelled.Lut) (lits : List Lit) (names more
       (ends_are frame (length luts) lits names more srcs signals inner numbered)
 
 -- the netlist of a LUT net defines no name twice
-pub lut_network_once : (frame : code.Frame) (luts : List spelled.Lut) (lits : List Lit) → IsLutNet (frame_in frame) luts lits → distinct (sources (frame_in frame) ++ map output_of (lut_network (frame_in frame) luts lits).tables) ≡ true
+pub lut_network_once : (frame : code.Frame) (luts : List spelled.Lut) (lits : List Lit) → IsNamedLutNet (frame_in frame) luts lits → distinct (sources (frame_in frame) ++ map output_of (lut_network (frame_in frame) luts lits).tables) ≡ true
 lut_network_once frame luts lits net = (network_spells_luts (frame_in frame) luts lits frame.clocks_once frame.sources_once net).ordered.once.all
-
--- no LUT has more than 8 inputs
-pub eight_exceeded_by_none : (luts : List Lut) → none_exceeds 8 (luts_data luts) ≡ true
-eight_exceeded_by_none [] = refl
-eight_exceeded_by_none (l ∷ ls) = and_from (nat_le (length l.inputs.items) 8) (none_exceeds 8 (luts_data ls)) (le-leb (length l.inputs.items) 8 (omega (arith, l.vars, l.truth.few))) (eight_exceeded_by_none ls)
 
 -- one character more of a row
 pub row_next : (left rest : ℕ) (before after : List ℕ) (all : List ℕ) (character half : ℕ) → 0 < left → character ≡ (if nat_eq (rest % 2) 0 then 48 else 49) → half ≡ rest / 2 → after ≡ before ++ character ∷ []

@@ -9,11 +9,11 @@ use Rattle.syn_netlist.specs.Lists.{Table, Netlist, output_of, latch_reads, sour
 use Rattle.syn_netlist.specs.Order.{Ordered, defined, reads_known}
 use Rattle.syn_netlist.specs.Words.{has_word, without, firsts}
 use Rattle.syn_netlist.proofs.Sets.{has_word-append, has_left, has_right, all_at, all_each}
-use Rattle.syn_shapes.specs.GraphShape.{and_tables, end_tables}
-use Rattle.syn_lutshapes.specs.LutShape.{lut_tables}
-use Rattle.syn_lutshapes.specs.LutShape as luts
+use Rattle.syn_network.specs.GraphShape.{and_tables, end_tables}
+use Rattle.syn_network.specs.LutShape.{lut_tables}
+use Rattle.syn_network.specs.LutShape as luts
 use Rattle.syn_models.proofs.Driven.{find_none}
-use Rattle.syn_shapes.proofs.Spelled.{has_without}
+use Rattle.syn_network.proofs.Spelled.{has_without}
 use Rattle.syn_text.specs.WellFormed.{ShapedIsChecked, LutsAreChecked}
 
 -- each word of a list is among its first ones

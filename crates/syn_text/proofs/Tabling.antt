@@ -9,7 +9,7 @@ use Rattle.syn_rows.specs.declared.Row.TheVariants.{Free}
 use Rattle.syn_netlist.specs.Words.{has_word}
 use Rattle.syn_netlist.specs.Lists.{Table}
 use Rattle.syn_netlist.specs.Numbers.{word_at, words_at, all_below}
-use Rattle.syn_shapes.specs.Spelling.{gate_table, gate_tables, output_table, ends_from}
+use Rattle.syn_network.specs.Spelling.{gate_table, gate_tables, output_table, ends_from}
 
 -- what was pushed goes from the tables that are left to those that are there
 pub left_next : (before mine rest all after : List Table) → after ≡ before ++ mine → before ++ (mine ++ rest) ≡ all → after ++ rest ≡ all

@@ -15,13 +15,13 @@ use Rattle.syn_netlist.specs.Numbers.{word_at, words_at, all_below}
 use Rattle.syn_netlist.specs.Words.{distinct}
 use Rattle.syn_netlist.proofs.Growing.{words_at-grows, all_below-more, length-grows}
 use Rattle.syn_netlist.proofs.Places.{all_below-append}
-use Rattle.syn_shapes.specs.Graphs.{IsGraph}
-use Rattle.syn_shapes.specs.Spelling.{inner_names, gates_of, gate_tables, ends_from, network}
-use Rattle.syn_shapes.proofs.Inner.{length-inner_names}
-use Rattle.syn_shapes.proofs.Gates.{AreGates, hashed_gates, gate_parts, first_there, first_below, second_there}
-use Rattle.syn_shapes.proofs.Networks.{network_spells}
+use Rattle.syn_network.specs.NamedGraphs.{IsNamedGraph}
+use Rattle.syn_network.specs.Spelling.{inner_names, gates_of, gate_tables, ends_from, network}
+use Rattle.syn_network.proofs.Inner.{length-inner_names}
+use Rattle.syn_network.proofs.Gates.{AreGates, hashed_gates, gate_parts, first_there, first_below, second_there}
+use Rattle.syn_network.proofs.SpelledNetworks.{network_spells}
 use Rattle.syn_text.specs.Numbered.{is_named, is_within, is_named_gate, IsNumbered}
-use Rattle.syn_graph.proofs.Observing.{few_signals}
+use Rattle.syn_network.proofs.Observing.{few_signals}
 
 -- what the parts have of a graph
 
@@ -65,23 +65,23 @@ length-inner frame count names more srcs signals inner n =
 pub gates_slice : (frame : Frame) (rows : List Row) (names : List (List ℕ)) (srcs : List ℕ) → words_at names srcs ≡ sources frame → take (length rows - (length srcs + 1)) (drop (length srcs + 1) rows) ≡ gates_of frame rows
 gates_slice frame rows names srcs e = take_rest rows (length srcs + 1) ∙ ap (λ k. drop (k + 1) rows) (length-sources frame names srcs e)
 
-length-nodes : (frame : Frame) (rows : List Row) (lits : List Lit) (names more : List (List ℕ)) (srcs signals inner : List ℕ) → IsGraph frame rows lits → IsNumbered frame (length (gates_of frame rows)) names more srcs signals inner → length (srcs ++ inner) + 1 ≡ length rows
+length-nodes : (frame : Frame) (rows : List Row) (lits : List Lit) (names more : List (List ℕ)) (srcs signals inner : List ℕ) → IsNamedGraph frame rows lits → IsNumbered frame (length (gates_of frame rows)) names more srcs signals inner → length (srcs ++ inner) + 1 ≡ length rows
 length-nodes frame rows lits names more srcs signals inner graph n =
     omega (arith, length-append srcs inner, length-sources frame names srcs n.source_words, length-inner frame (length (gates_of frame rows)) names more srcs signals inner n, length-drop (length (sources frame) + 1) rows, graph.hashed.there)
 
-pub gates_are_named : (frame : Frame) (rows : List Row) (lits : List Lit) (names more : List (List ℕ)) (srcs signals inner : List ℕ) → IsGraph frame rows lits → IsNumbered frame (length (gates_of frame rows)) names more srcs signals inner
+pub gates_are_named : (frame : Frame) (rows : List Row) (lits : List Lit) (names more : List (List ℕ)) (srcs signals inner : List ℕ) → IsNamedGraph frame rows lits → IsNumbered frame (length (gates_of frame rows)) names more srcs signals inner
     → list_all (is_named_gate (length (srcs ++ inner))) (gates_of frame rows) ≡ true
 gates_are_named frame rows lits names more srcs signals inner graph n =
     gates_named (length (srcs ++ inner)) (length (sources frame) + 1) (gates_of frame rows) (hashed_gates (length (sources frame)) rows graph.hashed)
     (omega (arith, length-nodes frame rows lits names more srcs signals inner graph n, length-drop (length (sources frame) + 1) rows, graph.hashed.there))
 
-pub lits_are_within : (frame : Frame) (rows : List Row) (lits : List Lit) (names more : List (List ℕ)) (srcs signals inner : List ℕ) → IsGraph frame rows lits → IsNumbered frame (length (gates_of frame rows)) names more srcs signals inner
+pub lits_are_within : (frame : Frame) (rows : List Row) (lits : List Lit) (names more : List (List ℕ)) (srcs signals inner : List ℕ) → IsNamedGraph frame rows lits → IsNumbered frame (length (gates_of frame rows)) names more srcs signals inner
     → list_all (is_within (length (srcs ++ inner))) lits ≡ true
 lits_are_within frame rows lits names more srcs signals inner graph n =
     all_within (length (srcs ++ inner)) lits
     (recursion_from_All (λ l. node_of l ≤ length (srcs ++ inner)) lits (λ k d lt. omega (arith, graph.within k d lt, length-nodes frame rows lits names more srcs signals inner graph n)))
 
-pub count_of_lits : (frame : Frame) (rows : List Row) (lits : List Lit) (names : List (List ℕ)) (signals : List ℕ) → IsGraph frame rows lits → words_at names signals ≡ observed frame → length lits ≡ length signals
+pub count_of_lits : (frame : Frame) (rows : List Row) (lits : List Lit) (names : List (List ℕ)) (signals : List ℕ) → IsNamedGraph frame rows lits → words_at names signals ≡ observed frame → length lits ≡ length signals
 count_of_lits frame rows lits names signals graph e = graph.count ∙ sym (ap (λ (ws : List (List ℕ)). length ws) e) ∙ length-map signals (word_at names)
 
 -- the tables in words
@@ -116,5 +116,5 @@ pub signals_below : (frame : Frame) (count : ℕ) (names more : List (List ℕ))
 signals_below frame count names more srcs signals inner n = all_below-more (length names) (length more) signals (length-grows names more n.grows) n.signal_below
 
 -- the netlist of a graph defines no name twice
-pub network_once : (frame : code.Frame) (rows : List Row) (lits : List Lit) → IsGraph (frame_in frame) rows lits → distinct (sources (frame_in frame) ++ map output_of (network (frame_in frame) rows lits).tables) ≡ true
+pub network_once : (frame : code.Frame) (rows : List Row) (lits : List Lit) → IsNamedGraph (frame_in frame) rows lits → distinct (sources (frame_in frame) ++ map output_of (network (frame_in frame) rows lits).tables) ≡ true
 network_once frame rows lits graph = (network_spells (frame_in frame) rows lits frame.clocks_once frame.sources_once graph).ordered.once.all

@@ -8,7 +8,7 @@ use Rattle.syn_netlist.specs.declared.LatchKind.{LatchKind}
 use Rattle.syn_netlist.specs.declared.LatchKind.TheVariants as types
 use Rattle.syn_netlist.specs.Kept.{row_fits, rows_fit}
 use Rattle.syn_netlist.proofs.Sets.{same_word, word_same, has_word-append, has_head, has_tail, has_right, apart, distinct_right, distinct_head}
-use Rattle.syn_shapes.specs.Printed.{kind_word, kind_words, digit}
+use Rattle.syn_text.specs.Printed.{kind_word, kind_words, digit}
 use Rattle.syn_reader.specs.declared.Kind.{Kind}
 use Rattle.syn_reader.specs.declared.Kind.TheVariants as kinds
 use Rattle.syn_reader.specs.Statements.{Statement, is_end}

@@ -9,7 +9,8 @@ use Rattle.syn_netlist.specs.Lists.{Latch, Table, Netlist, latch_reads, control_
 use Rattle.syn_netlist.specs.declared.LatchKind.{LatchKind}
 use Rattle.syn_netlist.specs.declared.LatchKind.TheVariants as types
 use Rattle.syn_netlist.specs.Kept.{nil_word, is_row_character, row_fits, rows_fit, polarity_fits}
-use Rattle.syn_shapes.specs.Printed.{line, kind_word, kind_words, digit, latch_line, row_line, table_lines, clock_line, printed}
+use Rattle.syn_netlist.specs.TextLines.{line}
+use Rattle.syn_text.specs.Printed.{kind_word, kind_words, digit, latch_line, row_line, table_lines, clock_line, printed}
 use Rattle.syn_reader.specs.declared.Kind.TheVariants as kinds
 use Rattle.syn_reader.specs.Shapes.{output_word}
 use Rattle.syn_text.specs.WellFormed.{latch_fits, table_fits, IsWellFormed}

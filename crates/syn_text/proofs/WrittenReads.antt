@@ -6,8 +6,7 @@ use Rattle.syn_lex.specs.Lines.{bad_byte}
 use Rattle.syn_netlist.specs.Lists.{Netlist}
 use Rattle.syn_netlist.specs.Words.{is_word}
 use Rattle.syn_netlist.proofs.Checked.{orderable_reaches_no_circle}
-use Rattle.syn_shapes.specs.Printed.{printed}
-use Rattle.syn_models.specs.Models as models
+use Rattle.syn_text.specs.Printed.{printed}
 use Rattle.syn_models.specs.Models.{alone}
 use Rattle.syn_reader.specs.declared.Kind.{Kind}
 use Rattle.syn_reader.specs.declared.Kind.TheVariants as kinds

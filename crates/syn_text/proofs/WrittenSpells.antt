@@ -6,7 +6,7 @@ use Rattle.syn_netlist.specs.Lists.{Latch, Table, Netlist, control_of}
 use Rattle.syn_netlist.specs.declared.LatchKind.{LatchKind}
 use Rattle.syn_netlist.specs.declared.LatchKind.TheVariants as types
 use Rattle.syn_netlist.specs.Kept.{nil_word, polarity_fits}
-use Rattle.syn_shapes.specs.Printed.{kind_words, digit}
+use Rattle.syn_text.specs.Printed.{kind_words, digit}
 use Rattle.syn_reader.specs.Shapes.{IsLatch, IsTable, type_and_control, control_name, nil_control, row_words}
 use Rattle.syn_reader.specs.Saying.{Say, on_line}
 use Rattle.syn_reader.specs.Statements.{Statement, rows_below}

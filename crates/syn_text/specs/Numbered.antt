@@ -5,10 +5,10 @@ use Rattle.syn_rows.specs.declared.Lit.{Lit}
 use Rattle.syn_rows.specs.declared.Row.{Row}
 use Rattle.syn_rows.specs.declared.Row.TheVariants.{Free, Source, And, Alias}
 use Rattle.syn_rows.specs.Rows.{node_of}
-use Rattle.syn_lutshapes.specs.Luts.{Lut}
+use Rattle.syn_lutnet.specs.LutData.{Lut}
 use Rattle.syn_netlist.specs.Lists.{Frame, sources, observed}
 use Rattle.syn_netlist.specs.Numbers.{words_at, all_below, Grows}
-use Rattle.syn_shapes.specs.Spelling.{inner_names}
+use Rattle.syn_network.specs.Spelling.{inner_names}
 
 -- the literal is one of so many named nodes
 abbrev pub is_named : ℕ → Lit → Bool

@@ -6,9 +6,9 @@ use Rattle.syn_netlist.specs.Lists.{Latch, Table, Netlist, latch_reads, control_
 use Rattle.syn_netlist.specs.Kept.{nil_word, rows_fit, polarity_fits}
 use Rattle.syn_netlist.specs.Order.{DefinedOnce, Ordered}
 use Rattle.syn_netlist.specs.Faults.{IsChecked}
-use Rattle.syn_shapes.specs.GraphShape.{GraphShape}
-use Rattle.syn_lutshapes.specs.LutShape.{LutShape}
-use Rattle.syn_shapes.specs.Printed.{printed}
+use Rattle.syn_network.specs.GraphShape.{GraphShape}
+use Rattle.syn_network.specs.LutShape.{LutShape}
+use Rattle.syn_text.specs.Printed.{printed}
 use Rattle.syn_reader.specs.Reading.{Reads}
 
 -- A latch that can be written: its names are words, its control, where it is a signal, is not named `NIL`, and its initial value is 0, 1, 2 or 3 (BLIF manual, section .latch).

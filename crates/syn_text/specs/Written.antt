@@ -3,7 +3,8 @@ use Rattle.std.specs.Prelude.{ℕ, suc, ◌&&◌, not, Bool, true, false, List, 
 use Rattle.std.specs.List.{list_all}
 use Rattle.syn_netlist.specs.Words.{is_word}
 use Rattle.syn_netlist.specs.Lists.{Latch, Table, Netlist}
-use Rattle.syn_shapes.specs.Printed.{line, kind_words, digit}
+use Rattle.syn_netlist.specs.TextLines.{line}
+use Rattle.syn_text.specs.Printed.{kind_words, digit}
 use Rattle.syn_reader.specs.declared.Kind.{Kind}
 use Rattle.syn_reader.specs.declared.Kind.TheVariants as kinds
 use Rattle.syn_reader.specs.Statements.{Statement, begins_with_dot}

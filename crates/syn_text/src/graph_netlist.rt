@@ -12,16 +12,17 @@ ghost use Rattle.syn_netlist.specs.Views.{frame_in, netlist_in, table_in};
 ghost use Rattle.syn_netlist.specs.Words.{distinct, has_word, is_word};
 ghost use Rattle.syn_netlist.specs.Faults.{IsChecked};
 ghost use Rattle.syn_netlist.specs.Order.{Ordered};
-ghost use Rattle.syn_shapes.specs.GraphShape.{GraphShape, observed_of, rows_of};
-ghost use Rattle.syn_shapes.specs.Graphs.{IsGraph};
-ghost use Rattle.syn_graph.specs.Graphs.{network_of};
-ghost use Rattle.syn_shapes.specs.Spelling.{output_table, ends_from, gate_table, gate_tables, gates_of, inner_names, inner_word, network, sign_of};
+ghost use Rattle.syn_network.specs.GraphShape.{GraphShape, observed_of, rows_of};
+ghost use Rattle.syn_network.specs.NamedGraphs.{IsNamedGraph};
+ghost use Rattle.syn_network.specs.Spelling.{output_table, ends_from, gate_table, gate_tables, gates_of, inner_names, inner_word, network, sign_of};
+ghost use Rattle.syn_network.specs.Written.{network_of};
 ghost use Rattle.syn_text.specs.Numbered.{IsNumbered, is_named, is_named_gate, is_within, number_of};
 
 use itoa::Buffer;
 use std::alloc::{AllocError, Global};
-use syn_graph::{Graph, copy_names, frame_over};
-use syn_netlist::{Frame, Items, Names, Netlist, Table, Word, marks_of};
+use syn_lists::Items;
+use syn_netlist::{Frame, Names, Netlist, Table, Word, marks_of};
+use syn_network::{Network, copy_names, frame_over};
 use syn_rows::{Lit, Row};
 
 /// Some of the names, by their numbers.
@@ -393,7 +394,7 @@ fn tables_of(
     rows: &[Row],
     observed: &[Lit],
 ) -> Result<Vec<Table>, AllocError>
-    requires graph { IsGraph (frame_in naming.now.frame.now) rows.now observed.now }
+    requires graph { IsNamedGraph (frame_in naming.now.frame.now) rows.now observed.now }
     requires numbered { IsNumbered (frame_in naming.now.frame.now) (length (gates_of (frame_in naming.now.frame.now) rows.now)) naming.now.frame.now.names naming.now.names naming.now.sources.numbers.items naming.now.signals.items naming.now.inner.items }
     ensures words { IfOk result (λ v. map (table_in naming.now.names) v.items ≡ (network (frame_in naming.now.frame.now) rows.now observed.now).tables) }
     ensures below { IfOk result (λ v. tables_below (length naming.now.names) v.items ≡ true) }
@@ -415,16 +416,16 @@ fn tables_of(
 
 /// The netlist of a graph: a table for each AND, then one for each observed signal that is no source. The names of the
 /// frame keep their numbers. The only error is want of memory.
-pub fn netlist_of(alloc: Global, graph: &Graph) -> Result<Netlist, AllocError>
+pub fn netlist_of(alloc: Global, graph: &Network) -> Result<Netlist, AllocError>
     ensures network { IfOk result (λ n. netlist_in n ≡ network_of graph.now) }
     ensures ordered { IfOk result (λ n. Ordered (netlist_in n)) }
     ensures shape { IfOk result (λ n. GraphShape (netlist_in n)) }
-    ensures rows { IfOk result (λ n. rows_of (netlist_in n) ≡ graph.now.rows) }
-    ensures literals { IfOk result (λ n. observed_of (netlist_in n) ≡ graph.now.observed) }
+    ensures rows { IfOk result (λ n. rows_of (netlist_in n) ≡ graph.now.body.rows) }
+    ensures literals { IfOk result (λ n. observed_of (netlist_in n) ≡ graph.now.body.observed) }
     ensures checked { IfOk result (λ n. IsChecked (netlist_in n)) }
 {
-    let rows = graph.rows.as_slice();
-    netlist_over(alloc, &graph.frame, rows, graph.observed.as_slice())
+    let rows = graph.body.rows.as_slice();
+    netlist_over(alloc, &graph.frame, rows, graph.body.observed.as_slice())
 }
 
 // The netlist of a graph's parts.
@@ -434,7 +435,7 @@ fn netlist_over(
     rows: &[Row],
     observed: &[Lit],
 ) -> Result<Netlist, AllocError>
-    requires graph { IsGraph (frame_in frame.now) rows.now observed.now }
+    requires graph { IsNamedGraph (frame_in frame.now) rows.now observed.now }
     requires few { length frame.now.names + length rows.now < 2 ^ 32 }
     ensures network { IfOk result (λ n. netlist_in n ≡ network (frame_in frame.now) rows.now observed.now) }
 {

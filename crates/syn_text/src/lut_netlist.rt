@@ -11,18 +11,20 @@ ghost use Rattle.syn_netlist.specs.Views.{frame_in, netlist_in, table_in};
 ghost use Rattle.syn_netlist.specs.Faults.{IsChecked};
 ghost use Rattle.syn_netlist.specs.Order.{Ordered};
 ghost use Rattle.syn_truth.specs.Truth.{value_at};
-ghost use Rattle.syn_lutshapes.specs.Luts.{IsLutNet, luts_function, net_depth, net_gates, none_exceeds, ones_of};
-ghost use Rattle.syn_lutshapes.specs.LutShape.{depth_of, gates_of, LutShape, luts_of, observed_of};
-ghost use Rattle.syn_lutshapes.specs.LutSpelling.{lut_network, lut_table, lut_tables_of, minterm_row};
+ghost use Rattle.syn_lutnet.specs.LutData.{luts_function, net_depth, net_gates, none_exceeds, ones_of};
+ghost use Rattle.syn_network.specs.NamedLutNets.{IsNamedLutNet};
+ghost use Rattle.syn_network.specs.LutShape.{depth_of, gates_of, LutShape, luts_of, observed_of};
+ghost use Rattle.syn_network.specs.LutSpelling.{lut_network, lut_table, lut_tables_of, minterm_row};
 ghost use Rattle.syn_lutnet.specs.Data.{lut_data, luts_data};
-ghost use Rattle.syn_lutnet.specs.Nets.{network_of};
+ghost use Rattle.syn_network.specs.WrittenLuts.{network_of};
 ghost use Rattle.syn_text.specs.Numbered.{IsNumbered, is_signal, reads_named, signal_number};
 
 use crate::graph_netlist::{NameSet, Naming, joined, name_nodes, push_ends};
 use std::alloc::{AllocError, Global};
-use syn_graph::frame_over;
-use syn_lutnet::{Lut, LutNet};
-use syn_netlist::{Frame, Items, Netlist, Table, Word};
+use syn_lists::Items;
+use syn_lutnet::Lut;
+use syn_netlist::{Frame, Netlist, Table, Word};
+use syn_network::{LutNetwork, frame_over};
 use syn_rows::Lit;
 
 // The character of a number's lowest bit.
@@ -170,7 +172,7 @@ fn tables_of(
     luts: &[Lut],
     observed: &[Lit],
 ) -> Result<Vec<Table>, AllocError>
-    requires net { IsLutNet (frame_in naming.now.frame.now) (luts_data luts.now) observed.now }
+    requires net { IsNamedLutNet (frame_in naming.now.frame.now) (luts_data luts.now) observed.now }
     requires numbered { IsNumbered (frame_in naming.now.frame.now) (length luts.now) naming.now.frame.now.names naming.now.names naming.now.sources.numbers.items naming.now.signals.items naming.now.inner.items }
     ensures words { IfOk result (λ v. map (table_in naming.now.names) v.items ≡ (lut_network (frame_in naming.now.frame.now) (luts_data luts.now) observed.now).tables) }
     ensures below { IfOk result (λ v. tables_below (length naming.now.names) v.items ≡ true) }
@@ -193,24 +195,24 @@ fn tables_of(
 /// for each observed signal that is no source. The names of the frame keep their numbers. The only error is want of memory.
 ///
 /// It takes one row a minterm.
-pub fn netlist_of_luts(alloc: Global, net: &LutNet) -> Result<Netlist, AllocError>
+pub fn netlist_of_luts(alloc: Global, net: &LutNetwork) -> Result<Netlist, AllocError>
     ensures network { IfOk result (λ n. netlist_in n ≡ network_of net.now) }
     ensures ordered { IfOk result (λ n. Ordered (netlist_in n)) }
-    ensures shape { IfOk result (λ n. (k : ℕ) → none_exceeds k (luts_data net.now.luts) ≡ true → LutShape (netlist_in n) k) }
-    ensures luts { IfOk result (λ n. luts_of (netlist_in n) ≡ luts_data net.now.luts) }
-    ensures literals { IfOk result (λ n. observed_of (netlist_in n) ≡ net.now.observed) }
-    ensures depth { IfOk result (λ n. depth_of (netlist_in n) ≡ net_depth (length (sources (frame_in net.now.frame))) (luts_data net.now.luts)) }
-    ensures gates { IfOk result (λ n. gates_of (netlist_in n) ≡ net_gates (luts_data net.now.luts)) }
-    ensures function { IfOk result (λ n. HasFunction (netlist_in n) (luts_function (luts_data net.now.luts) net.now.observed)) }
+    ensures shape { IfOk result (λ n. (k : ℕ) → none_exceeds k (luts_data net.now.body.luts) ≡ true → LutShape (netlist_in n) k) }
+    ensures luts { IfOk result (λ n. luts_of (netlist_in n) ≡ luts_data net.now.body.luts) }
+    ensures literals { IfOk result (λ n. observed_of (netlist_in n) ≡ net.now.body.observed) }
+    ensures depth { IfOk result (λ n. depth_of (netlist_in n) ≡ net_depth (length (sources (frame_in net.now.frame))) (luts_data net.now.body.luts)) }
+    ensures gates { IfOk result (λ n. gates_of (netlist_in n) ≡ net_gates (luts_data net.now.body.luts)) }
+    ensures function { IfOk result (λ n. HasFunction (netlist_in n) (luts_function (luts_data net.now.body.luts) net.now.body.observed)) }
     ensures checked { IfOk result (λ n. IsChecked (netlist_in n)) }
 {
-    syn_lutshapes::network_of_luts();
-    syn_lutshapes::luts_have_function();
+    syn_network::network_of_luts();
+    syn_network::luts_have_function();
     netlist_over(
         alloc,
         &net.frame,
-        net.luts.as_slice(),
-        net.observed.as_slice(),
+        net.body.luts.as_slice(),
+        net.body.observed.as_slice(),
     )
 }
 
@@ -221,7 +223,7 @@ fn netlist_over(
     luts: &[Lut],
     observed: &[Lit],
 ) -> Result<Netlist, AllocError>
-    requires net { IsLutNet (frame_in frame.now) (luts_data luts.now) observed.now }
+    requires net { IsNamedLutNet (frame_in frame.now) (luts_data luts.now) observed.now }
     requires sources { length (sources (frame_in frame.now)) < 2 ^ 32 }
     requires few { length frame.now.names + length luts.now < 2 ^ 32 }
     ensures network { IfOk result (λ n. netlist_in n ≡ lut_network (frame_in frame.now) (luts_data luts.now) observed.now) }

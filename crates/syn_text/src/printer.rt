@@ -7,7 +7,8 @@ ghost use Rattle.syn_netlist.specs.Numbers.{all_below, kind_at, word_at, words_a
 ghost use Rattle.syn_netlist.specs.Tables.{tables_below};
 ghost use Rattle.syn_netlist.specs.Views.{frame_in, latch_in, netlist_in, table_in};
 ghost use Rattle.syn_reader.specs.Reading.{Reads};
-ghost use Rattle.syn_shapes.specs.Printed.{blanked, clock_line, digit, frame_lines, kind_word, kind_words, latch_line, line, output_word, printed, row_line, table_lines};
+ghost use Rattle.syn_netlist.specs.TextLines.{blanked, line};
+ghost use Rattle.syn_text.specs.Printed.{clock_line, digit, frame_lines, kind_word, kind_words, latch_line, output_word, printed, row_line, table_lines};
 
 use crate::laws::{printed_reads, well_formed};
 use std::alloc::{AllocError, Global};

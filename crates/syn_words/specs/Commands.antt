@@ -3,93 +3,88 @@ use Rattle.std.specs.Prelude.{ℕ, Bool, true, false, min, max, option_map, if�
 use Rattle.syn_words.specs.declared.words.Phrase.{Phrase}
 use Rattle.syn_words.specs.Forms.{and_then, given_by}
 use Rattle.syn_words.specs.declared.forms.Form.{Form}
-use Rattle.syn_words.specs.declared.forms.Operands.{Operands}
 use Rattle.syn_words.specs.declared.forms.Operands.TheVariants as operands
 use Rattle.syn_words.specs.declared.word_reader.Given.{Given}
 use Rattle.syn_words.specs.declared.table.Keyword.{Keyword}
 use Rattle.syn_words.specs.declared.table.Keyword.TheVariants as keywords
-use Rattle.syn_words.specs.declared.PassOptions.{PassOptions}
+use Rattle.syn_words.specs.declared.recipes.PassOptions.{PassOptions}
+use Rattle.syn_words.specs.declared.recipes.SearchLimits.{SearchLimits}
+use Rattle.syn_words.specs.declared.recipes.Recipe.{Recipe}
+use Rattle.syn_words.specs.declared.recipes.Recipe.TheVariants as recipes
 use Rattle.syn_words.specs.declared.Command.{Command}
 use Rattle.syn_words.specs.declared.Command.TheVariants as commands
 use Rattle.syn_words.specs.declared.ScriptFault.{ScriptFault}
 use Rattle.syn_words.specs.declared.ScriptFault.TheVariants.{UnknownCommand}
 
--- The names, long and short.
-abbrev pub names : List (List ℕ × Keyword)
-names =
-    (codes "read_blif", keywords.ReadBlif)
-    ∷ (codes "write_blif", keywords.WriteBlif)
-    ∷ (codes "print_stats", keywords.PrintStats)
-    ∷ (codes "ps", keywords.PrintStats)
-    ∷ (codes "strash", keywords.Strash)
-    ∷ (codes "st", keywords.Strash)
-    ∷ (codes "balance", keywords.Balance)
-    ∷ (codes "b", keywords.Balance)
-    ∷ (codes "rewrite", keywords.Rewrite)
-    ∷ (codes "rw", keywords.Rewrite)
-    ∷ (codes "rwz", keywords.RewriteZero)
-    ∷ (codes "refactor", keywords.Refactor)
-    ∷ (codes "rf", keywords.Refactor)
-    ∷ (codes "rfz", keywords.RefactorZero)
-    ∷ (codes "if", keywords.Map)
-    ∷ (codes "resyn2", keywords.Resyn2)
-    ∷ (codes "resyn2l", keywords.Resyn2Levels)
-    ∷ (codes "gen", keywords.Generate)
-    ∷ (codes "scl", keywords.Sweep)
-    ∷ (codes "resub", keywords.Resubstitute)
-    ∷ (codes "rs", keywords.Resubstitute)
-    ∷ (codes "rsz", keywords.ResubstituteZero)
-    ∷ (codes "flowmap", keywords.MapByFlow)
-    ∷ (codes "read_aiger", keywords.ReadAiger)
-    ∷ (codes "write_aiger", keywords.WriteAiger)
-    ∷ []
+-- No word.
+abbrev pub no_words : Form
+no_words = record { flags = (None, None, None); numbered = None; operands = operands.Nothing }
 
--- What a word names, if anything.
-abbrev pub named_in : List (List ℕ × Keyword) → List ℕ → Option Keyword
-named_in [] word = None
-named_in (line ∷ lines) word = if bytes_eq line.0 word then Some line.1 else named_in lines word
-
--- No option, and these words.
-abbrev pub words_alone : Operands → Form
-words_alone words = record { flags = (None, None); numbered = None; operands = words }
-
--- Options alone: `-z`, where it may stand, `-l`, and `-w` with a number of workers from 1 to 16.
-abbrev pub with_workers : Option ℕ → Form
-with_workers zero = record { flags = (zero, Some 108); numbered = Some (record { letter = 119; range = record { least = 1; most = 16 } }); operands = operands.Nothing }
-
--- Options alone: one without a number, where there is one, and `-K` with a number of inputs from 2 to 8.
-abbrev pub with_inputs : Option ℕ → Form
-with_inputs flag = record { flags = (flag, None); numbered = Some (record { letter = 75; range = record { least = 2; most = 8 } }); operands = operands.Nothing }
-
--- Two numbers alone: a seed of 64 bits, and a number of tables from 1 to 32768.
-abbrev pub seed_and_size : Form
-seed_and_size = words_alone (operands.TwoNumbers (record { least = 0; most = 18446744073709551615 }) (record { least = 1; most = 32768 }))
+-- A file's name.
+abbrev pub name_alone : Form
+name_alone = record { flags = (None, None, None); numbered = None; operands = operands.Name }
 
 -- An option without a number, and then a file's name.
 abbrev pub flag_and_name : ℕ → Form
-flag_and_name letter = record { flags = (Some letter, None); numbered = None; operands = operands.Name }
+flag_and_name letter = record { flags = (Some letter, None, None); numbered = None; operands = operands.Name }
 
--- What may stand behind a name. The options without a number of `rewrite`, `refactor` and `resub` are `-z` and `-l`; `rwz`, `rfz` and `rsz` have `-z` set. That of `if` and `write_aiger` is `-a`.
-abbrev pub form_of : Keyword → Form
-form_of keywords.ReadBlif = words_alone operands.Name
-form_of keywords.WriteBlif = words_alone operands.Name
-form_of keywords.PrintStats = words_alone operands.Nothing
-form_of keywords.Strash = words_alone operands.Nothing
-form_of keywords.Balance = words_alone operands.Nothing
-form_of keywords.Rewrite = with_workers (Some 122)
-form_of keywords.RewriteZero = with_workers None
-form_of keywords.Refactor = with_workers (Some 122)
-form_of keywords.RefactorZero = with_workers None
-form_of keywords.Map = with_inputs (Some 97)
-form_of keywords.Resyn2 = words_alone operands.Nothing
-form_of keywords.Resyn2Levels = words_alone operands.Nothing
-form_of keywords.Generate = seed_and_size
-form_of keywords.Sweep = words_alone operands.Nothing
-form_of keywords.Resubstitute = with_workers (Some 122)
-form_of keywords.ResubstituteZero = with_workers None
-form_of keywords.MapByFlow = with_inputs None
-form_of keywords.ReadAiger = words_alone operands.Name
-form_of keywords.WriteAiger = flag_and_name 97
+-- Options alone: `-z`, where it may stand, `-L`, `-l`, which says what is so without it, and `-w` with a number of workers from 1 to 16.
+abbrev pub with_workers : Option ℕ → Form
+with_workers zero = record { flags = (zero, Some 76, Some 108); numbered = Some (record { letter = 119; range = record { least = 1; most = 16 } }); operands = operands.Nothing }
+
+-- Options alone: `-L`, and `-C` with a number of conflicts from 0 to 1000000.
+abbrev pub with_conflicts : Form
+with_conflicts = record { flags = (None, Some 76, None); numbered = Some (record { letter = 67; range = record { least = 0; most = 1000000 } }); operands = operands.Nothing }
+
+-- Options alone: one without a number, where there is one, and `-K` with a number of inputs from 2 to 8.
+abbrev pub with_inputs : Option ℕ → Form
+with_inputs flag = record { flags = (flag, None, None); numbered = Some (record { letter = 75; range = record { least = 2; most = 8 } }); operands = operands.Nothing }
+
+-- Two numbers alone: a seed of 64 bits, and a number of tables from 1 to 32768.
+abbrev pub seed_and_size : Form
+seed_and_size = record { flags = (None, None, None); numbered = None; operands = operands.TwoNumbers (record { least = 0; most = 18446744073709551615 }) (record { least = 1; most = 32768 }) }
+
+-- A row of the table: a name, what may stand behind it, and its keyword.
+abbrev pub Row : Type 0
+Row = List ℕ × Form × Keyword
+
+-- The names, long and short. `rewrite`, `refactor` and `resub` take `-z`, `-L` and `-l`; `rwz`, `rfz` and `rsz` have `-z` set. `if` and `write_aiger` take `-a`. `compress2` is `resyn2`.
+abbrev pub table : List Row
+table =
+    (codes "read_blif", name_alone, keywords.ReadBlif)
+    ∷ (codes "write_blif", name_alone, keywords.WriteBlif)
+    ∷ (codes "print_stats", no_words, keywords.PrintStats)
+    ∷ (codes "ps", no_words, keywords.PrintStats)
+    ∷ (codes "strash", no_words, keywords.Strash)
+    ∷ (codes "st", no_words, keywords.Strash)
+    ∷ (codes "balance", no_words, keywords.Balance)
+    ∷ (codes "b", no_words, keywords.Balance)
+    ∷ (codes "rewrite", with_workers (Some 122), keywords.Rewrite)
+    ∷ (codes "rw", with_workers (Some 122), keywords.Rewrite)
+    ∷ (codes "rwz", with_workers None, keywords.RewriteZero)
+    ∷ (codes "refactor", with_workers (Some 122), keywords.Refactor)
+    ∷ (codes "rf", with_workers (Some 122), keywords.Refactor)
+    ∷ (codes "rfz", with_workers None, keywords.RefactorZero)
+    ∷ (codes "if", with_inputs (Some 97), keywords.Map)
+    ∷ (codes "resyn2", no_words, keywords.Resyn2)
+    ∷ (codes "resyn2l", no_words, keywords.Resyn2Levels)
+    ∷ (codes "gen", seed_and_size, keywords.Generate)
+    ∷ (codes "scl", no_words, keywords.Sweep)
+    ∷ (codes "resub", with_workers (Some 122), keywords.Resubstitute)
+    ∷ (codes "rs", with_workers (Some 122), keywords.Resubstitute)
+    ∷ (codes "rsz", with_workers None, keywords.ResubstituteZero)
+    ∷ (codes "flowmap", with_inputs None, keywords.MapByFlow)
+    ∷ (codes "fraig", with_conflicts, keywords.Merge)
+    ∷ (codes "resyn", no_words, keywords.Resyn)
+    ∷ (codes "compress2", no_words, keywords.Resyn2)
+    ∷ (codes "read_aiger", name_alone, keywords.ReadAiger)
+    ∷ (codes "write_aiger", flag_and_name 97, keywords.WriteAiger)
+    ∷ []
+
+-- What the first row of a name has, if there is one.
+abbrev pub entry_in : List Row → List ℕ → Option (Form × Keyword)
+entry_in [] word = None
+entry_in (row ∷ rows) word = if bytes_eq row.0 word then Some (row.1, row.2) else entry_in rows word
 
 -- A number of workers, 1 at least and 16 at most; the form lets no other through.
 abbrev pub workers_of : ℕ → ℕ
@@ -108,66 +103,96 @@ given_inputs (Some number) = inputs_of number
 abbrev pub size_of : ℕ → ℕ
 size_of number = min number 32768
 
--- How a pass goes: with `-z`, with `-l`, and by how many workers.
+-- How a pass goes: with `-z`, with `-L`, and by how many workers.
 abbrev pub options : Bool → Bool → Option ℕ → PassOptions
 options zero levels workers = record { zero = zero; levels = levels; workers = workers }
 
--- What `resyn2` spells: b; rw; rf; b; rw; rwz; b; rfz; rwz; b.
+-- The same by what was given behind a name, where `-z` stands for itself or is set.
+abbrev pub given_options : Bool → Given → PassOptions
+given_options zero given = options zero given.flags.1 (option_map workers_of given.number)
+
+-- The number of conflicts that was given, 1000000 at most; the form lets no other through. 100 where none was.
+abbrev pub given_conflicts : Option ℕ → ℕ
+given_conflicts None = 100
+given_conflicts (Some number) = min number 1000000
+
+-- How a search goes by what was given behind a name: by how many conflicts, and with `-L`.
+abbrev pub given_limits : Given → SearchLimits
+given_limits given = record { conflicts = given_conflicts given.number; levels = given.flags.1 }
+
+-- The command that makes the network anew by a recipe.
+abbrev pub make : Recipe → Command
+make recipe = commands.Make recipe
+
+-- What `resyn` spells: b; rw; rwz; b; rwz; b.
+abbrev pub resyn : List Command
+resyn =
+    make recipes.Balance
+    ∷ make (recipes.Rewrite (options false false None))
+    ∷ make (recipes.Rewrite (options true false None))
+    ∷ make recipes.Balance
+    ∷ make (recipes.Rewrite (options true false None))
+    ∷ make recipes.Balance
+    ∷ []
+
+-- What `resyn2` and `compress2` spell: b; rw; rf; b; rw; rwz; b; rfz; rwz; b.
 abbrev pub resyn2 : List Command
 resyn2 =
-    commands.Balance
-    ∷ commands.Rewrite (options false false None)
-    ∷ commands.Refactor (options false false None)
-    ∷ commands.Balance
-    ∷ commands.Rewrite (options false false None)
-    ∷ commands.Rewrite (options true false None)
-    ∷ commands.Balance
-    ∷ commands.Refactor (options true false None)
-    ∷ commands.Rewrite (options true false None)
-    ∷ commands.Balance
+    make recipes.Balance
+    ∷ make (recipes.Rewrite (options false false None))
+    ∷ make (recipes.Refactor (options false false None))
+    ∷ make recipes.Balance
+    ∷ make (recipes.Rewrite (options false false None))
+    ∷ make (recipes.Rewrite (options true false None))
+    ∷ make recipes.Balance
+    ∷ make (recipes.Refactor (options true false None))
+    ∷ make (recipes.Rewrite (options true false None))
+    ∷ make recipes.Balance
     ∷ []
 
--- What `resyn2l` spells: rwz; b; rf; b; rw; rwz; b; rfz; rwz; b, with `-l` on all but b.
+-- What `resyn2l` spells: rwz; b; rf; b; rw; rwz; b; rfz; rwz; b, with `-L` on all but b.
 abbrev pub resyn2l : List Command
 resyn2l =
-    commands.Rewrite (options true true None)
-    ∷ commands.Balance
-    ∷ commands.Refactor (options false true None)
-    ∷ commands.Balance
-    ∷ commands.Rewrite (options false true None)
-    ∷ commands.Rewrite (options true true None)
-    ∷ commands.Balance
-    ∷ commands.Refactor (options true true None)
-    ∷ commands.Rewrite (options true true None)
-    ∷ commands.Balance
+    make (recipes.Rewrite (options true true None))
+    ∷ make recipes.Balance
+    ∷ make (recipes.Refactor (options false true None))
+    ∷ make recipes.Balance
+    ∷ make (recipes.Rewrite (options false true None))
+    ∷ make (recipes.Rewrite (options true true None))
+    ∷ make recipes.Balance
+    ∷ make (recipes.Refactor (options true true None))
+    ∷ make (recipes.Rewrite (options true true None))
+    ∷ make recipes.Balance
     ∷ []
 
--- The commands that a name spells with what was given behind it.
+-- The commands that a keyword spells with what was given behind it.
 abbrev pub commands_of : Keyword → Given → List Command
 commands_of keywords.ReadBlif given = commands.Read given.name ∷ []
 commands_of keywords.WriteBlif given = commands.Write given.name ∷ []
-commands_of keywords.PrintStats given = commands.Stats ∷ []
-commands_of keywords.Strash given = commands.Strash ∷ []
-commands_of keywords.Balance given = commands.Balance ∷ []
-commands_of keywords.Rewrite given = commands.Rewrite (options given.flags.0 given.flags.1 (option_map workers_of given.number)) ∷ []
-commands_of keywords.RewriteZero given = commands.Rewrite (options true given.flags.1 (option_map workers_of given.number)) ∷ []
-commands_of keywords.Refactor given = commands.Refactor (options given.flags.0 given.flags.1 (option_map workers_of given.number)) ∷ []
-commands_of keywords.RefactorZero given = commands.Refactor (options true given.flags.1 (option_map workers_of given.number)) ∷ []
-commands_of keywords.Map given = commands.Map given.flags.0 (given_inputs given.number) ∷ []
-commands_of keywords.Resyn2 given = resyn2
-commands_of keywords.Resyn2Levels given = resyn2l
-commands_of keywords.Generate given = commands.Generate given.numbers.0 (size_of given.numbers.1) ∷ []
-commands_of keywords.Sweep given = commands.Sweep ∷ []
-commands_of keywords.Resubstitute given = commands.Resubstitute (options given.flags.0 given.flags.1 (option_map workers_of given.number)) ∷ []
-commands_of keywords.ResubstituteZero given = commands.Resubstitute (options true given.flags.1 (option_map workers_of given.number)) ∷ []
-commands_of keywords.MapByFlow given = commands.MapByFlow (given_inputs given.number) ∷ []
 commands_of keywords.ReadAiger given = commands.ReadAiger given.name ∷ []
 commands_of keywords.WriteAiger given = commands.WriteAiger given.flags.0 given.name ∷ []
+commands_of keywords.PrintStats given = commands.Stats ∷ []
+commands_of keywords.Generate given = commands.Generate given.numbers.0 (size_of given.numbers.1) ∷ []
+commands_of keywords.Resyn given = resyn
+commands_of keywords.Resyn2 given = resyn2
+commands_of keywords.Resyn2Levels given = resyn2l
+commands_of keywords.Strash given = make recipes.Strash ∷ []
+commands_of keywords.Balance given = make recipes.Balance ∷ []
+commands_of keywords.Rewrite given = make (recipes.Rewrite (given_options given.flags.0 given)) ∷ []
+commands_of keywords.RewriteZero given = make (recipes.Rewrite (given_options true given)) ∷ []
+commands_of keywords.Refactor given = make (recipes.Refactor (given_options given.flags.0 given)) ∷ []
+commands_of keywords.RefactorZero given = make (recipes.Refactor (given_options true given)) ∷ []
+commands_of keywords.Resubstitute given = make (recipes.Resubstitute (given_options given.flags.0 given)) ∷ []
+commands_of keywords.ResubstituteZero given = make (recipes.Resubstitute (given_options true given)) ∷ []
+commands_of keywords.Merge given = make (recipes.Merge (given_limits given)) ∷ []
+commands_of keywords.Map given = make (recipes.Map given.flags.0 (given_inputs given.number)) ∷ []
+commands_of keywords.MapByFlow given = make (recipes.MapByFlow (given_inputs given.number)) ∷ []
+commands_of keywords.Sweep given = make recipes.Sweep ∷ []
 
--- What a phrase says by what its name is: the commands that it spells, or its first fault.
-abbrev pub said_by : Option Keyword → Phrase → Result (List Command) ScriptFault
+-- What a phrase says by the row of its name: the commands that it spells, or its first fault.
+abbrev pub said_by : Option (Form × Keyword) → Phrase → Result (List Command) ScriptFault
 said_by None phrase = Err (UnknownCommand phrase.name.at)
-said_by (Some keyword) phrase = and_then (given_by (form_of keyword) phrase.end phrase.further) (λ given. Ok (commands_of keyword given))
+said_by (Some (form, keyword)) phrase = and_then (given_by form phrase.end phrase.further) (λ given. Ok (commands_of keyword given))
 
 abbrev pub said : Phrase → Result (List Command) ScriptFault
-said phrase = said_by (named_in names phrase.name.text) phrase
+said phrase = said_by (entry_in table phrase.name.text) phrase

@@ -2,6 +2,7 @@
 use Rattle.std.specs.Prelude.{ℕ, true, false, Bool, is_some, if◌then◌else◌, List, [], ◌∷◌, Option, Some, None, Result, Ok, Err, bytes_eq}
 use Rattle.syn_lex.specs.Words.{Word}
 use Rattle.syn_words.specs.Numbers.{number_at}
+use Rattle.syn_words.specs.Flags.{Flags, are_flags, letters_of, with_flags}
 use Rattle.syn_words.specs.declared.forms.Form.{Form}
 use Rattle.syn_words.specs.declared.forms.Numbered.{Numbered}
 use Rattle.syn_words.specs.declared.forms.NumberRange.{NumberRange}
@@ -23,11 +24,6 @@ and_then (Err fault) next = Err fault
 abbrev pub is_option : ℕ → List ℕ → Bool
 is_option letter text = bytes_eq (45 ∷ letter ∷ []) text
 
--- The word is this option without a number, where there is one.
-abbrev pub is_flag : Option ℕ → List ℕ → Bool
-is_flag None text = false
-is_flag (Some letter) text = is_option letter text
-
 -- The range of the number behind the word, where it is the form's option with a number.
 abbrev pub number_behind : Option Numbered → List ℕ → Option NumberRange
 number_behind None text = None
@@ -35,16 +31,16 @@ number_behind (Some numbered) text = if is_option numbered.letter text then Some
 
 -- Nothing was given yet.
 abbrev pub nothing_given : Given
-nothing_given = record { flags = (false, false); number = None; name = []; numbers = (0, 0) }
+nothing_given = record { flags = (false, false, false); number = None; name = []; numbers = (0, 0) }
 
 -- The words behind a name are read from here.
 abbrev pub from_the_name : Progress
 from_the_name = record { given = nothing_given; awaits = awaits.Options }
 
--- An option without a number, once: by it these are given.
-abbrev pub with_flag : Bool → Bool × Bool → Given → Word → Result Progress ScriptFault
-with_flag given_before flags given word =
-    if given_before then Err (ExtraWord word.at) else Ok (record { given = record { flags = flags; number = given.number; name = given.name; numbers = given.numbers }; awaits = awaits.Options })
+-- A word of options without a number, by which these are given, or one of them is given twice.
+abbrev pub with_options : Option Flags → Given → Word → Result Progress ScriptFault
+with_options None given word = Err (ExtraWord word.at)
+with_options (Some flags) given word = Ok (record { given = record { flags = flags; number = given.number; name = given.name; numbers = given.numbers }; awaits = awaits.Options })
 
 -- The option with a number, once.
 abbrev pub with_numbered : NumberRange → Given → Word → Result Progress ScriptFault
@@ -65,9 +61,9 @@ with_further None form given word = with_first form.operands given word
 -- One word further, by what is awaited.
 abbrev pub after_word : Form → Awaits → Given → Word → Result Progress ScriptFault
 after_word form awaits.Options given word =
-    if is_flag form.flags.0 word.text
-    then with_flag given.flags.0 (true, given.flags.1) given word
-    else (if is_flag form.flags.1 word.text then with_flag given.flags.1 (given.flags.0, true) given word else with_further (number_behind form.numbered word.text) form given word)
+    if are_flags form (letters_of word.text)
+    then with_options (with_flags form given.flags (letters_of word.text)) given word
+    else with_further (number_behind form.numbered word.text) form given word
 after_word form (awaits.OptionNumber range) given word =
     and_then (number_at range word) (λ n. Ok (record { given = record { flags = given.flags; number = Some n; name = given.name; numbers = given.numbers }; awaits = awaits.Options }))
 after_word form (awaits.SecondNumber range) given word =

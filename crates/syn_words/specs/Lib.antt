@@ -2,6 +2,7 @@ pub mod Bytes
 pub mod Words
 pub mod Phrases
 pub mod Numbers
+pub mod Flags
 pub mod Forms
 pub mod Commands
 pub mod Scripts

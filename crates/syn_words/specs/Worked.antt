@@ -1,59 +1,83 @@
 -- Worked scripts with their commands, texts with their first faults, and words read by forms.
-use Rattle.std.specs.Prelude.{◌≡◌, true, false, ℕ, List, [], ◌∷◌, ◌++◌, Some, None, Result, Ok, Err, codes}
+use Rattle.std.specs.Prelude.{◌≡◌, true, false, ℕ, Bool, List, [], ◌∷◌, ◌++◌, Some, None, Result, Ok, Err, codes}
 use Rattle.syn_words.specs.Words.{words_at}
 use Rattle.syn_words.specs.Commands.{flag_and_name, options}
 use Rattle.syn_words.specs.Forms.{given_by}
 use Rattle.syn_words.specs.Scripts.{IsScript, IsFirstFault}
-use Rattle.syn_words.specs.declared.Command.TheVariants.{Read, Write, Stats, Strash, Balance, Rewrite, Refactor, Map, Generate, Sweep, Resubstitute, MapByFlow, ReadAiger, WriteAiger}
+use Rattle.syn_words.specs.declared.Command.TheVariants.{Read, Write, ReadAiger, WriteAiger, Stats, Generate, Make}
+use Rattle.syn_words.specs.declared.recipes.Recipe.TheVariants.{Strash, Balance, Rewrite, Refactor, Resubstitute, Merge, Map, MapByFlow, Sweep}
 use Rattle.syn_words.specs.declared.ScriptFault.{ScriptFault}
 use Rattle.syn_words.specs.declared.ScriptFault.TheVariants.{BadByte, UnknownCommand, MissingWord, ExtraWord, BadNumber, OutOfRange}
 use Rattle.syn_words.specs.declared.forms.Form.{Form}
 use Rattle.syn_words.specs.declared.forms.Operands.TheVariants.{Nothing, TwoNumbers}
+use Rattle.syn_words.specs.declared.recipes.SearchLimits.{SearchLimits}
 use Rattle.syn_words.specs.declared.word_reader.Given.{Given}
 
 -- What a text of words gives by a form, from the offset 0.
 abbrev pub Gives : Form → List ℕ → Result Given ScriptFault → Type 0
 Gives form text wanted = given_by form 99 (words_at 0 text) ≡ wanted
 
--- Flags `-z` and `-l`, and an option `-w` with a number from 1 to 16.
+-- Flags `-z`, `-L` and `-l`, and an option `-w` with a number from 1 to 16.
 abbrev pub flags_and_workers : Form
-flags_and_workers = record { flags = (Some 122, Some 108); numbered = Some (record { letter = 119; range = record { least = 1; most = 16 } }); operands = Nothing }
+flags_and_workers = record { flags = (Some 122, Some 76, Some 108); numbered = Some (record { letter = 119; range = record { least = 1; most = 16 } }); operands = Nothing }
 
 -- A number of 64 bits, and one from 1 to 32768.
 abbrev pub two_numbers : Form
-two_numbers = record { flags = (None, None); numbered = None; operands = TwoNumbers (record { least = 0; most = 18446744073709551615 }) (record { least = 1; most = 32768 }) }
+two_numbers = record { flags = (None, None, None); numbered = None; operands = TwoNumbers (record { least = 0; most = 18446744073709551615 }) (record { least = 1; most = 32768 }) }
+
+-- So many conflicts a question, and whether no observed signal may get deeper.
+abbrev pub limits : ℕ → Bool → SearchLimits
+limits conflicts levels = record { conflicts = conflicts; levels = levels }
 
 pub record WorkedScripts : Type 0 where
   pub empty : IsScript [] []
   pub semicolon : IsScript (codes ";") []
   pub blanks : IsScript (codes " ; ;" ++ 9 ∷ 13 ∷ []) []
   pub three : IsScript (codes "read_blif a; ps; write_blif o") (Read (codes "a") ∷ Stats ∷ Write (codes "o") ∷ [])
-  pub tight : IsScript (codes "read_blif a;ps;b;st") (Read (codes "a") ∷ Stats ∷ Balance ∷ Strash ∷ [])
-  pub long_names : IsScript (codes "print_stats; strash; balance;") (Stats ∷ Strash ∷ Balance ∷ [])
+  pub tight : IsScript (codes "read_blif a;ps;b;st") (Read (codes "a") ∷ Stats ∷ Make Balance ∷ Make Strash ∷ [])
+  pub long_names : IsScript (codes "print_stats; strash; balance;") (Stats ∷ Make Strash ∷ Make Balance ∷ [])
   pub tab_and_cr : IsScript (codes "read_blif" ++ 9 ∷ codes "a.blif" ++ 13 ∷ []) (Read (codes "a.blif") ∷ [])
   pub comment_is_none : IsScript (codes "write_blif #a\\b") (Write (codes "#a\\b") ∷ [])
   pub hyphen_is_a_name : IsScript (codes "read_blif -a") (Read (codes "-a") ∷ [])
-  pub rewriting : IsScript (codes "rw; rewrite -w 4 -z; rwz") (Rewrite (options false false None) ∷ Rewrite (options true false (Some 4)) ∷ Rewrite (options true false None) ∷ [])
-  pub refactoring : IsScript (codes "rf; refactor -w 4 -z; rfz -w 2") (Refactor (options false false None) ∷ Refactor (options true false (Some 4)) ∷ Refactor (options true false (Some 2)) ∷ [])
-  pub mapping : IsScript (codes "if; if -K 2; if -K 008") (Map false 6 ∷ Map false 2 ∷ Map false 8 ∷ [])
-  pub mapping_for_area : IsScript (codes "if -a; if -a -K 4; if -K 4 -a") (Map true 6 ∷ Map true 4 ∷ Map true 4 ∷ [])
-  pub mapping_by_flow : IsScript (codes "flowmap; flowmap -K 2; flowmap -K 8") (MapByFlow 6 ∷ MapByFlow 2 ∷ MapByFlow 8 ∷ [])
+  pub rewriting : IsScript (codes "rw; rewrite -w 4 -z; rwz") (Make (Rewrite (options false false None)) ∷ Make (Rewrite (options true false (Some 4))) ∷ Make (Rewrite (options true false None)) ∷ [])
+  pub refactoring : IsScript (codes "rf; refactor -w 4 -z; rfz -w 2") (Make (Refactor (options false false None)) ∷ Make (Refactor (options true false (Some 4))) ∷ Make (Refactor (options true false (Some 2))) ∷ [])
+  pub mapping : IsScript (codes "if; if -K 2; if -K 008") (Make (Map false 6) ∷ Make (Map false 2) ∷ Make (Map false 8) ∷ [])
+  pub mapping_for_area : IsScript (codes "if -a; if -a -K 4; if -K 4 -a") (Make (Map true 6) ∷ Make (Map true 4) ∷ Make (Map true 4) ∷ [])
+  pub mapping_by_flow : IsScript (codes "flowmap; flowmap -K 2; flowmap -K 8") (Make (MapByFlow 6) ∷ Make (MapByFlow 2) ∷ Make (MapByFlow 8) ∷ [])
   pub ten_commands : IsScript (codes "resyn2")
-      (Balance ∷ Rewrite (options false false None) ∷ Refactor (options false false None) ∷ Balance ∷ Rewrite (options false false None) ∷ Rewrite (options true false None) ∷ Balance ∷ Refactor (options true false None) ∷ Rewrite (options true false None) ∷ Balance ∷ [])
+      (Make Balance ∷ Make (Rewrite (options false false None)) ∷ Make (Refactor (options false false None)) ∷ Make Balance ∷ Make (Rewrite (options false false None)) ∷ Make (Rewrite (options true false None)) ∷ Make Balance ∷ Make (Refactor (options true false None)) ∷ Make (Rewrite (options true false None)) ∷ Make Balance ∷ [])
   pub ten_commands_keeping_levels : IsScript (codes "resyn2l")
-      (Rewrite (options true true None) ∷ Balance ∷ Refactor (options false true None) ∷ Balance ∷ Rewrite (options false true None) ∷ Rewrite (options true true None)
-      ∷ Balance ∷ Refactor (options true true None) ∷ Rewrite (options true true None) ∷ Balance ∷ [])
-  pub keeping_levels : IsScript (codes "rw -l; rewrite -w 4 -l -z; rfz -l; refactor -l; rs -l -w 2; rsz -l")
-      (Rewrite (options false true None) ∷ Rewrite (options true true (Some 4)) ∷ Refactor (options true true None) ∷ Refactor (options false true None)
-      ∷ Resubstitute (options false true (Some 2)) ∷ Resubstitute (options true true None) ∷ [])
+      (Make (Rewrite (options true true None)) ∷ Make Balance ∷ Make (Refactor (options false true None)) ∷ Make Balance ∷ Make (Rewrite (options false true None)) ∷ Make (Rewrite (options true true None))
+      ∷ Make Balance ∷ Make (Refactor (options true true None)) ∷ Make (Rewrite (options true true None)) ∷ Make Balance ∷ [])
+  pub keeping_levels : IsScript (codes "rw -L; rewrite -w 4 -L -z; rfz -L; refactor -L; rs -L -w 2; rsz -L")
+      (Make (Rewrite (options false true None)) ∷ Make (Rewrite (options true true (Some 4))) ∷ Make (Refactor (options true true None)) ∷ Make (Refactor (options false true None))
+      ∷ Make (Resubstitute (options false true (Some 2))) ∷ Make (Resubstitute (options true true None)) ∷ [])
+  pub levels_may_grow : IsScript (codes "rw -l; rfz -l -w 2; resub -z -l") (Make (Rewrite (options false false None)) ∷ Make (Refactor (options true false (Some 2))) ∷ Make (Resubstitute (options true false None)) ∷ [])
+  pub joined_options : IsScript (codes "rw -zL; rf -Lz -w 4; rsz -lL; rs -lz") (Make (Rewrite (options true true None)) ∷ Make (Refactor (options true true (Some 4))) ∷ Make (Resubstitute (options true true None)) ∷ Make (Resubstitute (options true false None)) ∷ [])
+  pub six_commands : IsScript (codes "resyn")
+      (Make Balance ∷ Make (Rewrite (options false false None)) ∷ Make (Rewrite (options true false None)) ∷ Make Balance ∷ Make (Rewrite (options true false None)) ∷ Make Balance ∷ [])
+  pub compressing : IsScript (codes "compress2")
+      (Make Balance ∷ Make (Rewrite (options false false None)) ∷ Make (Refactor (options false false None)) ∷ Make Balance ∷ Make (Rewrite (options false false None)) ∷ Make (Rewrite (options true false None)) ∷ Make Balance ∷ Make (Refactor (options true false None)) ∷ Make (Rewrite (options true false None)) ∷ Make Balance ∷ [])
+  pub merging : IsScript (codes "fraig; fraig -C 7; fraig -L -C 1000000; fraig -C 0 -L") (Make (Merge (limits 100 false)) ∷ Make (Merge (limits 7 false)) ∷ Make (Merge (limits 1000000 true)) ∷ Make (Merge (limits 0 true)) ∷ [])
   pub generated : IsScript (codes "gen 18446744073709551615 32768; ps") (Generate 18446744073709551615 32768 ∷ Stats ∷ [])
-  pub sweeping : IsScript (codes "read_blif a; scl; ps") (Read (codes "a") ∷ Sweep ∷ Stats ∷ [])
-  pub resubstitution : IsScript (codes "rs; resub -w 4 -z; rsz -w 2") (Resubstitute (options false false None) ∷ Resubstitute (options true false (Some 4)) ∷ Resubstitute (options true false (Some 2)) ∷ [])
+  pub sweeping : IsScript (codes "read_blif a; scl; ps") (Read (codes "a") ∷ Make Sweep ∷ Stats ∷ [])
+  pub resubstitution : IsScript (codes "rs; resub -w 4 -z; rsz -w 2") (Make (Resubstitute (options false false None)) ∷ Make (Resubstitute (options true false (Some 4))) ∷ Make (Resubstitute (options true false (Some 2))) ∷ [])
   pub aiger : IsScript (codes "read_aiger -a; write_aiger o; write_aiger -a o") (ReadAiger (codes "-a") ∷ WriteAiger false (codes "o") ∷ WriteAiger true (codes "o") ∷ [])
   pub zero_refactored_already : IsFirstFault (codes "rfz -z") (ExtraWord 4)
   pub zero_resubstituted_already : IsFirstFault (codes "rsz -z") (ExtraWord 4)
-  pub levels_kept_twice : IsFirstFault (codes "rw -l -l") (ExtraWord 6)
-  pub levels_kept_already : IsFirstFault (codes "resyn2l -l") (ExtraWord 8)
+  pub levels_kept_twice : IsFirstFault (codes "rw -L -L") (ExtraWord 6)
+  pub levels_kept_and_joined : IsFirstFault (codes "rw -L -zL") (ExtraWord 6)
+  pub joined_twice : IsFirstFault (codes "rw -zz") (ExtraWord 3)
+  pub joined_with_another : IsFirstFault (codes "rw -za") (ExtraWord 3)
+  pub joined_with_a_number : IsFirstFault (codes "rw -zw 4") (ExtraWord 3)
+  pub hyphen_alone : IsFirstFault (codes "rw -") (ExtraWord 3)
+  pub too_many_conflicts : IsFirstFault (codes "fraig -C 1000001") (OutOfRange 9)
+  pub no_number_of_conflicts : IsFirstFault (codes "fraig -C; ps") (MissingWord 8)
+  pub conflicts_no_number : IsFirstFault (codes "fraig -C -L") (BadNumber 9)
+  pub workers_of_merging : IsFirstFault (codes "fraig -w 4") (ExtraWord 6)
+  pub levels_of_merging : IsFirstFault (codes "fraig -l") (ExtraWord 6)
+  pub option_of_resyn : IsFirstFault (codes "resyn -z") (ExtraWord 6)
+  pub levels_kept_already : IsFirstFault (codes "resyn2l -L") (ExtraWord 8)
   pub levels_of_balancing : IsFirstFault (codes "b -l") (ExtraWord 2)
   pub option_of_resyn2 : IsFirstFault (codes "resyn2 -z") (ExtraWord 7)
   pub option_of_sweeping : IsFirstFault (codes "scl -z") (ExtraWord 4)
@@ -90,13 +114,20 @@ pub record WorkedScripts : Type 0 where
   pub byte_before_all : IsFirstFault (codes "rewrit; " ++ 127 ∷ []) (BadByte 8)
 
 pub record WorkedForms : Type 0 where
-  pub options : Gives flags_and_workers (codes "-z -w 4") (Ok (record { flags = (true, false); number = Some 4; name = []; numbers = (0, 0) }))
-  pub other_order : Gives flags_and_workers (codes "-w 4 -z") (Ok (record { flags = (true, false); number = Some 4; name = []; numbers = (0, 0) }))
-  pub levels : Gives flags_and_workers (codes "-l -w 4") (Ok (record { flags = (false, true); number = Some 4; name = []; numbers = (0, 0) }))
-  pub both_flags : Gives flags_and_workers (codes "-l -z") (Ok (record { flags = (true, true); number = None; name = []; numbers = (0, 0) }))
-  pub levels_twice : Gives flags_and_workers (codes "-l -z -l") (Err (ExtraWord 6))
-  pub no_option : Gives flags_and_workers [] (Ok (record { flags = (false, false); number = None; name = []; numbers = (0, 0) }))
-  pub leading_zeros : Gives flags_and_workers (codes "-w 0016") (Ok (record { flags = (false, false); number = Some 16; name = []; numbers = (0, 0) }))
+  pub options : Gives flags_and_workers (codes "-z -w 4") (Ok (record { flags = (true, false, false); number = Some 4; name = []; numbers = (0, 0) }))
+  pub other_order : Gives flags_and_workers (codes "-w 4 -z") (Ok (record { flags = (true, false, false); number = Some 4; name = []; numbers = (0, 0) }))
+  pub levels : Gives flags_and_workers (codes "-L -w 4") (Ok (record { flags = (false, true, false); number = Some 4; name = []; numbers = (0, 0) }))
+  pub both_flags : Gives flags_and_workers (codes "-L -z") (Ok (record { flags = (true, true, false); number = None; name = []; numbers = (0, 0) }))
+  pub levels_twice : Gives flags_and_workers (codes "-L -z -L") (Err (ExtraWord 6))
+  pub third_flag : Gives flags_and_workers (codes "-l") (Ok (record { flags = (false, false, true); number = None; name = []; numbers = (0, 0) }))
+  pub joined : Gives flags_and_workers (codes "-zL") (Ok (record { flags = (true, true, false); number = None; name = []; numbers = (0, 0) }))
+  pub joined_around_a_number : Gives flags_and_workers (codes "-lL -w 4 -z") (Ok (record { flags = (true, true, true); number = Some 4; name = []; numbers = (0, 0) }))
+  pub joined_twice : Gives flags_and_workers (codes "-LlL") (Err (ExtraWord 0))
+  pub given_and_joined : Gives flags_and_workers (codes "-l -zl") (Err (ExtraWord 3))
+  pub joined_with_another : Gives flags_and_workers (codes "-zx") (Err (ExtraWord 0))
+  pub hyphen_alone : Gives flags_and_workers (codes "-") (Err (ExtraWord 0))
+  pub no_option : Gives flags_and_workers [] (Ok (record { flags = (false, false, false); number = None; name = []; numbers = (0, 0) }))
+  pub leading_zeros : Gives flags_and_workers (codes "-w 0016") (Ok (record { flags = (false, false, false); number = Some 16; name = []; numbers = (0, 0) }))
   pub number_missing : Gives flags_and_workers (codes "-w") (Err (MissingWord 99))
   pub no_number : Gives flags_and_workers (codes "-w -z") (Err (BadNumber 3))
   pub signed : Gives flags_and_workers (codes "-w +4") (Err (BadNumber 3))
@@ -105,11 +136,12 @@ pub record WorkedForms : Type 0 where
   pub flag_twice : Gives flags_and_workers (codes "-z -z") (Err (ExtraWord 3))
   pub number_twice : Gives flags_and_workers (codes "-w 4 -w x") (Err (ExtraWord 5))
   pub stray_word : Gives flags_and_workers (codes "z") (Err (ExtraWord 0))
-  pub flag_before_a_name : Gives (flag_and_name 97) (codes "-a o") (Ok (record { flags = (true, false); number = None; name = codes "o"; numbers = (0, 0) }))
+  pub flag_before_a_name : Gives (flag_and_name 97) (codes "-a o") (Ok (record { flags = (true, false, false); number = None; name = codes "o"; numbers = (0, 0) }))
   pub flag_behind_a_name : Gives (flag_and_name 97) (codes "o -a") (Err (ExtraWord 2))
   pub flag_for_a_name : Gives (flag_and_name 97) (codes "-a -a") (Err (ExtraWord 3))
+  pub flags_for_a_name : Gives (flag_and_name 97) (codes "-ab") (Ok (record { flags = (false, false, false); number = None; name = codes "-ab"; numbers = (0, 0) }))
   pub name_missing : Gives (flag_and_name 97) (codes "-a") (Err (MissingWord 99))
-  pub seed_and_size : Gives two_numbers (codes "18446744073709551615 1") (Ok (record { flags = (false, false); number = None; name = []; numbers = (18446744073709551615, 1) }))
+  pub seed_and_size : Gives two_numbers (codes "18446744073709551615 1") (Ok (record { flags = (false, false, false); number = None; name = []; numbers = (18446744073709551615, 1) }))
   pub size_missing : Gives two_numbers (codes "1") (Err (MissingWord 99))
   pub size_no_number : Gives two_numbers (codes "1 x") (Err (BadNumber 2))
   pub size_too_great : Gives two_numbers (codes "1 32769") (Err (OutOfRange 2))

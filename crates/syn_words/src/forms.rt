@@ -27,8 +27,8 @@ pub enum Operands {
 /// What may stand behind a command's name: options in any order, each once at most, and then words.
 #[derive(Clone, Copy, Debug, PartialEq, Eq)]
 pub struct Form {
-    /// The letters of the options without a number.
-    pub flags: (Option<u8>, Option<u8>),
+    /// The letters of the options without a number. Those given may stand behind one hyphen.
+    pub flags: (Option<u8>, Option<u8>, Option<u8>),
     /// The option with a number.
     pub numbered: Option<Numbered>,
     pub operands: Operands,

@@ -5,20 +5,24 @@
 //! words is skipped. The whole script is read before anything runs, and the first fault in text
 //! order is answered, alone.
 //!
-//! What may stand behind a name is data, a form: two options without a number, an option with a
-//! number in a range, and then a file's name or two numbers. One function reads words by a form,
-//! and one table says which form and which commands belong to a name: `specs/Commands.antt`, and
-//! in the code `table.rt`. No memory is taken but for the list and the names of files.
+//! What may stand behind a name is data, a form: three options without a number, an option with
+//! a number in a range, and then a file's name or two numbers. One function reads words by a form,
+//! and one table has a row a name: the form, and the keyword, which says what the words spell
+//! (`specs/Commands.antt`, and in the code `table.rt` and `spelling.rt`). A command that makes the
+//! network anew is a recipe (`recipes.rt`). No memory is taken but for the list and the names of files.
 #![tactic(auto)]
 
 ghost use Rattle.std.specs.Prelude.{◌≡◌, ◌⊎◌, ◌<◌, ◌^◌, [], Err, List, length, Ok, Some, IfOk, IfErr, IsOkUnless};
 ghost use Rattle.syn_words.specs.Scripts.{IsFirstFault, IsScript, said_after};
 
+mod flags;
 mod forms;
 mod inputs;
 mod laws;
 mod names;
 mod numbers;
+mod recipes;
+mod spelling;
 mod table;
 mod word_reader;
 mod words;
@@ -28,24 +32,13 @@ pub use inputs::LutInputs;
 pub use laws::{either_or, not_both, one_fault, one_script, worked_forms, worked_scripts};
 pub use names::FileName;
 pub use numbers::number_in;
+pub use recipes::{PassOptions, Recipe, SearchLimits};
+use spelling::push_commands;
 use std::alloc::{AllocError, AllocFailed, Global};
-use syn_workers::Workers;
-use table::push_commands;
 use thiserror::Error;
 use words::{Phrases, bad_byte};
 
-/// How a command rewrites, refactors or resubstitutes.
-#[derive(Clone, Copy, Debug)]
-pub struct PassOptions {
-    /// Whether a replacement that saves nothing may be made too.
-    pub zero: bool,
-    /// Whether only replacements that keep their root's level are made.
-    pub levels: bool,
-    /// The number of workers, where one is named.
-    pub workers: Option<Workers>,
-}
-
-/// A command of a script. Contracts see the names of files as bytes, and numbers of inputs as numbers.
+/// A command of a script. Contracts see the names of files as bytes.
 #[derive(Debug, Drop)]
 pub enum Command {
     /// `read_blif F`: the graph of the netlist in the file of that name becomes the network.
@@ -63,23 +56,6 @@ pub enum Command {
     },
     /// `print_stats`, `ps`: prints the network's line.
     Stats,
-    /// `strash`, `st`: makes the network a graph, hashed and compacted.
-    Strash,
-    /// `balance`, `b`: balances the graph.
-    Balance,
-    /// `rewrite [-z] [-l] [-w N]`, `rw`; `rwz` has `-z` set: rewrites the graph until no listed replacement saves a node.
-    Rewrite(PassOptions),
-    /// `refactor [-z] [-l] [-w N]`, `rf`; `rfz` has `-z` set: refactors the graph until no cone's replacement saves a node.
-    Refactor(PassOptions),
-    /// `if [-a] [-K n]`: maps the network to LUTs of so many inputs at most.
-    Map {
-        /// Whether few LUTs are looked for.
-        area: bool,
-        /// The most inputs of a LUT.
-        inputs: LutInputs,
-    },
-    /// `flowmap [-K n]`: maps the network to LUTs of so many inputs at most, at the least depth that there is.
-    MapByFlow(LutInputs),
     /// `gen SEED SIZE`: the graph of the netlist that is generated from a seed becomes the network.
     Generate {
         /// The seed.
@@ -87,10 +63,8 @@ pub enum Command {
         /// The number of tables.
         size: u16,
     },
-    /// `scl`: drops latches that no output needs, and makes one of latches that always hold the same.
-    Sweep,
-    /// `resub [-z] [-l] [-w N]`, `rs`; `rsz` has `-z` set: expresses nodes by others that are there, until no such replacement saves a node.
-    Resubstitute(PassOptions),
+    /// Makes the network anew.
+    Make(Recipe),
 }
 
 /// Why a text is no script. A place is an offset in bytes, from 0.

@@ -1,17 +1,10 @@
-//! The table of commands: their names, what may stand behind each, and what it then says.
+//! The table of commands: a row a name, with what may stand behind it and its keyword.
 
-ghost use Rattle.std.specs.Prelude.{◌≡◌, ◌⊎◌, [], ◌∷◌, Err, None, Ok, IfOk, OnOk, IfErr, option_map};
-ghost use Rattle.syn_words.specs.Commands.{commands_of, flag_and_name, form_of, named_in, names, options, resyn2, resyn2l, said, size_of, with_inputs, with_workers, words_alone, workers_of};
-ghost use Rattle.syn_words.specs.Scripts.{said_onto};
+ghost use Rattle.std.specs.Prelude.{◌≡◌, map};
+ghost use Rattle.syn_words.specs.Commands.{entry_in, table};
 
 use crate::forms::{Form, NumberRange, Numbered, Operands};
-use crate::inputs::LutInputs;
-use crate::names::FileName;
-use crate::word_reader::{Given, given_by};
-use crate::words::Phrase;
-use crate::{Command, PassOptions, ScriptFault};
-use std::alloc::{AllocError, Global};
-use syn_workers::{MAX_WORKERS, Workers};
+use syn_workers::MAX_WORKERS;
 
 /// What the names of commands say, long and short ones together.
 #[derive(Clone, Copy, Debug, PartialEq, Eq)]
@@ -33,56 +26,20 @@ pub enum Keyword {
     Resubstitute,
     ResubstituteZero,
     MapByFlow,
+    Merge,
+    Resyn,
     ReadAiger,
     WriteAiger,
 }
 
-// The keyword that a word names.
-fn keyword_of(word: &[u8]) -> Option<Keyword>
-    ensures { result ≡ named_in names word.now }
-{
-    if b"read_blif".as_slice() == word {
-        Some(Keyword::ReadBlif)
-    } else if b"write_blif".as_slice() == word {
-        Some(Keyword::WriteBlif)
-    } else if b"print_stats".as_slice() == word || b"ps".as_slice() == word {
-        Some(Keyword::PrintStats)
-    } else if b"strash".as_slice() == word || b"st".as_slice() == word {
-        Some(Keyword::Strash)
-    } else if b"balance".as_slice() == word || b"b".as_slice() == word {
-        Some(Keyword::Balance)
-    } else if b"rewrite".as_slice() == word || b"rw".as_slice() == word {
-        Some(Keyword::Rewrite)
-    } else if b"rwz".as_slice() == word {
-        Some(Keyword::RewriteZero)
-    } else if b"refactor".as_slice() == word || b"rf".as_slice() == word {
-        Some(Keyword::Refactor)
-    } else if b"rfz".as_slice() == word {
-        Some(Keyword::RefactorZero)
-    } else if b"if".as_slice() == word {
-        Some(Keyword::Map)
-    } else if b"resyn2".as_slice() == word {
-        Some(Keyword::Resyn2)
-    } else if b"resyn2l".as_slice() == word {
-        Some(Keyword::Resyn2Levels)
-    } else if b"gen".as_slice() == word {
-        Some(Keyword::Generate)
-    } else if b"scl".as_slice() == word {
-        Some(Keyword::Sweep)
-    } else if b"resub".as_slice() == word || b"rs".as_slice() == word {
-        Some(Keyword::Resubstitute)
-    } else if b"rsz".as_slice() == word {
-        Some(Keyword::ResubstituteZero)
-    } else if b"flowmap".as_slice() == word {
-        Some(Keyword::MapByFlow)
-    } else if b"read_aiger".as_slice() == word {
-        Some(Keyword::ReadAiger)
-    } else if b"write_aiger".as_slice() == word {
-        Some(Keyword::WriteAiger)
-    } else {
-        None
-    }
-}
+// A row of the table: a name, what may stand behind it, and its keyword.
+type Row = (&'static [u8], Form, Keyword);
+
+/// So many conflicts at most.
+pub const MAX_CONFLICTS: u32 = 1_000_000;
+
+/// So many generated tables at most.
+pub const MAX_TABLES: u16 = 32_768;
 
 // The option with a number of workers.
 const WORKERS: Numbered = Numbered {
@@ -99,14 +56,20 @@ const INPUTS: Numbered = Numbered {
     range: NumberRange { least: 2, most: 8 },
 };
 
+// The option with a number of conflicts.
+const CONFLICTS: Numbered = Numbered {
+    letter: b'C',
+    range: NumberRange {
+        least: 0,
+        most: MAX_CONFLICTS as u64,
+    },
+};
+
 // A seed.
 const SEEDS: NumberRange = NumberRange {
     least: 0,
     most: u64::MAX,
 };
-
-// So many generated tables at most.
-const MAX_TABLES: u16 = 32_768;
 
 // A number of generated tables.
 const SIZES: NumberRange = NumberRange {
@@ -114,230 +77,116 @@ const SIZES: NumberRange = NumberRange {
     most: MAX_TABLES as u64,
 };
 
-// No option, and these words.
-fn words_alone(operands: Operands) -> Form
-    ensures { result ≡ words_alone operands }
-{
-    Form {
-        flags: (None, None),
-        numbered: None,
-        operands,
-    }
-}
+// No word.
+const NOTHING: Form = Form {
+    flags: (None, None, None),
+    numbered: None,
+    operands: Operands::Nothing,
+};
 
-// `-z`, where it may stand, `-l`, and a number of workers.
-fn with_workers(zero: Option<u8>) -> Form
-    ensures { result ≡ with_workers zero }
-{
-    Form {
-        flags: (zero, Some(b'l')),
-        numbered: Some(WORKERS),
-        operands: Operands::Nothing,
-    }
-}
+// A file's name.
+const NAME: Form = Form {
+    flags: (None, None, None),
+    numbered: None,
+    operands: Operands::Name,
+};
 
-// An option without a number, where it has one, and a number of inputs.
-fn with_inputs(flag: Option<u8>) -> Form
-    ensures { result ≡ with_inputs flag }
-{
-    Form {
-        flags: (flag, None),
-        numbered: Some(INPUTS),
-        operands: Operands::Nothing,
-    }
-}
+// `-a`, and then a file's name.
+const ASCII_AND_NAME: Form = Form {
+    flags: (Some(b'a'), None, None),
+    numbered: None,
+    operands: Operands::Name,
+};
 
-// An option without a number, and then a file's name.
-fn flag_and_name(flag: u8) -> Form
-    ensures { result ≡ flag_and_name flag }
-{
-    Form {
-        flags: (Some(flag), None),
-        numbered: None,
-        operands: Operands::Name,
-    }
-}
+// `-z`, `-L`, `-l`, which says what is so without it, and a number of workers.
+const PASS: Form = Form {
+    flags: (Some(b'z'), Some(b'L'), Some(b'l')),
+    numbered: Some(WORKERS),
+    operands: Operands::Nothing,
+};
 
-// What may stand behind a keyword.
-fn form_of(keyword: Keyword) -> Form
-    ensures { result ≡ form_of keyword }
+// The same without `-z`, which is set already.
+const ZERO_PASS: Form = Form {
+    flags: (None, Some(b'L'), Some(b'l')),
+    numbered: Some(WORKERS),
+    operands: Operands::Nothing,
+};
+
+// `-a`, and a number of inputs.
+const AREA_AND_INPUTS: Form = Form {
+    flags: (Some(b'a'), None, None),
+    numbered: Some(INPUTS),
+    operands: Operands::Nothing,
+};
+
+// A number of inputs.
+const ONLY_INPUTS: Form = Form {
+    flags: (None, None, None),
+    numbered: Some(INPUTS),
+    operands: Operands::Nothing,
+};
+
+// `-L`, and a number of conflicts.
+const SEARCH: Form = Form {
+    flags: (None, Some(b'L'), None),
+    numbered: Some(CONFLICTS),
+    operands: Operands::Nothing,
+};
+
+// A seed, and a number of generated tables.
+const SEED_AND_SIZE: Form = Form {
+    flags: (None, None, None),
+    numbered: None,
+    operands: Operands::TwoNumbers(SEEDS, SIZES),
+};
+
+// The names, long and short.
+const TABLE: [Row; 28] = [
+    (b"read_blif", NAME, Keyword::ReadBlif),
+    (b"write_blif", NAME, Keyword::WriteBlif),
+    (b"print_stats", NOTHING, Keyword::PrintStats),
+    (b"ps", NOTHING, Keyword::PrintStats),
+    (b"strash", NOTHING, Keyword::Strash),
+    (b"st", NOTHING, Keyword::Strash),
+    (b"balance", NOTHING, Keyword::Balance),
+    (b"b", NOTHING, Keyword::Balance),
+    (b"rewrite", PASS, Keyword::Rewrite),
+    (b"rw", PASS, Keyword::Rewrite),
+    (b"rwz", ZERO_PASS, Keyword::RewriteZero),
+    (b"refactor", PASS, Keyword::Refactor),
+    (b"rf", PASS, Keyword::Refactor),
+    (b"rfz", ZERO_PASS, Keyword::RefactorZero),
+    (b"if", AREA_AND_INPUTS, Keyword::Map),
+    (b"resyn2", NOTHING, Keyword::Resyn2),
+    (b"resyn2l", NOTHING, Keyword::Resyn2Levels),
+    (b"gen", SEED_AND_SIZE, Keyword::Generate),
+    (b"scl", NOTHING, Keyword::Sweep),
+    (b"resub", PASS, Keyword::Resubstitute),
+    (b"rs", PASS, Keyword::Resubstitute),
+    (b"rsz", ZERO_PASS, Keyword::ResubstituteZero),
+    (b"flowmap", ONLY_INPUTS, Keyword::MapByFlow),
+    (b"fraig", SEARCH, Keyword::Merge),
+    (b"resyn", NOTHING, Keyword::Resyn),
+    (b"compress2", NOTHING, Keyword::Resyn2),
+    (b"read_aiger", NAME, Keyword::ReadAiger),
+    (b"write_aiger", ASCII_AND_NAME, Keyword::WriteAiger),
+];
+
+// What the first row of a name has, if there is one.
+fn entry_in(rows: &[Row], word: &[u8]) -> Option<(Form, Keyword)>
+    ensures { result ≡ entry_in (map (λ r. (r.0.now, r.1, r.2)) rows.now) word.now }
 {
-    match keyword {
-        Keyword::ReadBlif | Keyword::WriteBlif | Keyword::ReadAiger => {
-            words_alone(Operands::Name)
+    for (name, form, keyword) in rows {
+        if *name == word {
+            return Some((*form, *keyword));
         }
-        Keyword::WriteAiger => flag_and_name(b'a'),
-        Keyword::PrintStats
-        | Keyword::Strash
-        | Keyword::Balance
-        | Keyword::Resyn2
-        | Keyword::Resyn2Levels
-        | Keyword::Sweep => words_alone(Operands::Nothing),
-        Keyword::Rewrite | Keyword::Refactor | Keyword::Resubstitute => with_workers(Some(b'z')),
-        Keyword::RewriteZero | Keyword::RefactorZero | Keyword::ResubstituteZero => {
-            with_workers(None)
-        }
-        Keyword::Map => with_inputs(Some(b'a')),
-        Keyword::MapByFlow => with_inputs(None),
-        Keyword::Generate => words_alone(Operands::TwoNumbers(SEEDS, SIZES)),
     }
+    None
 }
 
-// A number of workers, one at least and the most at most.
-fn workers_of(number: u64) -> Workers
-    ensures { result ≡ workers_of number }
+/// What may stand behind a name, and its keyword, where it is a command's name.
+pub fn entry_of(word: &[u8]) -> Option<(Form, Keyword)>
+    ensures { result ≡ entry_in table word.now }
 {
-    Workers::new(number.min(MAX_WORKERS as u64).max(1) as u8)
-}
-
-// The number of workers that was given, if any.
-fn given_workers(number: Option<u64>) -> Option<Workers>
-    ensures { result ≡ option_map workers_of number }
-{
-    match number {
-        Some(number) => Some(workers_of(number)),
-        None => None,
-    }
-}
-
-// A number of generated tables, at most the most.
-fn size_of(number: u64) -> u16
-    ensures { result ≡ size_of number }
-{
-    if number < MAX_TABLES as u64 {
-        number as u16
-    } else {
-        MAX_TABLES
-    }
-}
-
-// One command.
-fn one(alloc: Global, command: Command) -> Result<Vec<Command>, AllocError>
-    ensures { IfOk result (λ v. v.items ≡ command ∷ []) }
-{
-    Ok(vec![in alloc; command]?)
-}
-
-// These options.
-fn options(zero: bool, levels: bool, workers: Option<Workers>) -> PassOptions
-    ensures { result ≡ options zero levels workers }
-{
-    PassOptions {
-        zero,
-        levels,
-        workers,
-    }
-}
-
-// The commands of `resyn2l`, by as many workers as the session has. Balancing first would leave rewriting no level to spare.
-fn resyn2l(alloc: Global) -> Result<Vec<Command>, AllocError>
-    ensures { IfOk result (λ v. v.items ≡ resyn2l) }
-{
-    let plain = options(false, true, None);
-    let zero = options(true, true, None);
-    Ok(vec![in alloc;
-        Command::Rewrite(zero),
-        Command::Balance,
-        Command::Refactor(plain),
-        Command::Balance,
-        Command::Rewrite(plain),
-        Command::Rewrite(zero),
-        Command::Balance,
-        Command::Refactor(zero),
-        Command::Rewrite(zero),
-        Command::Balance,
-    ]?)
-}
-
-// The commands of `resyn2`, by as many workers as the session has.
-fn resyn2(alloc: Global) -> Result<Vec<Command>, AllocError>
-    ensures { IfOk result (λ v. v.items ≡ resyn2) }
-{
-    let plain = options(false, false, None);
-    let zero = options(true, false, None);
-    Ok(vec![in alloc;
-        Command::Balance,
-        Command::Rewrite(plain),
-        Command::Refactor(plain),
-        Command::Balance,
-        Command::Rewrite(plain),
-        Command::Rewrite(zero),
-        Command::Balance,
-        Command::Refactor(zero),
-        Command::Rewrite(zero),
-        Command::Balance,
-    ]?)
-}
-
-// The commands that a keyword spells with what was given behind it.
-fn commands_of(
-    alloc: Global,
-    keyword: Keyword,
-    given: Given<'_>,
-) -> Result<Vec<Command>, AllocError>
-    ensures { IfOk result (λ v. v.items ≡ commands_of keyword given.entry) }
-{
-    let (flag, levels) = given.flags;
-    let workers = given_workers(given.number);
-    match keyword {
-        Keyword::ReadBlif => one(alloc, Command::Read(FileName::of(alloc, given.name)?)),
-        Keyword::WriteBlif => one(alloc, Command::Write(FileName::of(alloc, given.name)?)),
-        Keyword::ReadAiger => one(alloc, Command::ReadAiger(FileName::of(alloc, given.name)?)),
-        Keyword::WriteAiger => one(
-            alloc,
-            Command::WriteAiger {
-                ascii: flag,
-                name: FileName::of(alloc, given.name)?,
-            },
-        ),
-        Keyword::PrintStats => one(alloc, Command::Stats),
-        Keyword::Strash => one(alloc, Command::Strash),
-        Keyword::Balance => one(alloc, Command::Balance),
-        Keyword::Rewrite => one(alloc, Command::Rewrite(options(flag, levels, workers))),
-        Keyword::RewriteZero => one(alloc, Command::Rewrite(options(true, levels, workers))),
-        Keyword::Refactor => one(alloc, Command::Refactor(options(flag, levels, workers))),
-        Keyword::RefactorZero => one(alloc, Command::Refactor(options(true, levels, workers))),
-        Keyword::Map => one(
-            alloc,
-            Command::Map {
-                area: flag,
-                inputs: LutInputs::of(given.number),
-            },
-        ),
-        Keyword::Resyn2 => resyn2(alloc),
-        Keyword::Resyn2Levels => resyn2l(alloc),
-        Keyword::Generate => one(
-            alloc,
-            Command::Generate {
-                seed: given.numbers.0,
-                size: size_of(given.numbers.1),
-            },
-        ),
-        Keyword::Sweep => one(alloc, Command::Sweep),
-        Keyword::MapByFlow => one(alloc, Command::MapByFlow(LutInputs::of(given.number))),
-        Keyword::Resubstitute => one(alloc, Command::Resubstitute(options(flag, levels, workers))),
-        Keyword::ResubstituteZero => one(
-            alloc,
-            Command::Resubstitute(options(true, levels, workers)),
-        ),
-    }
-}
-
-/// Puts the commands that a phrase spells behind those that were read before it.
-pub fn push_commands(
-    alloc: Global,
-    commands: &mut Vec<Command>,
-    phrase: Phrase<'_>,
-) -> Result<(), ScriptFault>
-    ensures spelled { OnOk result (said_onto commands.old.items phrase.entry ≡ Ok commands.new.items) }
-    ensures refused { IfErr result (λ fault. (fault ≡ ScriptFault.NoMemory) ⊎ (said phrase.entry ≡ Err fault)) }
-{
-    let Phrase { name, further, end } = phrase;
-    let Some(keyword) = keyword_of(name.text.as_slice()) else {
-        return Err(ScriptFault::UnknownCommand(name.at));
-    };
-    let given = given_by(form_of(keyword), further, end)?;
-    let mut spelled = commands_of(alloc, keyword, given)?;
-    commands.append(&mut spelled)?;
-    Ok(())
+    entry_in(TABLE.as_slice(), word)
 }

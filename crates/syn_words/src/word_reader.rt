@@ -1,9 +1,11 @@
 //! Reading the words behind a command's name by what may stand there.
 
 ghost use Rattle.std.specs.Prelude.{◌≡◌};
-ghost use Rattle.syn_words.specs.Forms.{after_word, at_end, given_by, is_flag, is_option, nothing_given, number_behind, with_first, with_flag};
+ghost use Rattle.syn_words.specs.Flags.{with_flags};
+ghost use Rattle.syn_words.specs.Forms.{after_word, at_end, given_by, is_option, nothing_given, number_behind, with_first, with_options};
 
 use crate::ScriptFault;
+use crate::flags::{Flags, are_flags, letters_of, with_flags};
 use crate::forms::{Form, NumberRange, Numbered, Operands};
 use crate::names::WordText;
 use crate::numbers::number_at;
@@ -13,7 +15,7 @@ use crate::words::{CommandWords, Word, next_word};
 #[derive(Debug, Drop)]
 pub struct Given<'a> {
     /// Whether each option without a number was given.
-    pub flags: (bool, bool),
+    pub flags: Flags,
     /// The number of the option with one, where it was given.
     pub number: Option<u64>,
     /// The file's name, empty where none is expected.
@@ -49,16 +51,6 @@ fn is_option(letter: u8, text: &[u8]) -> bool
     [b'-', letter].as_slice() == text
 }
 
-// Whether a word is this option without a number, where there is one.
-fn is_flag(flag: Option<u8>, text: &[u8]) -> bool
-    ensures { result ≡ is_flag flag text.now }
-{
-    match flag {
-        Some(letter) => is_option(letter, text),
-        None => false,
-    }
-}
-
 // The range of the number behind a word, where it is the option with a number.
 fn number_behind(numbered: Option<Numbered>, text: &[u8]) -> Option<NumberRange>
     ensures { result ≡ number_behind numbered text.now }
@@ -75,7 +67,7 @@ impl<'a> Given<'a> {
         ensures { result ≡ nothing_given }
     {
         Given {
-            flags: (false, false),
+            flags: (false, false, false),
             number: None,
             name: WordText::empty(),
             numbers: (0, 0),
@@ -109,18 +101,17 @@ impl<'a> Given<'a> {
         }
     }
 
-    // With a word that is an option without a number, by which these are given, unless it was given before.
-    fn with_flag(
+    // With a word of options without a number, by which these are given, unless one of them is given twice.
+    fn with_options(
         mut self,
-        given_before: bool,
-        flags: (bool, bool),
+        flags: Option<Flags>,
         word: Word<'a>,
     ) -> Result<Progress<'a>, ScriptFault>
-        ensures { result ≡ with_flag given_before flags self.entry word.entry }
+        ensures { result ≡ with_options flags self.entry word.entry }
     {
-        if given_before {
+        let Some(flags) = flags else {
             return Err(ScriptFault::ExtraWord(word.at));
-        }
+        };
         self.flags = flags;
         Ok(self.before(Awaits::Options))
     }
@@ -129,12 +120,10 @@ impl<'a> Given<'a> {
     fn with_option(self, form: Form, word: Word<'a>) -> Result<Progress<'a>, ScriptFault>
         ensures { result ≡ after_word form Awaits.Options self.entry word.entry }
     {
-        let (first, second) = self.flags;
-        if is_flag(form.flags.0, word.text.as_slice()) {
-            return self.with_flag(first, (true, second), word);
-        }
-        if is_flag(form.flags.1, word.text.as_slice()) {
-            return self.with_flag(second, (first, true), word);
+        let letters = letters_of(word.text.as_slice());
+        if are_flags(&form, letters) {
+            let flags = with_flags(&form, self.flags, letters);
+            return self.with_options(flags, word);
         }
         match number_behind(form.numbered, word.text.as_slice()) {
             None => self.with_first(form.operands, word),

@@ -5,7 +5,7 @@
 use std::alloc::{AllocError, Global};
 use std::process::ExitCode;
 use std::{env, io};
-use syn_commit::OpenGate;
+use syn_commit::NoHook;
 use syn_io::{RealFiles, RealLines, RealSink};
 
 const NO_MEMORY: u8 = 8;
@@ -46,6 +46,6 @@ fn main(rt: HostRuntime) -> ExitCode {
         &mut files,
         &mut lines,
         &mut out,
-        &OpenGate,
+        &NoHook,
     ))
 }

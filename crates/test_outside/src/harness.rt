@@ -3,7 +3,7 @@
 use std::alloc::{AllocError, Global};
 use std::test::Fail;
 use std::thread::Threads;
-use syn_commit::OpenGate;
+use syn_commit::NoHook;
 use syn_io::{MemFiles, MemLines, MemSink};
 
 /// Reads the file `a`, prints its line, and writes the file `o`.
@@ -63,7 +63,7 @@ fn status<R: Threads + Sync>(
     out: &mut MemSink,
 ) -> Result<u8, Fail> {
     let words = words_of(alloc, words)?;
-    Ok(syn_shell::run(rt, alloc, words.as_slice(), files, lines, out, &OpenGate))
+    Ok(syn_shell::run(rt, alloc, words.as_slice(), files, lines, out, &NoHook))
 }
 
 fn is_text(bytes: &[u8], text: &str) -> bool {

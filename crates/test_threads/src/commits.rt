@@ -1,6 +1,6 @@
 //! Worked commits of one seat.
 
-ghost use Rattle.std.specs.Prelude.{◌≡◌, ◌<◌};
+ghost use Rattle.std.specs.Prelude.{◌≡◌, ◌<◌, ◌≤◌};
 
 use crate::fresh::answered;
 use crate::harness::CONE;
@@ -56,8 +56,7 @@ fn chain(alloc: Global) -> Result<String, AllocError> {
     for node in 9u32..57 {
         let before = node - 1;
         let input = node % 7 + 1;
-        let table = format!(in alloc; ".names x{input} n{before} n{node}\n10 1\n")?;
-        text.push_str(table.as_str())?;
+        write!(text, ".names x{input} n{before} n{node}\n10 1\n")?;
     }
     text.push_str(".end\n")?;
     Ok(text)
@@ -81,78 +80,68 @@ fn over_inputs(root: u32) -> Proposal
     Proposal::over(root, leaves, plan)
 }
 
+// Whether one seat is answered so, with a pool of so many nodes, and so many `And` rows are left.
+fn is_answered(
+    alloc: Global,
+    text: &str,
+    proposal: &Proposal,
+    spare: u32,
+    wanted: Outcome,
+    ands: u32,
+) -> bool
+    requires spare { spare ≤ 1024 }
+{
+    answered(alloc, text.as_bytes(), None, proposal, spare, None) == Some((wanted, ands))
+}
+
 #[test]
 fn the_cone_is_factored_where_there_is_room(rt: HostRuntime) {
-    let alloc = rt.alloc();
-    let cases: [(&str, &str, Option<&[u64]>, u32, Option<u32>, Outcome, u32); 5] = [
-        (
-            "two rows for three",
-            CONE,
-            None,
-            512,
-            None,
-            Outcome::Done(1),
-            2,
-        ),
-        (
-            "an empty pool",
-            CONE,
-            None,
-            0,
-            None,
-            Outcome::NoRoom { need: 2, have: 0 },
-            3,
-        ),
-        (
-            "two keys below 2",
-            CONE,
-            Some(&[0, 0, 0, 0, 1, 1, 2]),
-            512,
-            None,
-            Outcome::NoGap {
-                node: 6,
-                low: 0,
-                need: 2,
-                high: 2,
-            },
-            3,
-        ),
-        (
-            "two keys below 3",
-            CONE,
-            Some(&[0, 0, 0, 0, 1, 1, 3]),
-            512,
-            None,
-            Outcome::Done(1),
-            2,
-        ),
-        (
-            "a hit",
-            WITH_NEITHER,
-            None,
-            512,
-            Some(7),
-            Outcome::Done(2),
-            2,
-        ),
-    ];
-    for (what, text, keys, spare, noted, wanted, left) in cases {
-        let found = answered(alloc, text.as_bytes(), keys, &factored(true), spare, noted);
-        let Some((answer, ands)) = found else {
-            panic!(rt; "no table");
-        };
-        assert_eq!(rt; answer, wanted, "{what}");
-        assert_eq!(rt; ands, left, "{what}");
-    }
+    let proposal = factored(true);
+    let full = Outcome::NoRoom { need: 2, have: 0 };
+    assert!(rt;
+        is_answered(rt.alloc(), CONE, &proposal, 512, Outcome::Done(1), 2),
+        "two for three"
+    );
+    assert!(rt;
+        is_answered(rt.alloc(), CONE, &proposal, 0, full, 3),
+        "an empty pool"
+    );
+}
+
+// The answer on the cone where its root has this key, the other ANDs the key 1.
+fn answered_below(alloc: Global, key: u64) -> Option<(Outcome, u32)> {
+    let keys = [0, 0, 0, 0, 1, 1, key];
+    answered(
+        alloc,
+        CONE.as_bytes(),
+        Some(&keys),
+        &factored(true),
+        512,
+        None,
+    )
+}
+
+#[test]
+fn two_rows_want_two_keys_below_the_root(rt: HostRuntime) {
+    let none = Outcome::NoGap {
+        node: 6,
+        low: 0,
+        need: 2,
+        high: 2,
+    };
+    assert!(rt; answered_below(rt.alloc(), 2) == Some((none, 3)));
+    assert!(rt; answered_below(rt.alloc(), 3) == Some((Outcome::Done(1), 2)));
+}
+
+#[test]
+fn a_noted_row_is_hit(rt: HostRuntime) {
+    let text = WITH_NEITHER.as_bytes();
+    let found = answered(rt.alloc(), text, None, &factored(true), 512, Some(7));
+    assert!(rt; found == Some((Outcome::Done(2), 2)));
 }
 
 #[test]
 fn another_function_is_stale(rt: HostRuntime) {
-    let alloc = rt.alloc();
-    let Some((answer, ands)) = answered(alloc, CONE.as_bytes(), None, &factored(false), 512, None)
-    else {
-        panic!(rt; "no table");
-    };
     let was = Truth {
         vars: 3,
         low: 0xa8,
@@ -163,34 +152,27 @@ fn another_function_is_stale(rt: HostRuntime) {
         low: 0x57,
         high: 0,
     };
-    assert_eq!(rt; answer, Outcome::Stale(StaleCause::Differs { was, now }));
-    assert_eq!(rt; ands, 3);
+    let stale = Outcome::Stale(StaleCause::Differs { was, now });
+    assert!(rt; is_answered(rt.alloc(), CONE, &factored(false), 512, stale, 3));
 }
 
 #[test]
 fn a_cone_over_fewer_leaves_is_stale(rt: HostRuntime) {
-    let alloc = rt.alloc();
-    let Some((answer, ands)) = answered(alloc, CONE.as_bytes(), None, &without_c(), 512, None)
-    else {
-        panic!(rt; "no table");
-    };
-    assert_eq!(rt; answer, Outcome::Stale(StaleCause::Reach(3)));
-    assert_eq!(rt; ands, 3);
+    let stale = Outcome::Stale(StaleCause::Reach(3));
+    assert!(rt; is_answered(rt.alloc(), CONE, &without_c(), 512, stale, 3));
+}
+
+// Whether the cone of a node of the chain has a row too many, and then whether that of the one before hasn't.
+fn is_too_wide(alloc: Global, text: &str) -> bool {
+    let wide = Outcome::Stale(StaleCause::Wide(8));
+    let found = answered(alloc, text.as_bytes(), None, &over_inputs(55), 512, None);
+    is_answered(alloc, text, &over_inputs(56), 512, wide, 49)
+        && matches!(found, Some((answer, _)) if answer != wide)
 }
 
 #[test]
 fn the_49th_inner_row_is_too_many(rt: HostRuntime) -> Result<(), Fail> {
-    let alloc = rt.alloc();
-    let text = chain(alloc)?;
-    let bytes = text.as_str().as_bytes();
-    let Some((answer, ands)) = answered(alloc, bytes, None, &over_inputs(56), 512, None) else {
-        panic!(rt; "no table");
-    };
-    assert_eq!(rt; answer, Outcome::Stale(StaleCause::Wide(8)));
-    assert_eq!(rt; ands, 49);
-    let Some((answer, _ands)) = answered(alloc, bytes, None, &over_inputs(55), 512, None) else {
-        panic!(rt; "no table");
-    };
-    assert!(rt; !matches!(answer, Outcome::Stale(StaleCause::Wide(_))));
+    let text = chain(rt.alloc())?;
+    assert!(rt; is_too_wide(rt.alloc(), text.as_str()));
     Ok(())
 }

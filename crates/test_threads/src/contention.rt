@@ -7,9 +7,9 @@ ghost use Rattle.syn_commit.specs.Giving.{IsAtRest};
 use crate::commits::factored;
 use crate::fresh::committed;
 use crate::pins::{pin_inner, unpin_inner};
-use crate::tables::{ands_compacted, opened};
+use crate::tables::{ands_compacted, opened_twice};
 use std::alloc::Global;
-use syn_commit::{Hints, OpenGate, Tools};
+use syn_commit::{Hints, NoHook, Tools};
 use syn_decide::Outcome;
 use syn_gain::Proposal;
 use syn_table::Seat;
@@ -27,7 +27,7 @@ enum Meanwhile {
 
 // The first seat holds node 4 while the second one tries, and then it gets the root.
 fn holds_inner(
-    tools: &Tools<'_, OpenGate>,
+    tools: &Tools<'_, NoHook>,
     first: &mut Seat,
     second: &mut Seat,
     proposal: &Proposal,
@@ -60,7 +60,7 @@ fn holds_inner(
 
 // The first seat has node 4 pinned while the second one tries, and the second one tries again when the pin is taken back.
 fn pins_inner(
-    tools: &Tools<'_, OpenGate>,
+    tools: &Tools<'_, NoHook>,
     first: &mut Seat,
     second: &mut Seat,
     proposal: &Proposal,
@@ -90,7 +90,7 @@ fn pins_inner(
 
 // The first seat has node 4 pinned while the second one tries, with no gain let through.
 fn pins_inner_without_gain(
-    tools: &Tools<'_, OpenGate>,
+    tools: &Tools<'_, NoHook>,
     first: &mut Seat,
     second: &mut Seat,
     proposal: &Proposal,
@@ -118,7 +118,7 @@ fn pins_inner_without_gain(
 
 // Both seats, one after the other: whether the second one is answered as worked by hand.
 fn both_try(
-    tools: &Tools<'_, OpenGate>,
+    tools: &Tools<'_, NoHook>,
     first: &mut Seat,
     second: &mut Seat,
     meanwhile: Meanwhile,
@@ -146,13 +146,12 @@ fn both_try(
 // Whether the second seat is answered as worked by hand, how many `And` rows are left, and how many of them compaction
 // leaves.
 fn contended(alloc: Global, meanwhile: Meanwhile) -> Option<(bool, (u32, u32))> {
-    let (shared, mut first) = opened(alloc)?;
     let hints = Hints::new(alloc, 1024).ok()?;
-    let mut second = shared.split(&mut first).ok()?;
+    let (shared, mut first, mut second) = opened_twice(alloc)?;
     let tools = Tools {
         shared: &shared,
         hints: &hints,
-        gate: &OpenGate,
+        hook: &NoHook,
         worker: 0,
     };
     let as_worked = both_try(&tools, &mut first, &mut second, meanwhile);

@@ -1,15 +1,19 @@
-//! Small texts and their graphs, what workers tell, and a gate that counts.
+//! Small texts and their graphs, what workers tell, and a hook that counts.
 
 use std::alloc::{AllocError, Global};
 use std::sync::atomic::{AtomicU64, Ordering};
+use std::thread::Threads;
 use syn_build::build_checked;
-use syn_commit::{Gate, Moment};
+use syn_commit::{CommitHook, Moment};
 use syn_graph::Graph;
+use syn_network::Network;
+use syn_pool::pass;
 use syn_proposals::Report;
 use syn_reader::read_checked;
+use syn_rewrite::CutPlans;
 use syn_workers::{MAX_WORKERS, Workers};
 
-/// A gate that counts the commits that were done.
+/// A hook that counts the commits that were done.
 #[derive(Drop)]
 pub struct Counting {
     done: AtomicU64,
@@ -29,7 +33,7 @@ impl Counting {
     }
 }
 
-impl Gate for Counting {
+impl CommitHook for Counting {
     fn at(&self, _worker: u8, moment: Moment) {
         if moment == Moment::Answered(true) {
             let _before = self.done.fetch_add(1, Ordering::SeqCst);
@@ -43,27 +47,39 @@ pub fn graph_of(alloc: Global, text: &[u8]) -> Option<Graph> {
         return None;
     }
     let netlist = read_checked(alloc, text).ok()?;
-    build_checked(alloc, netlist).ok()
+    let Network { body, .. } = build_checked(alloc, netlist).ok()?;
+    Some(body)
 }
 
-/// What is told of workers: their report, how many ANDs are left, and how many done commits their gate was told.
-pub type Told = Option<(Report, u32, u64)>;
+/// What is told of workers: their report, how many ANDs are left, and how many done commits their hook was told.
+pub type Told = (Report, u32, u64);
 
 /// So many commits done, and ANDs gained.
 pub fn report(done: u64, gained: u64) -> Report {
     Report { done, gained }
 }
 
+/// What a pass of rewriting with so many workers on a graph reports, and the graph that comes; none where none does.
+pub fn passed<R: Threads + Sync, G: CommitHook>(
+    rt: &R,
+    alloc: Global,
+    graph: &Graph,
+    hook: &G,
+    workers: Workers,
+    zero_gain: bool,
+) -> Result<Option<(Graph, Report)>, AllocError> {
+    let proposer = CutPlans::new(alloc)?;
+    pass(rt, alloc, graph, &proposer, workers, zero_gain, hook)
+}
+
 /// The text of so many cones, each over three inputs of its own.
 pub fn cones(alloc: Global, count: u32) -> Result<String, AllocError> {
     let mut text = String::from_str(alloc, ".model m\n")?;
     for i in 0..count {
-        let names = format!(in alloc; ".inputs a{i} b{i} c{i}\n.outputs f{i}\n")?;
-        text.push_str(names.as_str())?;
+        write!(text, ".inputs a{i} b{i} c{i}\n.outputs f{i}\n")?;
     }
     for i in 0..count {
-        let table = format!(in alloc; ".names a{i} b{i} c{i} f{i}\n11- 1\n1-1 1\n")?;
-        text.push_str(table.as_str())?;
+        write!(text, ".names a{i} b{i} c{i} f{i}\n11- 1\n1-1 1\n")?;
     }
     text.push_str(".end\n")?;
     Ok(text)

@@ -1,7 +1,7 @@
 //! Tests of the shared table, of commits, and of rounds and passes of workers, on graphs that are read from small texts.
 //!
 //! Nothing here is for other crates: what calls answer, report and leave is compared with values worked by hand, and with
-//! what gates were told. Where commits of several workers may meet, only that is compared which holds whatever the schedule.
+//! what hooks were told. Where commits of several workers may meet, only that is compared which holds whatever the schedule.
 #![tactic(auto)]
 
 #[cfg(test)]
@@ -39,4 +39,4 @@ mod tables;
 #[cfg(test)]
 mod turns;
 #[cfg(test)]
-mod worker_gates;
+mod worker_hooks;

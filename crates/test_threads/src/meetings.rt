@@ -7,9 +7,9 @@ ghost use Rattle.syn_commit.specs.Giving.{IsAtRest};
 use crate::commits::factored;
 use crate::fresh::committed;
 use crate::harness::CONE;
-use crate::tables::{ands_left, opened, opened_as};
+use crate::tables::{ands_left, opened_as, opened_twice};
 use std::alloc::Global;
-use syn_commit::{Hints, OpenGate, Tools};
+use syn_commit::{Hints, NoHook, Tools};
 use syn_decide::Outcome;
 use syn_gain::Proposal;
 use syn_rows::Row;
@@ -34,7 +34,7 @@ fn is_alias(shared: &Shared, seat: &mut Seat) -> bool
 
 // The second seat tries the proposal while the first one holds the root.
 fn turned_away(
-    tools: &Tools<'_, OpenGate>,
+    tools: &Tools<'_, NoHook>,
     first: &mut Seat,
     second: &mut Seat,
     proposal: &Proposal,
@@ -62,7 +62,7 @@ fn turned_away(
 
 // The second seat is turned away, then it commits, and then the first one gains nothing.
 fn both_try(
-    tools: &Tools<'_, OpenGate>,
+    tools: &Tools<'_, NoHook>,
     first: &mut Seat,
     second: &mut Seat,
     proposal: &Proposal,
@@ -106,35 +106,45 @@ fn key_at(shared: &Shared, seat: &mut Seat, node: u32) -> Option<u64>
     Some(key)
 }
 
+// The keys of the last two of the pool's nodes, once the seat has made rows there.
+fn keys_after(tools: &Tools<'_, NoHook>, seat: &mut Seat) -> Option<(u64, u64)>
+    requires table { IsOf seat.old tools.now.shared.now }
+    requires nodes { nodes_of tools.now.shared.now ≡ 1031 }
+    requires resting { IsAtRest (view_of seat.old) }
+    ensures table { IsOf seat.new tools.now.shared.now }
+{
+    let _answer = committed(tools, seat, &factored(true), 7, 512, false);
+    let last = key_at(tools.shared, seat, 518)?;
+    let other = key_at(tools.shared, seat, 517)?;
+    Some((last, other))
+}
+
 // The keys of the two rows that are made where the root's key is 3: they are in the last nodes of the pool.
 fn made_keys(alloc: Global) -> Option<(u64, u64)> {
     let keys = [0, 0, 0, 0, 1, 1, 3];
-    let (shared, mut seat, spare) = opened_as(alloc, CONE.as_bytes(), Some(&keys))?;
-    if spare != 7 {
-        return None;
-    }
     let hints = Hints::new(alloc, 1024).ok()?;
+    let (shared, mut seat, spare) = opened_as(alloc, CONE.as_bytes(), Some(&keys))?;
     let tools = Tools {
         shared: &shared,
         hints: &hints,
-        gate: &OpenGate,
+        hook: &NoHook,
         worker: 0,
     };
-    let _answer = committed(&tools, &mut seat, &factored(true), 7, 512, false);
-    let last = key_at(&shared, &mut seat, 518)?;
-    let other = key_at(&shared, &mut seat, 517)?;
-    Some((last, other))
+    if spare == 7 {
+        keys_after(&tools, &mut seat)
+    } else {
+        None
+    }
 }
 
 // Whether both seats are answered as worked by hand, and how many `And` rows are left.
 fn two_seats(alloc: Global) -> Option<(bool, u32)> {
-    let (shared, mut first) = opened(alloc)?;
     let hints = Hints::new(alloc, 1024).ok()?;
-    let mut second = shared.split(&mut first).ok()?;
+    let (shared, mut first, mut second) = opened_twice(alloc)?;
     let tools = Tools {
         shared: &shared,
         hints: &hints,
-        gate: &OpenGate,
+        hook: &NoHook,
         worker: 0,
     };
     let as_worked = both_try(&tools, &mut first, &mut second, &factored(true));
@@ -145,14 +155,10 @@ fn two_seats(alloc: Global) -> Option<(bool, u32)> {
 
 #[test]
 fn two_seats_meet_at_one_root(rt: HostRuntime) {
-    let Some((as_worked, ands)) = two_seats(rt.alloc()) else {
-        panic!(rt; "no table");
-    };
-    assert!(rt; as_worked);
-    assert_eq!(rt; ands, 2);
+    assert!(rt; two_seats(rt.alloc()) == Some((true, 2)));
 }
 
 #[test]
 fn made_rows_have_keys_a_step_apart(rt: HostRuntime) {
-    assert_eq!(rt; made_keys(rt.alloc()), Some((1, 2)));
+    assert!(rt; made_keys(rt.alloc()) == Some((1, 2)));
 }

@@ -28,77 +28,88 @@ fn is_gate(graph: &Graph, node: u32) -> bool
     }
 }
 
-// The leaves of the cuts over which plans are proposed for a node, in order, each once where its plans stand together.
-fn cuts_of<R: Threads + Sync>(
-    rt: &R,
-    alloc: Global,
-    graph: &Graph,
-    node: u32,
-) -> Result<Vec<Vec<u32>>, AllocError>
-    requires { is_and (row_at graph.now.rows node) ≡ true }
-{
-    let proposer = CutPlans::new(alloc)?;
-    let lists = proposer.prepare(rt, alloc, graph, Workers::new(1))?;
-    let mut cuts: Vec<Vec<u32>> = Vec::new(alloc);
-    for proposal in proposer.propose(alloc, graph, &lists, node)? {
+// Whether these are the leaves at a place.
+fn is_at(wanted: &[&[u32]], place: usize, leaves: &[u32]) -> bool {
+    match wanted.get(place) {
+        Some(there) => *there == leaves,
+        None => false,
+    }
+}
+
+// Whether plans are proposed over cuts with these leaves, in order, those over one cut together.
+fn are_over(proposals: &[Proposal], wanted: &[&[u32]]) -> bool {
+    let mut place = 0usize;
+    for proposal in proposals {
         let leaves = proposal.leaves.as_slice();
-        let is_there = match cuts.as_slice().last() {
-            Some(last) => last.as_slice() == leaves,
-            None => false,
-        };
-        if !is_there {
-            cuts.push(leaves.to_vec(alloc)?)?;
+        if !is_at(wanted, place, leaves) {
+            place = place.saturating_add(1);
+            if !is_at(wanted, place, leaves) {
+                return false;
+            }
         }
     }
-    Ok(cuts)
+    place.saturating_add(1) == wanted.len()
 }
 
-// The first proposal for a node that saves.
-fn saving<R: Threads + Sync>(
-    rt: &R,
+// Whether the root's proposals are over these cuts.
+fn are_proposed<P: Proposer>(
     alloc: Global,
     graph: &Graph,
-    node: u32,
-) -> Result<Option<Proposal>, AllocError>
-    requires { is_and (row_at graph.now.rows node) ≡ true }
+    proposer: &P,
+    lists: &P::Lists,
+    wanted: &[&[u32]],
+) -> Result<bool, AllocError>
+    requires lists { P.is_lists_of proposer.now lists.now graph.now.rows }
+    requires root { is_and (row_at graph.now.rows 6) ≡ true }
+{
+    let proposals = proposer.propose(alloc, graph, lists, ROOT)?;
+    Ok(are_over(proposals.as_slice(), wanted))
+}
+
+// Whether a proposal is over the inputs, with two gates.
+fn is_over_inputs(proposal: &Proposal) -> bool {
+    proposal.leaves.as_slice() == [1, 2, 3].as_slice() && proposal.plan.gates.len() == 2
+}
+
+// Whether the first of the root's proposals that saves is such.
+fn is_first<P: Proposer>(
+    alloc: Global,
+    graph: &Graph,
+    proposer: &P,
+    lists: &P::Lists,
+) -> Result<bool, AllocError>
+    requires lists { P.is_lists_of proposer.now lists.now graph.now.rows }
+    requires root { is_and (row_at graph.now.rows 6) ≡ true }
+{
+    let uses = Uses::new(alloc, graph)?;
+    match proposer.first_saving(alloc, graph, &uses, lists, ROOT)? {
+        Some(proposal) => Ok(is_over_inputs(&proposal)),
+        None => Ok(false),
+    }
+}
+
+// Whether rewriting proposes so for the root. Two leaves come before three, and of three the smaller ones first. Over the
+// inputs an AND and an OR do.
+fn is_worked<R: Threads + Sync>(rt: &R, alloc: Global, graph: &Graph) -> Result<bool, AllocError>
+    requires { is_and (row_at graph.now.rows 6) ≡ true }
 {
     let proposer = CutPlans::new(alloc)?;
     let lists = proposer.prepare(rt, alloc, graph, Workers::new(1))?;
-    let uses = Uses::new(alloc, graph)?;
-    proposer.first_saving(alloc, graph, &uses, &lists, node)
+    let wanted: [&[u32]; 4] = [&[4, 5], &[1, 2, 3], &[1, 2, 5], &[1, 3, 4]];
+    Ok(
+        are_proposed(alloc, graph, &proposer, &lists, &wanted)?
+            && is_first(alloc, graph, &proposer, &lists)?,
+    )
 }
 
-// Whether the cuts have these leaves.
-fn are(cuts: &[Vec<u32>], wanted: &[&[u32]]) -> bool {
-    for (cut, leaves) in cuts.iter().zip(wanted.iter()) {
-        if cut.as_slice() != *leaves {
-            return false;
-        }
-    }
-    cuts.len() == wanted.len()
-}
-
-// Two leaves come before three, and of three the smaller ones first. Over the inputs an AND and an OR do.
 #[test]
 fn proposes_over_each_cut(rt: HostRuntime) -> Result<(), Fail> {
-    let alloc = rt.alloc();
-    let Some(graph) = graph_of(alloc, CONE.as_bytes()) else {
+    let Some(graph) = graph_of(rt.alloc(), CONE.as_bytes()) else {
         panic!(rt; "no graph");
     };
     if !is_gate(&graph, ROOT) {
         panic!(rt; "no AND");
     }
-    let cuts = cuts_of(&rt, alloc, &graph, ROOT)?;
-    assert!(rt;
-        are(
-            cuts.as_slice(),
-            &[&[4, 5], &[1, 2, 3], &[1, 2, 5], &[1, 3, 4]]
-        )
-    );
-    let Some(found) = saving(&rt, alloc, &graph, ROOT)? else {
-        panic!(rt; "nothing saves");
-    };
-    assert!(rt; found.leaves.as_slice() == [1, 2, 3].as_slice());
-    assert_eq!(rt; found.plan.gates.len(), 2);
+    assert!(rt; is_worked(&rt, rt.alloc(), &graph)?);
     Ok(())
 }

@@ -9,7 +9,7 @@ ghost use Rattle.syn_commit.specs.Giving.{IsAtRest};
 use crate::tables::{ands_left, opened_as};
 use arrayvec::ArrayVec;
 use std::alloc::Global;
-use syn_commit::{Hints, OpenGate, Pool, Tools, try_commit};
+use syn_commit::{Hints, NoHook, Pool, Tools, try_commit};
 use syn_decide::Outcome;
 use syn_gain::Proposal;
 use syn_plan::{PLit, Plan};
@@ -53,12 +53,7 @@ fn over_inputs(plan: Plan) -> Proposal
 }
 
 // Commits, with no gain let through, unless the root is in the pool: 1 where the commit is done, else 0.
-fn done_by(
-    tools: &Tools<'_, OpenGate>,
-    seat: &mut Seat,
-    pool: &mut Pool,
-    proposal: &Proposal,
-) -> u32
+fn done_by(tools: &Tools<'_, NoHook>, seat: &mut Seat, pool: &mut Pool, proposal: &Proposal) -> u32
     requires table { IsOf seat.old tools.now.shared.now }
     requires alone { HoldsAlone pool.old (view_of seat.old) }
     requires root { proposal.now.root < nodes_of tools.now.shared.now }
@@ -77,7 +72,7 @@ fn done_by(
 
 // Commits both proposals in turn, so many times: how many of these commits are done.
 fn there_and_back(
-    tools: &Tools<'_, OpenGate>,
+    tools: &Tools<'_, NoHook>,
     seat: &mut Seat,
     pool: &mut Pool,
     there: &Proposal,
@@ -102,7 +97,7 @@ fn there_and_back(
 
 // Fills a pool from the first spare node on, commits so many times there and back, and lets the pool go: how many of the
 // commits are done.
-fn done_in(tools: &Tools<'_, OpenGate>, seat: &mut Seat, first: u32, rounds: u32) -> u32
+fn done_in(tools: &Tools<'_, NoHook>, seat: &mut Seat, first: u32, rounds: u32) -> u32
     requires table { IsOf seat.old tools.now.shared.now }
     requires resting { IsAtRest (view_of seat.old) }
     requires nodes { first + 16 ≤ nodes_of tools.now.shared.now }
@@ -122,18 +117,19 @@ fn done_in(tools: &Tools<'_, OpenGate>, seat: &mut Seat, first: u32, rounds: u32
 
 // How many of the commits are done on a table of its own, and how many `And` rows are left.
 fn repeated(alloc: Global, rounds: u32) -> Option<(u32, u32)> {
-    let (shared, mut seat, first) = opened_as(alloc, FOUR.as_bytes(), None)?;
-    if first != 8 {
-        return None;
-    }
     let hints = Hints::new(alloc, 1024).ok()?;
+    let (shared, mut seat, first) = opened_as(alloc, FOUR.as_bytes(), None)?;
     let tools = Tools {
         shared: &shared,
         hints: &hints,
-        gate: &OpenGate,
+        hook: &NoHook,
         worker: 0,
     };
-    let done = done_in(&tools, &mut seat, first, rounds);
+    let done = if first == 8 {
+        done_in(&tools, &mut seat, first, rounds)
+    } else {
+        0
+    };
     let ands = ands_left(alloc, shared, seat)?;
     Some((done, ands))
 }

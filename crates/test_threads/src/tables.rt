@@ -12,9 +12,8 @@ use crate::key_trials::fits;
 use std::alloc::Global;
 use syn_graph::Graph;
 use syn_hashed::compact_rows;
-use syn_keys::spread;
 use syn_rows::{Lit, Row};
-use syn_table::{Seat, Shared};
+use syn_table::{Seat, Shared, spread};
 
 /// The rows that the cone's table has at first.
 pub const CONE_ROWS: [Row; 7] = [
@@ -93,6 +92,32 @@ pub fn opened(alloc: Global) -> Option<(Shared, Seat)>
     Some((shared, seat))
 }
 
+/// The same, and a second seat.
+pub fn opened_twice(alloc: Global) -> Option<(Shared, Seat, Seat)>
+    ensures table { IfSome result (λ t. IsOf t.1 t.0) }
+    ensures other_table { IfSome result (λ t. IsOf t.2 t.0) }
+    ensures nodes { IfSome result (λ t. nodes_of t.0 ≡ 1031) }
+    ensures numbers { IfSome result (λ t. length (known_of t.1).numbers + length (known_of t.2).numbers ≡ 64) }
+    ensures resting { IfSome result (λ t. IsAtRest (view_of t.1)) }
+    ensures other_resting { IfSome result (λ t. IsAtRest (view_of t.2)) }
+{
+    let (shared, mut seat) = opened(alloc)?;
+    match shared.split(&mut seat) {
+        Ok(other) => Some((shared, seat, other)),
+        Err(_) => None,
+    }
+}
+
+// Whether these are the wanted rows, and free ones behind them, 1031 in all.
+fn are_rows(rows: &[Row], wanted: &[Row]) -> bool {
+    for (node, row) in rows.iter().enumerate() {
+        if *row != wanted.get(node).copied().unwrap_or(Row::Free) {
+            return false;
+        }
+    }
+    rows.len() == 1031
+}
+
 /// Whether the cone's table closes with these rows, free ones behind them, and the cone's observed literal.
 pub fn closes_with(alloc: Global, shared: Shared, seat: Seat, wanted: &[Row]) -> bool
     requires table { IsOf seat shared }
@@ -100,15 +125,13 @@ pub fn closes_with(alloc: Global, shared: Shared, seat: Seat, wanted: &[Row]) ->
     requires held { (view_of seat).held ≡ [] }
     requires pins { (view_of seat).pins ≡ [] }
 {
-    let Ok(closed) = shared.close(alloc, seat) else {
-        return false;
-    };
-    for (node, row) in closed.rows.iter().enumerate() {
-        if *row != wanted.get(node).copied().unwrap_or(Row::Free) {
-            return false;
+    match shared.close(alloc, seat) {
+        Ok(closed) => {
+            are_rows(closed.rows.as_slice(), wanted)
+                && closed.observed.as_slice() == [Lit(13)].as_slice()
         }
+        Err(_) => false,
     }
-    closed.rows.len() == 1031 && closed.observed.as_slice() == [Lit(13)].as_slice()
 }
 
 // How many of the rows are ANDs.

@@ -1,23 +1,19 @@
--- A LUT net of parities of six sources over the frame of a graph that observes only the constant.
+-- A LUT net of parities of six sources, and names over it that no source is observed by.
 use Rattle.std.proofs.Common.{◌≡◌, ℕ, zero, suc, ◌+◌, ◌^◌, ◌<◌, ◌&&◌, nat_le, nat_lt, true, All, List, [], ◌∷◌, length, get_or, refl, sym, ap, ◌∙◌, subst, arith}
 use Rattle.std.specs.List.{list_all}
 use Rattle.std.proofs.lemmas.Bool.{and_from, lt-ltb, le-leb}
 use Rattle.std.proofs.lemmas.List.{length-map}
 use Rattle.std.proofs.lemmas.List.Elements.{All-head, All-tail}
 use Rattle.syn_rows.specs.declared.Lit.{Lit}
-use Rattle.syn_rows.specs.declared.Row.{Row}
 use Rattle.syn_rows.specs.Rows.{node_of}
-use Rattle.syn_netlist.specs.Words.{has_word}
-use Rattle.syn_netlist.specs.Lists.{Frame, sources, observed}
-use Rattle.syn_netlist.specs.Numbers.{word_at}
-use Rattle.syn_netlist.specs.Walk.{distinct_numbers}
-use Rattle.syn_shapes.specs.GraphShape.{place}
-use Rattle.syn_shapes.specs.Graphs.{lit_at, source_lit, IsGraph}
-use Rattle.syn_lutshapes.specs.Luts as spelled
-use Rattle.syn_lutshapes.specs.Luts.{IsLutNet, Reached, is_input, is_lut, lut_at, ones_of, rising}
-use Rattle.syn_lutshapes.proofs.Ones.{ones_give}
+use Rattle.syn_lists.specs.Numbers.{distinct_numbers}
+use Rattle.syn_lutnet.specs.LutData as spelled
+use Rattle.syn_lutnet.specs.LutData.{IsLutNet, Reached, is_input, is_lut, lut_at, ones_of, rising}
+use Rattle.syn_lutnet.proofs.Ones.{ones_give}
 use Rattle.syn_lutnet.specs.declared.luts.Lut.{Lut}
 use Rattle.syn_lutnet.specs.Data.{lut_data, luts_data}
+use Rattle.syn_netlist.specs.Lists.{Frame}
+use Rattle.syn_network.specs.Networks.{IsNamed}
 
 abbrev six : List ℕ
 six = 1 ∷ 2 ∷ 3 ∷ 4 ∷ 5 ∷ 6 ∷ []
@@ -49,32 +45,35 @@ at_data P [] a j lt = absurd (omega arith)
 at_data P (l ∷ ls) a zero lt = All-head (λ (x : Lut). P (lut_data x)) l ls a
 at_data P (l ∷ ls) a (suc j) lt = at_data P ls (All-tail (λ (x : Lut). P (lut_data x)) l ls a) j (omega arith)
 
-pub parity_net : (frame : Frame) (rows : List Row) (constants lits : List Lit) (luts : List Lut) → IsGraph frame rows constants → length (sources frame) ≡ 6 → All (λ l. node_of l ≡ 0) constants
-    → length luts ≡ length constants → All (λ l. l.inputs.items ≡ six) luts → length lits ≡ length constants → ((j : ℕ) → (d : Lit) → j < length lits → node_of (get_or lits j d) ≡ 7 + j)
-    → IsLutNet frame (luts_data luts) lits
-parity_net frame rows constants lits luts graph count none same_luts parity same_lits plain = record {
+-- parities that are all observed are a net
+pub parity_net : (luts : List Lut) (lits : List Lit) → All (λ l. l.inputs.items ≡ six) luts → length lits ≡ length luts → ((j : ℕ) → (d : Lit) → j < length lits → node_of (get_or lits j d) ≡ 7 + j)
+    → IsLutNet 6 (luts_data luts) lits
+parity_net luts lits parity count plain = record {
   luts_fit = fit;
-  count = same_lits ∙ graph.count;
-  within = λ i d lt. omega (arith, plain i d lt, lt, count, same_luts, same_lits, length-map luts lut_data);
-  own = own;
+  within = λ i d lt. omega (arith, plain i d lt, lt, count, length-map luts lut_data);
   reached = reached;
 }
   where
     no : Lit
     no = record { 0 = 0 }
 
-    fit : (j : ℕ) → j < length (luts_data luts) → is_lut (length (sources frame) + 1 + j) (lut_at (luts_data luts) j) ≡ true
+    fit : (j : ℕ) → j < length (luts_data luts) → is_lut (6 + 1 + j) (lut_at (luts_data luts) j) ≡ true
     fit j lt =
-        let high : 6 < length (sources frame) + 1 + j = omega (arith, count) in
-        at_data (λ l. is_lut (length (sources frame) + 1 + j) l ≡ true) luts (λ i d inside. lut_fits (length (sources frame) + 1 + j) (get_or luts i d) high (parity i d inside)) j (omega (arith, lt, length-map luts lut_data))
+        at_data (λ l. is_lut (6 + 1 + j) l ≡ true) luts (λ i d inside. lut_fits (6 + 1 + j) (get_or luts i d) (omega arith) (parity i d inside)) j (omega (arith, lt, length-map luts lut_data))
 
-    own : (i : ℕ) → i < length lits → has_word (sources frame) (word_at (observed frame) i) ≡ true → lit_at lits i ≡ source_lit (place (word_at (observed frame) i) (sources frame))
-    own i lt h =
-        let inside : i < length constants = omega (arith, lt, same_lits) in
-        absurd (omega (arith, none i no inside, ap node_of (graph.own i inside h)))
-
-    reached : (j : ℕ) → j < length (luts_data luts) → Reached (length (sources frame) + 1) (luts_data luts) lits (length (sources frame) + 1 + j)
+    reached : (j : ℕ) → j < length (luts_data luts) → Reached (6 + 1) (luts_data luts) lits (6 + 1 + j)
     reached j lt set closed has =
-        let inside : j < length lits = omega (arith, lt, same_luts, same_lits, length-map luts lut_data) in
-        let at : node_of (get_or lits j no) ≡ length (sources frame) + 1 + j = omega (arith, plain j no inside, count) in
+        let inside : j < length lits = omega (arith, lt, count, length-map luts lut_data) in
+        let at : node_of (get_or lits j no) ≡ 6 + 1 + j = omega (arith, plain j no inside) in
         subst (λ (n : ℕ). set n ≡ true) at (has j no inside)
+
+-- names of constants fit as many other literals
+pub names_fit : (frame : Frame) (constants lits : List Lit) → IsNamed frame 6 constants → All (λ l. node_of l ≡ 0) constants → length lits ≡ length constants → IsNamed frame 6 lits
+names_fit frame constants lits named none same = record {
+  sources_are = named.sources_are;
+  observed_are = same ∙ named.observed_are;
+  own = λ i lt h.
+      let no : Lit = record { 0 = 0 } in
+      let inside : i < length constants = omega (arith, lt, same) in
+      absurd (omega (arith, none i no inside, ap node_of (named.own i inside h)));
+}

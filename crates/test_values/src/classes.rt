@@ -1,67 +1,82 @@
-//! Images, classes, and the table of all classes.
+//! Calls on classes of functions of four variables. A transform is a permutation, and then flips and whether it complements.
 
-ghost use Rattle.std.specs.Prelude.{◌≡◌, ◌<◌, true};
+ghost use Rattle.std.specs.Prelude.{◌≡◌, true};
 ghost use Rattle.syn_npn.specs.Images.{is_permutation};
 
+use crate::answers::put;
+use crate::operands::{Operands, byte};
+use std::alloc::{AllocError, Global};
 use std::collections::BTreeSet;
-use std::test::Fail;
 use syn_npn::{Classes, Transform, canon, image, undo};
 
-fn by(perm: [u8; 4], flips: u8, neg: bool) -> Transform
-    requires permutes { is_permutation perm ≡ true }
-    requires few { flips < 16 }
+// Whether these are four different numbers below 4.
+fn permutes(perm: [u8; 4]) -> bool
+    ensures { result ≡ true → is_permutation perm ≡ true }
 {
-    Transform { perm, flips, neg }
+    let [a, b, c, d] = perm;
+    a < 4 && b < 4 && c < 4 && d < 4 && a != b && a != c && a != d && b != c && b != d && c != d
 }
 
-#[test]
-fn images(rt: HostRuntime) {
-    for (transform, function, wanted) in [
-        (by([2, 3, 0, 1], 0, true), 0x1c43, 0xb9e6),
-        (by([2, 3, 1, 0], 11, false), 0x28b0, 0x8c09),
-        (by([1, 0, 2, 3], 13, false), 0xc6fa, 0x3f9a),
-        (by([1, 2, 0, 3], 0, true), 0x219d, 0xf62c),
-        (by([0, 2, 1, 3], 5, false), 0x2528, 0x8941),
-        (by([3, 2, 0, 1], 7, true), 0xc4e9, 0xd2e8),
-        (by([1, 3, 0, 2], 0, false), 0xad1d, 0xd593),
-        (by([3, 0, 2, 1], 6, true), 0x0bc5, 0x3e4e),
-    ] {
-        assert_eq!(rt; image(transform, function), wanted);
-        assert_eq!(rt; image(undo(transform), wanted), function);
+// The transform of a permutation, and of flips and a sign.
+fn transform(perm: &[u128], rest: &[u128]) -> Option<Transform> {
+    let perm = [byte(perm, 0), byte(perm, 1), byte(perm, 2), byte(perm, 3)];
+    let flips = byte(rest, 0);
+    let neg = byte(rest, 1) > 0;
+    if flips > 15 || !permutes(perm) {
+        return None;
+    }
+    Some(Transform { perm, flips, neg })
+}
+
+// The image of a function under a transform, or under what undoes it; the function where there is no transform.
+fn image_by(call: &str, transform: Option<Transform>, function: u16) -> u16 {
+    match transform {
+        Some(transform) if call == "undone" => image(undo(transform), function),
+        Some(transform) => image(transform, function),
+        None => function,
     }
 }
 
-#[test]
-fn least_images(rt: HostRuntime) -> Result<(), Fail> {
-    let classes = Classes::new(rt.alloc())?;
-    for (function, class, perm, flips, neg) in [
-        (0x8888, 0x000f, [2, 3, 0, 1], 3, false),
-        (0xffff, 0x0000, [0, 1, 2, 3], 0, true),
-        (0x0000, 0x0000, [0, 1, 2, 3], 0, false),
-        (0x6996, 0x6996, [0, 1, 2, 3], 0, false),
-        (0xcafe, 0x011b, [1, 2, 0, 3], 8, true),
-        (0x0001, 0x0001, [0, 1, 2, 3], 0, false),
-        (0x7fff, 0x0001, [0, 1, 2, 3], 15, true),
-        (0xe8e8, 0x033f, [1, 2, 3, 0], 7, false),
-        (0x7b21, 0x069f, [0, 2, 1, 3], 9, false),
-        (0x2ab6, 0x067b, [3, 1, 0, 2], 1, false),
-    ] {
-        let (least, transform) = canon(function);
-        assert_eq!(rt; least, class);
-        assert_eq!(rt; transform.perm, perm);
-        assert_eq!(rt; (transform.flips, transform.neg), (flips, neg));
-        assert_eq!(rt; classes.canon(function), (least, transform));
-    }
-    Ok(())
-}
-
-#[test]
-fn number_of_classes(rt: HostRuntime) -> Result<(), Fail> {
-    let classes = Classes::new(rt.alloc())?;
-    let mut seen = BTreeSet::new(rt.alloc());
+// How many classes there are.
+fn count(alloc: Global) -> Result<usize, AllocError> {
+    let classes = Classes::new(alloc)?;
+    let mut seen = BTreeSet::new(alloc);
     for function in 0..=u16::MAX {
         seen.insert(classes.canon(function).0)?;
     }
-    assert_eq!(rt; seen.len(), 222);
-    Ok(())
+    Ok(seen.len())
+}
+
+// The class of a function as all classes are listed, and the transform to it.
+fn listed(alloc: Global, function: u16) -> Result<(u16, Transform), AllocError> {
+    let classes = Classes::new(alloc)?;
+    Ok(classes.canon(function))
+}
+
+// A class in hexadecimal, and a transform.
+fn put_class(
+    out: &mut String,
+    found: Result<(u16, Transform), AllocError>,
+) -> Result<(), AllocError> {
+    let (class, Transform { perm, flips, neg }) = found?;
+    write!(out, "{class:#x} {perm:?} {flips} {neg}")
+}
+
+/// The answer to a call.
+pub fn answer(
+    alloc: Global,
+    out: &mut String,
+    call: &str,
+    operands: &Operands,
+) -> Result<(), AllocError> {
+    let function = operands.function(0);
+    match call {
+        "count" => put(out, count(alloc)),
+        "least" => put_class(out, Ok(canon(function))),
+        "listed" => put_class(out, listed(alloc, function)),
+        _ => {
+            let transform = transform(operands.list(1), operands.list(2));
+            write!(out, "{:#x}", image_by(call, transform, function))
+        }
+    }
 }

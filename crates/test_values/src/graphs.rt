@@ -1,144 +1,66 @@
-//! Numbers and values of a graph, and the graph joined again.
+//! Calls on graphs. A graph is its number of sources, the pairs of literals of its ANDs, and the observed literals.
 
-ghost use Rattle.std.specs.Prelude.{◌≡◌, ◌<◌, All, true, length};
+ghost use Rattle.std.specs.Prelude.{◌≤◌, ◌<◌, All, IfOk, length};
 ghost use Rattle.syn_rows.specs.Rows.{node_of};
-ghost use Rattle.syn_netlist.specs.Frames.{frame_in};
-ghost use Rattle.syn_netlist.specs.Lists.{observed};
-ghost use Rattle.syn_graph.specs.Graphs.{HasOwnSources};
 
-use crate::samples::alone;
-use std::alloc::Global;
-use syn_graph::Graph;
-use syn_rows::{Lit, NODE_LIMIT, Row};
-use syn_strash::Hashed;
+use crate::answers::put;
+use crate::hashed_rows::join;
+use crate::operands::{Operands, small};
+use std::alloc::{AllocError, Global};
+use syn_graph::{Graph, finish};
+use syn_hashed::HashedRows;
+use syn_rows::Lit;
+use syn_table::spread;
 
-// The rows of `alone`.
-const CONE: [Row; 7] = [
-    Row::Source,
-    Row::Source,
-    Row::Source,
-    Row::Source,
-    Row::And(Lit(2), Lit(4)),
-    Row::And(Lit(2), Lit(6)),
-    Row::And(Lit(9), Lit(11)),
-];
-
-// Whether it is this graph.
-fn is_cone(graph: &Graph) -> bool {
-    graph.rows.as_slice() == CONE.as_slice() && graph.observed.as_slice() == [Lit(13)].as_slice()
-}
-
-// Whether the nodes of a graph have these levels.
-fn has_levels(alloc: Global, graph: &Graph, wanted: &[u32]) -> bool {
-    match graph.levels(alloc) {
-        Ok(levels) => levels.as_slice() == wanted,
-        Err(_) => false,
-    }
-}
-
-// Whether they are referred to so often.
-fn has_references(alloc: Global, graph: &Graph, wanted: &[u32]) -> bool {
-    match graph.refs(alloc) {
-        Ok(counts) => counts.as_slice() == wanted,
-        Err(_) => false,
-    }
-}
-
-// Whether the one output of a graph has this value at these inputs.
-fn gives(alloc: Global, graph: &Graph, inputs: [bool; 3], wanted: bool) -> bool {
-    match graph.eval(alloc, &inputs) {
-        Ok(values) => values.as_slice() == [wanted].as_slice(),
-        Err(_) => false,
-    }
-}
-
-// Whether the cone is copied.
-fn is_copied(alloc: Global, graph: &Graph) -> bool {
-    match graph.copy(alloc) {
-        Ok(copy) => is_cone(&copy),
-        Err(_) => false,
-    }
-}
-
-#[test]
-fn counts_and_evaluates(rt: HostRuntime) {
-    let alloc = rt.alloc();
-    let Some(graph) = alone(alloc) else {
-        panic!(rt; "no graph");
-    };
-    assert_eq!(rt; graph.count(), 3);
-    assert!(rt; has_levels(alloc, &graph, &[0, 0, 0, 0, 1, 1, 2]));
-    assert!(rt; has_references(alloc, &graph, &[0, 2, 1, 1, 1, 1, 1]));
-    assert!(rt; gives(alloc, &graph, [true, false, false], false));
-    assert!(rt; gives(alloc, &graph, [true, false, true], true));
-    assert!(rt; gives(alloc, &graph, [false, true, true], false));
-    assert!(rt; is_copied(alloc, &graph));
-}
-
-// Whether each literal names one of so many nodes.
-fn all_within(lits: &[Lit], count: usize) -> bool
-    ensures { result ≡ true → All (λ l. node_of l < count) lits.now }
+// The first of a list's literals that name one of so many nodes.
+fn within(alloc: Global, list: &[u128], count: usize) -> Result<Vec<Lit>, AllocError>
+    ensures within { IfOk result (λ v. All (λ l. node_of l < count) v.items) }
+    ensures few { IfOk result (λ v. length v.items ≤ 100) }
 {
-    for lit in lits {
+    let mut lits = Vec::new(alloc);
+    for place in 0..100 {
+        let lit = Lit(small(list, place));
         if lit.node() as usize >= count {
-            return false;
+            return Ok(lits);
         }
+        lits.push(lit)?;
     }
-    true
+    Ok(lits)
 }
 
-// The AND of two literals, where their rows are there.
-fn joined(hashed: &mut Hashed, a: Lit, b: Lit) -> Option<Lit>
-    ensures { hashed.new.frame ≡ hashed.old.frame }
-{
-    let count = hashed.rows.rows.len();
-    if a.node() as usize >= count || b.node() as usize >= count || count > 100 {
-        return None;
+/// The graph of the first three lists.
+pub fn graph_of(alloc: Global, operands: &Operands) -> Result<Graph, AllocError> {
+    let mut hashed = HashedRows::new(alloc, operands.number(0).min(100) as usize)?;
+    join(alloc, &mut hashed, operands.list(1))?;
+    let lits = within(alloc, operands.list(2), hashed.rows.len())?;
+    finish(alloc, hashed, lits.as_slice())
+}
+
+// The values of the observed literals.
+fn put_values(
+    alloc: Global,
+    out: &mut String,
+    graph: &Graph,
+    operands: &Operands,
+) -> Result<(), AllocError> {
+    let sources = operands.values(alloc, 3)?;
+    put(out, graph.eval(alloc, sources.as_slice()))
+}
+
+/// The answer to a call.
+pub fn answer(
+    alloc: Global,
+    out: &mut String,
+    call: &str,
+    graph: &Graph,
+    operands: &Operands,
+) -> Result<(), AllocError> {
+    match call {
+        "count" => put(out, Ok(graph.count())),
+        "levels" => put(out, graph.levels(alloc)),
+        "references" => put(out, graph.refs(alloc)),
+        "values" => put_values(alloc, out, graph, operands),
+        "keys" => put(out, spread(alloc, graph)),
+        _ => put(out, graph.copy(alloc)),
     }
-    hashed.and(a, b).ok()
-}
-
-// Joins the rows of the cone; none where one is missing.
-fn join_cone(hashed: &mut Hashed) -> Option<Lit>
-    ensures { hashed.new.frame ≡ hashed.old.frame }
-{
-    let first = joined(hashed, Lit(4), Lit(2))?;
-    let second = joined(hashed, Lit(2), Lit(6))?;
-    joined(hashed, first.not(), second.not())
-}
-
-// The graph of the rows that these literals reach; none where a row is missing.
-fn finished(alloc: Global, hashed: Hashed, lits: &[Lit]) -> Option<Graph>
-    requires count { length lits.now ≡ length (observed (frame_in hashed.frame)) }
-    requires own { HasOwnSources (frame_in hashed.frame) lits.now }
-{
-    let count = hashed.rows.rows.len();
-    if !all_within(lits, count) || count >= NODE_LIMIT {
-        return None;
-    }
-    hashed.finish(alloc, lits).ok()
-}
-
-// The cone joined again over its frame.
-fn joined_again(alloc: Global, graph: &Graph) -> Option<Graph> {
-    let mut hashed = Hashed::new(alloc, &graph.frame).ok()?;
-    join_cone(&mut hashed)?;
-    finished(alloc, hashed, graph.observed.as_slice())
-}
-
-// Whether that is the cone.
-fn is_joined_again(alloc: Global, graph: &Graph) -> bool {
-    match joined_again(alloc, graph) {
-        Some(again) => is_cone(&again),
-        None => false,
-    }
-}
-
-#[test]
-fn joins_a_graph(rt: HostRuntime) {
-    let alloc = rt.alloc();
-    let Some(graph) = alone(alloc) else {
-        panic!(rt; "no graph");
-    };
-    assert!(rt; is_joined_again(alloc, &graph));
 }

@@ -1,42 +1,49 @@
-//! Rows that are joined and compacted.
+//! Calls on rows that are joined and compacted.
 
-use std::alloc::AllocError;
-use syn_hashed::{HashedRows, compact_rows};
+ghost use Rattle.std.specs.Prelude.{◌≤◌, length};
+
+use crate::answers::put;
+use crate::operands::{Operands, small};
+use std::alloc::{AllocError, Global};
+use syn_hashed::{HashedRows, Rows, compact_rows};
 use syn_rows::{Lit, Row};
 
-// The AND of two literals, where their rows are there.
-fn joined(hashed: &mut HashedRows, a: Lit, b: Lit) -> Result<Option<Lit>, AllocError> {
+// The AND of two literals; the constant where a row isn't there, or there are too many.
+fn joined(hashed: &mut HashedRows, a: Lit, b: Lit) -> Result<Lit, AllocError>
+    requires { length hashed.old.rows.items ≤ 101 }
+    ensures { length hashed.new.rows.items ≤ 101 }
+{
     let count = hashed.rows.len();
     if a.node() as usize >= count || b.node() as usize >= count || count > 100 {
-        return Ok(None);
+        return Ok(Lit(0));
     }
-    Ok(Some(hashed.and(a, b)?))
+    hashed.and(a, b)
 }
 
-// Two sources; node 3 is the AND of both, node 4 that of their complements.
-#[test]
-fn joins_literals(rt: HostRuntime) -> Result<(), AllocError> {
-    let mut hashed = HashedRows::new(rt.alloc(), 2)?;
-    for (a, b, wanted) in [
-        (2, 4, 6),
-        (4, 2, 6),
-        (4, 4, 4),
-        (2, 3, 0),
-        (0, 4, 0),
-        (4, 1, 4),
-        (3, 5, 8),
-        (5, 3, 8),
-    ] {
-        assert_eq!(rt; joined(&mut hashed, Lit(a), Lit(b))?, Some(Lit(wanted)));
+/// Joins pairs of literals in turn: the literals of their ANDs.
+pub fn join(alloc: Global, hashed: &mut HashedRows, list: &[u128]) -> Result<Vec<Lit>, AllocError>
+    requires { length hashed.old.rows.items ≤ 101 }
+    ensures { length hashed.new.rows.items ≤ 101 }
+{
+    let mut found = Vec::new(alloc);
+    for place in 0..list.len() / 2 {
+        let a = Lit(small(list, 2 * place));
+        let b = Lit(small(list, 2 * place + 1));
+        found.push(joined(hashed, a, b)?)?;
     }
-    assert_eq!(rt; hashed.rows.len(), 5);
-    Ok(())
+    Ok(found)
 }
 
-// Three sources. Node 4 is the AND of node 5 and the third source, node 5 the complement of node 6, node 6 the AND of the
-// first two sources; node 7 is free, and nothing reaches node 8.
-#[test]
-fn compacts_rows_in_any_order(rt: HostRuntime) -> Result<(), AllocError> {
+// The literals of a list of pairs that are joined over so many sources, and how many rows there are then.
+fn put_joined(alloc: Global, out: &mut String, operands: &Operands) -> Result<(), AllocError> {
+    let mut hashed = HashedRows::new(alloc, operands.number(0).min(100) as usize)?;
+    put(out, join(alloc, &mut hashed, operands.list(1)))?;
+    put(out, Ok(hashed.rows.len()))
+}
+
+// What compaction leaves of three sources: node 4 is the AND of node 5 and the third source, node 5 the complement of node 6,
+// node 6 the AND of the first two sources; node 7 is free, and nothing reaches node 8.
+fn compacted(alloc: Global) -> Result<Rows, AllocError> {
     let rows = [
         Row::Source,
         Row::Source,
@@ -48,12 +55,18 @@ fn compacts_rows_in_any_order(rt: HostRuntime) -> Result<(), AllocError> {
         Row::Free,
         Row::And(Lit(2), Lit(12)),
     ];
-    let kept = compact_rows(rt.alloc(), 3, &rows, &[Lit(9), Lit(2)])?;
-    let first = Row::And(Lit(2), Lit(4));
-    let second = Row::And(Lit(6), Lit(9));
-    let source = Row::Source;
-    let wanted = [source, source, source, source, first, second];
-    assert_eq!(rt; kept.rows.as_slice(), wanted.as_slice());
-    assert_eq!(rt; kept.observed.as_slice(), [Lit(11), Lit(2)].as_slice());
-    Ok(())
+    compact_rows(alloc, 3, &rows, &[Lit(9), Lit(2)])
+}
+
+/// The answer to a call.
+pub fn answer(
+    alloc: Global,
+    out: &mut String,
+    call: &str,
+    operands: &Operands,
+) -> Result<(), AllocError> {
+    match call {
+        "joined" => put_joined(alloc, out, operands),
+        _ => put(out, compacted(alloc)),
+    }
 }

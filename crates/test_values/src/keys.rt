@@ -1,33 +1,17 @@
-//! Keys by level, and keys between keys.
+//! Calls on keys of nodes.
 
-use crate::samples::alone;
-use std::alloc::Global;
-use syn_keys::{between, spread};
+use crate::answers::put;
+use crate::operands::{Operands, small};
+use std::alloc::AllocError;
+use syn_table::between;
 
-// Whether the nodes of `alone` have these keys.
-fn are_spread(alloc: Global, wanted: &[u64]) -> bool {
-    let Some(graph) = alone(alloc) else {
-        return false;
+/// The step of so many keys between two.
+pub fn answer(out: &mut String, operands: &Operands) -> Result<(), AllocError> {
+    let list = operands.list(0);
+    let (low, need) = (u64::from(small(list, 0)), small(list, 1));
+    let high = match list.get(2) {
+        Some(high) => u64::try_from(*high).unwrap_or(0),
+        None => 0,
     };
-    match spread(alloc, &graph) {
-        Ok(keys) => keys.as_slice() == wanted,
-        Err(_) => false,
-    }
-}
-
-#[test]
-fn spreads_keys_by_level(rt: HostRuntime) {
-    let wanted = [0, 0, 0, 0, 4294967296, 4294967296, 8589934592];
-    assert!(rt; are_spread(rt.alloc(), &wanted));
-}
-
-#[test]
-fn finds_room_between_keys(rt: HostRuntime) {
-    for (low, need, high, step) in [
-        (0, 2, 8589934592, Some(2863311530)),
-        (5, 2, 7, None),
-        (5, 2, 8, Some(1)),
-    ] {
-        assert_eq!(rt; between(low, need, high), step);
-    }
+    put(out, Ok(between(low, need, high)))
 }

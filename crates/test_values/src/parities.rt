@@ -1,16 +1,16 @@
-//! LUT nets of parities: the limit on the gates of a net that becomes a graph.
+//! Calls on nets of parities: the limit on the gates of a net that becomes a graph.
 
 ghost use Rattle.std.specs.Prelude.{◌≡◌, ℕ, ◌+◌, ◌<◌, ◌≤◌, ◌^◌, [], ◌∷◌, All, IfOk, length, slice_index_or, true};
 ghost use Rattle.syn_rows.specs.Rows.{node_of};
 
-use crate::texts::graph_of;
+use crate::answers::put;
+use crate::netlists::read_text;
 use arrayvec::ArrayVec;
 use std::alloc::{AllocError, Global};
-use std::test::Fail;
-use syn_build::{BuildFault, build_luts};
-use syn_graph::Graph;
+use syn_build::{BuildFault, build_checked, build_luts};
+use syn_lists::Items;
 use syn_lutnet::{Lut, LutNet, MAX_INPUTS};
-use syn_netlist::Items;
+use syn_network::{LutNetwork, Network};
 use syn_rows::Lit;
 use syn_truth::Truth;
 
@@ -25,11 +25,17 @@ const PARITY: Truth = Truth {
 fn text_of(alloc: Global, outputs: u32) -> Result<String, AllocError> {
     let mut text = String::from_str(alloc, ".model m\n.inputs a b c d e f\n")?;
     for output in 0..outputs {
-        let lines = format!(in alloc; ".outputs o{output}\n.names o{output}\n")?;
-        text.push_str(lines.as_str())?;
+        write!(text, ".outputs o{output}\n.names o{output}\n")?;
     }
     text.push_str(".end\n")?;
     Ok(text)
+}
+
+// Its network.
+fn constants(alloc: Global, outputs: u32) -> Option<Network> {
+    let text = text_of(alloc, outputs).ok()?;
+    let checked = read_text(alloc, text.as_str()).ok()?;
+    build_checked(alloc, checked).ok()
 }
 
 // The inputs of a LUT.
@@ -44,30 +50,23 @@ fn inputs_of(signals: &[u32]) -> ArrayVec<u32, MAX_INPUTS>
     inputs
 }
 
-// The parity of the first six sources.
-fn parity() -> Lut
-    ensures { result.inputs.items ≡ 1 ∷ 2 ∷ 3 ∷ 4 ∷ 5 ∷ 6 ∷ [] }
-{
-    Lut {
-        inputs: inputs_of(&[1, 2, 3, 4, 5, 6]),
-        truth: PARITY,
-    }
-}
-
-// So many times that LUT.
+// So many parities of the first six sources.
 fn parities(alloc: Global, count: usize) -> Result<Vec<Lut>, AllocError>
     ensures count { IfOk result (λ v. length v.items ≡ count) }
     ensures inputs { IfOk result (λ v. All (λ l. l.inputs.items ≡ 1 ∷ 2 ∷ 3 ∷ 4 ∷ 5 ∷ 6 ∷ []) v.items) }
 {
     let mut luts = Vec::new(alloc);
     for _ in 0..count {
-        luts.push(parity())?;
+        luts.push(Lut {
+            inputs: inputs_of(&[1, 2, 3, 4, 5, 6]),
+            truth: PARITY,
+        })?;
     }
     Ok(luts)
 }
 
 // The literals of so many signals behind six sources.
-fn lut_literals(alloc: Global, count: usize) -> Result<Vec<Lit>, AllocError>
+fn literals(alloc: Global, count: usize) -> Result<Vec<Lit>, AllocError>
     requires { count < 2 ^ 30 }
     ensures count { IfOk result (λ v. length v.items ≡ count) }
     ensures plain { IfOk result (λ v. (j : ℕ) → (d : Lit) → j < length v.items → node_of (slice_index_or v.items j d) ≡ 7 + j) }
@@ -77,6 +76,35 @@ fn lut_literals(alloc: Global, count: usize) -> Result<Vec<Lit>, AllocError>
         literals.push(Lit::of(7 + place as u32, false))?;
     }
     Ok(literals)
+}
+
+// The net in which each of these parities is observed.
+fn net_of(luts: Vec<Lut>, lits: Vec<Lit>) -> LutNet
+    requires inputs { All (λ l. l.inputs.items ≡ 1 ∷ 2 ∷ 3 ∷ 4 ∷ 5 ∷ 6 ∷ []) luts.items }
+    requires plain { (j : ℕ) → (d : Lit) → j < length lits.items → node_of (slice_index_or lits.items j d) ≡ 7 + j }
+    requires count { length lits.items ≡ length luts.items }
+    requires few { length luts.items < 2 ^ 20 }
+    ensures sources { result.source_count ≡ 6 }
+    ensures luts { result.luts ≡ luts.items }
+    ensures observed { result.observed ≡ lits.items }
+{
+    LutNet {
+        source_count: 6,
+        luts: Items::of(luts),
+        observed: Items::of(lits),
+    }
+}
+
+// The net of so many parities, each observed.
+fn parity_net(alloc: Global, count: usize) -> Result<LutNet, AllocError>
+    requires { count < 2 ^ 20 }
+    ensures sources { IfOk result (λ net. net.source_count ≡ 6) }
+    ensures count { IfOk result (λ net. length net.observed ≡ count) }
+    ensures plain { IfOk result (λ net. (j : ℕ) → (d : Lit) → j < length net.observed → node_of (slice_index_or net.observed j d) ≡ 7 + j) }
+{
+    let luts = parities(alloc, count)?;
+    let lits = literals(alloc, count)?;
+    Ok(net_of(luts, lits))
 }
 
 // Whether each literal is of the constant.
@@ -91,65 +119,39 @@ fn are_constant(literals: &[Lit]) -> bool
     true
 }
 
-// Over the frame of a graph of six sources that observes only the constant: a parity for each observed signal.
-fn net_over(alloc: Global, graph: Graph) -> Result<LutNet, AllocError>
-    requires sources { graph.source_count ≡ 6 }
-    requires constant { All (λ l. node_of l ≡ 0) graph.observed }
-    requires few { length graph.observed < 2 ^ 20 }
+// The names of a network of six sources that observes only the constant, over a net that observes as many signals, none of
+// them a source.
+fn named(network: Network, net: LutNet) -> LutNetwork
+    requires six { network.body.source_count ≡ 6 }
+    requires sources { net.source_count ≡ 6 }
+    requires count { length net.observed ≡ length network.body.observed }
+    requires constant { All (λ l. node_of l ≡ 0) network.body.observed }
 {
-    let count = graph.observed.as_slice().len();
-    let luts = parities(alloc, count)?;
-    let observed = lut_literals(alloc, count)?;
-    Ok(LutNet {
-        frame: graph.frame,
-        source_count: graph.source_count,
-        luts: Items::of(luts),
-        observed: Items::of(observed),
-    })
+    let Network { frame, body: _ } = network;
+    LutNetwork::of(frame, net)
 }
 
-// The net of so many LUTs, each the parity of the same six sources and each observed.
-fn parity_net(alloc: Global, count: u32) -> Option<LutNet> {
-    let text = text_of(alloc, count).ok()?;
-    let graph = graph_of(alloc, text.as_str())?;
-    let constants = graph.observed.as_slice();
-    if graph.source_count != 6 || constants.len() >= 1 << 20 || !are_constant(constants) {
-        return None;
+// How many ANDs the graph of a network of LUTs has, or why there is none.
+fn put_gates(alloc: Global, out: &mut String, net: &LutNetwork) -> Result<(), AllocError> {
+    if net.body.source_count > 999 {
+        return Ok(());
     }
-    net_over(alloc, graph).ok()
+    match build_luts(alloc, net) {
+        Ok(network) => put(out, Ok(network.body.count())),
+        Err(fault) => put(out, Ok(fault)),
+    }
 }
 
-// How many ANDs the graph of a net of so many parities has, or why there is no graph.
-fn parities_become(alloc: Global, count: u32) -> Option<Result<u32, BuildFault>> {
+/// How many ANDs the graph of a net of so many parities has, or why there is no such graph.
+pub fn answer(alloc: Global, out: &mut String, count: u32) -> Result<(), AllocError> {
+    let Some(network) = constants(alloc, count) else {
+        return Ok(());
+    };
+    let constants = network.body.observed.as_slice();
+    let count = constants.len();
+    if network.body.source_count != 6 || count >= 1 << 20 || !are_constant(constants) {
+        return Ok(());
+    }
     let net = parity_net(alloc, count)?;
-    if net.count() != count || net.source_count > 999 {
-        return None;
-    }
-    match build_luts(alloc, &net) {
-        Ok(graph) => Some(Ok(graph.count())),
-        Err(fault) => Some(Err(fault)),
-    }
-}
-
-#[test]
-fn limits_gates(rt: HostRuntime) -> Result<(), Fail> {
-    let rows = [
-        (
-            "as many gates as may be, of ANDs that are shared",
-            279_620,
-            Ok(15),
-        ),
-        (
-            "one parity more",
-            279_621,
-            Err(BuildFault::TooManyGates(4_194_315)),
-        ),
-    ];
-    for (name, count, wanted) in rows {
-        assert!(rt;
-            parities_become(rt.alloc(), count) == Some(wanted),
-            "{name}"
-        );
-    }
-    Ok(())
+    put_gates(alloc, out, &named(network, net))
 }

@@ -13,7 +13,7 @@ use Rattle.syn_balance.proofs.balanced.Goals as goal
 pub made_again-requires-clause-order : goal.made_again-requires-clause-order
 made_again-requires-clause-order c =
     let g = c.args.graph.now in
-    subst (λ (rs : List Row). in_order_from 0 rs ≡ true) (sym c.as_slice.ensures) (hashed_order _ g.rows g.graph.hashed)
+    subst (λ (rs : List Row). in_order_from 0 rs ≡ true) (sym c.as_slice.ensures) (hashed_order g.source_count g.rows g.graph.hashed)
 
 pub returns-clause-compact : goal.returns-clause-compact
 returns-clause-compact c =

@@ -1,5 +1,5 @@
 use Rattle.std.proofs.Common.{◌≡◌, ◌++◌, ◌-◌}
-use Rattle.syn_shapes.specs.Spelling.{numbers_from}
+use Rattle.syn_lists.specs.Numbers.{numbers_from}
 use Rattle.syn_aiger.proofs.circles.first_numbers.Given as goal
 
 abbrev pub invariant-loop-k : goal.invariant-loop-k

@@ -1,5 +1,5 @@
 use Rattle.std.proofs.Common.{◌≡◌, ◌+◌, length, ap, ◌∙◌, arith}
-use Rattle.syn_shapes.specs.Spelling.{numbers_from}
+use Rattle.syn_lists.specs.Numbers.{numbers_from}
 use Rattle.syn_aiger.specs.Values.{source_literals}
 use Rattle.syn_aiger.proofs.Netting.{net_clocks, net_clocks_once, net_controls, net_inputs, net_is, net_latches, net_model, net_once, net_outputs, net_sources, net_tables}
 use Rattle.syn_aiger.proofs.circles.table_netlist.Goals as goal

@@ -1,5 +1,5 @@
 use Rattle.std.proofs.Common.{◌++◌, ◌+◌, List, ℕ, take, arith, sym, ap, ◌∙◌, subst}
-use Rattle.syn_netlist.specs.Marks.{distinct_numbers}
+use Rattle.syn_lists.specs.Numbers.{distinct_numbers}
 use Rattle.syn_aiger_files.specs.Files.{latch_literal, variable_of}
 use Rattle.syn_aiger_files.specs.declared.files.AigLatch.{AigLatch}
 use Rattle.syn_aiger.specs.Placing.{HasPlaces}

@@ -1,5 +1,5 @@
 use Rattle.std.proofs.Common.{◌≡◌, ◌+◌, ◌++◌, ℕ, List, true, map, take}
-use Rattle.syn_netlist.specs.Marks.{distinct_numbers}
+use Rattle.syn_lists.specs.Numbers.{distinct_numbers}
 use Rattle.syn_aiger_files.specs.Files.{latch_literal, variable_of}
 use Rattle.syn_aiger.specs.Placing.{HasPlaces}
 use Rattle.syn_aiger.proofs.file_numbers.place_latches.Given as goal

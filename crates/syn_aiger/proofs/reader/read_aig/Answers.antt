@@ -1,13 +1,6 @@
-use Rattle.std.proofs.Common.{◌<◌, ◌≤◌, List, length, sym, ap, arith}
 use Rattle.std.proofs.lemmas.Result.{err_from_is_err_and}
-use Rattle.syn_reader.specs.Limits.{most_sources}
-use Rattle.syn_graph.specs.Graphs.{network_of}
-use Rattle.syn_aiger_files.specs.declared.files.AigAnd.{AigAnd}
-use Rattle.syn_aiger_files.specs.declared.fault.TheConstants.{MAX_GATES}
-use Rattle.syn_aiger.specs.Values.{source_literals}
-use Rattle.syn_aiger.proofs.Judging.{gates_fault, graph_result, parse_left, rank_by, sources_fault, spelled_same, within_of}
+use Rattle.syn_aiger.proofs.Judging.{parse_left, spelled_same}
 use Rattle.syn_aiger.proofs.Soundness.{sound_of}
-use Rattle.syn_aiger.proofs.Undriven.{reads_defined}
 use Rattle.syn_aiger.proofs.reader.read_aig.Goals as goal
 
 pub returns-in_err-parse-clause-fault : goal.returns-in_err-parse-clause-fault
@@ -18,31 +11,5 @@ returns-in_err-parse-clause-fault c =
 pub of-requires : goal.of-requires
 of-requires c = sound_of c.args.bytes.now c.in_ok-parse.field-0 c.in_ok-parse.ensures.says
 
-pub circle-requires : goal.circle-requires
-circle-requires c = reads_defined c.in_ok-file.file.aig (sym c.in_default.ensures)
-
-pub returns-then-sources-gt-MAX_SOURCES-clause-fault : goal.returns-then-sources-gt-MAX_SOURCES-clause-fault
-returns-then-sources-gt-MAX_SOURCES-clause-fault c =
-    let g = c.in_ok-file.file.aig in
-    let many : most_sources < c.source_count-sources.result = omega arith in
-    sources_fault c.args.bytes.now g (spelled_same c.args.bytes.now c.in_ok-parse.field-0 g c.in_ok-parse.ensures.says c.in_ok-file.ensures) c.in_default.ensures (rank_by g c.in_ok-variables.field-0 c.in_ok-variables.ensures.none c.in_default-2.is)
-    c.source_count-sources.result c.source_count-sources.ensures many
-
-pub returns-then-ands-gt-MAX_GATES-clause-fault : goal.returns-then-ands-gt-MAX_GATES-clause-fault
-returns-then-ands-gt-MAX_GATES-clause-fault c =
-    let g = c.in_ok-file.file.aig in
-    let few : length (source_literals g) ≤ most_sources = omega (arith, c.source_count-sources.ensures) in
-    let many : MAX_GATES < length c.as_slice.result.now = omega arith in
-    gates_fault c.args.bytes.now g (spelled_same c.args.bytes.now c.in_ok-parse.field-0 g c.in_ok-parse.ensures.says c.in_ok-file.ensures) c.in_default.ensures (rank_by g c.in_ok-variables.field-0 c.in_ok-variables.ensures.none c.in_default-2.is)
-    (length c.as_slice.result.now) few (ap (λ (es : List AigAnd). length es) c.as_slice.ensures) many
-
-pub graph_of-requires-clause-defined : goal.graph_of-requires-clause-defined
-graph_of-requires-clause-defined c = reads_defined c.in_ok-file.file.aig (sym c.in_default.ensures)
-
-pub returns-clause-graph : goal.returns-clause-graph
-returns-clause-graph c =
-    let g = c.in_ok-file.file.aig in
-    let few : length (source_literals g) ≤ most_sources = omega (arith, c.source_count-sources.ensures) in
-    let gates : length g.ands ≤ MAX_GATES = omega (arith, ap (λ (es : List AigAnd). length es) c.as_slice.ensures) in
-    graph_result c.args.bytes.now g (spelled_same c.args.bytes.now c.in_ok-parse.field-0 g c.in_ok-parse.ensures.says c.in_ok-file.ensures) c.in_default.ensures (rank_by g c.in_ok-variables.field-0 c.in_ok-variables.ensures.none c.in_default-2.is)
-    (within_of g few gates) (network_of c.in_ok-graph.graph) c.in_ok-graph.ensures.graph
+pub graph_within-requires : goal.graph_within-requires
+graph_within-requires c = spelled_same c.args.bytes.now c.in_ok-parse.field-0 c.in_ok-file.file.aig c.in_ok-parse.ensures.says c.in_ok-file.ensures

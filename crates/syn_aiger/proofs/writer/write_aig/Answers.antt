@@ -1,20 +1,5 @@
-use Rattle.std.proofs.Common.{◌≡◌, ℕ, List, sym, ap, ◌∙◌, subst}
-use Rattle.syn_graph.specs.declared.Graph.{Graph}
-use Rattle.syn_graph.specs.Graphs.{network_of}
-use Rattle.syn_aiger_files.specs.declared.files.Aig.{Aig}
-use Rattle.syn_aiger_files.specs.Printed.{printed}
-use Rattle.syn_aiger.specs.Faults.{Spells}
-use Rattle.syn_aiger.specs.Writing.{aig_of}
-use Rattle.syn_aiger.proofs.WrittenFiles.{graph_is_kept, graph_is_normal}
-use Rattle.syn_aiger.proofs.Sound.{printed_spells}
+use Rattle.syn_aiger.proofs.WrittenFiles.{graph_is_kept}
 use Rattle.syn_aiger.proofs.writer.write_aig.Goals as goal
-
-pub returns-clause-spells : goal.returns-clause-spells
-returns-clause-spells c =
-    let g : Graph = c.args.graph.now in
-    let made : Aig = aig_of (network_of g) in
-    let bytes : c.in_ok-print.field-0.items ≡ printed c.args.ascii made = c.in_ok-print.ensures ∙ ap (printed c.args.ascii) c.in_ok-file.ensures in
-    subst (λ (b : List ℕ). Spells b made) (sym bytes) (printed_spells made (graph_is_normal g c.requires.rows c.requires.outputs c.are_words.ensures) c.args.ascii)
 
 pub returns-clause-written : goal.returns-clause-written
 returns-clause-written c = graph_is_kept c.args.graph.now c.in_ok-refuse_types.ensures.untyped c.are_words.ensures

@@ -1,5 +1,5 @@
 use Rattle.std.proofs.Common.{◌≡◌, ◌++◌, ◌∷◌, [], drop}
-use Rattle.syn_shapes.specs.Printed.{blanked}
+use Rattle.syn_netlist.specs.TextLines.{blanked}
 use Rattle.syn_aiger_files.specs.Printed.{decimals}
 use Rattle.syn_aiger_files.proofs.printer.push_more.Given as goal
 

@@ -1,31 +1,21 @@
-use Rattle.std.proofs.Common.{◌≡◌, ℕ, ◌+◌, ◌<◌, All, List, length, map, refl, sym, ap, ◌∙◌, subst, subst₂}
+use Rattle.std.proofs.Common.{◌≡◌, ℕ, ◌+◌, ◌<◌, All, List, length, map, refl, sym, ap, ◌∙◌, subst, subst₂, arith}
+use Rattle.std.proofs.lemmas.List.{length-map}
 use Rattle.syn_rows.specs.declared.Lit.{Lit}
 use Rattle.syn_rows.specs.declared.Row.{Row}
 use Rattle.syn_rows.specs.Rows.{node_of}
-use Rattle.syn_rows.specs.Values.{rows_function}
 use Rattle.syn_hashed.specs.HashedAgain.{IsHashedAgain}
-use Rattle.syn_netlist.specs.Frames.{frame_in}
-use Rattle.syn_netlist.specs.Lists.{Frame}
-use Rattle.syn_graph.specs.declared.Graph.{Graph}
-use Rattle.syn_graph.specs.Graphs.{HasOwnSources}
+use Rattle.syn_hashed.specs.Compacting.{IsCompaction}
 use Rattle.syn_gain.specs.Proposals.{replacement}
 use Rattle.syn_apply.specs.Applied.{AreRemade, remade}
 use Rattle.syn_apply.specs.Remaking.{AllStand, SourcesStay, moved}
 use Rattle.syn_apply.specs.Sound.{IsSoundBy}
-use Rattle.syn_apply.proofs.Standing.{IfOk-map, moved_function, moved_own, moved_within}
+use Rattle.syn_apply.proofs.Standing.{IfOk-map, both_ok, moved_within, remade_same}
 use Rattle.syn_apply.proofs.batch.applied_together.Goals as goal
 
 -- the moved literals, as the code has them
 lits_are : (literals items observed lits seen made : List Lit) → literals ≡ items → lits ≡ observed → seen ≡ made → made ≡ map (moved literals) lits → seen ≡ map (moved items) observed
 lits_are literals items observed lits seen made same_literals same_lits same_seen is =
     same_seen ∙ is ∙ ap (λ ls. map (moved ls) lits) same_literals ∙ ap (map (moved items)) same_lits
-
-own_of : (g : Graph) (frame : Frame) (count : ℕ) (literals seen : List Lit) → frame ≡ frame_in g.frame → count ≡ g.source_count → SourcesStay count literals → length literals ≡ length g.rows
-    → seen ≡ map (moved literals) g.observed → HasOwnSources frame seen
-own_of g frame count literals seen same_frame same_count stay long is =
-    subst (λ (f : Frame). HasOwnSources f seen) (sym same_frame)
-    (subst (HasOwnSources (frame_in g.frame)) (sym is)
-    (moved_own (frame_in g.frame) g.rows g.observed literals g.graph (subst (λ (k : ℕ). SourcesStay k literals) (same_count ∙ g.source_count_is) stay) long))
 
 pub remade-requires-clause-sound : goal.remade-requires-clause-sound
 remade-requires-clause-sound c = subst (λ (rs : List Row). All (λ p. IsSoundBy rs (replacement p)) c.args.proposals.now) (sym c.as_slice-rows.ensures) c.requires.sound
@@ -40,24 +30,26 @@ finish-requires-clause-within c =
     subst (All (λ l. node_of l < length new)) (sym is)
     (moved_within g.rows new literals g.observed standing (c.in_ok-literals.ensures.all ∙ ap length c.as_slice-rows.ensures) g.graph.within)
 
-pub finish-requires-clause-own : goal.finish-requires-clause-own
-finish-requires-clause-own c =
+pub finish-requires-clause-lits : goal.finish-requires-clause-lits
+finish-requires-clause-lits c =
     let g = c.args.graph.now in
     let literals = c.in_ok-literals.literals.items in
     let is = lits_are c.as_slice.result.now literals g.observed c.as_slice-2.result.now c.as_slice-3.result.now c.in_ok-observed.observed.items c.as_slice.ensures.value c.as_slice-2.ensures c.as_slice-3.ensures.value c.in_ok-observed.ensures in
-    own_of g (frame_in c.in_ok-frame.frame) c.in_ok-hashed.hashed.source_count literals c.as_slice-3.result.now c.in_ok-frame.ensures.same c.in_ok-hashed.ensures.sources c.in_ok-literals.ensures.stay
-    (c.in_ok-literals.ensures.all ∙ ap length c.as_slice-rows.ensures) is
+    omega (arith, ap length is, length-map g.observed (moved literals), g.few_observed)
 
-pub returns-clause-values : goal.returns-clause-values
-returns-clause-values c =
+pub returns-clause-same : goal.returns-clause-same
+returns-clause-same c =
     let g = c.args.graph.now in
     let new = c.remade.new.hashed.rows.items in
     let literals = c.in_ok-literals.literals.items in
     let is = lits_are c.as_slice.result.now literals g.observed c.as_slice-2.result.now c.as_slice-3.result.now c.in_ok-observed.observed.items c.as_slice.ensures.value c.as_slice-2.ensures c.as_slice-3.ensures.value c.in_ok-observed.ensures in
     let standing = subst (λ (rs : List Row). AllStand rs new literals) c.as_slice-rows.ensures c.in_ok-literals.ensures.standing in
-    IfOk-map c.finish.result
-    (λ made same bits. same bits ∙ ap (λ ls. rows_function new ls bits) is
-    ∙ moved_function g.rows new literals g.observed standing (c.in_ok-literals.ensures.all ∙ ap length c.as_slice-rows.ensures) g.graph.within bits) c.finish.ensures.values
+    let stay = subst (λ (k : ℕ). SourcesStay k literals) c.in_ok-hashed.ensures.sources c.in_ok-literals.ensures.stay in
+    let count = c.in_ok-literals.ensures.sources ∙ c.in_ok-hashed.ensures.sources in
+    both_ok c.finish.result
+    (λ made compact sources. remade_same g new literals standing stay (c.in_ok-literals.ensures.all ∙ ap length c.as_slice-rows.ensures) made (sources ∙ count)
+    (subst₂ (λ (k : ℕ) (ls : List Lit). IsCompaction k new ls made.rows made.observed) count is compact))
+    c.finish.ensures.compact c.finish.ensures.sources
 
 pub remade-requires-clause-begins : goal.remade-requires-clause-begins
 remade-requires-clause-begins c =

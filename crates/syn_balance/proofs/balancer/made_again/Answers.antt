@@ -3,7 +3,7 @@ use Rattle.std.proofs.lemmas.List.{take_at}
 use Rattle.syn_rows.specs.declared.Lit.{Lit}
 use Rattle.syn_rows.specs.declared.Row.{Row}
 use Rattle.syn_rows.specs.Levels.{levels_of}
-use Rattle.syn_shapes.specs.Graphs.{IsHashed}
+use Rattle.syn_hashed.specs.Hashed.{IsHashed}
 use Rattle.syn_hashed.specs.Visiting.{FirstsOf, IsRebuilt, literal_of}
 use Rattle.syn_balance.specs.Roots.{HasRoots}
 use Rattle.syn_balance.specs.Rule.{AreByRule}

@@ -2,7 +2,7 @@ use Rattle.std.proofs.Common.{ℕ, length, arith, rules, ap, subst}
 use Rattle.std.specs.BinaryHeap.{heap_items}
 use Rattle.std.specs.declared.cmp.Reverse.{Reverse}
 use Rattle.syn_rows.specs.declared.Lit.{Lit}
-use Rattle.syn_shapes.specs.Graphs.{IsHashed}
+use Rattle.syn_hashed.specs.Hashed.{IsHashed}
 use Rattle.syn_balance.proofs.LevelLists.{level_found}
 use Rattle.syn_hashed.proofs.LevelLaws.{length-levels}
 use Rattle.syn_balance.proofs.Joins.{AreLeast, least_two, more_leaves, least_joined, least_rule}

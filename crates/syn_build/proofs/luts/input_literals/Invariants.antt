@@ -1,6 +1,6 @@
 use Rattle.std.proofs.Common.{◌≡◌, ◌++◌, true, map, drop, length}
 use Rattle.std.specs.List.{list_all}
-use Rattle.syn_shapes.specs.Graphs.{lit_at}
+use Rattle.syn_hashed.specs.Hashed.{lit_at}
 use Rattle.syn_build.specs.LutLiterals.{reads_below}
 use Rattle.syn_build.proofs.luts.input_literals.Given as goal
 

@@ -3,7 +3,7 @@ use Rattle.std.proofs.lemmas.List.{length-map}
 use Rattle.syn_rows.specs.declared.Lit.{Lit}
 use Rattle.syn_plan.specs.declared.PLit.{PLit}
 use Rattle.syn_plan.specs.Plans.{plan_truth}
-use Rattle.syn_shapes.specs.Graphs.{lit_at}
+use Rattle.syn_hashed.specs.Hashed.{lit_at}
 use Rattle.syn_hashed.specs.Growing.{value_by}
 use Rattle.syn_lutnet.proofs.LutDepths.{gates_are}
 use Rattle.syn_build.specs.Covering.{AllThere}

@@ -2,9 +2,9 @@ use Rattle.std.proofs.Common.{◌≡◌, ◌∷◌, [], ℕ, List, true, false, 
 use Rattle.std.specs.List.{list_all}
 use Rattle.std.proofs.lemmas.List.{length_push, get_or_append_left}
 use Rattle.syn_rows.specs.declared.Lit.{Lit}
-use Rattle.syn_shapes.specs.Graphs.{lit_at}
+use Rattle.syn_hashed.specs.Hashed.{lit_at}
 use Rattle.syn_hashed.specs.Growing.{value_by}
-use Rattle.syn_lutshapes.specs.Luts.{fold_luts, lut_value, ones_of, ones_value}
+use Rattle.syn_lutnet.specs.LutData.{fold_luts, lut_value, ones_of, ones_value}
 use Rattle.syn_lutnet.specs.Data.{luts_data}
 use Rattle.syn_lutnet.proofs.LutDepths.{gates_next}
 use Rattle.syn_build.specs.LutLiterals.{reads_below}

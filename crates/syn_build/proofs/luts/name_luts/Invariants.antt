@@ -1,7 +1,7 @@
 use Rattle.std.proofs.Common.{◌≡◌, ℕ, ◌+◌, ◌<◌, ◌≤◌, Bool, false, length, map, drop}
-use Rattle.syn_shapes.specs.Graphs.{lit_at}
+use Rattle.syn_hashed.specs.Hashed.{lit_at}
 use Rattle.syn_hashed.specs.Growing.{value_by}
-use Rattle.syn_lutshapes.specs.Luts.{fold_luts, lut_value, net_gates}
+use Rattle.syn_lutnet.specs.LutData.{fold_luts, lut_value, net_gates}
 use Rattle.syn_lutnet.specs.Data.{luts_data}
 use Rattle.syn_build.specs.Covering.{AllThere}
 use Rattle.syn_build.proofs.luts.name_luts.Given as goal

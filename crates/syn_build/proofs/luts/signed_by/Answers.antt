@@ -1,7 +1,7 @@
 use Rattle.std.proofs.Common.{ℕ, ◌%◌, not, if◌then◌else◌, ap, ◌∙◌, arith}
 use Rattle.syn_rows.specs.Joining.{complement}
 use Rattle.syn_rows.specs.Rows.{node_of}
-use Rattle.syn_shapes.specs.Graphs.{lit_at}
+use Rattle.syn_hashed.specs.Hashed.{lit_at}
 use Rattle.syn_build.proofs.LutValues.{choose_sign}
 use Rattle.syn_build.proofs.luts.signed_by.Goals as goal
 

@@ -1,5 +1,5 @@
 use Rattle.std.proofs.Common.{◌≡◌, ◌+◌, ◌-◌, ◌++◌, map}
-use Rattle.syn_shapes.specs.Spelling.{numbers_from}
+use Rattle.syn_lists.specs.Numbers.{numbers_from}
 use Rattle.syn_rows.specs.Joining.{lit_of}
 use Rattle.syn_build.specs.LutLiterals.{plain_literals}
 use Rattle.syn_build.proofs.luts.source_literals.Given as goal

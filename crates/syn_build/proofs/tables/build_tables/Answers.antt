@@ -2,7 +2,7 @@ use Rattle.std.proofs.Common.{◌≡◌, ◌∙◌, List, map, ap}
 use Rattle.syn_rows.specs.declared.Lit.{Lit}
 use Rattle.syn_netlist.specs.Order.{defined}
 use Rattle.syn_netlist.specs.Views.{netlist_in}
-use Rattle.syn_shapes.specs.Graphs.{lit_at}
+use Rattle.syn_hashed.specs.Hashed.{lit_at}
 use Rattle.syn_build.specs.Naming.{in_order}
 use Rattle.syn_build.proofs.Known.{observed_function, observed_own, observed_there}
 use Rattle.syn_build.proofs.tables.build_tables.Goals as goal

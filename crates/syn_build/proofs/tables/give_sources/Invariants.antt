@@ -1,6 +1,7 @@
 use Rattle.std.proofs.Common.{◌≡◌, ℕ, ◌<◌, ◌≤◌, All, get_or, length}
 use Rattle.syn_rows.specs.Rows.{node_of}
-use Rattle.syn_shapes.specs.Graphs.{lit_at, source_lit}
+use Rattle.syn_network.specs.NamedGraphs.{source_lit}
+use Rattle.syn_hashed.specs.Hashed.{lit_at}
 use Rattle.syn_build.proofs.tables.give_sources.Given as goal
 
 abbrev pub invariant-loop-i : goal.invariant-loop-i

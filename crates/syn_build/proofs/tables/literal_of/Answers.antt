@@ -2,7 +2,7 @@ use Rattle.std.proofs.Common.{◌∙◌, ap, map}
 use Rattle.std.proofs.Common.{◌<◌, length}
 use Rattle.std.proofs.lemmas.List.Elements.{All-same}
 use Rattle.syn_rows.specs.Rows.{node_of}
-use Rattle.syn_shapes.specs.Graphs.{lit_at}
+use Rattle.syn_hashed.specs.Hashed.{lit_at}
 use Rattle.syn_build.proofs.Known.{literals_there}
 use Rattle.syn_build.proofs.tables.literal_of.Goals as goal
 

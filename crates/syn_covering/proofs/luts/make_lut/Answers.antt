@@ -2,8 +2,8 @@ use Rattle.std.proofs.Common.{◌≡◌, ◌^◌, nat_lt, true, ℕ, List, lengt
 use Rattle.std.specs.List.{list_all}
 use Rattle.std.proofs.lemmas.List.{length-map}
 use Rattle.syn_cones.specs.Cones.{IsCut, IsTruthOver}
-use Rattle.syn_lutshapes.specs.Luts.{ones_of}
-use Rattle.syn_lutshapes.proofs.Ones.{ones_give}
+use Rattle.syn_lutnet.specs.LutData.{ones_of}
+use Rattle.syn_lutnet.proofs.Ones.{ones_give}
 use Rattle.syn_covering.specs.Making.{number_at}
 use Rattle.syn_covering.proofs.Assembled.{ones_over}
 use Rattle.syn_covering.proofs.luts.make_lut.Goals as goal

@@ -1,5 +1,5 @@
 use Rattle.std.proofs.Common.{◌≡◌, ℕ, ◌<◌, length}
-use Rattle.syn_lutshapes.specs.Luts.{lut_at}
+use Rattle.syn_lutnet.specs.LutData.{lut_at}
 use Rattle.syn_lutnet.specs.Data.{luts_data}
 use Rattle.syn_covering.specs.Making.{IsLutOf}
 use Rattle.syn_covering.specs.Mappings.{node_at}

@@ -1,19 +1,18 @@
-use Rattle.std.proofs.Common.{ℕ, List, length, refl, sym, ap, ◌∙◌, subst, arith}
+use Rattle.std.proofs.Common.{List, length, refl, sym, ap, ◌∙◌, subst, arith}
 use Rattle.std.proofs.lemmas.List.{length-map}
 use Rattle.syn_rows.specs.declared.Lit.{Lit}
 use Rattle.syn_rows.specs.declared.Row.{Row}
 use Rattle.syn_rows.specs.Rows.{InOrder}
 use Rattle.syn_hashed.proofs.Orders.{hashed_in_order}
 use Rattle.syn_truth.specs.declared.TheConstants.{MAX_VARS}
-use Rattle.syn_netlist.specs.Frames.{frame_in}
-use Rattle.syn_netlist.specs.Lists as lists
-use Rattle.syn_lutshapes.specs.Luts.{IsLutNet}
+use Rattle.syn_lutnet.specs.LutData.{IsLutNet}
 use Rattle.syn_lutnet.specs.declared.luts.Lut.{Lut}
 use Rattle.syn_lutnet.specs.Data.{lut_data, luts_data}
 use Rattle.syn_covering.specs.Cuts.{AreLutCuts}
 use Rattle.syn_covering.specs.Making.{IsMappedBy}
 use Rattle.syn_covering.specs.Mappings.{IsMapping}
 use Rattle.syn_covering.specs.Needs.{marked_from}
+use Rattle.syn_covering.proofs.LutNets.{out_count}
 use Rattle.syn_covering.proofs.Assembled.{marked_gates, mapped, mapped_net, mapped_few}
 use Rattle.syn_covering.proofs.nets.make_net.Goals as goal
 
@@ -26,7 +25,7 @@ needed-requires-clause-cuts g c = subst (λ (rs : List Row). AreLutCuts MAX_VARS
 pub make_luts-requires-clause-order : goal.make_luts-requires-clause-order
 make_luts-requires-clause-order g c =
     let gr = c.args.graph.now in
-    subst (λ (rs : List Row). InOrder rs) (sym c.as_slice-rows.ensures) (hashed_in_order (length (lists.sources (frame_in gr.frame))) gr.rows gr.graph.hashed)
+    subst (λ (rs : List Row). InOrder rs) (sym c.as_slice-rows.ensures) (hashed_in_order gr.source_count gr.rows gr.graph.hashed)
 
 pub make_luts-requires-clause-nodes : goal.make_luts-requires-clause-nodes
 make_luts-requires-clause-nodes g c =
@@ -41,26 +40,24 @@ invariant_of-result g c =
     let n = c.in_ok-numbering.numbering in
     let luts : List Lut = c.in_ok-luts.luts.items in
     let outs : List Lit = c.in_ok-outs.outs.items in
-    let frame = c.in_ok-copy_frame.ensures in
-    let mapping : IsMapping cut (length (lists.sources (frame_in gr.frame))) gr.rows gr.observed n.nodes.items (luts_data luts) outs =
-    mapped gr MAX_VARS cut gr.source_count rows c.as_slice-observed.result.now c.in_ok-marks.marks.items c.as_slice.result.now n.nodes.items c.as_slice-2.result.now n.signals.items c.as_slice-signals.result.now (luts_data luts) outs
-    fit c.as_slice-rows.ensures c.as_slice-observed.ensures refl c.in_ok-marks.ensures c.as_slice.ensures.value c.in_ok-numbering.ensures.nodes c.as_slice-2.ensures.value c.as_slice-signals.ensures.value c.in_ok-numbering.ensures.signals
+    let mapping : IsMapping cut gr.source_count gr.rows gr.observed n.nodes.items (luts_data luts) outs =
+    mapped gr MAX_VARS cut rows c.as_slice-observed.result.now c.in_ok-marks.marks.items c.as_slice.result.now n.nodes.items c.as_slice-2.result.now n.signals.items c.as_slice-signals.result.now (luts_data luts) outs
+    fit c.as_slice-rows.ensures c.as_slice-observed.ensures c.in_ok-marks.ensures c.as_slice.ensures.value c.in_ok-numbering.ensures.nodes c.as_slice-2.ensures.value c.as_slice-signals.ensures.value c.in_ok-numbering.ensures.signals
     c.in_ok-luts.ensures c.in_ok-outs.ensures in
-    let made : IsLutNet (frame_in gr.frame) (luts_data luts) outs = mapped_net MAX_VARS cut gr n.nodes.items (luts_data luts) outs fit mapping in
+    let made : IsLutNet gr.source_count (luts_data luts) outs = mapped_net MAX_VARS cut gr n.nodes.items (luts_data luts) outs fit mapping in
     let few = mapped_few MAX_VARS cut gr n.nodes.items (luts_data luts) outs fit mapping in
     let count = length-map luts lut_data in
     let same = ap (λ (ls : List Lut). length ls) c.of.ensures in
+    let out_same = ap (λ (os : List Lit). length os) c.of-2.ensures in
     record {
-      source_count_is = gr.source_count_is ∙ sym (ap (λ (f : lists.Frame). length (lists.sources f)) frame.same);
-      net = subst (λ (f : lists.Frame). IsLutNet f (luts_data c.of.result) c.of-2.result) (sym frame.same)
-          (subst (λ (ls : List Lut). IsLutNet (frame_in gr.frame) (luts_data ls) c.of-2.result) (sym c.of.ensures) (subst (λ (os : List Lit). IsLutNet (frame_in gr.frame) (luts_data luts) os) (sym c.of-2.ensures) made));
-      few = omega (arith, few, count, same, gr.source_count_is, gr.few);
-      few_names = omega (arith, ap (λ (ws : List (List ℕ)). length ws) frame.names, gr.few_names);
+      net = subst (λ (ls : List Lut). IsLutNet gr.source_count (luts_data ls) c.of-2.result) (sym c.of.ensures) (subst (λ (os : List Lit). IsLutNet gr.source_count (luts_data luts) os) (sym c.of-2.ensures) made);
+      few = omega (arith, few, count, same, gr.few);
+      few_observed = omega (arith, out_same, out_count gr.source_count n.nodes.items gr.observed outs mapping.outs_are, gr.few_observed);
     }
 
-pub returns-clause-mapping : goal.returns-clause-mapping
+pub returns : goal.returns
 unfolding IsMappedBy
-returns-clause-mapping g c =
+returns g c =
     let gr = c.args.graph.now in
     let cut = g.C.Choice.leaves c.args.choice.now in
     let fit : AreLutCuts MAX_VARS gr.rows cut = c.requires.cuts in
@@ -68,11 +65,14 @@ returns-clause-mapping g c =
     let n = c.in_ok-numbering.numbering in
     let luts : List Lut = c.in_ok-luts.luts.items in
     let outs : List Lit = c.in_ok-outs.outs.items in
-    let mapping : IsMapping cut (length (lists.sources (frame_in gr.frame))) gr.rows gr.observed n.nodes.items (luts_data luts) outs =
-    mapped gr MAX_VARS cut gr.source_count rows c.as_slice-observed.result.now c.in_ok-marks.marks.items c.as_slice.result.now n.nodes.items c.as_slice-2.result.now n.signals.items c.as_slice-signals.result.now (luts_data luts) outs
-    fit c.as_slice-rows.ensures c.as_slice-observed.ensures refl c.in_ok-marks.ensures c.as_slice.ensures.value c.in_ok-numbering.ensures.nodes c.as_slice-2.ensures.value c.as_slice-signals.ensures.value c.in_ok-numbering.ensures.signals
+    let mapping : IsMapping cut gr.source_count gr.rows gr.observed n.nodes.items (luts_data luts) outs =
+    mapped gr MAX_VARS cut rows c.as_slice-observed.result.now c.in_ok-marks.marks.items c.as_slice.result.now n.nodes.items c.as_slice-2.result.now n.signals.items c.as_slice-signals.result.now (luts_data luts) outs
+    fit c.as_slice-rows.ensures c.as_slice-observed.ensures c.in_ok-marks.ensures c.as_slice.ensures.value c.in_ok-numbering.ensures.nodes c.as_slice-2.ensures.value c.as_slice-signals.ensures.value c.in_ok-numbering.ensures.signals
     c.in_ok-luts.ensures c.in_ok-outs.ensures in (
-      n.nodes.items,
-      subst (λ (ls : List Lut). IsMapping cut (length (lists.sources (frame_in gr.frame))) gr.rows gr.observed n.nodes.items (luts_data ls) c.of-2.result) (sym c.of.ensures)
-          (subst (λ (os : List Lit). IsMapping cut (length (lists.sources (frame_in gr.frame))) gr.rows gr.observed n.nodes.items (luts_data luts) os) (sym c.of-2.ensures) mapping),
+      refl,
+      (
+        n.nodes.items,
+        subst (λ (ls : List Lut). IsMapping cut gr.source_count gr.rows gr.observed n.nodes.items (luts_data ls) c.of-2.result) (sym c.of.ensures)
+            (subst (λ (os : List Lit). IsMapping cut gr.source_count gr.rows gr.observed n.nodes.items (luts_data luts) os) (sym c.of-2.ensures) mapping),
+      ),
     )

@@ -1,6 +1,4 @@
 use Rattle.std.proofs.Common.{◌≡◌, ◌<◌, ℕ, List, length, subst, sym, arith}
-use Rattle.syn_netlist.specs.Frames.{frame_in}
-use Rattle.syn_netlist.specs.Lists.{sources}
 use Rattle.syn_rows.specs.declared.Lit.{Lit}
 use Rattle.syn_rows.specs.declared.Row.{Row}
 use Rattle.syn_rows.specs.Rows.{AllRefs, InOrder, row_at}
@@ -12,7 +10,7 @@ use Rattle.syn_cut_functions.proofs.Listed.{within_lists}
 use Rattle.syn_cut_functions.proofs.cut_truth.over_cut.Goals as goal
 
 in_order : (graph : Graph) → InOrder graph.rows
-in_order graph = hashed_in_order (length (sources (frame_in graph.frame))) graph.rows graph.graph.hashed
+in_order graph = hashed_in_order graph.source_count graph.rows graph.graph.hashed
 
 refs : (graph : Graph) (n : ℕ) (a b : Lit) → row_at graph.rows n ≡ And a b → AllRefs (λ m. m < n) (And a b)
 refs graph n a b row = subst (AllRefs (λ m. m < n)) row (in_order graph n)

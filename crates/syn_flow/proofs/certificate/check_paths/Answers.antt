@@ -4,12 +4,10 @@ use Rattle.syn_rows.specs.declared.Row.{Row}
 use Rattle.syn_paths.specs.Tops.{label_in}
 use Rattle.syn_flow.specs.Checks.{AllFit}
 use Rattle.syn_flow.proofs.Witnessed.{certified_by, unlike_fit, unlike_long}
-use Rattle.syn_netlist.specs.Frames.{frame_in}
-use Rattle.syn_netlist.specs.Lists.{sources}
 use Rattle.syn_flow.proofs.certificate.check_paths.Goals as goal
 
 pub noted-requires-clause-hashed : goal.noted-requires-clause-hashed
-noted-requires-clause-hashed c = rw c.as_slice-rows.ensures (length (sources (frame_in c.args.graph.now.frame)), c.args.graph.now.graph.hashed)
+noted-requires-clause-hashed c = rw c.as_slice-rows.ensures (c.args.graph.now.source_count, c.args.graph.now.graph.hashed)
 
 pub noted-requires-clause-fit : goal.noted-requires-clause-fit
 noted-requires-clause-fit c = c.fit_rows-fit.ensures.0 c.if-fit.true

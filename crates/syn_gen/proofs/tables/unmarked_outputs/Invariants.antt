@@ -1,5 +1,6 @@
 use Rattle.std.proofs.Common.{◌≡◌, ℕ, List, map, take}
-use Rattle.syn_netlist.specs.Marks.{AreMarks, without_numbers}
+use Rattle.syn_netlist.specs.Marks.{AreMarks}
+use Rattle.syn_lists.specs.Numbers.{without_numbers}
 use Rattle.syn_netlist.specs.Walk.{table_output}
 use Rattle.syn_gen.proofs.tables.unmarked_outputs.Given as goal
 

@@ -1,5 +1,5 @@
 use Rattle.std.proofs.Common.{◌≡◌, [], ◌∷◌, length, ap, arith}
-use Rattle.syn_netlist.specs.Marks.{without_numbers}
+use Rattle.syn_lists.specs.Numbers.{without_numbers}
 use Rattle.syn_growing.proofs.Inner.{room_with}
 use Rattle.syn_growing.proofs.leaves.put_inner.Goals as goal
 

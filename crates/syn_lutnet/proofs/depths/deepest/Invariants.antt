@@ -1,5 +1,5 @@
 use Rattle.std.proofs.Common.{◌≡◌, max, drop}
-use Rattle.syn_lutshapes.specs.Luts.{greatest}
+use Rattle.syn_lutnet.specs.LutData.{greatest}
 use Rattle.syn_lutnet.proofs.depths.deepest.Given as goal
 
 abbrev pub invariant-loop-depth : goal.invariant-loop-depth

@@ -1,6 +1,6 @@
 use Rattle.std.proofs.Common.{◌+◌, ℕ, List, length, drop, ap, ap₂, ◌∙◌, arith}
 use Rattle.std.proofs.lemmas.List.{length_push}
-use Rattle.syn_lutshapes.specs.Luts.{depth_in, greatest, signal_depths}
+use Rattle.syn_lutnet.specs.LutData.{depth_in, greatest, signal_depths}
 use Rattle.syn_lutnet.specs.Data.{lut_data, luts_data}
 use Rattle.syn_lutnet.proofs.LutDepths.{luts_next, depth_next, low_next}
 use Rattle.syn_lutnet.proofs.depths.depths.Goals as goal

@@ -1,5 +1,5 @@
 use Rattle.std.proofs.Common.{◌≡◌, ◌+◌, ◌≤◌, All, length, drop, vec_len}
-use Rattle.syn_lutshapes.specs.Luts.{fold_luts, lut_depth, signal_depths}
+use Rattle.syn_lutnet.specs.LutData.{fold_luts, lut_depth, signal_depths}
 use Rattle.syn_lutnet.specs.Data.{luts_data}
 use Rattle.syn_lutnet.proofs.depths.depths.Given as goal
 

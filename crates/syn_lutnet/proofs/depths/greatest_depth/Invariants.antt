@@ -1,5 +1,5 @@
 use Rattle.std.proofs.Common.{◌≡◌, max, drop}
-use Rattle.syn_lutshapes.specs.Luts.{depth_in, greatest}
+use Rattle.syn_lutnet.specs.LutData.{depth_in, greatest}
 use Rattle.syn_lutnet.proofs.depths.greatest_depth.Given as goal
 
 abbrev pub invariant-loop-signal : goal.invariant-loop-signal

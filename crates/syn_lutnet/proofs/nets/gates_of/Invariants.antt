@@ -1,5 +1,5 @@
 use Rattle.std.proofs.Common.{◌≡◌, ◌+◌, ◌*◌, ◌≤◌, drop}
-use Rattle.syn_lutshapes.specs.Luts.{net_gates}
+use Rattle.syn_lutnet.specs.LutData.{net_gates}
 use Rattle.syn_lutnet.specs.Data.{luts_data}
 use Rattle.syn_lutnet.proofs.nets.gates_of.Given as goal
 

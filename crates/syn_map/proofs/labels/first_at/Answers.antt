@@ -2,7 +2,7 @@ use Rattle.std.proofs.Common.{◌≡◌, ℕ, List, nat_eq, sym, ap, ◌∙◌, 
 use Rattle.std.proofs.lemmas.Bool.{eqb-true, false_from_ne_true}
 use Rattle.syn_rows.specs.Levels.{level_in}
 use Rattle.syn_cuts.specs.Leaves.{leaves, leaves_of}
-use Rattle.syn_lutshapes.specs.Luts.{greatest}
+use Rattle.syn_lutnet.specs.LutData.{greatest}
 use Rattle.syn_map.specs.Labels.{first_at}
 use Rattle.syn_map.proofs.Leastness.{first_here, first_next}
 use Rattle.syn_map.proofs.labels.first_at.Goals as goal

@@ -1,4 +1,4 @@
-use Rattle.std.proofs.Common.{◌≡◌, ◌+◌, ℕ, List, [], length, ap, ◌∙◌, arith}
+use Rattle.std.proofs.Common.{ℕ, List, [], length, ap, ◌∙◌, arith}
 use Rattle.std.proofs.lemmas.List.{length_push}
 use Rattle.syn_rows.specs.Levels.{level_in}
 use Rattle.syn_rows.specs.Rows.{fold_rows, row_at}

@@ -1,7 +1,7 @@
 use Rattle.std.proofs.Common.{◌≡◌, ℕ, ◌∷◌, rules, sym, ap, ◌∙◌}
 use Rattle.syn_rows.specs.Levels.{level_in}
 use Rattle.syn_cuts.specs.Leaves.{leaves, leaves_of}
-use Rattle.syn_lutshapes.specs.Luts.{greatest}
+use Rattle.syn_lutnet.specs.LutData.{greatest}
 use Rattle.syn_map.specs.Labels.{least}
 use Rattle.syn_map.proofs.Leastness.{least_after, least_from, least_next}
 use Rattle.syn_map.proofs.labels.least.Goals as goal

@@ -1,5 +1,5 @@
 use Rattle.std.proofs.Common.{◌≡◌, ◌++◌, drop}
-use Rattle.syn_netlist.specs.Marks.{without_numbers}
+use Rattle.syn_lists.specs.Numbers.{without_numbers}
 use Rattle.syn_netlist.proofs.signals.without.Given as goal
 
 abbrev pub invariant-loop-n : goal.invariant-loop-n

@@ -13,7 +13,7 @@ pub returns-then-has_room-clause-follows : goal.returns-then-has_room-clause-fol
 returns-then-has_room-clause-follows c =
     let graph = c.args.graph.now in
     let same = borrowed_is c.borrow.result c.args.proposal.now c.borrow.ensures.root c.borrow.ensures.leaves c.borrow.ensures.plan in
-    applied_follows_all graph (replacement_of c.borrow.result) c.applied.result c.applied.ensures.frame c.applied.ensures.names c.applied.ensures.values c.applied.ensures.count
+    applied_follows_all graph (replacement_of c.borrow.result) c.applied.result c.applied.ensures.same c.applied.ensures.count
     (subst (SavesSome graph.rows graph.observed) (sym same) c.requires.saves)
 
 pub returns-then-has_room-clause-levels : goal.returns-then-has_room-clause-levels

@@ -7,9 +7,7 @@ use Rattle.syn_proposals.proofs.applied.smaller.Goals as goal
 
 pub returns-then-better-clause-follows : goal.returns-then-better-clause-follows
 returns-then-better-clause-follows g c = record {
-  frame = c.in_ok-next.ensures.frame;
-  names = c.in_ok-next.ensures.names;
-  values = c.in_ok-next.ensures.values;
+  same = c.in_ok-next.ensures.same;
   count = c.in_ok-better.ensures c.if-better.true;
 }
 

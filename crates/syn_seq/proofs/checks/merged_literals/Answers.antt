@@ -4,7 +4,7 @@ use Rattle.syn_rows.specs.declared.Lit.{Lit}
 use Rattle.syn_hashed.specs.Compacting.{IsCompacted}
 use Rattle.syn_netlist.specs.Frames.{frame_in}
 use Rattle.syn_netlist.specs.Lists.{observed}
-use Rattle.syn_graph.specs.declared.Graph.{Graph}
+use Rattle.syn_network.specs.declared.networks.Network.{Network}
 use Rattle.syn_seq.proofs.Merged.{can_merge, can_with_merged, compacted_with, fits_merged, lit_by, lits_are_merged, lits_by, merged_alike, merged_count, rows_are_merged, stands_in}
 use Rattle.syn_seq.proofs.checks.merged_literals.Goals as goal
 
@@ -26,25 +26,25 @@ moved_all-requires c = subst (λ (ps : List ℕ). (k d : ℕ) → k < length ps 
 
 pub compact_rows-requires-clause-can : goal.compact_rows-requires-clause-can
 compact_rows-requires-clause-can c =
-    let g : Graph = c.args.graph.now in
+    let g : Network = c.args.graph.now in
     can_with_merged g c.args.fates.now c.requires.count c.requires.targets c.as_slice-5.result.now c.as_slice-6.result.now
     (c.as_slice-5.ensures.value ∙ rows_are_merged g c.args.fates.now c.as_slice.result.now _ c.as_slice-2.result.now c.as_slice.ensures (c.as_slice-2.ensures.value ∙ c.in_ok-places.ensures.places) c.in_ok-rows.ensures)
     (c.as_slice-6.ensures.value ∙ lits_are_merged g c.args.fates.now c.as_slice-4.result.now _ c.as_slice-3.result.now c.as_slice-4.ensures (c.as_slice-3.ensures.value ∙ c.in_ok-places.ensures.places) c.in_ok-lits.ensures)
 
 pub compact_rows-requires-clause-few : goal.compact_rows-requires-clause-few
 compact_rows-requires-clause-few c =
-    let g : Graph = c.args.graph.now in
+    let g : Network = c.args.graph.now in
     let rows = c.as_slice-5.ensures.value ∙ rows_are_merged g c.args.fates.now c.as_slice.result.now _ c.as_slice-2.result.now c.as_slice.ensures (c.as_slice-2.ensures.value ∙ c.in_ok-places.ensures.places) c.in_ok-rows.ensures in
-    omega (arith, ap length rows, merged_count g c.args.fates.now c.requires.count c.requires.targets, g.few)
+    omega (arith, ap length rows, merged_count g c.args.fates.now c.requires.count c.requires.targets, g.body.few)
 
 pub returns-clause-alike : goal.returns-clause-alike
 returns-clause-alike c =
-    let g : Graph = c.args.graph.now in
+    let g : Network = c.args.graph.now in
     let rows = c.as_slice-5.ensures.value ∙ rows_are_merged g c.args.fates.now c.as_slice.result.now _ c.as_slice-2.result.now c.as_slice.ensures (c.as_slice-2.ensures.value ∙ c.in_ok-places.ensures.places) c.in_ok-rows.ensures in
     let lits = c.as_slice-6.ensures.value ∙ lits_are_merged g c.args.fates.now c.as_slice-4.result.now _ c.as_slice-3.result.now c.as_slice-4.ensures (c.as_slice-3.ensures.value ∙ c.in_ok-places.ensures.places) c.in_ok-lits.ensures in
     let found : List Lit = c.as_slice-7.result.now in
     let many : length found ≡ length (observed (frame_in g.frame)) =
     ap length c.as_slice-7.ensures.value ∙ c.in_ok-compacted.ensures.compacted.same_count ∙ ap length c.as_slice-6.ensures.value ∙ ap length c.in_ok-lits.ensures ∙ length-map c.as_slice-4.result.now _ ∙ ap length c.as_slice-4.ensures ∙ g.graph.count in
     merged_alike c.network_of_graph.ensures g c.args.fates.now c.requires.count c.requires.targets c.in_ok-compacted.compacted.rows.items found
-    (compacted_with g c.args.fates.now c.as_slice-5.result.now c.as_slice-6.result.now c.in_ok-compacted.compacted.rows.items found rows lits (subst (λ (ls : List Lit). IsCompacted g.source_count c.as_slice-5.result.now c.as_slice-6.result.now c.in_ok-compacted.compacted.rows.items ls) (sym c.as_slice-7.ensures.value) c.in_ok-compacted.ensures.compacted)) many
+    (compacted_with g c.args.fates.now c.as_slice-5.result.now c.as_slice-6.result.now c.in_ok-compacted.compacted.rows.items found rows lits (subst (λ (ls : List Lit). IsCompacted g.body.source_count c.as_slice-5.result.now c.as_slice-6.result.now c.in_ok-compacted.compacted.rows.items ls) (sym c.as_slice-7.ensures.value) c.in_ok-compacted.ensures.compacted)) many
     c.in_ok-found.found.items (c.in_ok-found.ensures.lits (lit_by g found) (lits_by g found many))

@@ -19,13 +19,13 @@ loop-j-preserved c =
     record {
       count = ap length c.in_ok-push.ensures.items ∙ length-append fates _ ∙ omega (arith, c.loop-j.invariant.count);
       next =
-          next_found (λ j. value_in c.args.needed.now (c.args.graph.now.source_count + 1 - length latches + j)) (λ j. key_by lits (get_or latches j no_latch)) fates _ _ _ c.key_of-key.result c.loop-j.j _ _
+          next_found (λ j. value_in c.args.needed.now (c.args.graph.now.body.source_count + 1 - length latches + j)) (λ j. key_by lits (get_or latches j no_latch)) fates _ _ _ c.key_of-key.result c.loop-j.j _ _
           c.loop-j.invariant.next c.loop-j.invariant.count refl key c.in_ok-fate.ensures c.in_ok-push.ensures.items;
     }
 
 pub returns-clause-fates : goal.returns-clause-fates
 returns-clause-fates c =
-    let f : IsFated c.args.graph.now c.args.lits.now c.args.needed.now (c.args.graph.now.source_count + 1 - length c.as_slice-latches.result.now) c.as_slice-latches.result.now c.loop-j.fates.items = record {
+    let f : IsFated c.args.graph.now c.args.lits.now c.args.needed.now (c.args.graph.now.body.source_count + 1 - length c.as_slice-latches.result.now) c.as_slice-latches.result.now c.loop-j.fates.items = record {
       lits_are = c.requires.lits;
       needs = c.requires.needed;
       latches = c.as_slice-latches.ensures;
@@ -37,7 +37,7 @@ returns-clause-fates c =
 
 pub returns-clause-swept : goal.returns-clause-swept
 returns-clause-swept c =
-    let f : IsFated c.args.graph.now c.args.lits.now c.args.needed.now (c.args.graph.now.source_count + 1 - length c.as_slice-latches.result.now) c.as_slice-latches.result.now c.loop-j.fates.items = record {
+    let f : IsFated c.args.graph.now c.args.lits.now c.args.needed.now (c.args.graph.now.body.source_count + 1 - length c.as_slice-latches.result.now) c.as_slice-latches.result.now c.loop-j.fates.items = record {
       lits_are = c.requires.lits;
       needs = c.requires.needed;
       latches = c.as_slice-latches.ensures;

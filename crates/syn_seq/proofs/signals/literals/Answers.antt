@@ -1,6 +1,6 @@
 use Rattle.std.proofs.Common.{sym, ◌∙◌}
-use Rattle.syn_graph.specs.Graphs.{network_of}
-use Rattle.syn_shapes.specs.GraphShape.{lit_of}
+use Rattle.syn_network.specs.Written.{network_of}
+use Rattle.syn_network.specs.GraphShape.{lit_of}
 use Rattle.syn_seq.proofs.Sweeps.{spells}
 use Rattle.syn_seq.proofs.signals.literals.Goals as goal
 

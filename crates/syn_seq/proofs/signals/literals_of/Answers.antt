@@ -1,6 +1,6 @@
 use Rattle.std.proofs.Common.{◌≡◌, ℕ, List, length, ap, ◌∙◌, arith, true}
 use Rattle.std.proofs.lemmas.List.{length-set}
-use Rattle.syn_graph.specs.declared.Graph.{Graph}
+use Rattle.syn_network.specs.declared.networks.Network.{Network}
 use Rattle.syn_netlist.specs.Frames.{frame_in}
 use Rattle.syn_netlist.specs.Lists.{observed}
 use Rattle.syn_netlist.specs.Numbers.{all_below, word_at, words_at}
@@ -9,7 +9,7 @@ use Rattle.syn_seq.proofs.signals.literals_of.Goals as goal
 
 pub loop-i-preserved : goal.loop-i-preserved
 loop-i-preserved c =
-    let g : Graph = c.args.graph.now in
+    let g : Network = c.args.graph.now in
     let numbers : List ℕ = c.as_slice-numbers.result.now in
     let words : words_at g.frame.names numbers ≡ observed (frame_in g.frame) = ap (words_at g.frame.names) c.as_slice-numbers.ensures.value ∙ c.in_ok-numbers.ensures.words in
     let below : all_below (length g.frame.names) numbers ≡ true = ap (all_below (length g.frame.names)) c.as_slice-numbers.ensures.value ∙ c.in_ok-numbers.ensures.below in
@@ -23,7 +23,7 @@ loop-i-preserved c =
 
 pub returns-clause-lits : goal.returns-clause-lits
 returns-clause-lits c =
-    let g : Graph = c.args.graph.now in
+    let g : Network = c.args.graph.now in
     let numbers : List ℕ = c.as_slice-numbers.result.now in
     let words : words_at g.frame.names numbers ≡ observed (frame_in g.frame) = ap (words_at g.frame.names) c.as_slice-numbers.ensures.value ∙ c.in_ok-numbers.ensures.words in
     let below : all_below (length g.frame.names) numbers ≡ true = ap (all_below (length g.frame.names)) c.as_slice-numbers.ensures.value ∙ c.in_ok-numbers.ensures.below in

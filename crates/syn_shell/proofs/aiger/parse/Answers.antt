@@ -1,6 +1,6 @@
 use Rattle.std.proofs.Common.{◌<◌, ◌^◌, length, arith}
 use Rattle.std.proofs.lemmas.List.{length-map}
-use Rattle.syn_graph.specs.Graphs.{network_of}
+use Rattle.syn_network.specs.Written.{network_of}
 use Rattle.syn_netlist.specs.Frames.{frame_in}
 use Rattle.syn_netlist.specs.Numbers.{word_at}
 use Rattle.syn_shell.proofs.AigerFiles.{aiger_small}

@@ -1,10 +1,33 @@
+use Rattle.std.proofs.Common.{refl, sym, ap, subst, ◌∙◌}
+use Rattle.syn_network.specs.declared.networks.Network.{Network}
+use Rattle.syn_words.specs.declared.recipes.Recipe.TheVariants as recipes
+use Rattle.syn_shell.specs.Makes.{IsSweptTo}
+use Rattle.syn_shell.proofs.RemadeGraphs.{written}
+use Rattle.syn_shell.proofs.Recipes.{made_by}
 use Rattle.syn_shell.proofs.commands.remake_graph.Goals as goal
 
-pub returns-in-Rewrite-clause-refused : goal.returns-in-Rewrite-clause-refused
-returns-in-Rewrite-clause-refused g c = c.passed.ensures.refused c.args.graph c.rewrite.ensures.refused
+pub returns-in-Strash-clause-made : goal.returns-in-Strash-clause-made
+returns-in-Strash-clause-made g c = made_by _ recipes.Strash _ _ c.in-Strash.is c.hashed.ensures
 
-pub returns-in-Refactor-clause-refused : goal.returns-in-Refactor-clause-refused
-returns-in-Refactor-clause-refused g c = c.passed-in-Refactor.ensures.refused c.args.graph c.refactor.ensures.refused
+pub returns-in_ok-new-in-Balance-clause-made : goal.returns-in_ok-new-in-Balance-clause-made
+returns-in_ok-new-in-Balance-clause-made g c = made_by _ recipes.Balance _ _ c.in-Balance.is (c.remade.ensures.balanced c.in_ok-new-in-Balance.ensures.balanced)
 
-pub returns-in-Resubstitute-clause-refused : goal.returns-in-Resubstitute-clause-refused
-returns-in-Resubstitute-clause-refused g c = c.passed-in-Resubstitute.ensures.refused c.args.graph c.resub.ensures.refused
+pub returns-in_ok-new-in-Merge-clause-made : goal.returns-in_ok-new-in-Merge-clause-made
+returns-in_ok-new-in-Merge-clause-made g c =
+    let h = c.in_ok-new-in-Merge.ensures in
+    made_by _ (recipes.Merge c.in-Merge.limits) _ _ c.in-Merge.is
+    (c.remade-in-Merge.ensures.merged c.in-Merge.limits.levels (record { follows = h.follows; levels = λ kept. h.levels (c.limits_of.ensures.levels ∙ kept) }))
+
+pub returns-in_ok-made-in-Map-clause-made : goal.returns-in_ok-made-in-Map-clause-made
+returns-in_ok-made-in-Map-clause-made g c = made_by _ (recipes.Map c.in-Map.area c.in-Map.inputs) _ _ c.in-Map.is c.in_ok-made-in-Map.ensures
+
+pub returns-in_ok-mapped-in-MapByFlow-clause-made : goal.returns-in_ok-mapped-in-MapByFlow-clause-made
+returns-in_ok-mapped-in-MapByFlow-clause-made g c =
+    let h = c.in_ok-net-in-MapByFlow.ensures in
+    made_by _ (recipes.MapByFlow c.number.result) _ _ (c.in-MapByFlow.is ∙ ap recipes.MapByFlow (sym c.number.ensures.number))
+    (c.in_ok-mapped-in-MapByFlow.ensures.least c.number.result (record { luts = record { inputs = h.inputs; count = h.count }; least = h.least }))
+
+pub returns-in_ok-new-in-Sweep-clause-made : goal.returns-in_ok-new-in-Sweep-clause-made
+returns-in_ok-new-in-Sweep-clause-made g c =
+    made_by _ recipes.Sweep _ _ c.in-Sweep.is
+    (subst (λ (n : Network). IsSweptTo (written c.args.network.now) (written n)) (sym c.put.ensures) (record { graph = refl; sweep = c.in_ok-new-in-Sweep.ensures.swept }))

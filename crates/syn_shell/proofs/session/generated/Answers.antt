@@ -5,7 +5,7 @@ use Rattle.syn_netlist.specs.Frames.{frame_in}
 use Rattle.syn_netlist.specs.Lists.{Frame, Netlist, sources}
 use Rattle.syn_netlist.specs.Views.{netlist_in}
 use Rattle.syn_build.specs.Building.{IsGraphOf}
-use Rattle.syn_graph.specs.Graphs.{network_of}
+use Rattle.syn_network.specs.Written.{network_of}
 use Rattle.syn_gen.specs.Generated.{generated}
 use Rattle.syn_reader.specs.Limits.{most_sources}
 use Rattle.syn_shell.proofs.session.generated.Goals as goal
@@ -22,6 +22,9 @@ build-requires-clause-room c =
     let few : length (sources (frame_in n.frame)) ≡ length (sources made.frame) = ap (λ (m : Netlist). length (sources m.frame)) same in
     let cheap : cost_of (netlist_in n) ≡ cost_of made = ap cost_of same in
     omega (arith, few, cheap, costs.0, costs.1, c.ranges.size.fits)
+
+pub build-requires-clause-names : goal.build-requires-clause-names
+build-requires-clause-names c = omega (arith, c.in_ok-netlist.ensures.names, c.ranges.size.fits)
 
 pub returns-clause-generated : goal.returns-clause-generated
 returns-clause-generated c = subst (λ (m : Netlist). IsGraphOf m (network_of c.in_ok-graph.graph)) c.in_ok-netlist.ensures.generated c.in_ok-graph.ensures.network

@@ -1,6 +1,6 @@
 use Rattle.std.proofs.Common.{ap, ◌∙◌}
 use Rattle.syn_netlist.specs.Words.{is_word}
-use Rattle.syn_shapes.proofs.Inner.{inner_word_is_word}
+use Rattle.syn_network.proofs.Inner.{inner_word_is_word}
 use Rattle.syn_text.proofs.graph_netlist.add_inner_name.Goals as goal
 
 pub push_name-requires-clause-word : goal.push_name-requires-clause-word

@@ -1,6 +1,6 @@
 use Rattle.std.proofs.Common.{◌≡◌, ◌+◌, ◌-◌, ◌<◌, ◌≤◌, length, true}
 use Rattle.syn_netlist.specs.Numbers.{words_at, all_below, Grows}
-use Rattle.syn_shapes.specs.Spelling.{free_names}
+use Rattle.syn_network.specs.Spelling.{free_names}
 use Rattle.syn_text.proofs.graph_netlist.add_inner_names.Given as goal
 
 abbrev pub invariant-seek : goal.invariant-seek

@@ -1,5 +1,5 @@
 use Rattle.std.proofs.Common.{◌≡◌, ◌∷◌, decimal, ◌∙◌, rules}
-use Rattle.syn_shapes.proofs.Inner.{inner_word_decimal}
+use Rattle.syn_network.proofs.Inner.{inner_word_decimal}
 use Rattle.syn_text.proofs.graph_netlist.inner_word.Goals as goal
 
 pub returns : goal.returns

@@ -1,4 +1,4 @@
-use Rattle.std.proofs.Common.{◌≡◌, ℕ, List, ◌++◌, length, ap, ◌∙◌, rules, arith}
+use Rattle.std.proofs.Common.{◌≡◌, ℕ, List, ◌++◌, length, ap, rules, arith}
 use Rattle.syn_netlist.specs.Frames.{frame_in}
 use Rattle.syn_text.proofs.Whole.{few_taken}
 use Rattle.syn_text.proofs.graph_netlist.name_nodes.Goals as goal

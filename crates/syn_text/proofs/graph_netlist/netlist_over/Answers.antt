@@ -5,7 +5,7 @@ use Rattle.syn_netlist.specs.Frames.{frame_in}
 use Rattle.syn_netlist.specs.Lists as lists
 use Rattle.syn_netlist.specs.Tables.{table_in, tables_below}
 use Rattle.syn_netlist.specs.Words.{distinct}
-use Rattle.syn_shapes.specs.Spelling.{network}
+use Rattle.syn_network.specs.Spelling.{network}
 use Rattle.syn_text.proofs.Whole.{network_once}
 use Rattle.syn_text.proofs.graph_netlist.netlist_over.Goals as goal
 

@@ -5,7 +5,7 @@ use Rattle.syn_netlist.specs.Numbers.{word_at, words_at}
 use Rattle.syn_netlist.specs.Tables.{table_in}
 use Rattle.syn_netlist.specs.Words.{has_word}
 use Rattle.syn_netlist.proofs.Growing.{word_at-grows}
-use Rattle.syn_shapes.specs.Spelling.{output_table, ends_from}
+use Rattle.syn_network.specs.Spelling.{output_table, ends_from}
 use Rattle.syn_text.specs.Numbered.{is_within}
 use Rattle.syn_text.proofs.Tabling.{left_next, ends_next, all_next, item_below}
 use Rattle.syn_text.proofs.graph_netlist.push_ends.Goals as goal

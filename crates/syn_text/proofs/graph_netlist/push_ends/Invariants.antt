@@ -2,7 +2,7 @@ use Rattle.std.proofs.Common.{◌≡◌, ℕ, List, ◌++◌, length, map, drop,
 use Rattle.std.specs.List.{list_all}
 use Rattle.syn_netlist.specs.Numbers.{words_at, all_below, Grows}
 use Rattle.syn_netlist.specs.Tables.{table_in, tables_below}
-use Rattle.syn_shapes.specs.Spelling.{ends_from}
+use Rattle.syn_network.specs.Spelling.{ends_from}
 use Rattle.syn_text.specs.Numbered.{is_within}
 use Rattle.syn_text.proofs.graph_netlist.push_ends.Given as goal
 

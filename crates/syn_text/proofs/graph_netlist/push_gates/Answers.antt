@@ -4,7 +4,7 @@ use Rattle.syn_rows.specs.declared.Row.TheVariants.{Free}
 use Rattle.syn_netlist.specs.Lists as lists
 use Rattle.syn_netlist.specs.Numbers.{word_at, words_at}
 use Rattle.syn_netlist.specs.Tables.{table_in}
-use Rattle.syn_shapes.specs.Spelling.{gate_table, gate_tables}
+use Rattle.syn_network.specs.Spelling.{gate_table, gate_tables}
 use Rattle.syn_text.specs.Numbered.{is_named_gate}
 use Rattle.syn_text.proofs.Tabling.{left_next, gates_next, all_next, item_below}
 use Rattle.syn_text.proofs.graph_netlist.push_gates.Goals as goal

@@ -2,7 +2,7 @@ use Rattle.std.proofs.Common.{◌≡◌, ℕ, List, ◌++◌, length, map, drop,
 use Rattle.std.specs.List.{list_all}
 use Rattle.syn_netlist.specs.Numbers.{words_at, all_below}
 use Rattle.syn_netlist.specs.Tables.{table_in, tables_below}
-use Rattle.syn_shapes.specs.Spelling.{gate_tables}
+use Rattle.syn_network.specs.Spelling.{gate_tables}
 use Rattle.syn_text.specs.Numbered.{is_named_gate}
 use Rattle.syn_text.proofs.graph_netlist.push_gates.Given as goal
 

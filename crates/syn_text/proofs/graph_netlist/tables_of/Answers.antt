@@ -7,7 +7,7 @@ use Rattle.syn_netlist.specs.Frames.{frame_in}
 use Rattle.syn_netlist.specs.Lists as lists
 use Rattle.syn_netlist.specs.Numbers.{words_at, all_below, Grows}
 use Rattle.syn_netlist.specs.Tables.{table_in, tables_below}
-use Rattle.syn_shapes.specs.Spelling.{gates_of, gate_tables, ends_from}
+use Rattle.syn_network.specs.Spelling.{gates_of, gate_tables, ends_from}
 use Rattle.syn_text.specs.Numbered.{is_named_gate, is_within}
 use Rattle.syn_text.proofs.Whole.{gates_slice, gates_are_named, length-inner, lits_are_within, tables_are, nodes_below, signals_below}
 use Rattle.syn_text.proofs.graph_netlist.tables_of.Goals as goal

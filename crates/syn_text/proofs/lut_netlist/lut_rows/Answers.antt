@@ -1,6 +1,6 @@
-use Rattle.std.proofs.Common.{◌^◌, length, map, ◌∙◌, arith}
-use Rattle.syn_lutshapes.specs.Luts.{ones_of}
-use Rattle.syn_lutshapes.specs.LutSpelling.{minterm_row}
+use Rattle.std.proofs.Common.{◌^◌, length, map, arith}
+use Rattle.syn_lutnet.specs.LutData.{ones_of}
+use Rattle.syn_network.specs.LutSpelling.{minterm_row}
 use Rattle.syn_text.proofs.LutWhole.{ones_next}
 use Rattle.syn_text.proofs.lut_netlist.lut_rows.Goals as goal
 

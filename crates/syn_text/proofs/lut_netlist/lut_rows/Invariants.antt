@@ -1,8 +1,8 @@
 use Rattle.std.proofs.Common.{◌≡◌, ◌-◌, ◌^◌, ◌++◌, filter, length, map}
-use Rattle.syn_shapes.specs.Spelling.{numbers_from}
+use Rattle.syn_lists.specs.Numbers.{numbers_from}
 use Rattle.syn_truth.specs.Truth.{value_at}
-use Rattle.syn_lutshapes.specs.Luts.{ones_of}
-use Rattle.syn_lutshapes.specs.LutSpelling.{minterm_row}
+use Rattle.syn_lutnet.specs.LutData.{ones_of}
+use Rattle.syn_network.specs.LutSpelling.{minterm_row}
 use Rattle.syn_text.proofs.lut_netlist.lut_rows.Given as goal
 
 abbrev pub invariant-loop-minterm : goal.invariant-loop-minterm

@@ -4,8 +4,8 @@ use Rattle.std.proofs.lemmas.List.{length-map}
 use Rattle.syn_netlist.specs.Kept.{rows_fit}
 use Rattle.syn_netlist.specs.Lists as lists
 use Rattle.syn_netlist.specs.Numbers.{word_at, words_at, all_below}
-use Rattle.syn_lutshapes.specs.Luts.{ones_of}
-use Rattle.syn_lutshapes.specs.LutSpelling.{minterm_row}
+use Rattle.syn_lutnet.specs.LutData.{ones_of}
+use Rattle.syn_network.specs.LutSpelling.{minterm_row}
 use Rattle.syn_text.specs.Numbered.{signal_number}
 use Rattle.syn_text.proofs.LutWhole.{minterm_rows_fit, polarity_of_on, names_read, numbers_below}
 use Rattle.syn_text.proofs.lut_netlist.lut_table.Goals as goal

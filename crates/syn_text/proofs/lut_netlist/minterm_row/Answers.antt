@@ -1,5 +1,5 @@
 use Rattle.std.proofs.Common.{◌/◌, refl}
-use Rattle.syn_lutshapes.specs.LutSpelling.{minterm_row}
+use Rattle.syn_network.specs.LutSpelling.{minterm_row}
 use Rattle.syn_text.proofs.LutWhole.{row_next}
 use Rattle.syn_text.proofs.lut_netlist.minterm_row.Goals as goal
 

@@ -1,5 +1,5 @@
 use Rattle.std.proofs.Common.{◌≡◌, ◌++◌}
-use Rattle.syn_lutshapes.specs.LutSpelling.{minterm_row}
+use Rattle.syn_network.specs.LutSpelling.{minterm_row}
 use Rattle.syn_text.proofs.lut_netlist.minterm_row.Given as goal
 
 abbrev pub invariant-loop-left : goal.invariant-loop-left

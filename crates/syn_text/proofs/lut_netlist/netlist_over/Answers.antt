@@ -5,7 +5,7 @@ use Rattle.syn_netlist.specs.Frames.{frame_in}
 use Rattle.syn_netlist.specs.Lists as lists
 use Rattle.syn_netlist.specs.Tables.{table_in, tables_below}
 use Rattle.syn_netlist.specs.Words.{distinct}
-use Rattle.syn_lutshapes.specs.LutSpelling.{lut_network}
+use Rattle.syn_network.specs.LutSpelling.{lut_network}
 use Rattle.syn_lutnet.specs.Data.{luts_data}
 use Rattle.syn_text.proofs.LutWhole.{lut_network_once}
 use Rattle.syn_text.proofs.lut_netlist.netlist_over.Goals as goal

@@ -2,7 +2,7 @@ use Rattle.std.proofs.Common.{ℕ, List, [], ◌∷◌, ◌++◌, ◌+◌, ◌<�
 use Rattle.syn_netlist.specs.Lists as lists
 use Rattle.syn_netlist.specs.Numbers.{word_at, words_at}
 use Rattle.syn_netlist.specs.Tables.{table_in}
-use Rattle.syn_lutshapes.specs.LutSpelling.{lut_table, lut_tables_of}
+use Rattle.syn_network.specs.LutSpelling.{lut_table, lut_tables_of}
 use Rattle.syn_lutnet.specs.Data.{lut_data, luts_data}
 use Rattle.syn_text.proofs.LutWhole.{tables_next, reads_here}
 use Rattle.syn_text.proofs.Tabling.{left_next, item_below}

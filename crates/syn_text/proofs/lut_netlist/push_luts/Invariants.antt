@@ -2,7 +2,7 @@ use Rattle.std.proofs.Common.{◌≡◌, ℕ, List, ◌++◌, length, map, drop,
 use Rattle.std.specs.List.{list_all}
 use Rattle.syn_netlist.specs.Numbers.{words_at, all_below}
 use Rattle.syn_netlist.specs.Tables.{table_in, tables_below}
-use Rattle.syn_lutshapes.specs.LutSpelling.{lut_tables_of}
+use Rattle.syn_network.specs.LutSpelling.{lut_tables_of}
 use Rattle.syn_lutnet.specs.Data.{luts_data}
 use Rattle.syn_text.specs.Numbered.{reads_named}
 use Rattle.syn_text.proofs.lut_netlist.push_luts.Given as goal

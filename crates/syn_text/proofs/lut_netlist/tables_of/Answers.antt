@@ -7,9 +7,8 @@ use Rattle.syn_netlist.specs.Frames.{frame_in}
 use Rattle.syn_netlist.specs.Lists as lists
 use Rattle.syn_netlist.specs.Numbers.{words_at, all_below, Grows}
 use Rattle.syn_netlist.specs.Tables.{table_in, tables_below}
-use Rattle.syn_shapes.specs.Spelling.{ends_from}
-use Rattle.syn_lutshapes.specs.Luts as spelled
-use Rattle.syn_lutshapes.specs.LutSpelling.{lut_tables_of}
+use Rattle.syn_network.specs.Spelling.{ends_from}
+use Rattle.syn_network.specs.LutSpelling.{lut_tables_of}
 use Rattle.syn_lutnet.specs.declared.luts.Lut.{Lut}
 use Rattle.syn_lutnet.specs.Data.{lut_data, luts_data}
 use Rattle.syn_text.specs.Numbered.{IsNumbered, is_within, reads_named}

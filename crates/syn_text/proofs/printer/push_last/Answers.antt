@@ -1,6 +1,6 @@
 use Rattle.std.proofs.Common.{◌∷◌, append_assoc}
 use Rattle.syn_netlist.specs.Numbers.{word_at, words_at}
-use Rattle.syn_shapes.specs.Printed.{blanked}
+use Rattle.syn_netlist.specs.TextLines.{blanked}
 use Rattle.syn_text.proofs.Blanks.{blanked_push}
 use Rattle.syn_text.proofs.printer.push_last.Goals as goal
 

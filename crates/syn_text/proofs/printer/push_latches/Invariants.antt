@@ -1,6 +1,6 @@
 use Rattle.std.proofs.Common.{◌≡◌, ◌++◌, flat_map, map, drop, length, true}
 use Rattle.syn_netlist.specs.Kept.{latch_in, latches_below}
-use Rattle.syn_shapes.specs.Printed.{latch_line}
+use Rattle.syn_text.specs.Printed.{latch_line}
 use Rattle.syn_text.proofs.printer.push_latches.Given as goal
 
 abbrev pub invariant-loop-latch : goal.invariant-loop-latch

@@ -1,5 +1,5 @@
 use Rattle.std.proofs.Common.{◌≡◌, ◌++◌, flat_map, drop}
-use Rattle.syn_shapes.specs.Printed.{row_line}
+use Rattle.syn_text.specs.Printed.{row_line}
 use Rattle.syn_text.proofs.printer.push_rows.Given as goal
 
 abbrev pub invariant-loop-row : goal.invariant-loop-row

@@ -1,6 +1,6 @@
 use Rattle.std.proofs.Common.{◌≡◌, ◌++◌, flat_map, map, drop, length, true}
 use Rattle.syn_netlist.specs.Tables.{table_in, tables_below}
-use Rattle.syn_shapes.specs.Printed.{table_lines}
+use Rattle.syn_text.specs.Printed.{table_lines}
 use Rattle.syn_text.proofs.printer.push_tables.Given as goal
 
 abbrev pub invariant-loop-table : goal.invariant-loop-table

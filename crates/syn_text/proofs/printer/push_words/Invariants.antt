@@ -1,6 +1,6 @@
 use Rattle.std.proofs.Common.{◌≡◌, ◌++◌, drop, length, true}
 use Rattle.syn_netlist.specs.Numbers.{all_below, words_at}
-use Rattle.syn_shapes.specs.Printed.{blanked}
+use Rattle.syn_netlist.specs.TextLines.{blanked}
 use Rattle.syn_text.proofs.printer.push_words.Given as goal
 
 abbrev pub invariant-loop-n : goal.invariant-loop-n

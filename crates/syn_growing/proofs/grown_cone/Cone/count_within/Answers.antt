@@ -2,7 +2,7 @@ use Rattle.std.proofs.Common.{◌≡◌, ◌+◌, ◌-◌, ◌++◌, [], ◌∷�
 use Rattle.syn_rows.specs.declared.Row.TheVariants.{And}
 use Rattle.syn_rows.specs.Reach.{is_and}
 use Rattle.syn_rows.specs.Rows.{node_of, refs_of, row_at}
-use Rattle.syn_netlist.specs.Marks.{without_numbers}
+use Rattle.syn_lists.specs.Numbers.{without_numbers}
 use Rattle.syn_growing.specs.Growing.{count_with, inner_with, one_new}
 use Rattle.syn_growing.proofs.Choosing.{may_from, no_room, too_many}
 use Rattle.syn_growing.proofs.Replacing.{count_is}

@@ -1,4 +1,4 @@
-use Rattle.std.proofs.Common.{length, List, ℕ, ap, ◌∙◌, arith}
+use Rattle.std.proofs.Common.{length, List, ℕ, ap, arith}
 use Rattle.syn_rows.specs.declared.Row.{Row}
 use Rattle.syn_map.proofs.Leastness.{length-listed}
 use Rattle.syn_map.proofs.labelled.Labelled.of.Goals as goal

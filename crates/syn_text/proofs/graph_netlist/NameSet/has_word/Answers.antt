@@ -1,5 +1,5 @@
 use Rattle.std.proofs.Common.{sym, refl}
-use Rattle.syn_graph.proofs.Observing.{not_there}
+use Rattle.syn_network.proofs.Observing.{not_there}
 use Rattle.syn_text.proofs.graph_netlist.NameSet.has_word.Goals as goal
 
 pub returns-in-None : goal.returns-in-None

@@ -1,0 +1,5 @@
+pub mod Flips
+pub mod Needed
+pub mod Nets
+pub mod Reaching
+pub mod Rebuilding

@@ -1,5 +1,0 @@
-use Rattle.std.proofs.Common.{refl}
-use Rattle.syn_keys.proofs.worked_keys.Goals as goal
-
-pub returns : goal.returns
-returns c = refl

@@ -1,0 +1,17 @@
+pub mod Spelled
+pub mod Counted
+pub mod Samples
+pub mod Inner
+pub mod Gates
+pub mod Ends
+pub mod SpelledNetworks
+pub mod Naming
+pub mod Meaning
+pub mod Copying
+pub mod Framing
+pub mod Observing
+pub mod LutTables
+pub mod LutNetworks
+pub mod LutValues
+pub mod LutNaming
+pub mod LutMeaning

@@ -1,0 +1,11 @@
+pub mod GraphShape
+pub mod NamedGraphs
+pub mod Spelling
+pub mod Networks
+pub mod LutShape
+pub mod NamedLutNets
+pub mod LutSpelling
+pub mod Laws
+pub mod Written
+pub mod WrittenLuts
+pub mod WorkedLuts

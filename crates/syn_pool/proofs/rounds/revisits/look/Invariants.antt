@@ -1,0 +1,9 @@
+use Rattle.std.proofs.Common.{false}
+use Rattle.syn_pool.specs.Working.{HasWorked, IsAtWork}
+use Rattle.syn_pool.proofs.rounds.revisits.look.Given as goal
+
+abbrev pub invariant-loop-cut : goal.invariant-loop-cut
+invariant-loop-cut g l = record {
+  at_work : IsAtWork l.context.tools.shared.now l.worker;
+  worked : HasWorked false l.fn.worker l.worker;
+}

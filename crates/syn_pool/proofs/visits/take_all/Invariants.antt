@@ -1,8 +1,0 @@
-use Rattle.syn_pool.specs.Working.{HasWorked, IsAtWork}
-use Rattle.syn_pool.proofs.visits.take_all.Given as goal
-
-abbrev pub invariant-loop : goal.invariant-loop
-invariant-loop g l = record {
-  at_work : IsAtWork l.scene.tools.shared.now l.worker;
-  worked : HasWorked l.scene.board.now.zero_gain l.fn.worker l.worker;
-}

@@ -1,0 +1,47 @@
+-- What holds of a net holds of it when it is settled.
+use Rattle.std.proofs.Common.{◌≡◌, ℕ, ◌+◌, ◌≤◌, Bool, true, List, length, sym, ap, ◌∙◌, subst, arith}
+use Rattle.std.proofs.lemmas.List.{length-map}
+use Rattle.syn_rows.specs.declared.Lit.{Lit}
+use Rattle.syn_graph.specs.declared.Graph.{Graph}
+use Rattle.syn_lutnet.specs.LutData.{net_depth}
+use Rattle.syn_lutnet.specs.declared.nets.LutNet.{LutNet}
+use Rattle.syn_lutnet.specs.Data.{lut_data, luts_data}
+use Rattle.syn_lutnet.specs.Nets.{HasFunctionOf}
+use Rattle.syn_absorb.specs.Flips.{AllShown}
+use Rattle.syn_absorb.specs.Nets.{IsAbsorbed, IsTrimmed, KeepsFunction}
+use Rattle.syn_settled.specs.Settled.{IsSettled}
+
+keeps_both : (a b c : LutNet) → KeepsFunction a b → KeepsFunction b c → KeepsFunction a c
+keeps_both a b c first second = record {
+  sources = second.sources ∙ first.sources;
+  count = second.count ∙ first.count;
+  stay = λ i l lt low e. second.stay i l (omega (arith, lt, first.count)) (omega (arith, low, first.sources)) (first.stay i l lt low e);
+  values = λ bits long. second.values bits (long ∙ sym first.sources) ∙ first.values bits long;
+}
+
+pub settled : (was trimmed now : LutNet) → IsTrimmed was trimmed → IsAbsorbed trimmed now → IsSettled was now
+settled was trimmed now trim absorb = record {
+  same = keeps_both was trimmed now trim.same absorb.same;
+  fewer = omega (arith, trim.fewer, absorb.luts.long, length-map now.luts lut_data, length-map trimmed.luts lut_data);
+  depth = omega (arith, trim.depth, absorb.depth);
+  inputs = λ k few. absorb.inputs k ∙ trim.inputs k few;
+  depend = absorb.depend trim.depend;
+  shown = subst (λ n. AllShown (n + 1) now.observed) (sym absorb.same.sources) absorb.shown;
+}
+
+module _ (graph : Graph) (was now : LutNet) (function : HasFunctionOf graph was) (settled : IsSettled was now) where
+  pub keeps_function : HasFunctionOf graph now
+  keeps_function = record {
+    sources = settled.same.sources ∙ function.sources;
+    count = settled.same.count ∙ function.count;
+    stay = λ i l lt low e. settled.same.stay i l (omega (arith, lt, function.count)) (omega (arith, low, function.sources)) (function.stay i l lt low e);
+    values = λ bits long. settled.same.values bits (long ∙ sym function.sources) ∙ function.values bits long;
+  }
+
+  pub no_deeper : net_depth graph.source_count (luts_data now.luts) ≤ net_depth graph.source_count (luts_data was.luts)
+  no_deeper =
+      subst (λ n. net_depth n (luts_data now.luts) ≤ net_depth graph.source_count (luts_data was.luts)) (settled.same.sources ∙ function.sources)
+      (subst (λ n. net_depth now.source_count (luts_data now.luts) ≤ net_depth n (luts_data was.luts)) function.sources settled.depth)
+
+  pub all_shown : AllShown (graph.source_count + 1) now.observed
+  all_shown = subst (λ n. AllShown (n + 1) now.observed) (settled.same.sources ∙ function.sources) settled.shown

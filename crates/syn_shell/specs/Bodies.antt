@@ -1,0 +1,57 @@
+-- What passes and mappings make of a graph without names, as they say it.
+use Rattle.std.specs.Prelude.{◌≡◌, ℕ, ◌+◌, ◌≤◌, Bool, true, List, length, map, Option, IfSome, IfNone}
+use Rattle.syn_rows.specs.declared.Row.{Row}
+use Rattle.syn_rows.specs.Rows.{node_of}
+use Rattle.syn_graph.specs.declared.Graph.{Graph}
+use Rattle.syn_graph.specs.Relations.{Follows}
+use Rattle.syn_gain.specs.Replacements.{Replacement}
+use Rattle.syn_levels.specs.Levels.{IsNoDeeper}
+use Rattle.syn_proposals.specs.Closing.{Closed}
+use Rattle.syn_pool.specs.Improving.{IsImproved, allowed}
+use Rattle.syn_lutnet.specs.LutData.{greatest, net_depth, none_exceeds}
+use Rattle.syn_lutnet.specs.Data.{luts_data}
+use Rattle.syn_lutnet.specs.declared.nets.LutNet.{LutNet}
+use Rattle.syn_map.specs.Labels.{label_of}
+use Rattle.syn_map.specs.Mappings.{IsMapped}
+use Rattle.syn_area.specs.Plain.{AreNeeded}
+use Rattle.syn_flow.specs.Flows.{HasLeastDepth}
+
+-- A pass made a graph of this one; or it made none, and no proposal of those that it goes by saves.
+pub record IsLeftBy (proposals : List Row → ℕ → List Replacement) (levels : Bool) (graph : Graph) (made : Option Graph) : Type 0 where
+  pub some : IfSome made (IsImproved proposals levels graph)
+  pub none : IfNone made (Closed graph.rows graph.observed (allowed levels proposals graph.rows))
+
+-- Merging made a graph of this one: it has its function and no more ANDs, and where levels are kept no observed literal lies higher.
+pub record AreMerged (keeps : Bool) (graph made : Graph) : Type 0 where
+  pub follows : Follows graph 0 made
+  pub levels : keeps ≡ true → IsNoDeeper graph made
+
+-- LUTs of at most k inputs, no more of them than the graph has ANDs
+pub record AreLuts (k : ℕ) (graph : Graph) (net : LutNet) : Type 0 where
+  pub inputs : none_exceeds k (luts_data net.luts) ≡ true
+  pub count : length net.luts + (graph.source_count + 1) ≤ length graph.rows
+
+-- the greatest label of an observed node
+abbrev pub greatest_label : ℕ → Graph → ℕ
+greatest_label k graph = greatest (label_of k graph.rows) (map node_of graph.observed)
+
+-- how deep LUTs of a graph are
+abbrev pub depth_over : Graph → LutNet → ℕ
+depth_over graph net = net_depth graph.source_count (luts_data net.luts)
+
+-- Those of the chosen cuts, as deep as the greatest label of an observed node.
+pub record ArePlainLuts (k : ℕ) (graph : Graph) (net : LutNet) : Type 0 where
+  pub luts : AreLuts k graph net
+  pub mapping : IsMapped k graph net
+  pub depth : depth_over graph net ≡ greatest_label k graph
+
+-- No deeper than that, and no more of them than nodes that need one over the chosen cuts.
+pub record AreFewLuts (k : ℕ) (graph : Graph) (net : LutNet) : Type 0 where
+  pub luts : AreLuts k graph net
+  pub depth : depth_over graph net ≤ greatest_label k graph
+  pub fewer : (nodes : List ℕ) → AreNeeded k graph.rows graph.observed nodes → length net.luts ≤ length nodes
+
+-- No deeper than any covering.
+pub record AreLeastLuts (k : ℕ) (graph : Graph) (net : LutNet) : Type 0 where
+  pub luts : AreLuts k graph net
+  pub least : HasLeastDepth k graph net

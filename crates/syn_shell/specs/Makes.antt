@@ -1,0 +1,131 @@
+-- What recipes make of a network, as it is written.
+use Rattle.std.specs.Prelude.{◌≡◌, ℕ, ◌≤◌, ◌<◌, Bool, true, false, List, length, map}
+use Rattle.syn_rows.specs.declared.Row.{Row}
+use Rattle.syn_rows.specs.Rows.{node_of}
+use Rattle.syn_rows.specs.Levels.{level_in, levels_of}
+use Rattle.syn_netlist.specs.Lists.{Netlist, sources}
+use Rattle.syn_netlist.specs.Meaning.{SameMeaning}
+use Rattle.syn_netlist.specs.Order.{Ordered}
+use Rattle.syn_network.specs.GraphShape.{GraphShape, and_tables, observed_of, rows_of}
+use Rattle.syn_network.specs.LutShape.{LutShape, count_of, depth_of, gates_of}
+use Rattle.syn_hashed.specs.Hashed.{lit_at}
+use Rattle.syn_lutnet.specs.LutData.{greatest}
+use Rattle.syn_map.specs.Labels.{label_of}
+use Rattle.syn_area.specs.Plain.{AreNeeded}
+use Rattle.syn_levels.specs.Levels.{keeping}
+use Rattle.syn_proposals.specs.Closing.{Closed}
+use Rattle.syn_gain.specs.Replacements.{Replacement}
+use Rattle.syn_flow.specs.Coverings.{IsLeastDepth}
+use Rattle.syn_refactor.specs.Refactoring.{refactorings}
+use Rattle.syn_resub.specs.Resubstitution.{resubstitutions}
+use Rattle.syn_rewrite.specs.Rewriting.{rewritings}
+use Rattle.syn_seq.specs.Sweeping.{IsSweepOf}
+use Rattle.syn_words.specs.declared.recipes.Recipe.{Recipe}
+use Rattle.syn_words.specs.declared.recipes.Recipe.TheVariants as recipes
+use Rattle.syn_shell.specs.Networks.{Written}
+
+-- A netlist has no more ANDs than a network before it has, by the mark of that one: ANDs, or gates of factoring its LUTs.
+abbrev pub NoMoreBy : Bool → Netlist → Netlist → Type 0
+NoMoreBy false old new = length (and_tables new) ≤ length (and_tables old)
+NoMoreBy true old new = length (and_tables new) ≤ gates_of old
+
+-- What hashing makes of a network, a graph: it means the same, reads only earlier signals, has the shape of a graph, and no more ANDs than before.
+pub record IsRemade (old new : Written) : Type 0 where
+  pub same : SameMeaning old.netlist new.netlist
+  pub ordered : Ordered new.netlist
+  pub graph : new.mapped ≡ false
+  pub shape : GraphShape new.netlist
+  pub fewer : NoMoreBy old.mapped old.netlist new.netlist
+
+-- the level of the observed signal in place i, by the rows that a netlist spells
+abbrev pub level_at : Netlist → ℕ → ℕ
+level_at m i = level_in (levels_of (rows_of m)) (node_of (lit_at (observed_of m) i))
+
+-- No observed signal of the second netlist has a higher level than in the first.
+abbrev pub NoDeeper : Netlist → Netlist → Type 0
+NoDeeper old new = (i : ℕ) → i < length (observed_of new) → level_at new i ≤ level_at old i
+
+-- What balancing makes of a graph: it is remade, and no observed signal has a higher level than before.
+pub record IsBalanced (old new : Written) : Type 0 where
+  pub remade : IsRemade old new
+  pub levels : NoDeeper old.netlist new.netlist
+
+-- What merging makes of a graph: it is remade, and where levels are kept no observed signal has a higher level than before.
+pub record IsMerged (keeps : Bool) (old new : Written) : Type 0 where
+  pub remade : IsRemade old new
+  pub levels : keeps ≡ true → NoDeeper old.netlist new.netlist
+
+-- What rewriting, refactoring and resubstitution make of a graph, each for its proposals: it is remade, and no proposal for any of its ANDs saves one, by the rows that it spells.
+pub record IsClosedFor (proposals : List Row → ℕ → List Replacement) (old new : Written) : Type 0 where
+  pub remade : IsRemade old new
+  pub closed : Closed (rows_of new.netlist) (observed_of new.netlist) (proposals (rows_of new.netlist))
+
+-- What they make of it where levels are kept: it is remade, no proposal that keeps its root's level saves, and no observed signal has a higher level than before.
+pub record IsClosedKeepingLevels (proposals : List Row → ℕ → List Replacement) (old new : Written) : Type 0 where
+  pub closed : IsClosedFor (keeping proposals) old new
+  pub levels : NoDeeper old.netlist new.netlist
+
+-- Either, by whether levels are kept.
+abbrev pub IsPassed : Bool → (List Row → ℕ → List Replacement) → Written → Written → Type 0
+IsPassed false proposals old new = IsClosedFor proposals old new
+IsPassed true proposals old new = IsClosedKeepingLevels proposals old new
+
+-- What any mapping makes of a graph, a net of LUTs: it means the same, reads only earlier signals, has the shape of LUTs of so many inputs at most, and has no more LUTs than the graph has ANDs.
+pub record IsInLuts (inputs : ℕ) (old new : Written) : Type 0 where
+  pub same : SameMeaning old.netlist new.netlist
+  pub ordered : Ordered new.netlist
+  pub mapped : new.mapped ≡ true
+  pub shape : LutShape new.netlist inputs
+  pub fewer : count_of new.netlist ≤ length (and_tables old.netlist)
+
+-- What mapping makes of a graph: a net of LUTs that is as deep as the greatest label of an observed node, and has one LUT for each node that needs one over the chosen cuts, by the rows that the graph spells.
+pub record IsMappedTo (inputs : ℕ) (old new : Written) : Type 0 where
+  pub luts : IsInLuts inputs old new
+  pub depth : depth_of new.netlist ≡ greatest (label_of inputs (rows_of old.netlist)) (map node_of (observed_of old.netlist))
+  pub nodes : List ℕ
+  pub needed : AreNeeded inputs (rows_of old.netlist) (observed_of old.netlist) nodes
+  pub count : count_of new.netlist ≡ length nodes
+
+-- What mapping for few LUTs makes of a graph: a net of LUTs that is no deeper than what mapping makes, and has no more LUTs than nodes need one over the chosen cuts, by the rows that the graph spells.
+pub record IsMappedForArea (inputs : ℕ) (old new : Written) : Type 0 where
+  pub luts : IsInLuts inputs old new
+  pub depth : depth_of new.netlist ≤ greatest (label_of inputs (rows_of old.netlist)) (map node_of (observed_of old.netlist))
+  pub fewest : (nodes : List ℕ) → AreNeeded inputs (rows_of old.netlist) (observed_of old.netlist) nodes → count_of new.netlist ≤ length nodes
+
+-- What mapping by flow makes of a graph: a net of LUTs, and no covering of the graph by LUTs of so many inputs at most is shallower, by the rows that it spells.
+pub record IsLeastMappedTo (inputs : ℕ) (old new : Written) : Type 0 where
+  pub luts : IsInLuts inputs old new
+  pub least : IsLeastDepth inputs (length (sources old.netlist.frame)) (rows_of old.netlist) (observed_of old.netlist) (depth_of new.netlist)
+
+-- What sweeping makes of a graph: one with the same outputs over every sequence of inputs, in which no latch is left that no output needs, and no two that can be one.
+pub record IsSweptTo (old new : Written) : Type 0 where
+  pub graph : new.mapped ≡ false
+  pub sweep : IsSweepOf old.netlist new.netlist
+
+-- What a recipe makes of a graph.
+abbrev pub MakesOfGraph : Recipe → Written → Written → Type 0
+MakesOfGraph recipes.Strash = IsRemade
+MakesOfGraph recipes.Balance = IsBalanced
+MakesOfGraph (recipes.Rewrite options) = IsPassed options.levels rewritings
+MakesOfGraph (recipes.Refactor options) = IsPassed options.levels refactorings
+MakesOfGraph (recipes.Resubstitute options) = IsPassed options.levels resubstitutions
+MakesOfGraph (recipes.Merge limits) = IsMerged limits.levels
+MakesOfGraph (recipes.Map false inputs) = IsMappedTo inputs
+MakesOfGraph (recipes.Map true inputs) = IsMappedForArea inputs
+MakesOfGraph (recipes.MapByFlow inputs) = IsLeastMappedTo inputs
+MakesOfGraph recipes.Sweep = IsSweptTo
+
+-- What a recipe for graphs makes of a network by its mark: of a net of LUTs what it makes of the graph that hashing made of that before.
+abbrev pub OnGraph : (Written → Written → Type 0) → Bool → Written → Written → Type 0
+OnGraph makes false old new = makes old new
+OnGraph makes true old new = (graph : Written) × IsRemade old graph × makes graph new
+
+-- What a recipe makes of a network.
+abbrev pub Makes : Recipe → Written → Written → Type 0
+Makes recipes.Strash old new = IsRemade old new
+Makes other old new = OnGraph (MakesOfGraph other) old.mapped old new
+
+-- Where few LUTs are looked for there are never more of them than plain mapping makes of the same graph, and they are never deeper.
+abbrev pub AreaIsNoWorse : Type 0
+AreaIsNoWorse = (inputs : ℕ) (graph plain few : Written) → IsMappedTo inputs graph plain → IsMappedForArea inputs graph few
+    → (count_of few.netlist ≤ count_of plain.netlist) × (depth_of few.netlist ≤ depth_of plain.netlist)

@@ -1,0 +1,52 @@
+//! Recipes: how a command makes the network anew.
+
+use crate::inputs::LutInputs;
+use syn_workers::Workers;
+
+/// How a command rewrites, refactors or resubstitutes.
+#[derive(Clone, Copy, Debug)]
+pub struct PassOptions {
+    /// Whether a replacement that saves nothing may be made too.
+    pub zero: bool,
+    /// Whether only replacements that keep their root's level are made.
+    pub levels: bool,
+    /// The number of workers, where one is named.
+    pub workers: Option<Workers>,
+}
+
+/// How a command looks for nodes of one value.
+#[derive(Clone, Copy, Debug)]
+pub struct SearchLimits {
+    /// At most so many conflicts for each question.
+    pub conflicts: u32,
+    /// Whether no observed signal may get deeper.
+    pub levels: bool,
+}
+
+/// How a command makes the network anew. Contracts see numbers of inputs as numbers.
+#[derive(Debug, Drop)]
+pub enum Recipe {
+    /// `strash`, `st`: makes the network a graph, hashed and compacted.
+    Strash,
+    /// `balance`, `b`: balances the graph.
+    Balance,
+    /// `rewrite [-z] [-L] [-w N]`, `rw`; `rwz` has `-z` set: rewrites the graph until no listed replacement saves a node.
+    Rewrite(PassOptions),
+    /// `refactor [-z] [-L] [-w N]`, `rf`; `rfz` has `-z` set: refactors the graph until no cone's replacement saves a node.
+    Refactor(PassOptions),
+    /// `resub [-z] [-L] [-w N]`, `rs`; `rsz` has `-z` set: expresses nodes by others that are there, until no such replacement saves a node.
+    Resubstitute(PassOptions),
+    /// `fraig [-C n] [-L]`: merges nodes that are shown to have one value, or opposite values, for all values of the sources.
+    Merge(SearchLimits),
+    /// `if [-a] [-K n]`: maps the network to LUTs of so many inputs at most.
+    Map {
+        /// Whether few LUTs are looked for.
+        area: bool,
+        /// The most inputs of a LUT.
+        inputs: LutInputs,
+    },
+    /// `flowmap [-K n]`: maps the network to LUTs of so many inputs at most, at the least depth that there is.
+    MapByFlow(LutInputs),
+    /// `scl`: drops latches that no output needs, and makes one of latches that always hold the same.
+    Sweep,
+}

@@ -1,0 +1,220 @@
+//! What a command's name spells with what was given behind it.
+
+ghost use Rattle.std.specs.Prelude.{◌≡◌, ◌⊎◌, [], ◌∷◌, Err, Ok, IfOk, OnOk, IfErr, None, option_map};
+ghost use Rattle.syn_words.specs.Commands.{commands_of, given_conflicts, given_limits, given_options, options, resyn, resyn2, resyn2l, said, size_of, workers_of};
+ghost use Rattle.syn_words.specs.Scripts.{said_onto};
+ghost use Rattle.syn_words.specs.declared.Command.TheVariants as commands;
+
+use crate::inputs::LutInputs;
+use crate::names::FileName;
+use crate::recipes::{PassOptions, Recipe, SearchLimits};
+use crate::table::{Keyword, MAX_CONFLICTS, MAX_TABLES, entry_of};
+use crate::word_reader::{Given, given_by};
+use crate::words::Phrase;
+use crate::{Command, ScriptFault};
+use std::alloc::{AllocError, Global};
+use syn_workers::{MAX_WORKERS, Workers};
+
+// So many conflicts where no number is given.
+const USUAL_CONFLICTS: u32 = 100;
+
+// A number of workers, one at least and the most at most.
+fn workers_of(number: u64) -> Workers
+    ensures { result ≡ workers_of number }
+{
+    Workers::new(number.min(MAX_WORKERS as u64).max(1) as u8)
+}
+
+// The number of workers that was given, if any.
+fn given_workers(number: Option<u64>) -> Option<Workers>
+    ensures { result ≡ option_map workers_of number }
+{
+    match number {
+        Some(number) => Some(workers_of(number)),
+        None => None,
+    }
+}
+
+// A number of generated tables, at most the most.
+fn size_of(number: u64) -> u16
+    ensures { result ≡ size_of number }
+{
+    if number < MAX_TABLES as u64 {
+        number as u16
+    } else {
+        MAX_TABLES
+    }
+}
+
+// How a pass goes by what was given, where `-z` stands for itself or is set.
+fn given_options(zero: bool, given: &Given<'_>) -> PassOptions
+    ensures { result ≡ given_options zero given.now }
+{
+    PassOptions {
+        zero,
+        levels: given.flags.1,
+        workers: given_workers(given.number),
+    }
+}
+
+// A number of conflicts, at most the most, and the usual one where none was given.
+fn given_conflicts(number: Option<u64>) -> u32
+    ensures { result ≡ given_conflicts number }
+{
+    match number {
+        None => USUAL_CONFLICTS,
+        Some(number) => number.min(MAX_CONFLICTS as u64) as u32,
+    }
+}
+
+// How a search goes by what was given.
+fn given_limits(given: &Given<'_>) -> SearchLimits
+    ensures { result ≡ given_limits given.now }
+{
+    SearchLimits {
+        conflicts: given_conflicts(given.number),
+        levels: given.flags.1,
+    }
+}
+
+// One command.
+fn one(alloc: Global, command: Command) -> Result<Vec<Command>, AllocError>
+    ensures { IfOk result (λ v. v.items ≡ command ∷ []) }
+{
+    Ok(vec![in alloc; command]?)
+}
+
+// The command that makes the network anew by a recipe.
+fn make(alloc: Global, recipe: Recipe) -> Result<Vec<Command>, AllocError>
+    ensures { IfOk result (λ v. v.items ≡ commands.Make recipe ∷ []) }
+{
+    one(alloc, Command::Make(recipe))
+}
+
+// How a pass goes by as many workers as the session has.
+fn options(zero: bool, levels: bool) -> PassOptions
+    ensures { result ≡ options zero levels None }
+{
+    PassOptions {
+        zero,
+        levels,
+        workers: None,
+    }
+}
+
+// The commands of `resyn2l`, by as many workers as the session has. Balancing first would leave rewriting no level to spare.
+fn resyn2l(alloc: Global) -> Result<Vec<Command>, AllocError>
+    ensures { IfOk result (λ v. v.items ≡ resyn2l) }
+{
+    let plain = options(false, true);
+    let zero = options(true, true);
+    Ok(vec![in alloc;
+        Command::Make(Recipe::Rewrite(zero)),
+        Command::Make(Recipe::Balance),
+        Command::Make(Recipe::Refactor(plain)),
+        Command::Make(Recipe::Balance),
+        Command::Make(Recipe::Rewrite(plain)),
+        Command::Make(Recipe::Rewrite(zero)),
+        Command::Make(Recipe::Balance),
+        Command::Make(Recipe::Refactor(zero)),
+        Command::Make(Recipe::Rewrite(zero)),
+        Command::Make(Recipe::Balance),
+    ]?)
+}
+
+// The commands of `resyn`, by as many workers as the session has.
+fn resyn(alloc: Global) -> Result<Vec<Command>, AllocError>
+    ensures { IfOk result (λ v. v.items ≡ resyn) }
+{
+    let plain = options(false, false);
+    let zero = options(true, false);
+    Ok(vec![in alloc;
+        Command::Make(Recipe::Balance),
+        Command::Make(Recipe::Rewrite(plain)),
+        Command::Make(Recipe::Rewrite(zero)),
+        Command::Make(Recipe::Balance),
+        Command::Make(Recipe::Rewrite(zero)),
+        Command::Make(Recipe::Balance),
+    ]?)
+}
+
+// The commands of `resyn2`, by as many workers as the session has.
+fn resyn2(alloc: Global) -> Result<Vec<Command>, AllocError>
+    ensures { IfOk result (λ v. v.items ≡ resyn2) }
+{
+    let plain = options(false, false);
+    let zero = options(true, false);
+    Ok(vec![in alloc;
+        Command::Make(Recipe::Balance),
+        Command::Make(Recipe::Rewrite(plain)),
+        Command::Make(Recipe::Refactor(plain)),
+        Command::Make(Recipe::Balance),
+        Command::Make(Recipe::Rewrite(plain)),
+        Command::Make(Recipe::Rewrite(zero)),
+        Command::Make(Recipe::Balance),
+        Command::Make(Recipe::Refactor(zero)),
+        Command::Make(Recipe::Rewrite(zero)),
+        Command::Make(Recipe::Balance),
+    ]?)
+}
+
+// The commands that a keyword spells with what was given behind it.
+fn commands_of(
+    alloc: Global,
+    keyword: Keyword,
+    given: Given<'_>,
+) -> Result<Vec<Command>, AllocError>
+    ensures { IfOk result (λ v. v.items ≡ commands_of keyword given.entry) }
+{
+    let (flag, _, _) = given.flags;
+    let plain = given_options(flag, &given);
+    let zero = given_options(true, &given);
+    let limits = given_limits(&given);
+    let inputs = LutInputs::of(given.number);
+    let (seed, size) = (given.numbers.0, size_of(given.numbers.1));
+    match keyword {
+        Keyword::ReadBlif => one(alloc, Command::Read(FileName::of(alloc, given.name)?)),
+        Keyword::WriteBlif => one(alloc, Command::Write(FileName::of(alloc, given.name)?)),
+        Keyword::ReadAiger => one(alloc, Command::ReadAiger(FileName::of(alloc, given.name)?)),
+        Keyword::WriteAiger => {
+            let name = FileName::of(alloc, given.name)?;
+            one(alloc, Command::WriteAiger { ascii: flag, name })
+        }
+        Keyword::PrintStats => one(alloc, Command::Stats),
+        Keyword::Generate => one(alloc, Command::Generate { seed, size }),
+        Keyword::Resyn => resyn(alloc),
+        Keyword::Resyn2 => resyn2(alloc),
+        Keyword::Resyn2Levels => resyn2l(alloc),
+        Keyword::Strash => make(alloc, Recipe::Strash),
+        Keyword::Balance => make(alloc, Recipe::Balance),
+        Keyword::Rewrite => make(alloc, Recipe::Rewrite(plain)),
+        Keyword::RewriteZero => make(alloc, Recipe::Rewrite(zero)),
+        Keyword::Refactor => make(alloc, Recipe::Refactor(plain)),
+        Keyword::RefactorZero => make(alloc, Recipe::Refactor(zero)),
+        Keyword::Resubstitute => make(alloc, Recipe::Resubstitute(plain)),
+        Keyword::ResubstituteZero => make(alloc, Recipe::Resubstitute(zero)),
+        Keyword::Merge => make(alloc, Recipe::Merge(limits)),
+        Keyword::Map => make(alloc, Recipe::Map { area: flag, inputs }),
+        Keyword::MapByFlow => make(alloc, Recipe::MapByFlow(inputs)),
+        Keyword::Sweep => make(alloc, Recipe::Sweep),
+    }
+}
+
+/// Puts the commands that a phrase spells behind those that were read before it.
+pub fn push_commands(
+    alloc: Global,
+    commands: &mut Vec<Command>,
+    phrase: Phrase<'_>,
+) -> Result<(), ScriptFault>
+    ensures spelled { OnOk result (said_onto commands.old.items phrase.entry ≡ Ok commands.new.items) }
+    ensures refused { IfErr result (λ fault. (fault ≡ ScriptFault.NoMemory) ⊎ (said phrase.entry ≡ Err fault)) }
+{
+    let Phrase { name, further, end } = phrase;
+    let Some((form, keyword)) = entry_of(name.text.as_slice()) else {
+        return Err(ScriptFault::UnknownCommand(name.at));
+    };
+    let given = given_by(form, further, end)?;
+    let mut spelled = commands_of(alloc, keyword, given)?;
+    commands.append(&mut spelled)?;
+    Ok(())
+}

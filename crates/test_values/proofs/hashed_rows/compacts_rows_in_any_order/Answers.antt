@@ -1,5 +1,0 @@
-use Rattle.test_values.proofs.AnyOrder.{sample_can_compact}
-use Rattle.test_values.proofs.hashed_rows.compacts_rows_in_any_order.Goals as goal
-
-pub compact_rows-requires-clause-can : goal.compact_rows-requires-clause-can
-compact_rows-requires-clause-can c = λ d. sample_can_compact
