@@ -1,9 +1,11 @@
--- The table of commands: their names, what may stand behind each, and the commands that it then spells.
+-- What the names of the table spell with what was given behind them.
 use Rattle.std.specs.Prelude.{ℕ, Bool, true, false, min, max, option_map, if◌then◌else◌, List, [], ◌∷◌, Option, Some, None, Result, Ok, Err, bytes_eq, codes}
 use Rattle.syn_words.specs.declared.words.Phrase.{Phrase}
 use Rattle.syn_words.specs.Forms.{and_then, given_by}
+use Rattle.syn_words.specs.Texts.{echoed}
+use Rattle.syn_words.specs.Help.{helped}
+use Rattle.syn_words.specs.Table.{entry_in, table}
 use Rattle.syn_words.specs.declared.forms.Form.{Form}
-use Rattle.syn_words.specs.declared.forms.Operands.TheVariants as operands
 use Rattle.syn_words.specs.declared.word_reader.Given.{Given}
 use Rattle.syn_words.specs.declared.table.Keyword.{Keyword}
 use Rattle.syn_words.specs.declared.table.Keyword.TheVariants as keywords
@@ -15,76 +17,6 @@ use Rattle.syn_words.specs.declared.Command.{Command}
 use Rattle.syn_words.specs.declared.Command.TheVariants as commands
 use Rattle.syn_words.specs.declared.ScriptFault.{ScriptFault}
 use Rattle.syn_words.specs.declared.ScriptFault.TheVariants.{UnknownCommand}
-
--- No word.
-abbrev pub no_words : Form
-no_words = record { flags = (None, None, None); numbered = None; operands = operands.Nothing }
-
--- A file's name.
-abbrev pub name_alone : Form
-name_alone = record { flags = (None, None, None); numbered = None; operands = operands.Name }
-
--- An option without a number, and then a file's name.
-abbrev pub flag_and_name : ℕ → Form
-flag_and_name letter = record { flags = (Some letter, None, None); numbered = None; operands = operands.Name }
-
--- Options alone: `-z`, where it may stand, `-L`, `-l`, which says what is so without it, and `-w` with a number of workers from 1 to 16.
-abbrev pub with_workers : Option ℕ → Form
-with_workers zero = record { flags = (zero, Some 76, Some 108); numbered = Some (record { letter = 119; range = record { least = 1; most = 16 } }); operands = operands.Nothing }
-
--- Options alone: `-L`, and `-C` with a number of conflicts from 0 to 1000000.
-abbrev pub with_conflicts : Form
-with_conflicts = record { flags = (None, Some 76, None); numbered = Some (record { letter = 67; range = record { least = 0; most = 1000000 } }); operands = operands.Nothing }
-
--- Options alone: one without a number, where there is one, and `-K` with a number of inputs from 2 to 8.
-abbrev pub with_inputs : Option ℕ → Form
-with_inputs flag = record { flags = (flag, None, None); numbered = Some (record { letter = 75; range = record { least = 2; most = 8 } }); operands = operands.Nothing }
-
--- Two numbers alone: a seed of 64 bits, and a number of tables from 1 to 32768.
-abbrev pub seed_and_size : Form
-seed_and_size = record { flags = (None, None, None); numbered = None; operands = operands.TwoNumbers (record { least = 0; most = 18446744073709551615 }) (record { least = 1; most = 32768 }) }
-
--- A row of the table: a name, what may stand behind it, and its keyword.
-abbrev pub Row : Type 0
-Row = List ℕ × Form × Keyword
-
--- The names, long and short. `rewrite`, `refactor` and `resub` take `-z`, `-L` and `-l`; `rwz`, `rfz` and `rsz` have `-z` set. `if` and `write_aiger` take `-a`. `compress2` is `resyn2`.
-abbrev pub table : List Row
-table =
-    (codes "read_blif", name_alone, keywords.ReadBlif)
-    ∷ (codes "write_blif", name_alone, keywords.WriteBlif)
-    ∷ (codes "print_stats", no_words, keywords.PrintStats)
-    ∷ (codes "ps", no_words, keywords.PrintStats)
-    ∷ (codes "strash", no_words, keywords.Strash)
-    ∷ (codes "st", no_words, keywords.Strash)
-    ∷ (codes "balance", no_words, keywords.Balance)
-    ∷ (codes "b", no_words, keywords.Balance)
-    ∷ (codes "rewrite", with_workers (Some 122), keywords.Rewrite)
-    ∷ (codes "rw", with_workers (Some 122), keywords.Rewrite)
-    ∷ (codes "rwz", with_workers None, keywords.RewriteZero)
-    ∷ (codes "refactor", with_workers (Some 122), keywords.Refactor)
-    ∷ (codes "rf", with_workers (Some 122), keywords.Refactor)
-    ∷ (codes "rfz", with_workers None, keywords.RefactorZero)
-    ∷ (codes "if", with_inputs (Some 97), keywords.Map)
-    ∷ (codes "resyn2", no_words, keywords.Resyn2)
-    ∷ (codes "resyn2l", no_words, keywords.Resyn2Levels)
-    ∷ (codes "gen", seed_and_size, keywords.Generate)
-    ∷ (codes "scl", no_words, keywords.Sweep)
-    ∷ (codes "resub", with_workers (Some 122), keywords.Resubstitute)
-    ∷ (codes "rs", with_workers (Some 122), keywords.Resubstitute)
-    ∷ (codes "rsz", with_workers None, keywords.ResubstituteZero)
-    ∷ (codes "flowmap", with_inputs None, keywords.MapByFlow)
-    ∷ (codes "fraig", with_conflicts, keywords.Merge)
-    ∷ (codes "resyn", no_words, keywords.Resyn)
-    ∷ (codes "compress2", no_words, keywords.Resyn2)
-    ∷ (codes "read_aiger", name_alone, keywords.ReadAiger)
-    ∷ (codes "write_aiger", flag_and_name 97, keywords.WriteAiger)
-    ∷ []
-
--- What the first row of a name has, if there is one.
-abbrev pub entry_in : List Row → List ℕ → Option (Form × Keyword)
-entry_in [] word = None
-entry_in (row ∷ rows) word = if bytes_eq row.0 word then Some (row.1, row.2) else entry_in rows word
 
 -- A number of workers, 1 at least and 16 at most; the form lets no other through.
 abbrev pub workers_of : ℕ → ℕ
@@ -172,6 +104,10 @@ commands_of keywords.WriteBlif given = commands.Write given.name ∷ []
 commands_of keywords.ReadAiger given = commands.ReadAiger given.name ∷ []
 commands_of keywords.WriteAiger given = commands.WriteAiger given.flags.0 given.name ∷ []
 commands_of keywords.PrintStats given = commands.Stats ∷ []
+commands_of keywords.PrintLevels given = commands.Levels ∷ []
+commands_of keywords.Echo given = commands.Print (echoed given.words) ∷ []
+commands_of keywords.Help given = commands.Print (helped given.topic) ∷ []
+commands_of keywords.Quit given = commands.Quit ∷ []
 commands_of keywords.Generate given = commands.Generate given.numbers.0 (size_of given.numbers.1) ∷ []
 commands_of keywords.Resyn given = resyn
 commands_of keywords.Resyn2 given = resyn2

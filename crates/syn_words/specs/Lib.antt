@@ -3,7 +3,10 @@ pub mod Words
 pub mod Phrases
 pub mod Numbers
 pub mod Flags
+pub mod Table
 pub mod Forms
+pub mod Texts
+pub mod Help
 pub mod Commands
 pub mod Scripts
 pub mod Laws

@@ -1,15 +1,17 @@
 -- Worked scripts with their commands, texts with their first faults, and words read by forms.
 use Rattle.std.specs.Prelude.{◌≡◌, true, false, ℕ, Bool, List, [], ◌∷◌, ◌++◌, Some, None, Result, Ok, Err, codes}
 use Rattle.syn_words.specs.Words.{words_at}
-use Rattle.syn_words.specs.Commands.{flag_and_name, options}
+use Rattle.syn_words.specs.Commands.{options}
+use Rattle.syn_words.specs.Help.{overview}
+use Rattle.syn_words.specs.Table.{flag_and_name}
 use Rattle.syn_words.specs.Forms.{given_by}
 use Rattle.syn_words.specs.Scripts.{IsScript, IsFirstFault}
-use Rattle.syn_words.specs.declared.Command.TheVariants.{Read, Write, ReadAiger, WriteAiger, Stats, Generate, Make}
+use Rattle.syn_words.specs.declared.Command.TheVariants.{Read, Write, ReadAiger, WriteAiger, Stats, Levels, Print, Quit, Generate, Make}
 use Rattle.syn_words.specs.declared.recipes.Recipe.TheVariants.{Strash, Balance, Rewrite, Refactor, Resubstitute, Merge, Map, MapByFlow, Sweep}
 use Rattle.syn_words.specs.declared.ScriptFault.{ScriptFault}
 use Rattle.syn_words.specs.declared.ScriptFault.TheVariants.{BadByte, UnknownCommand, MissingWord, ExtraWord, BadNumber, OutOfRange}
 use Rattle.syn_words.specs.declared.forms.Form.{Form}
-use Rattle.syn_words.specs.declared.forms.Operands.TheVariants.{Nothing, TwoNumbers}
+use Rattle.syn_words.specs.declared.forms.Operands.TheVariants.{Nothing, TwoNumbers, Words}
 use Rattle.syn_words.specs.declared.recipes.SearchLimits.{SearchLimits}
 use Rattle.syn_words.specs.declared.word_reader.Given.{Given}
 
@@ -24,6 +26,10 @@ flags_and_workers = record { flags = (Some 122, Some 76, Some 108); numbered = S
 -- A number of 64 bits, and one from 1 to 32768.
 abbrev pub two_numbers : Form
 two_numbers = record { flags = (None, None, None); numbered = None; operands = TwoNumbers (record { least = 0; most = 18446744073709551615 }) (record { least = 1; most = 32768 }) }
+
+-- Any words.
+abbrev pub words : Form
+words = record { flags = (Some 97, None, None); numbered = None; operands = Words }
 
 -- So many conflicts a question, and whether no observed signal may get deeper.
 abbrev pub limits : ℕ → Bool → SearchLimits
@@ -59,6 +65,12 @@ pub record WorkedScripts : Type 0 where
   pub compressing : IsScript (codes "compress2")
       (Make Balance ∷ Make (Rewrite (options false false None)) ∷ Make (Refactor (options false false None)) ∷ Make Balance ∷ Make (Rewrite (options false false None)) ∷ Make (Rewrite (options true false None)) ∷ Make Balance ∷ Make (Refactor (options true false None)) ∷ Make (Rewrite (options true false None)) ∷ Make Balance ∷ [])
   pub merging : IsScript (codes "fraig; fraig -C 7; fraig -L -C 1000000; fraig -C 0 -L") (Make (Merge (limits 100 false)) ∷ Make (Merge (limits 7 false)) ∷ Make (Merge (limits 1000000 true)) ∷ Make (Merge (limits 0 true)) ∷ [])
+  pub echoing : IsScript (codes "echo + if -a  ; echo") (Print (codes "+ if -a" ++ 10 ∷ []) ∷ Print (10 ∷ []) ∷ [])
+  pub helping : IsScript (codes "help") (Print overview ∷ [])
+  pub helping_on_a_short_name : IsScript (codes "help st") (Print (codes "strash, st: turns a mapped network into a graph, by structural hashing" ++ 10 ∷ []) ∷ [])
+  pub helping_on_options : IsScript (codes "help flowmap") (Print (codes "flowmap [-K N]: maps to LUTs of at most N inputs, at the least depth" ++ 10 ∷ codes "  -K N  at most N inputs, 2 to 8, by default 6" ++ 10 ∷ []) ∷ [])
+  pub leaving : IsScript (codes "q; quit; exit; ps") (Quit ∷ Quit ∷ Quit ∷ Stats ∷ [])
+  pub printing_levels : IsScript (codes "print_level") (Levels ∷ [])
   pub generated : IsScript (codes "gen 18446744073709551615 32768; ps") (Generate 18446744073709551615 32768 ∷ Stats ∷ [])
   pub sweeping : IsScript (codes "read_blif a; scl; ps") (Read (codes "a") ∷ Make Sweep ∷ Stats ∷ [])
   pub resubstitution : IsScript (codes "rs; resub -w 4 -z; rsz -w 2") (Make (Resubstitute (options false false None)) ∷ Make (Resubstitute (options true false (Some 4))) ∷ Make (Resubstitute (options true false (Some 2))) ∷ [])
@@ -76,6 +88,11 @@ pub record WorkedScripts : Type 0 where
   pub conflicts_no_number : IsFirstFault (codes "fraig -C -L") (BadNumber 9)
   pub workers_of_merging : IsFirstFault (codes "fraig -w 4") (ExtraWord 6)
   pub levels_of_merging : IsFirstFault (codes "fraig -l") (ExtraWord 6)
+  pub option_of_printing_levels : IsFirstFault (codes "print_level -a") (ExtraWord 12)
+  pub help_on_no_command : IsFirstFault (codes "help rewrit") (UnknownCommand 5)
+  pub help_on_two : IsFirstFault (codes "help b st") (ExtraWord 7)
+  pub extra_behind_quit : IsFirstFault (codes "quit now") (ExtraWord 5)
+  pub unknown_behind_quit : IsFirstFault (codes "quit; rewrit") (UnknownCommand 6)
   pub option_of_resyn : IsFirstFault (codes "resyn -z") (ExtraWord 6)
   pub levels_kept_already : IsFirstFault (codes "resyn2l -L") (ExtraWord 8)
   pub levels_of_balancing : IsFirstFault (codes "b -l") (ExtraWord 2)
@@ -114,20 +131,20 @@ pub record WorkedScripts : Type 0 where
   pub byte_before_all : IsFirstFault (codes "rewrit; " ++ 127 ∷ []) (BadByte 8)
 
 pub record WorkedForms : Type 0 where
-  pub options : Gives flags_and_workers (codes "-z -w 4") (Ok (record { flags = (true, false, false); number = Some 4; name = []; numbers = (0, 0) }))
-  pub other_order : Gives flags_and_workers (codes "-w 4 -z") (Ok (record { flags = (true, false, false); number = Some 4; name = []; numbers = (0, 0) }))
-  pub levels : Gives flags_and_workers (codes "-L -w 4") (Ok (record { flags = (false, true, false); number = Some 4; name = []; numbers = (0, 0) }))
-  pub both_flags : Gives flags_and_workers (codes "-L -z") (Ok (record { flags = (true, true, false); number = None; name = []; numbers = (0, 0) }))
+  pub options : Gives flags_and_workers (codes "-z -w 4") (Ok (record { flags = (true, false, false); number = Some 4; name = []; numbers = (0, 0); words = []; topic = None }))
+  pub other_order : Gives flags_and_workers (codes "-w 4 -z") (Ok (record { flags = (true, false, false); number = Some 4; name = []; numbers = (0, 0); words = []; topic = None }))
+  pub levels : Gives flags_and_workers (codes "-L -w 4") (Ok (record { flags = (false, true, false); number = Some 4; name = []; numbers = (0, 0); words = []; topic = None }))
+  pub both_flags : Gives flags_and_workers (codes "-L -z") (Ok (record { flags = (true, true, false); number = None; name = []; numbers = (0, 0); words = []; topic = None }))
   pub levels_twice : Gives flags_and_workers (codes "-L -z -L") (Err (ExtraWord 6))
-  pub third_flag : Gives flags_and_workers (codes "-l") (Ok (record { flags = (false, false, true); number = None; name = []; numbers = (0, 0) }))
-  pub joined : Gives flags_and_workers (codes "-zL") (Ok (record { flags = (true, true, false); number = None; name = []; numbers = (0, 0) }))
-  pub joined_around_a_number : Gives flags_and_workers (codes "-lL -w 4 -z") (Ok (record { flags = (true, true, true); number = Some 4; name = []; numbers = (0, 0) }))
+  pub third_flag : Gives flags_and_workers (codes "-l") (Ok (record { flags = (false, false, true); number = None; name = []; numbers = (0, 0); words = []; topic = None }))
+  pub joined : Gives flags_and_workers (codes "-zL") (Ok (record { flags = (true, true, false); number = None; name = []; numbers = (0, 0); words = []; topic = None }))
+  pub joined_around_a_number : Gives flags_and_workers (codes "-lL -w 4 -z") (Ok (record { flags = (true, true, true); number = Some 4; name = []; numbers = (0, 0); words = []; topic = None }))
   pub joined_twice : Gives flags_and_workers (codes "-LlL") (Err (ExtraWord 0))
   pub given_and_joined : Gives flags_and_workers (codes "-l -zl") (Err (ExtraWord 3))
   pub joined_with_another : Gives flags_and_workers (codes "-zx") (Err (ExtraWord 0))
   pub hyphen_alone : Gives flags_and_workers (codes "-") (Err (ExtraWord 0))
-  pub no_option : Gives flags_and_workers [] (Ok (record { flags = (false, false, false); number = None; name = []; numbers = (0, 0) }))
-  pub leading_zeros : Gives flags_and_workers (codes "-w 0016") (Ok (record { flags = (false, false, false); number = Some 16; name = []; numbers = (0, 0) }))
+  pub no_option : Gives flags_and_workers [] (Ok (record { flags = (false, false, false); number = None; name = []; numbers = (0, 0); words = []; topic = None }))
+  pub leading_zeros : Gives flags_and_workers (codes "-w 0016") (Ok (record { flags = (false, false, false); number = Some 16; name = []; numbers = (0, 0); words = []; topic = None }))
   pub number_missing : Gives flags_and_workers (codes "-w") (Err (MissingWord 99))
   pub no_number : Gives flags_and_workers (codes "-w -z") (Err (BadNumber 3))
   pub signed : Gives flags_and_workers (codes "-w +4") (Err (BadNumber 3))
@@ -136,12 +153,13 @@ pub record WorkedForms : Type 0 where
   pub flag_twice : Gives flags_and_workers (codes "-z -z") (Err (ExtraWord 3))
   pub number_twice : Gives flags_and_workers (codes "-w 4 -w x") (Err (ExtraWord 5))
   pub stray_word : Gives flags_and_workers (codes "z") (Err (ExtraWord 0))
-  pub flag_before_a_name : Gives (flag_and_name 97) (codes "-a o") (Ok (record { flags = (true, false, false); number = None; name = codes "o"; numbers = (0, 0) }))
+  pub flag_before_a_name : Gives (flag_and_name 97) (codes "-a o") (Ok (record { flags = (true, false, false); number = None; name = codes "o"; numbers = (0, 0); words = []; topic = None }))
   pub flag_behind_a_name : Gives (flag_and_name 97) (codes "o -a") (Err (ExtraWord 2))
   pub flag_for_a_name : Gives (flag_and_name 97) (codes "-a -a") (Err (ExtraWord 3))
-  pub flags_for_a_name : Gives (flag_and_name 97) (codes "-ab") (Ok (record { flags = (false, false, false); number = None; name = codes "-ab"; numbers = (0, 0) }))
+  pub flags_for_a_name : Gives (flag_and_name 97) (codes "-ab") (Ok (record { flags = (false, false, false); number = None; name = codes "-ab"; numbers = (0, 0); words = []; topic = None }))
   pub name_missing : Gives (flag_and_name 97) (codes "-a") (Err (MissingWord 99))
-  pub seed_and_size : Gives two_numbers (codes "18446744073709551615 1") (Ok (record { flags = (false, false, false); number = None; name = []; numbers = (18446744073709551615, 1) }))
+  pub words_as_they_are : Gives words (codes "-a  x") (Ok (record { flags = (false, false, false); number = None; name = []; numbers = (0, 0); words = words_at 0 (codes "-a  x"); topic = None }))
+  pub seed_and_size : Gives two_numbers (codes "18446744073709551615 1") (Ok (record { flags = (false, false, false); number = None; name = []; numbers = (18446744073709551615, 1); words = []; topic = None }))
   pub size_missing : Gives two_numbers (codes "1") (Err (MissingWord 99))
   pub size_no_number : Gives two_numbers (codes "1 x") (Err (BadNumber 2))
   pub size_too_great : Gives two_numbers (codes "1 32769") (Err (OutOfRange 2))

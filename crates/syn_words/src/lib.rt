@@ -6,10 +6,11 @@
 //! order is answered, alone.
 //!
 //! What may stand behind a name is data, a form: three options without a number, an option with
-//! a number in a range, and then a file's name or two numbers. One function reads words by a form,
-//! and one table has a row a name: the form, and the keyword, which says what the words spell
-//! (`specs/Commands.antt`, and in the code `table.rt` and `spelling.rt`). A command that makes the
-//! network anew is a recipe (`recipes.rt`). No memory is taken but for the list and the names of files.
+//! a number in a range, and then a file's name, a command's, or two numbers; or any words. One
+//! function reads words by a form, and one table has a row a name: the form, and the keyword, which
+//! says what the words spell (`specs/Table.antt`, `specs/Commands.antt`, and in the code `table.rt`
+//! and `spelling.rt`) and what `help` tells of it (`help.rt`). A command that makes the network anew
+//! is a recipe (`recipes.rt`). No memory is taken but for the list, the names of files and texts.
 #![tactic(auto)]
 
 ghost use Rattle.std.specs.Prelude.{◌≡◌, ◌⊎◌, ◌<◌, ◌^◌, [], Err, List, length, Ok, Some, IfOk, IfErr, IsOkUnless};
@@ -17,6 +18,7 @@ ghost use Rattle.syn_words.specs.Scripts.{IsFirstFault, IsScript, said_after};
 
 mod flags;
 mod forms;
+mod help;
 mod inputs;
 mod laws;
 mod names;
@@ -24,6 +26,7 @@ mod numbers;
 mod recipes;
 mod spelling;
 mod table;
+mod texts;
 mod word_reader;
 mod words;
 
@@ -35,10 +38,11 @@ pub use numbers::number_in;
 pub use recipes::{PassOptions, Recipe, SearchLimits};
 use spelling::push_commands;
 use std::alloc::{AllocError, AllocFailed, Global};
+pub use texts::Text;
 use thiserror::Error;
 use words::{Phrases, bad_byte};
 
-/// A command of a script. Contracts see the names of files as bytes.
+/// A command of a script. Contracts see the names of files and texts as bytes.
 #[derive(Debug, Drop)]
 pub enum Command {
     /// `read_blif F`: the graph of the netlist in the file of that name becomes the network.
@@ -56,6 +60,12 @@ pub enum Command {
     },
     /// `print_stats`, `ps`: prints the network's line.
     Stats,
+    /// `print_level`: prints, for each level, how many observed signals have it.
+    Levels,
+    /// `echo WORDS`, `help [COMMAND]`: prints a text.
+    Print(Text),
+    /// `quit`, `q`, `exit`: ends the run.
+    Quit,
     /// `gen SEED SIZE`: the graph of the netlist that is generated from a seed becomes the network.
     Generate {
         /// The seed.

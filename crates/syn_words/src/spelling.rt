@@ -1,14 +1,18 @@
 //! What a command's name spells with what was given behind it.
 
 ghost use Rattle.std.specs.Prelude.{◌≡◌, ◌⊎◌, [], ◌∷◌, Err, Ok, IfOk, OnOk, IfErr, None, option_map};
+ghost use Rattle.syn_words.specs.Help.{helped};
+ghost use Rattle.syn_words.specs.Texts.{echoed};
 ghost use Rattle.syn_words.specs.Commands.{commands_of, given_conflicts, given_limits, given_options, options, resyn, resyn2, resyn2l, said, size_of, workers_of};
 ghost use Rattle.syn_words.specs.Scripts.{said_onto};
 ghost use Rattle.syn_words.specs.declared.Command.TheVariants as commands;
 
+use crate::help::helped;
 use crate::inputs::LutInputs;
 use crate::names::FileName;
 use crate::recipes::{PassOptions, Recipe, SearchLimits};
 use crate::table::{Keyword, MAX_CONFLICTS, MAX_TABLES, entry_of};
+use crate::texts::echoed;
 use crate::word_reader::{Given, given_by};
 use crate::words::Phrase;
 use crate::{Command, ScriptFault};
@@ -181,6 +185,10 @@ fn commands_of(
             one(alloc, Command::WriteAiger { ascii: flag, name })
         }
         Keyword::PrintStats => one(alloc, Command::Stats),
+        Keyword::PrintLevels => one(alloc, Command::Levels),
+        Keyword::Echo => one(alloc, Command::Print(echoed(alloc, given.words)?)),
+        Keyword::Help => one(alloc, Command::Print(helped(alloc, given.topic)?)),
+        Keyword::Quit => one(alloc, Command::Quit),
         Keyword::Generate => one(alloc, Command::Generate { seed, size }),
         Keyword::Resyn => resyn(alloc),
         Keyword::Resyn2 => resyn2(alloc),

@@ -1,7 +1,7 @@
 //! The table of commands: a row a name, with what may stand behind it and its keyword.
 
 ghost use Rattle.std.specs.Prelude.{◌≡◌, map};
-ghost use Rattle.syn_words.specs.Commands.{entry_in, table};
+ghost use Rattle.syn_words.specs.Table.{entry_in, table};
 
 use crate::forms::{Form, NumberRange, Numbered, Operands};
 use syn_workers::MAX_WORKERS;
@@ -12,6 +12,10 @@ pub enum Keyword {
     ReadBlif,
     WriteBlif,
     PrintStats,
+    PrintLevels,
+    Echo,
+    Help,
+    Quit,
     Strash,
     Balance,
     Rewrite,
@@ -84,6 +88,20 @@ const NOTHING: Form = Form {
     operands: Operands::Nothing,
 };
 
+// Any words.
+const WORDS: Form = Form {
+    flags: (None, None, None),
+    numbered: None,
+    operands: Operands::Words,
+};
+
+// A command's name, or no word.
+const COMMAND: Form = Form {
+    flags: (None, None, None),
+    numbered: None,
+    operands: Operands::Command,
+};
+
 // A file's name.
 const NAME: Form = Form {
     flags: (None, None, None),
@@ -141,11 +159,17 @@ const SEED_AND_SIZE: Form = Form {
 };
 
 // The names, long and short.
-const TABLE: [Row; 28] = [
+const TABLE: [Row; 34] = [
     (b"read_blif", NAME, Keyword::ReadBlif),
     (b"write_blif", NAME, Keyword::WriteBlif),
     (b"print_stats", NOTHING, Keyword::PrintStats),
     (b"ps", NOTHING, Keyword::PrintStats),
+    (b"print_level", NOTHING, Keyword::PrintLevels),
+    (b"echo", WORDS, Keyword::Echo),
+    (b"help", COMMAND, Keyword::Help),
+    (b"quit", NOTHING, Keyword::Quit),
+    (b"q", NOTHING, Keyword::Quit),
+    (b"exit", NOTHING, Keyword::Quit),
     (b"strash", NOTHING, Keyword::Strash),
     (b"st", NOTHING, Keyword::Strash),
     (b"balance", NOTHING, Keyword::Balance),
