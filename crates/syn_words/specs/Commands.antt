@@ -6,6 +6,8 @@ use Rattle.syn_words.specs.Texts.{echoed}
 use Rattle.syn_words.specs.Help.{helped}
 use Rattle.syn_words.specs.Table.{entry_in, table}
 use Rattle.syn_words.specs.declared.forms.Form.{Form}
+use Rattle.syn_words.specs.declared.formats.Format.{Format}
+use Rattle.syn_words.specs.declared.formats.Format.TheVariants as formats
 use Rattle.syn_words.specs.declared.word_reader.Given.{Given}
 use Rattle.syn_words.specs.declared.table.Keyword.{Keyword}
 use Rattle.syn_words.specs.declared.table.Keyword.TheVariants as keywords
@@ -51,6 +53,18 @@ given_conflicts (Some number) = min number 1000000
 -- How a search goes by what was given behind a name: by how many conflicts, and with `-L`.
 abbrev pub given_limits : Given → SearchLimits
 given_limits given = record { conflicts = given_conflicts given.number; levels = given.flags.1 }
+
+-- The command that reads a file in a format.
+abbrev pub reading : Format → List ℕ → Command
+reading formats.Blif name = commands.Read name
+reading formats.Aiger name = commands.ReadAiger name
+reading formats.AsciiAiger name = commands.ReadAiger name
+
+-- The command that writes a file in a format; of AIGER it refuses a latch with a type.
+abbrev pub writing : Format → List ℕ → Command
+writing formats.Blif name = commands.Write name
+writing formats.Aiger name = commands.WriteAiger false false name
+writing formats.AsciiAiger name = commands.WriteAiger true false name
 
 -- The command that makes the network anew by a recipe.
 abbrev pub make : Recipe → Command
@@ -102,7 +116,9 @@ abbrev pub commands_of : Keyword → Given → List Command
 commands_of keywords.ReadBlif given = commands.Read given.name ∷ []
 commands_of keywords.WriteBlif given = commands.Write given.name ∷ []
 commands_of keywords.ReadAiger given = commands.ReadAiger given.name ∷ []
-commands_of keywords.WriteAiger given = commands.WriteAiger given.flags.0 given.name ∷ []
+commands_of keywords.WriteAiger given = commands.WriteAiger given.flags.0 given.flags.1 given.name ∷ []
+commands_of keywords.Read given = reading given.format given.name ∷ []
+commands_of keywords.Write given = writing given.format given.name ∷ []
 commands_of keywords.PrintStats given = commands.Stats ∷ []
 commands_of keywords.PrintLevels given = commands.Levels ∷ []
 commands_of keywords.Echo given = commands.Print (echoed given.words) ∷ []

@@ -2,6 +2,7 @@
 use Rattle.std.specs.Prelude.{ℕ, true, false, Bool, is_some, if◌then◌else◌, List, [], ◌∷◌, Option, Some, None, Result, Ok, Err, bytes_eq}
 use Rattle.syn_lex.specs.Words.{Word}
 use Rattle.syn_words.specs.Numbers.{number_at}
+use Rattle.syn_words.specs.Formats.{format_of}
 use Rattle.syn_words.specs.Table.{entry_in, table}
 use Rattle.syn_words.specs.Flags.{Flags, are_flags, letters_of, with_flags}
 use Rattle.syn_words.specs.declared.forms.Form.{Form}
@@ -9,13 +10,15 @@ use Rattle.syn_words.specs.declared.forms.Numbered.{Numbered}
 use Rattle.syn_words.specs.declared.forms.NumberRange.{NumberRange}
 use Rattle.syn_words.specs.declared.forms.Operands.{Operands}
 use Rattle.syn_words.specs.declared.forms.Operands.TheVariants as operands
+use Rattle.syn_words.specs.declared.formats.Format.{Format}
+use Rattle.syn_words.specs.declared.formats.Format.TheVariants as formats
 use Rattle.syn_words.specs.declared.table.Keyword.{Keyword}
 use Rattle.syn_words.specs.declared.word_reader.Given.{Given}
 use Rattle.syn_words.specs.declared.word_reader.Awaits.{Awaits}
 use Rattle.syn_words.specs.declared.word_reader.Awaits.TheVariants as awaits
 use Rattle.syn_words.specs.declared.word_reader.Progress.{Progress}
 use Rattle.syn_words.specs.declared.ScriptFault.{ScriptFault}
-use Rattle.syn_words.specs.declared.ScriptFault.TheVariants.{UnknownCommand, MissingWord, ExtraWord}
+use Rattle.syn_words.specs.declared.ScriptFault.TheVariants.{UnknownCommand, UnknownEnding, MissingWord, ExtraWord}
 
 -- What follows on a success; a fault stays the fault.
 abbrev pub and_then : {A B : Type 0} → Result A ScriptFault → (A → Result B ScriptFault) → Result B ScriptFault
@@ -33,11 +36,11 @@ number_behind (Some numbered) text = if is_option numbered.letter text then Some
 
 -- Nothing was given yet.
 abbrev pub nothing_given : Given
-nothing_given = record { flags = (false, false, false); number = None; name = []; numbers = (0, 0); words = []; topic = None }
+nothing_given = record { flags = (false, false, false); number = None; name = []; format = formats.Blif; numbers = (0, 0); words = []; topic = None }
 
 -- These words were given, and nothing else.
 abbrev pub all_given : List Word → Given
-all_given words = record { flags = (false, false, false); number = None; name = []; numbers = (0, 0); words = words; topic = None }
+all_given words = record { flags = (false, false, false); number = None; name = []; format = formats.Blif; numbers = (0, 0); words = words; topic = None }
 
 -- The words behind a name are read from here.
 abbrev pub from_the_name : Progress
@@ -46,7 +49,7 @@ from_the_name = record { given = nothing_given; awaits = awaits.Options }
 -- A word of options without a number, by which these are given, or one of them is given twice.
 abbrev pub with_options : Option Flags → Given → Word → Result Progress ScriptFault
 with_options None given word = Err (ExtraWord word.at)
-with_options (Some flags) given word = Ok (record { given = record { flags = flags; number = given.number; name = given.name; numbers = given.numbers; words = given.words; topic = given.topic }; awaits = awaits.Options })
+with_options (Some flags) given word = Ok (record { given = record { flags = flags; number = given.number; name = given.name; format = given.format; numbers = given.numbers; words = given.words; topic = given.topic }; awaits = awaits.Options })
 
 -- The option with a number, once.
 abbrev pub with_numbered : NumberRange → Given → Word → Result Progress ScriptFault
@@ -56,16 +59,23 @@ with_numbered range given word = if is_some given.number then Err (ExtraWord wor
 abbrev pub with_command : Option (Form × Keyword) → Given → Word → Result Progress ScriptFault
 with_command None given word = Err (UnknownCommand word.at)
 with_command (Some (form, keyword)) given word =
-    Ok (record { given = record { flags = given.flags; number = given.number; name = given.name; numbers = given.numbers; words = given.words; topic = Some keyword }; awaits = awaits.Nothing })
+    Ok (record { given = record { flags = given.flags; number = given.number; name = given.name; format = given.format; numbers = given.numbers; words = given.words; topic = Some keyword }; awaits = awaits.Nothing })
+
+-- A file's name, by the format that its end tells.
+abbrev pub with_format : Option Format → Given → Word → Result Progress ScriptFault
+with_format None given word = Err (UnknownEnding word.at)
+with_format (Some format) given word =
+    Ok (record { given = record { flags = given.flags; number = given.number; name = word.text; format = format; numbers = given.numbers; words = given.words; topic = given.topic }; awaits = awaits.Nothing })
 
 -- The first word that is no option.
 abbrev pub with_first : Operands → Given → Word → Result Progress ScriptFault
 with_first operands.Nothing given word = Err (ExtraWord word.at)
 with_first operands.Command given word = with_command (entry_in table word.text) given word
 with_first operands.Words given word = Err (ExtraWord word.at)
-with_first operands.Name given word = Ok (record { given = record { flags = given.flags; number = given.number; name = word.text; numbers = given.numbers; words = given.words; topic = given.topic }; awaits = awaits.Nothing })
+with_first operands.Name given word = Ok (record { given = record { flags = given.flags; number = given.number; name = word.text; format = given.format; numbers = given.numbers; words = given.words; topic = given.topic }; awaits = awaits.Nothing })
+with_first operands.NameWithFormat given word = with_format (format_of word.text) given word
 with_first (operands.TwoNumbers first second) given word =
-    and_then (number_at first word) (λ n. Ok (record { given = record { flags = given.flags; number = given.number; name = given.name; numbers = (n, 0); words = given.words; topic = given.topic }; awaits = awaits.SecondNumber second }))
+    and_then (number_at first word) (λ n. Ok (record { given = record { flags = given.flags; number = given.number; name = given.name; format = given.format; numbers = (n, 0); words = given.words; topic = given.topic }; awaits = awaits.SecondNumber second }))
 
 -- Of a word that may be an option with a number: it is one, or the first word that is none.
 abbrev pub with_further : Option NumberRange → Form → Given → Word → Result Progress ScriptFault
@@ -79,9 +89,9 @@ after_word form awaits.Options given word =
     then with_options (with_flags form given.flags (letters_of word.text)) given word
     else with_further (number_behind form.numbered word.text) form given word
 after_word form (awaits.OptionNumber range) given word =
-    and_then (number_at range word) (λ n. Ok (record { given = record { flags = given.flags; number = Some n; name = given.name; numbers = given.numbers; words = given.words; topic = given.topic }; awaits = awaits.Options }))
+    and_then (number_at range word) (λ n. Ok (record { given = record { flags = given.flags; number = Some n; name = given.name; format = given.format; numbers = given.numbers; words = given.words; topic = given.topic }; awaits = awaits.Options }))
 after_word form (awaits.SecondNumber range) given word =
-    and_then (number_at range word) (λ n. Ok (record { given = record { flags = given.flags; number = given.number; name = given.name; numbers = (given.numbers.0, n); words = given.words; topic = given.topic }; awaits = awaits.Nothing }))
+    and_then (number_at range word) (λ n. Ok (record { given = record { flags = given.flags; number = given.number; name = given.name; format = given.format; numbers = (given.numbers.0, n); words = given.words; topic = given.topic }; awaits = awaits.Nothing }))
 after_word form awaits.Nothing given word = Err (ExtraWord word.at)
 
 -- No further word, where a first one may be awaited.
@@ -90,6 +100,7 @@ without_first operands.Nothing end given = Ok given
 without_first operands.Command end given = Ok given
 without_first operands.Words end given = Err (MissingWord end)
 without_first operands.Name end given = Err (MissingWord end)
+without_first operands.NameWithFormat end given = Err (MissingWord end)
 without_first (operands.TwoNumbers first second) end given = Err (MissingWord end)
 
 -- No further word: what is awaited is missing, at the place where the words end.

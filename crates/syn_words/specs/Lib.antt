@@ -3,6 +3,7 @@ pub mod Words
 pub mod Phrases
 pub mod Numbers
 pub mod Flags
+pub mod Formats
 pub mod Table
 pub mod Forms
 pub mod Texts

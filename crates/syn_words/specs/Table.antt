@@ -21,9 +21,13 @@ command_name = record { flags = (None, None, None); numbered = None; operands = 
 abbrev pub name_alone : Form
 name_alone = record { flags = (None, None, None); numbered = None; operands = operands.Name }
 
--- An option without a number, and then a file's name.
-abbrev pub flag_and_name : ℕ → Form
-flag_and_name letter = record { flags = (Some letter, None, None); numbered = None; operands = operands.Name }
+-- A file's name with the ending of a format.
+abbrev pub name_with_format : Form
+name_with_format = record { flags = (None, None, None); numbered = None; operands = operands.NameWithFormat }
+
+-- Two options without a number, and then a file's name.
+abbrev pub flags_and_name : ℕ → ℕ → Form
+flags_and_name first second = record { flags = (Some first, Some second, None); numbered = None; operands = operands.Name }
 
 -- Options alone: `-z`, where it may stand, `-L`, `-l`, which says what is so without it, and `-w` with a number of workers from 1 to 16.
 abbrev pub with_workers : Option ℕ → Form
@@ -45,7 +49,7 @@ seed_and_size = record { flags = (None, None, None); numbered = None; operands =
 abbrev pub Row : Type 0
 Row = List ℕ × Form × Keyword
 
--- The names, long and short. `rewrite`, `refactor` and `resub` take `-z`, `-L` and `-l`; `rwz`, `rfz` and `rsz` have `-z` set. `if` and `write_aiger` take `-a`. `compress2` is `resyn2`.
+-- The names, long and short. `rewrite`, `refactor` and `resub` take `-z`, `-L` and `-l`; `rwz`, `rfz` and `rsz` have `-z` set. `if` takes `-a`, `write_aiger` `-a` and `-t`. `compress2` is `resyn2`.
 abbrev pub table : List Row
 table =
     (codes "read_blif", name_alone, keywords.ReadBlif)
@@ -81,7 +85,9 @@ table =
     ∷ (codes "resyn", no_words, keywords.Resyn)
     ∷ (codes "compress2", no_words, keywords.Resyn2)
     ∷ (codes "read_aiger", name_alone, keywords.ReadAiger)
-    ∷ (codes "write_aiger", flag_and_name 97, keywords.WriteAiger)
+    ∷ (codes "write_aiger", flags_and_name 97 116, keywords.WriteAiger)
+    ∷ (codes "read", name_with_format, keywords.Read)
+    ∷ (codes "write", name_with_format, keywords.Write)
     ∷ []
 
 -- What the first row of a name has, if there is one.

@@ -3,13 +3,14 @@ use Rattle.std.specs.Prelude.{◌≡◌, true, false, ℕ, Bool, List, [], ◌�
 use Rattle.syn_words.specs.Words.{words_at}
 use Rattle.syn_words.specs.Commands.{options}
 use Rattle.syn_words.specs.Help.{overview}
-use Rattle.syn_words.specs.Table.{flag_and_name}
+use Rattle.syn_words.specs.Table.{flags_and_name}
 use Rattle.syn_words.specs.Forms.{given_by}
 use Rattle.syn_words.specs.Scripts.{IsScript, IsFirstFault}
 use Rattle.syn_words.specs.declared.Command.TheVariants.{Read, Write, ReadAiger, WriteAiger, Stats, Levels, Print, Quit, Generate, Make}
 use Rattle.syn_words.specs.declared.recipes.Recipe.TheVariants.{Strash, Balance, Rewrite, Refactor, Resubstitute, Merge, Map, MapByFlow, Sweep}
 use Rattle.syn_words.specs.declared.ScriptFault.{ScriptFault}
-use Rattle.syn_words.specs.declared.ScriptFault.TheVariants.{BadByte, UnknownCommand, MissingWord, ExtraWord, BadNumber, OutOfRange}
+use Rattle.syn_words.specs.declared.ScriptFault.TheVariants.{BadByte, UnknownCommand, MissingWord, ExtraWord, UnknownEnding, BadNumber, OutOfRange}
+use Rattle.syn_words.specs.declared.formats.Format.TheVariants.{Blif}
 use Rattle.syn_words.specs.declared.forms.Form.{Form}
 use Rattle.syn_words.specs.declared.forms.Operands.TheVariants.{Nothing, TwoNumbers, Words}
 use Rattle.syn_words.specs.declared.recipes.SearchLimits.{SearchLimits}
@@ -74,7 +75,15 @@ pub record WorkedScripts : Type 0 where
   pub generated : IsScript (codes "gen 18446744073709551615 32768; ps") (Generate 18446744073709551615 32768 ∷ Stats ∷ [])
   pub sweeping : IsScript (codes "read_blif a; scl; ps") (Read (codes "a") ∷ Make Sweep ∷ Stats ∷ [])
   pub resubstitution : IsScript (codes "rs; resub -w 4 -z; rsz -w 2") (Make (Resubstitute (options false false None)) ∷ Make (Resubstitute (options true false (Some 4))) ∷ Make (Resubstitute (options true false (Some 2))) ∷ [])
-  pub aiger : IsScript (codes "read_aiger -a; write_aiger o; write_aiger -a o") (ReadAiger (codes "-a") ∷ WriteAiger false (codes "o") ∷ WriteAiger true (codes "o") ∷ [])
+  pub aiger : IsScript (codes "read_aiger -a; write_aiger o; write_aiger -a o") (ReadAiger (codes "-a") ∷ WriteAiger false false (codes "o") ∷ WriteAiger true false (codes "o") ∷ [])
+  pub untyped_aiger : IsScript (codes "write_aiger -t o; write_aiger -at o") (WriteAiger false true (codes "o") ∷ WriteAiger true true (codes "o") ∷ [])
+  pub read_by_ending : IsScript (codes "read a.blif; read a.aig; read .aag") (Read (codes "a.blif") ∷ ReadAiger (codes "a.aig") ∷ ReadAiger (codes ".aag") ∷ [])
+  pub written_by_ending : IsScript (codes "write a.aag.blif; write a.aig; write a.aag") (Write (codes "a.aag.blif") ∷ WriteAiger false false (codes "a.aig") ∷ WriteAiger true false (codes "a.aag") ∷ [])
+  pub unknown_ending : IsFirstFault (codes "write a.v; rewrit") (UnknownEnding 6)
+  pub upper_case_ending : IsFirstFault (codes "read a.BLIF b") (UnknownEnding 5)
+  pub no_ending : IsFirstFault (codes "read blif") (UnknownEnding 5)
+  pub name_behind_a_name : IsFirstFault (codes "read a.blif b") (ExtraWord 12)
+  pub nothing_to_write : IsFirstFault (codes "write") (MissingWord 5)
   pub zero_refactored_already : IsFirstFault (codes "rfz -z") (ExtraWord 4)
   pub zero_resubstituted_already : IsFirstFault (codes "rsz -z") (ExtraWord 4)
   pub levels_kept_twice : IsFirstFault (codes "rw -L -L") (ExtraWord 6)
@@ -131,20 +140,20 @@ pub record WorkedScripts : Type 0 where
   pub byte_before_all : IsFirstFault (codes "rewrit; " ++ 127 ∷ []) (BadByte 8)
 
 pub record WorkedForms : Type 0 where
-  pub options : Gives flags_and_workers (codes "-z -w 4") (Ok (record { flags = (true, false, false); number = Some 4; name = []; numbers = (0, 0); words = []; topic = None }))
-  pub other_order : Gives flags_and_workers (codes "-w 4 -z") (Ok (record { flags = (true, false, false); number = Some 4; name = []; numbers = (0, 0); words = []; topic = None }))
-  pub levels : Gives flags_and_workers (codes "-L -w 4") (Ok (record { flags = (false, true, false); number = Some 4; name = []; numbers = (0, 0); words = []; topic = None }))
-  pub both_flags : Gives flags_and_workers (codes "-L -z") (Ok (record { flags = (true, true, false); number = None; name = []; numbers = (0, 0); words = []; topic = None }))
+  pub options : Gives flags_and_workers (codes "-z -w 4") (Ok (record { flags = (true, false, false); number = Some 4; name = []; format = Blif; numbers = (0, 0); words = []; topic = None }))
+  pub other_order : Gives flags_and_workers (codes "-w 4 -z") (Ok (record { flags = (true, false, false); number = Some 4; name = []; format = Blif; numbers = (0, 0); words = []; topic = None }))
+  pub levels : Gives flags_and_workers (codes "-L -w 4") (Ok (record { flags = (false, true, false); number = Some 4; name = []; format = Blif; numbers = (0, 0); words = []; topic = None }))
+  pub both_flags : Gives flags_and_workers (codes "-L -z") (Ok (record { flags = (true, true, false); number = None; name = []; format = Blif; numbers = (0, 0); words = []; topic = None }))
   pub levels_twice : Gives flags_and_workers (codes "-L -z -L") (Err (ExtraWord 6))
-  pub third_flag : Gives flags_and_workers (codes "-l") (Ok (record { flags = (false, false, true); number = None; name = []; numbers = (0, 0); words = []; topic = None }))
-  pub joined : Gives flags_and_workers (codes "-zL") (Ok (record { flags = (true, true, false); number = None; name = []; numbers = (0, 0); words = []; topic = None }))
-  pub joined_around_a_number : Gives flags_and_workers (codes "-lL -w 4 -z") (Ok (record { flags = (true, true, true); number = Some 4; name = []; numbers = (0, 0); words = []; topic = None }))
+  pub third_flag : Gives flags_and_workers (codes "-l") (Ok (record { flags = (false, false, true); number = None; name = []; format = Blif; numbers = (0, 0); words = []; topic = None }))
+  pub joined : Gives flags_and_workers (codes "-zL") (Ok (record { flags = (true, true, false); number = None; name = []; format = Blif; numbers = (0, 0); words = []; topic = None }))
+  pub joined_around_a_number : Gives flags_and_workers (codes "-lL -w 4 -z") (Ok (record { flags = (true, true, true); number = Some 4; name = []; format = Blif; numbers = (0, 0); words = []; topic = None }))
   pub joined_twice : Gives flags_and_workers (codes "-LlL") (Err (ExtraWord 0))
   pub given_and_joined : Gives flags_and_workers (codes "-l -zl") (Err (ExtraWord 3))
   pub joined_with_another : Gives flags_and_workers (codes "-zx") (Err (ExtraWord 0))
   pub hyphen_alone : Gives flags_and_workers (codes "-") (Err (ExtraWord 0))
-  pub no_option : Gives flags_and_workers [] (Ok (record { flags = (false, false, false); number = None; name = []; numbers = (0, 0); words = []; topic = None }))
-  pub leading_zeros : Gives flags_and_workers (codes "-w 0016") (Ok (record { flags = (false, false, false); number = Some 16; name = []; numbers = (0, 0); words = []; topic = None }))
+  pub no_option : Gives flags_and_workers [] (Ok (record { flags = (false, false, false); number = None; name = []; format = Blif; numbers = (0, 0); words = []; topic = None }))
+  pub leading_zeros : Gives flags_and_workers (codes "-w 0016") (Ok (record { flags = (false, false, false); number = Some 16; name = []; format = Blif; numbers = (0, 0); words = []; topic = None }))
   pub number_missing : Gives flags_and_workers (codes "-w") (Err (MissingWord 99))
   pub no_number : Gives flags_and_workers (codes "-w -z") (Err (BadNumber 3))
   pub signed : Gives flags_and_workers (codes "-w +4") (Err (BadNumber 3))
@@ -153,13 +162,13 @@ pub record WorkedForms : Type 0 where
   pub flag_twice : Gives flags_and_workers (codes "-z -z") (Err (ExtraWord 3))
   pub number_twice : Gives flags_and_workers (codes "-w 4 -w x") (Err (ExtraWord 5))
   pub stray_word : Gives flags_and_workers (codes "z") (Err (ExtraWord 0))
-  pub flag_before_a_name : Gives (flag_and_name 97) (codes "-a o") (Ok (record { flags = (true, false, false); number = None; name = codes "o"; numbers = (0, 0); words = []; topic = None }))
-  pub flag_behind_a_name : Gives (flag_and_name 97) (codes "o -a") (Err (ExtraWord 2))
-  pub flag_for_a_name : Gives (flag_and_name 97) (codes "-a -a") (Err (ExtraWord 3))
-  pub flags_for_a_name : Gives (flag_and_name 97) (codes "-ab") (Ok (record { flags = (false, false, false); number = None; name = codes "-ab"; numbers = (0, 0); words = []; topic = None }))
-  pub name_missing : Gives (flag_and_name 97) (codes "-a") (Err (MissingWord 99))
-  pub words_as_they_are : Gives words (codes "-a  x") (Ok (record { flags = (false, false, false); number = None; name = []; numbers = (0, 0); words = words_at 0 (codes "-a  x"); topic = None }))
-  pub seed_and_size : Gives two_numbers (codes "18446744073709551615 1") (Ok (record { flags = (false, false, false); number = None; name = []; numbers = (18446744073709551615, 1); words = []; topic = None }))
+  pub flag_before_a_name : Gives (flags_and_name 97 116) (codes "-a o") (Ok (record { flags = (true, false, false); number = None; name = codes "o"; format = Blif; numbers = (0, 0); words = []; topic = None }))
+  pub flag_behind_a_name : Gives (flags_and_name 97 116) (codes "o -a") (Err (ExtraWord 2))
+  pub flag_for_a_name : Gives (flags_and_name 97 116) (codes "-a -a") (Err (ExtraWord 3))
+  pub flags_for_a_name : Gives (flags_and_name 97 116) (codes "-ab") (Ok (record { flags = (false, false, false); number = None; name = codes "-ab"; format = Blif; numbers = (0, 0); words = []; topic = None }))
+  pub name_missing : Gives (flags_and_name 97 116) (codes "-a") (Err (MissingWord 99))
+  pub words_as_they_are : Gives words (codes "-a  x") (Ok (record { flags = (false, false, false); number = None; name = []; format = Blif; numbers = (0, 0); words = words_at 0 (codes "-a  x"); topic = None }))
+  pub seed_and_size : Gives two_numbers (codes "18446744073709551615 1") (Ok (record { flags = (false, false, false); number = None; name = []; format = Blif; numbers = (18446744073709551615, 1); words = []; topic = None }))
   pub size_missing : Gives two_numbers (codes "1") (Err (MissingWord 99))
   pub size_no_number : Gives two_numbers (codes "1 x") (Err (BadNumber 2))
   pub size_too_great : Gives two_numbers (codes "1 32769") (Err (OutOfRange 2))

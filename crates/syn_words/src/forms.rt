@@ -20,6 +20,8 @@ pub enum Operands {
     Nothing,
     /// A file's name.
     Name,
+    /// A file's name with the ending of a format.
+    NameWithFormat,
     /// Two numbers, each in its range.
     TwoNumbers(NumberRange, NumberRange),
     /// A command's name, or no word.

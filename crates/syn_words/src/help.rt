@@ -25,6 +25,8 @@ const ORDER: &[Keyword] = &[
     Keyword::Generate,
     Keyword::WriteBlif,
     Keyword::WriteAiger,
+    Keyword::Read,
+    Keyword::Write,
     Keyword::PrintStats,
     Keyword::PrintLevels,
     Keyword::Strash,
@@ -75,9 +77,19 @@ fn topic_of(keyword: Keyword) -> Topic
             b"",
         ),
         Keyword::WriteAiger => (
-            b"write_aiger [-a] FILE",
+            b"write_aiger [-a] [-t] FILE",
             b"writes the network's graph to an AIGER file",
-            b"  -a    in the ASCII format; else in the binary one\n",
+            b"  -a    in the ASCII format; else in the binary one\n  -t    leaves out the types of latches, which are refused without it\n",
+        ),
+        Keyword::Read => (
+            b"read FILE",
+            b"is read_blif for a name that ends in .blif, read_aiger for one in .aig or .aag",
+            b"",
+        ),
+        Keyword::Write => (
+            b"write FILE",
+            b"is write_blif for a name that ends in .blif, write_aiger for one in .aig, write_aiger -a for one in .aag",
+            b"",
         ),
         Keyword::PrintStats => (
             b"print_stats, ps",

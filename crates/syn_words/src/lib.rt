@@ -17,6 +17,7 @@ ghost use Rattle.std.specs.Prelude.{◌≡◌, ◌⊎◌, ◌<◌, ◌^◌, [], 
 ghost use Rattle.syn_words.specs.Scripts.{IsFirstFault, IsScript, said_after};
 
 mod flags;
+mod formats;
 mod forms;
 mod help;
 mod inputs;
@@ -45,16 +46,18 @@ use words::{Phrases, bad_byte};
 /// A command of a script. Contracts see the names of files and texts as bytes.
 #[derive(Debug, Drop)]
 pub enum Command {
-    /// `read_blif F`: the graph of the netlist in the file of that name becomes the network.
+    /// `read_blif F`, `read F`: the graph of the netlist in the file of that name becomes the network.
     Read(FileName),
-    /// `write_blif F`: writes the network to the file of that name.
+    /// `write_blif F`, `write F`: writes the network to the file of that name.
     Write(FileName),
-    /// `read_aiger F`: the graph of the AIGER file of that name becomes the network.
+    /// `read_aiger F`, `read F`: the graph of the AIGER file of that name becomes the network.
     ReadAiger(FileName),
-    /// `write_aiger [-a] F`: writes the network's graph to the file of that name, as an AIGER file.
+    /// `write_aiger [-a] [-t] F`, `write F`: writes the network's graph to the file of that name, as an AIGER file.
     WriteAiger {
         /// Whether the file is in the ASCII format; else it is in the binary one.
         ascii: bool,
+        /// Whether the types of latches are left out; else a latch with a type is refused.
+        untyped: bool,
         /// The file's name.
         name: FileName,
     },
@@ -92,6 +95,9 @@ pub enum ScriptFault {
     /// A word that the command doesn't expect.
     #[error("script {0}: extra word")]
     ExtraWord(u32),
+    /// A file's name that ends like none of a format.
+    #[error("script {0}: unknown ending")]
+    UnknownEnding(u32),
     /// A word that should be a number isn't one.
     #[error("script {0}: bad number")]
     BadNumber(u32),

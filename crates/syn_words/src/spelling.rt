@@ -3,10 +3,11 @@
 ghost use Rattle.std.specs.Prelude.{◌≡◌, ◌⊎◌, [], ◌∷◌, Err, Ok, IfOk, OnOk, IfErr, None, option_map};
 ghost use Rattle.syn_words.specs.Help.{helped};
 ghost use Rattle.syn_words.specs.Texts.{echoed};
-ghost use Rattle.syn_words.specs.Commands.{commands_of, given_conflicts, given_limits, given_options, options, resyn, resyn2, resyn2l, said, size_of, workers_of};
+ghost use Rattle.syn_words.specs.Commands.{commands_of, given_conflicts, given_limits, given_options, options, reading, resyn, resyn2, resyn2l, said, size_of, workers_of, writing};
 ghost use Rattle.syn_words.specs.Scripts.{said_onto};
 ghost use Rattle.syn_words.specs.declared.Command.TheVariants as commands;
 
+use crate::formats::Format;
 use crate::help::helped;
 use crate::inputs::LutInputs;
 use crate::names::FileName;
@@ -93,6 +94,35 @@ fn make(alloc: Global, recipe: Recipe) -> Result<Vec<Command>, AllocError>
     ensures { IfOk result (λ v. v.items ≡ commands.Make recipe ∷ []) }
 {
     one(alloc, Command::Make(recipe))
+}
+
+// The command that reads a file in this format.
+fn reading(format: Format, name: FileName) -> Command
+    ensures { result ≡ reading format name }
+{
+    match format {
+        Format::Blif => Command::Read(name),
+        Format::Aiger | Format::AsciiAiger => Command::ReadAiger(name),
+    }
+}
+
+// The command that writes a file in this format.
+fn writing(format: Format, name: FileName) -> Command
+    ensures { result ≡ writing format name }
+{
+    match format {
+        Format::Blif => Command::Write(name),
+        Format::Aiger => Command::WriteAiger {
+            ascii: false,
+            untyped: false,
+            name,
+        },
+        Format::AsciiAiger => Command::WriteAiger {
+            ascii: true,
+            untyped: false,
+            name,
+        },
+    }
 }
 
 // How a pass goes by as many workers as the session has.
@@ -182,8 +212,23 @@ fn commands_of(
         Keyword::ReadAiger => one(alloc, Command::ReadAiger(FileName::of(alloc, given.name)?)),
         Keyword::WriteAiger => {
             let name = FileName::of(alloc, given.name)?;
-            one(alloc, Command::WriteAiger { ascii: flag, name })
+            one(
+                alloc,
+                Command::WriteAiger {
+                    ascii: flag,
+                    untyped: given.flags.1,
+                    name,
+                },
+            )
         }
+        Keyword::Read => one(
+            alloc,
+            reading(given.format, FileName::of(alloc, given.name)?),
+        ),
+        Keyword::Write => one(
+            alloc,
+            writing(given.format, FileName::of(alloc, given.name)?),
+        ),
         Keyword::PrintStats => one(alloc, Command::Stats),
         Keyword::PrintLevels => one(alloc, Command::Levels),
         Keyword::Echo => one(alloc, Command::Print(echoed(alloc, given.words)?)),

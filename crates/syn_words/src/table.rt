@@ -33,6 +33,8 @@ pub enum Keyword {
     Merge,
     Resyn,
     ReadAiger,
+    Read,
+    Write,
     WriteAiger,
 }
 
@@ -109,9 +111,16 @@ const NAME: Form = Form {
     operands: Operands::Name,
 };
 
-// `-a`, and then a file's name.
-const ASCII_AND_NAME: Form = Form {
-    flags: (Some(b'a'), None, None),
+// A file's name with the ending of a format.
+const NAME_WITH_FORMAT: Form = Form {
+    flags: (None, None, None),
+    numbered: None,
+    operands: Operands::NameWithFormat,
+};
+
+// `-a`, `-t`, and then a file's name.
+const AIGER_NAME: Form = Form {
+    flags: (Some(b'a'), Some(b't'), None),
     numbered: None,
     operands: Operands::Name,
 };
@@ -159,7 +168,7 @@ const SEED_AND_SIZE: Form = Form {
 };
 
 // The names, long and short.
-const TABLE: [Row; 34] = [
+const TABLE: [Row; 36] = [
     (b"read_blif", NAME, Keyword::ReadBlif),
     (b"write_blif", NAME, Keyword::WriteBlif),
     (b"print_stats", NOTHING, Keyword::PrintStats),
@@ -193,7 +202,9 @@ const TABLE: [Row; 34] = [
     (b"resyn", NOTHING, Keyword::Resyn),
     (b"compress2", NOTHING, Keyword::Resyn2),
     (b"read_aiger", NAME, Keyword::ReadAiger),
-    (b"write_aiger", ASCII_AND_NAME, Keyword::WriteAiger),
+    (b"write_aiger", AIGER_NAME, Keyword::WriteAiger),
+    (b"read", NAME_WITH_FORMAT, Keyword::Read),
+    (b"write", NAME_WITH_FORMAT, Keyword::Write),
 ];
 
 // What the first row of a name has, if there is one.

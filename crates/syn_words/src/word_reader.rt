@@ -6,6 +6,7 @@ ghost use Rattle.syn_words.specs.Forms.{after_word, all_given, at_end, given_by,
 
 use crate::ScriptFault;
 use crate::flags::{Flags, are_flags, letters_of, with_flags};
+use crate::formats::{Format, format_of};
 use crate::forms::{Form, NumberRange, Numbered, Operands};
 use crate::names::WordText;
 use crate::numbers::number_at;
@@ -21,6 +22,8 @@ pub struct Given<'a> {
     pub number: Option<u64>,
     /// The file's name, empty where none is expected.
     pub name: WordText<'a>,
+    /// The format that the name's end tells, BLIF where none is expected.
+    pub format: Format,
     /// The numbers, 0 where none are expected.
     pub numbers: (u64, u64),
     /// The words, none where none are expected but those above.
@@ -82,6 +85,7 @@ impl<'a> Given<'a> {
             flags: (false, false, false),
             number: None,
             name: WordText::empty(),
+            format: Format::Blif,
             numbers: (0, 0),
             words: CommandWords::of(&[], 0),
             topic: None,
@@ -115,6 +119,14 @@ impl<'a> Given<'a> {
             Operands::Nothing | Operands::Words => Err(ScriptFault::ExtraWord(word.at)),
             Operands::Name => {
                 self.name = word.text;
+                Ok(self.before(Awaits::Nothing))
+            }
+            Operands::NameWithFormat => {
+                let Some(format) = format_of(word.text.as_slice()) else {
+                    return Err(ScriptFault::UnknownEnding(word.at));
+                };
+                self.name = word.text;
+                self.format = format;
                 Ok(self.before(Awaits::Nothing))
             }
             Operands::Command => {
