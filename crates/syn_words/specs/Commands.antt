@@ -1,8 +1,9 @@
 -- What the names of the table spell with what was given behind them.
-use Rattle.std.specs.Prelude.{ℕ, Bool, true, false, min, max, option_map, if◌then◌else◌, List, [], ◌∷◌, Option, Some, None, Result, Ok, Err, bytes_eq, codes}
+use Rattle.std.specs.Prelude.{ℕ, Bool, true, false, min, max, map, option_map, if◌then◌else◌, List, [], ◌∷◌, Option, Some, None, Result, Ok, Err, bytes_eq, codes}
 use Rattle.syn_words.specs.declared.words.Phrase.{Phrase}
 use Rattle.syn_words.specs.Forms.{and_then, given_by}
 use Rattle.syn_words.specs.Texts.{echoed}
+use Rattle.syn_words.specs.Quotes.{meant}
 use Rattle.syn_words.specs.Help.{helped}
 use Rattle.syn_words.specs.Table.{entry_in, table}
 use Rattle.syn_words.specs.declared.forms.Form.{Form}
@@ -113,17 +114,20 @@ resyn2l =
 
 -- The commands that a keyword spells with what was given behind it.
 abbrev pub commands_of : Keyword → Given → List Command
-commands_of keywords.ReadBlif given = commands.Read given.name ∷ []
-commands_of keywords.WriteBlif given = commands.Write given.name ∷ []
-commands_of keywords.ReadAiger given = commands.ReadAiger given.name ∷ []
-commands_of keywords.WriteAiger given = commands.WriteAiger given.flags.0 given.flags.1 given.name ∷ []
-commands_of keywords.Read given = reading given.format given.name ∷ []
-commands_of keywords.Write given = writing given.format given.name ∷ []
+commands_of keywords.ReadBlif given = commands.Read (map meant given.name) ∷ []
+commands_of keywords.WriteBlif given = commands.Write (map meant given.name) ∷ []
+commands_of keywords.ReadAiger given = commands.ReadAiger (map meant given.name) ∷ []
+commands_of keywords.WriteAiger given = commands.WriteAiger given.flags.0 given.flags.1 (map meant given.name) ∷ []
+commands_of keywords.Read given = reading given.format (map meant given.name) ∷ []
+commands_of keywords.Write given = writing given.format (map meant given.name) ∷ []
 commands_of keywords.PrintStats given = commands.Stats ∷ []
 commands_of keywords.PrintLevels given = commands.Levels ∷ []
 commands_of keywords.Echo given = commands.Print (echoed given.words) ∷ []
 commands_of keywords.Help given = commands.Print (helped given.topic) ∷ []
 commands_of keywords.Quit given = commands.Quit ∷ []
+commands_of keywords.Source given = commands.Source (map meant given.name) ∷ []
+commands_of keywords.Dress given = []
+commands_of keywords.Time given = commands.Time ∷ []
 commands_of keywords.Generate given = commands.Generate given.numbers.0 (size_of given.numbers.1) ∷ []
 commands_of keywords.Resyn given = resyn
 commands_of keywords.Resyn2 given = resyn2

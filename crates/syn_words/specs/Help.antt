@@ -32,6 +32,9 @@ topic_of keywords.Map = (codes "if [-a] [-K N]", codes "maps to LUTs of at most 
 topic_of keywords.MapByFlow = (codes "flowmap [-K N]", codes "maps to LUTs of at most N inputs, at the least depth", codes "  -K N  at most N inputs, 2 to 8, by default 6" ++ 10 ∷ [])
 topic_of keywords.Echo = (codes "echo WORDS", codes "prints the words, one blank apart", [])
 topic_of keywords.Help = (codes "help [COMMAND]", codes "prints a line a command, or what is to know of one", [])
+topic_of keywords.Source = (codes "source FILE", codes "runs the commands of a file", [])
+topic_of keywords.Dress = (codes "dress FILE", codes "does nothing: names are kept anyway", [])
+topic_of keywords.Time = (codes "time", codes "prints the seconds since it was done last", [])
 topic_of keywords.Quit = (codes "quit, q, exit", codes "ends the run, also of the lines behind", [])
 
 -- A topic's line behind a text: the usage, a colon and a blank, what the command does, and a line feed.

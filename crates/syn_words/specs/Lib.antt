@@ -1,4 +1,5 @@
 pub mod Bytes
+pub mod Quotes
 pub mod Words
 pub mod Phrases
 pub mod Numbers
@@ -10,5 +11,7 @@ pub mod Texts
 pub mod Help
 pub mod Commands
 pub mod Scripts
+pub mod Files
 pub mod Laws
 pub mod Worked
+pub mod WorkedFiles

@@ -6,7 +6,7 @@ use Rattle.syn_words.specs.Help.{overview}
 use Rattle.syn_words.specs.Table.{flags_and_name}
 use Rattle.syn_words.specs.Forms.{given_by}
 use Rattle.syn_words.specs.Scripts.{IsScript, IsFirstFault}
-use Rattle.syn_words.specs.declared.Command.TheVariants.{Read, Write, ReadAiger, WriteAiger, Stats, Levels, Print, Quit, Generate, Make}
+use Rattle.syn_words.specs.declared.Command.TheVariants.{Read, Write, ReadAiger, WriteAiger, Stats, Levels, Print, Quit, Source, Time, Generate, Make}
 use Rattle.syn_words.specs.declared.recipes.Recipe.TheVariants.{Strash, Balance, Rewrite, Refactor, Resubstitute, Merge, Map, MapByFlow, Sweep}
 use Rattle.syn_words.specs.declared.ScriptFault.{ScriptFault}
 use Rattle.syn_words.specs.declared.ScriptFault.TheVariants.{BadByte, UnknownCommand, MissingWord, ExtraWord, UnknownEnding, BadNumber, OutOfRange}
@@ -71,6 +71,7 @@ pub record WorkedScripts : Type 0 where
   pub helping_on_a_short_name : IsScript (codes "help st") (Print (codes "strash, st: turns a mapped network into a graph, by structural hashing" ++ 10 ∷ []) ∷ [])
   pub helping_on_options : IsScript (codes "help flowmap") (Print (codes "flowmap [-K N]: maps to LUTs of at most N inputs, at the least depth" ++ 10 ∷ codes "  -K N  at most N inputs, 2 to 8, by default 6" ++ 10 ∷ []) ∷ [])
   pub leaving : IsScript (codes "q; quit; exit; ps") (Quit ∷ Quit ∷ Quit ∷ Stats ∷ [])
+  pub sourcing : IsScript (codes "source a.abc; dress b; time") (Source (codes "a.abc") ∷ Time ∷ [])
   pub printing_levels : IsScript (codes "print_level") (Levels ∷ [])
   pub generated : IsScript (codes "gen 18446744073709551615 32768; ps") (Generate 18446744073709551615 32768 ∷ Stats ∷ [])
   pub sweeping : IsScript (codes "read_blif a; scl; ps") (Read (codes "a") ∷ Make Sweep ∷ Stats ∷ [])
@@ -100,6 +101,8 @@ pub record WorkedScripts : Type 0 where
   pub option_of_printing_levels : IsFirstFault (codes "print_level -a") (ExtraWord 12)
   pub help_on_no_command : IsFirstFault (codes "help rewrit") (UnknownCommand 5)
   pub help_on_two : IsFirstFault (codes "help b st") (ExtraWord 7)
+  pub nothing_to_dress : IsFirstFault (codes "dress; ps") (MissingWord 5)
+  pub two_to_source : IsFirstFault (codes "source a b") (ExtraWord 9)
   pub extra_behind_quit : IsFirstFault (codes "quit now") (ExtraWord 5)
   pub unknown_behind_quit : IsFirstFault (codes "quit; rewrit") (UnknownCommand 6)
   pub option_of_resyn : IsFirstFault (codes "resyn -z") (ExtraWord 6)

@@ -46,6 +46,9 @@ const ORDER: &[Keyword] = &[
     Keyword::MapByFlow,
     Keyword::Echo,
     Keyword::Help,
+    Keyword::Source,
+    Keyword::Dress,
+    Keyword::Time,
     Keyword::Quit,
 ];
 
@@ -166,6 +169,9 @@ fn topic_of(keyword: Keyword) -> Topic
             b"prints a line a command, or what is to know of one",
             b"",
         ),
+        Keyword::Source => (b"source FILE", b"runs the commands of a file", b""),
+        Keyword::Dress => (b"dress FILE", b"does nothing: names are kept anyway", b""),
+        Keyword::Time => (b"time", b"prints the seconds since it was done last", b""),
         Keyword::Quit => (
             b"quit, q, exit",
             b"ends the run, also of the lines behind",

@@ -10,12 +10,16 @@
 //! function reads words by a form, and one table has a row a name: the form, and the keyword, which
 //! says what the words spell (`specs/Table.antt`, `specs/Commands.antt`, and in the code `table.rt`
 //! and `spelling.rt`) and what `help` tells of it (`help.rt`). A command that makes the network anew
-//! is a recipe (`recipes.rt`). No memory is taken but for the list, the names of files and texts.
+//! is a recipe (`recipes.rt`). `dress` spells no command.
+//!
+//! A file of commands (`files.rt`) is read as a script of the same length, in which its comments are
+//! blanks. No memory is taken but for that script, the list, the names of files and texts.
 #![tactic(auto)]
 
 ghost use Rattle.std.specs.Prelude.{◌≡◌, ◌⊎◌, ◌<◌, ◌^◌, [], Err, List, length, Ok, Some, IfOk, IfErr, IsOkUnless};
-ghost use Rattle.syn_words.specs.Scripts.{IsFirstFault, IsScript, said_after};
+ghost use Rattle.syn_words.specs.Scripts.{IsFirstFault, IsScript, meaning_by, said_after};
 
+mod files;
 mod flags;
 mod formats;
 mod forms;
@@ -24,6 +28,7 @@ mod inputs;
 mod laws;
 mod names;
 mod numbers;
+mod quotes;
 mod recipes;
 mod spelling;
 mod table;
@@ -31,9 +36,12 @@ mod texts;
 mod word_reader;
 mod words;
 
+pub use files::{FileFault, parse_file};
 pub use forms::NumberRange;
 pub use inputs::LutInputs;
-pub use laws::{either_or, not_both, one_fault, one_script, worked_forms, worked_scripts};
+pub use laws::{
+    either_or, not_both, one_fault, one_script, worked_files, worked_forms, worked_scripts,
+};
 pub use names::FileName;
 pub use numbers::number_in;
 pub use recipes::{PassOptions, Recipe, SearchLimits};
@@ -69,6 +77,10 @@ pub enum Command {
     Print(Text),
     /// `quit`, `q`, `exit`: ends the run.
     Quit,
+    /// `source F`: runs the commands of the file of that name.
+    Source(FileName),
+    /// `time`: prints the seconds since it was done last.
+    Time,
     /// `gen SEED SIZE`: the graph of the netlist that is generated from a seed becomes the network.
     Generate {
         /// The seed.
@@ -141,7 +153,20 @@ pub fn parse_script(alloc: Global, text: &[u8]) -> Result<Vec<Command>, ScriptFa
     ensures refused { IfErr result (λ fault. (fault ≡ ScriptFault.NoMemory) ⊎ IsFirstFault text.now fault) }
     ensures accepted { (commands : List Command) → IsScript text.now commands → IsOkUnless result ScriptFault.NoMemory }
 {
-    if let Some(at) = bad_byte(text) {
+    commands_in(alloc, false, text)
+}
+
+// The commands of a script in which bytes may be held in quotes or not.
+pub(crate) fn commands_in(
+    alloc: Global,
+    held: bool,
+    text: &[u8],
+) -> Result<Vec<Command>, ScriptFault>
+    requires { length text.now < 2 ^ 32 }
+    ensures script { IfOk result (λ commands. meaning_by held text.now ≡ Ok commands.items) }
+    ensures refused { IfErr result (λ fault. (fault ≡ ScriptFault.NoMemory) ⊎ (meaning_by held text.now ≡ Err fault)) }
+{
+    if let Some(at) = bad_byte(held, text) {
         return Err(ScriptFault::BadByte(at));
     }
     commands_of(alloc, Phrases::of(text))

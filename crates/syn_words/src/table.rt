@@ -16,6 +16,9 @@ pub enum Keyword {
     Echo,
     Help,
     Quit,
+    Source,
+    Dress,
+    Time,
     Strash,
     Balance,
     Rewrite,
@@ -168,7 +171,7 @@ const SEED_AND_SIZE: Form = Form {
 };
 
 // The names, long and short.
-const TABLE: [Row; 36] = [
+const TABLE: [Row; 39] = [
     (b"read_blif", NAME, Keyword::ReadBlif),
     (b"write_blif", NAME, Keyword::WriteBlif),
     (b"print_stats", NOTHING, Keyword::PrintStats),
@@ -179,6 +182,9 @@ const TABLE: [Row; 36] = [
     (b"quit", NOTHING, Keyword::Quit),
     (b"q", NOTHING, Keyword::Quit),
     (b"exit", NOTHING, Keyword::Quit),
+    (b"source", NAME, Keyword::Source),
+    (b"dress", NAME, Keyword::Dress),
+    (b"time", NOTHING, Keyword::Time),
     (b"strash", NOTHING, Keyword::Strash),
     (b"st", NOTHING, Keyword::Strash),
     (b"balance", NOTHING, Keyword::Balance),

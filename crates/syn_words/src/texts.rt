@@ -1,8 +1,10 @@
 //! Texts that commands print.
 
-ghost use Rattle.std.specs.Prelude.{◌≡◌, [], OnOk, IfOk};
+ghost use Rattle.std.specs.Prelude.{◌≡◌, [], ◌++◌, OnOk, IfOk, map};
+ghost use Rattle.syn_words.specs.Quotes.{meant};
 ghost use Rattle.syn_words.specs.Texts.{apart, echoed, with_word};
 
+use crate::quotes::meant;
 use crate::words::CommandWords;
 use std::alloc::{AllocError, Global};
 use std::marker::Model;
@@ -37,6 +39,25 @@ impl Text {
     }
 }
 
+// Puts the bytes of a word behind a line, as they are meant.
+fn push_meant(line: &mut Vec<u8>, word: &[u8]) -> Result<(), AllocError>
+    ensures { OnOk result (line.new.items ≡ line.old.items ++ map meant word.now) }
+{
+    for byte in word {
+        line.push(meant(*byte))?;
+    }
+    Ok(())
+}
+
+/// The bytes of a word, as they are meant.
+pub fn meant_text(alloc: Global, word: &[u8]) -> Result<Text, AllocError>
+    ensures { IfOk result (λ text. text ≡ map meant word.now) }
+{
+    let mut line = Vec::new(alloc);
+    push_meant(&mut line, word)?;
+    Ok(Text::of(line))
+}
+
 // Puts a blank behind a line, where it has a byte.
 fn push_apart(line: &mut Vec<u8>) -> Result<(), AllocError>
     ensures { OnOk result (line.new.items ≡ apart line.old.items) }
@@ -53,8 +74,7 @@ fn push_word(line: &mut Vec<u8>, word: &[u8]) -> Result<(), AllocError>
     ensures { OnOk result (line.new.items ≡ with_word line.old.items word.now) }
 {
     push_apart(line)?;
-    line.extend_from_slice(word)?;
-    Ok(())
+    push_meant(line, word)
 }
 
 /// The line of words, one blank apart.
