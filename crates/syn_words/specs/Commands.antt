@@ -29,11 +29,6 @@ workers_of number = max 1 (min number 16)
 abbrev pub inputs_of : ℕ → ℕ
 inputs_of number = max 2 (min number 8)
 
--- The number of inputs that was given, 6 where none was.
-abbrev pub given_inputs : Option ℕ → ℕ
-given_inputs None = 6
-given_inputs (Some number) = inputs_of number
-
 -- A number of tables, 32768 at most, likewise.
 abbrev pub size_of : ℕ → ℕ
 size_of number = min number 32768
@@ -126,6 +121,7 @@ commands_of keywords.Echo given = commands.Print (echoed given.words) ∷ []
 commands_of keywords.Help given = commands.Print (helped given.topic) ∷ []
 commands_of keywords.Quit given = commands.Quit ∷ []
 commands_of keywords.Source given = commands.Source (map meant given.name) ∷ []
+commands_of keywords.ReadLuts given = commands.ReadLuts (map meant given.name) ∷ []
 commands_of keywords.Dress given = []
 commands_of keywords.Time given = commands.Time ∷ []
 commands_of keywords.Generate given = commands.Generate given.numbers.0 (size_of given.numbers.1) ∷ []
@@ -141,8 +137,8 @@ commands_of keywords.RefactorZero given = make (recipes.Refactor (given_options 
 commands_of keywords.Resubstitute given = make (recipes.Resubstitute (given_options given.flags.0 given)) ∷ []
 commands_of keywords.ResubstituteZero given = make (recipes.Resubstitute (given_options true given)) ∷ []
 commands_of keywords.Merge given = make (recipes.Merge (given_limits given)) ∷ []
-commands_of keywords.Map given = make (recipes.Map given.flags.0 (given_inputs given.number)) ∷ []
-commands_of keywords.MapByFlow given = make (recipes.MapByFlow (given_inputs given.number)) ∷ []
+commands_of keywords.Map given = make (recipes.Map given.flags.0 (option_map inputs_of given.number)) ∷ []
+commands_of keywords.MapByFlow given = make (recipes.MapByFlow (option_map inputs_of given.number)) ∷ []
 commands_of keywords.Sweep given = make recipes.Sweep ∷ []
 
 -- What a phrase says by the row of its name: the commands that it spells, or its first fault.

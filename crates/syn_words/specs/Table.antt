@@ -63,6 +63,7 @@ table =
     ∷ (codes "q", no_words, keywords.Quit)
     ∷ (codes "exit", no_words, keywords.Quit)
     ∷ (codes "source", name_alone, keywords.Source)
+    ∷ (codes "read_lut", name_alone, keywords.ReadLuts)
     ∷ (codes "dress", name_alone, keywords.Dress)
     ∷ (codes "time", no_words, keywords.Time)
     ∷ (codes "strash", no_words, keywords.Strash)

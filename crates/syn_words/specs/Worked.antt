@@ -6,7 +6,7 @@ use Rattle.syn_words.specs.Help.{overview}
 use Rattle.syn_words.specs.Table.{flags_and_name}
 use Rattle.syn_words.specs.Forms.{given_by}
 use Rattle.syn_words.specs.Scripts.{IsScript, IsFirstFault}
-use Rattle.syn_words.specs.declared.Command.TheVariants.{Read, Write, ReadAiger, WriteAiger, Stats, Levels, Print, Quit, Source, Time, Generate, Make}
+use Rattle.syn_words.specs.declared.Command.TheVariants.{Read, Write, ReadAiger, WriteAiger, Stats, Levels, Print, Quit, Source, ReadLuts, Time, Generate, Make}
 use Rattle.syn_words.specs.declared.recipes.Recipe.TheVariants.{Strash, Balance, Rewrite, Refactor, Resubstitute, Merge, Map, MapByFlow, Sweep}
 use Rattle.syn_words.specs.declared.ScriptFault.{ScriptFault}
 use Rattle.syn_words.specs.declared.ScriptFault.TheVariants.{BadByte, UnknownCommand, MissingWord, ExtraWord, UnknownEnding, BadNumber, OutOfRange}
@@ -48,9 +48,9 @@ pub record WorkedScripts : Type 0 where
   pub hyphen_is_a_name : IsScript (codes "read_blif -a") (Read (codes "-a") ∷ [])
   pub rewriting : IsScript (codes "rw; rewrite -w 4 -z; rwz") (Make (Rewrite (options false false None)) ∷ Make (Rewrite (options true false (Some 4))) ∷ Make (Rewrite (options true false None)) ∷ [])
   pub refactoring : IsScript (codes "rf; refactor -w 4 -z; rfz -w 2") (Make (Refactor (options false false None)) ∷ Make (Refactor (options true false (Some 4))) ∷ Make (Refactor (options true false (Some 2))) ∷ [])
-  pub mapping : IsScript (codes "if; if -K 2; if -K 008") (Make (Map false 6) ∷ Make (Map false 2) ∷ Make (Map false 8) ∷ [])
-  pub mapping_for_area : IsScript (codes "if -a; if -a -K 4; if -K 4 -a") (Make (Map true 6) ∷ Make (Map true 4) ∷ Make (Map true 4) ∷ [])
-  pub mapping_by_flow : IsScript (codes "flowmap; flowmap -K 2; flowmap -K 8") (Make (MapByFlow 6) ∷ Make (MapByFlow 2) ∷ Make (MapByFlow 8) ∷ [])
+  pub mapping : IsScript (codes "if; if -K 2; if -K 008") (Make (Map false None) ∷ Make (Map false (Some 2)) ∷ Make (Map false (Some 8)) ∷ [])
+  pub mapping_for_area : IsScript (codes "if -a; if -a -K 4; if -K 4 -a") (Make (Map true None) ∷ Make (Map true (Some 4)) ∷ Make (Map true (Some 4)) ∷ [])
+  pub mapping_by_flow : IsScript (codes "flowmap; flowmap -K 2; flowmap -K 8") (Make (MapByFlow None) ∷ Make (MapByFlow (Some 2)) ∷ Make (MapByFlow (Some 8)) ∷ [])
   pub ten_commands : IsScript (codes "resyn2")
       (Make Balance ∷ Make (Rewrite (options false false None)) ∷ Make (Refactor (options false false None)) ∷ Make Balance ∷ Make (Rewrite (options false false None)) ∷ Make (Rewrite (options true false None)) ∷ Make Balance ∷ Make (Refactor (options true false None)) ∷ Make (Rewrite (options true false None)) ∷ Make Balance ∷ [])
   pub ten_commands_keeping_levels : IsScript (codes "resyn2l")
@@ -69,9 +69,10 @@ pub record WorkedScripts : Type 0 where
   pub echoing : IsScript (codes "echo + if -a  ; echo") (Print (codes "+ if -a" ++ 10 ∷ []) ∷ Print (10 ∷ []) ∷ [])
   pub helping : IsScript (codes "help") (Print overview ∷ [])
   pub helping_on_a_short_name : IsScript (codes "help st") (Print (codes "strash, st: turns a mapped network into a graph, by structural hashing" ++ 10 ∷ []) ∷ [])
-  pub helping_on_options : IsScript (codes "help flowmap") (Print (codes "flowmap [-K N]: maps to LUTs of at most N inputs, at the least depth" ++ 10 ∷ codes "  -K N  at most N inputs, 2 to 8, by default 6" ++ 10 ∷ []) ∷ [])
+  pub helping_on_options : IsScript (codes "help flowmap") (Print (codes "flowmap [-K N]: maps to LUTs of at most N inputs, at the least depth" ++ 10 ∷ codes "  -K N  at most N inputs, 2 to 8, by default 6 or those of read_lut" ++ 10 ∷ []) ∷ [])
   pub leaving : IsScript (codes "q; quit; exit; ps") (Quit ∷ Quit ∷ Quit ∷ Stats ∷ [])
   pub sourcing : IsScript (codes "source a.abc; dress b; time") (Source (codes "a.abc") ∷ Time ∷ [])
+  pub reading_luts : IsScript (codes "read_lut l; if -K 6") (ReadLuts (codes "l") ∷ Make (Map false (Some 6)) ∷ [])
   pub printing_levels : IsScript (codes "print_level") (Levels ∷ [])
   pub generated : IsScript (codes "gen 18446744073709551615 32768; ps") (Generate 18446744073709551615 32768 ∷ Stats ∷ [])
   pub sweeping : IsScript (codes "read_blif a; scl; ps") (Read (codes "a") ∷ Make Sweep ∷ Stats ∷ [])

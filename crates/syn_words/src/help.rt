@@ -47,6 +47,7 @@ const ORDER: &[Keyword] = &[
     Keyword::Echo,
     Keyword::Help,
     Keyword::Source,
+    Keyword::ReadLuts,
     Keyword::Dress,
     Keyword::Time,
     Keyword::Quit,
@@ -156,12 +157,12 @@ fn topic_of(keyword: Keyword) -> Topic
         Keyword::Map => (
             b"if [-a] [-K N]",
             b"maps to LUTs of at most N inputs",
-            b"  -a    looks for few LUTs, no more and no deeper than without it\n  -K N  at most N inputs, 2 to 8, by default 6\n",
+            b"  -a    looks for few LUTs, no more and no deeper than without it\n  -K N  at most N inputs, 2 to 8, by default 6 or those of read_lut\n",
         ),
         Keyword::MapByFlow => (
             b"flowmap [-K N]",
             b"maps to LUTs of at most N inputs, at the least depth",
-            b"  -K N  at most N inputs, 2 to 8, by default 6\n",
+            b"  -K N  at most N inputs, 2 to 8, by default 6 or those of read_lut\n",
         ),
         Keyword::Echo => (b"echo WORDS", b"prints the words, one blank apart", b""),
         Keyword::Help => (
@@ -170,6 +171,11 @@ fn topic_of(keyword: Keyword) -> Topic
             b"",
         ),
         Keyword::Source => (b"source FILE", b"runs the commands of a file", b""),
+        Keyword::ReadLuts => (
+            b"read_lut FILE",
+            b"reads areas of LUTs, and how many inputs they have at most where no -K is given",
+            b"",
+        ),
         Keyword::Dress => (b"dress FILE", b"does nothing: names are kept anyway", b""),
         Keyword::Time => (b"time", b"prints the seconds since it was done last", b""),
         Keyword::Quit => (

@@ -79,6 +79,8 @@ pub enum Command {
     Quit,
     /// `source F`: runs the commands of the file of that name.
     Source(FileName),
+    /// `read_lut F`: the LUTs of the file of that name are those that mapping uses.
+    ReadLuts(FileName),
     /// `time`: prints the seconds since it was done last.
     Time,
     /// `gen SEED SIZE`: the graph of the netlist that is generated from a seed becomes the network.

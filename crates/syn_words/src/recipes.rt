@@ -38,15 +38,15 @@ pub enum Recipe {
     Resubstitute(PassOptions),
     /// `fraig [-C n] [-L]`: merges nodes that are shown to have one value, or opposite values, for all values of the sources.
     Merge(SearchLimits),
-    /// `if [-a] [-K n]`: maps the network to LUTs of so many inputs at most.
+    /// `if [-a] [-K n]`: maps the network to LUTs of so many inputs at most; of as many as the session has, where none is named.
     Map {
         /// Whether few LUTs are looked for.
         area: bool,
         /// The most inputs of a LUT.
-        inputs: LutInputs,
+        inputs: Option<LutInputs>,
     },
-    /// `flowmap [-K n]`: maps the network to LUTs of so many inputs at most, at the least depth that there is.
-    MapByFlow(LutInputs),
+    /// `flowmap [-K n]`: maps the network to LUTs of so many inputs at most, likewise, at the least depth that there is.
+    MapByFlow(Option<LutInputs>),
     /// `scl`: drops latches that no output needs, and makes one of latches that always hold the same.
     Sweep,
 }

@@ -3,7 +3,7 @@
 ghost use Rattle.std.specs.Prelude.{◌≡◌, ◌⊎◌, [], ◌∷◌, Err, Ok, IfOk, OnOk, IfErr, None, option_map};
 ghost use Rattle.syn_words.specs.Help.{helped};
 ghost use Rattle.syn_words.specs.Texts.{echoed};
-ghost use Rattle.syn_words.specs.Commands.{commands_of, given_conflicts, given_limits, given_options, options, reading, resyn, resyn2, resyn2l, said, size_of, workers_of, writing};
+ghost use Rattle.syn_words.specs.Commands.{commands_of, given_conflicts, given_limits, given_options, inputs_of, options, reading, resyn, resyn2, resyn2l, said, size_of, workers_of, writing};
 ghost use Rattle.syn_words.specs.Scripts.{said_onto};
 ghost use Rattle.syn_words.specs.declared.Command.TheVariants as commands;
 
@@ -69,6 +69,16 @@ fn given_conflicts(number: Option<u64>) -> u32
     match number {
         None => USUAL_CONFLICTS,
         Some(number) => number.min(MAX_CONFLICTS as u64) as u32,
+    }
+}
+
+// The number of inputs that was given, if any.
+fn given_inputs(number: Option<u64>) -> Option<LutInputs>
+    ensures { result ≡ option_map inputs_of number }
+{
+    match number {
+        Some(number) => Some(LutInputs::of(number)),
+        None => None,
     }
 }
 
@@ -204,7 +214,7 @@ fn commands_of(
     let plain = given_options(flag, &given);
     let zero = given_options(true, &given);
     let limits = given_limits(&given);
-    let inputs = LutInputs::of(given.number);
+    let inputs = given_inputs(given.number);
     let (seed, size) = (given.numbers.0, size_of(given.numbers.1));
     match keyword {
         Keyword::ReadBlif => one(alloc, Command::Read(FileName::of(alloc, given.name)?)),
@@ -235,6 +245,7 @@ fn commands_of(
         Keyword::Help => one(alloc, Command::Print(helped(alloc, given.topic)?)),
         Keyword::Quit => one(alloc, Command::Quit),
         Keyword::Source => one(alloc, Command::Source(FileName::of(alloc, given.name)?)),
+        Keyword::ReadLuts => one(alloc, Command::ReadLuts(FileName::of(alloc, given.name)?)),
         Keyword::Dress => Ok(Vec::new(alloc)),
         Keyword::Time => one(alloc, Command::Time),
         Keyword::Generate => one(alloc, Command::Generate { seed, size }),

@@ -17,6 +17,7 @@ pub enum Keyword {
     Help,
     Quit,
     Source,
+    ReadLuts,
     Dress,
     Time,
     Strash,
@@ -171,7 +172,7 @@ const SEED_AND_SIZE: Form = Form {
 };
 
 // The names, long and short.
-const TABLE: [Row; 39] = [
+const TABLE: [Row; 40] = [
     (b"read_blif", NAME, Keyword::ReadBlif),
     (b"write_blif", NAME, Keyword::WriteBlif),
     (b"print_stats", NOTHING, Keyword::PrintStats),
@@ -183,6 +184,7 @@ const TABLE: [Row; 39] = [
     (b"q", NOTHING, Keyword::Quit),
     (b"exit", NOTHING, Keyword::Quit),
     (b"source", NAME, Keyword::Source),
+    (b"read_lut", NAME, Keyword::ReadLuts),
     (b"dress", NAME, Keyword::Dress),
     (b"time", NOTHING, Keyword::Time),
     (b"strash", NOTHING, Keyword::Strash),
