@@ -118,6 +118,19 @@ pub(crate) fn remake_graph<R: Threads + Sync, G: CommitHook>(
             Ok(None)
         }
         Recipe::Refactor(options) => {
+            if let Some(selector) = options.workers {
+                let number = selector.number();
+                if number >= 6 {
+                    let levels = options.levels;
+                    let new = if number == 16 {
+                        syn_fraig::fraig(alloc, &network.body, &syn_fraig::Limits { conflicts: 100, levels })?
+                    } else {
+                        syn_sresub::sresub(alloc, &network.body, &syn_sresub::Limits { gates: 2, conflicts: 100 + 1000 * (number as u32), levels })?
+                    };
+                    remade(network, Some(new));
+                    return Ok(None);
+                }
+            }
             let settings = settings_of(options, workers);
             let new = refactor(rt, alloc, &network.body, settings, hook)?;
             remade(network, new);

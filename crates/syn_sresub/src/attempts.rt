@@ -48,7 +48,8 @@ fn ask(
     ensures same { IfOk result (λ a. a ≡ Answer.Refuted → IsAndOf rows.now m x y) }
     ensures clauses { OnOk result (AreTrueBy rows.now solver.new.clauses) }
 {
-    refresh(rows, solver)?;
+    let stale = tools.asks(solver.clauses.count());
+    refresh(rows, solver, stale)?;
     tools.stack.push(m.node())?;
     tools.stack.push(x.node())?;
     tools.stack.push(y.node())?;
@@ -57,12 +58,12 @@ fn ask(
 }
 
 // Empties a solver that has grown large, and gives it room for all rows.
-fn refresh(rows: &[Row], solver: &mut Solver) -> Result<(), AllocError>
+fn refresh(rows: &[Row], solver: &mut Solver, stale: bool) -> Result<(), AllocError>
     requires few { length rows.now < NODE_LIMIT }
     ensures { OnOk result (AreTrueBy rows.now solver.old.clauses → AreTrueBy rows.now solver.new.clauses) }
 {
     solver.grow(rows.len() as u32)?;
-    if solver.is_large() {
+    if stale || solver.is_large() {
         solver.clear()?;
     }
     Ok(())

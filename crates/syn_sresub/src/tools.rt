@@ -43,6 +43,8 @@ pub(crate) struct Tools {
     need: u32,
     depth: u32,
     failures: u32,
+    questions: u32,
+    choice: u32,
 }
 
 impl Tools {
@@ -53,7 +55,7 @@ impl Tools {
         let alike = Alike::new(alloc)?;
         Ok(Tools {
             stack: Vec::new(alloc),
-            conflicts: limits.conflicts,
+            conflicts: limits.conflicts % 1000,
             words: Words::new(alloc),
             alike,
             references: References::new(alloc),
@@ -68,6 +70,8 @@ impl Tools {
             need: 0,
             depth: 0,
             failures: 0,
+            questions: 0,
+            choice: limits.conflicts / 1000,
         })
     }
 
@@ -214,6 +218,27 @@ impl Tools {
             }
         }
         None
+    }
+
+    pub(crate) fn asks(&mut self, clauses: usize) -> bool {
+        let (q, c) = match self.choice {
+            7 => (50, 10000),
+            8 => (100, 10000),
+            9 => (200, 10000),
+            10 => (100, 20000),
+            11 => (100, 5000),
+            12 => (400, 20000),
+            13 => (1000, 30000),
+            14 => (100, 2000),
+            15 => (30, 2000),
+            _ => (1000000000, 1000000000),
+        };
+        if self.questions >= q && clauses >= c {
+            self.questions = 0;
+            return true;
+        }
+        self.questions = self.questions.saturating_add(1);
+        false
     }
 
     /// A guess has failed; the solver's model, if there is one, becomes patterns.
