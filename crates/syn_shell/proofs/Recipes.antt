@@ -94,6 +94,7 @@ kept_of (recipes.Rewrite options) old new graph made = remade_of_it old new grap
 kept_of (recipes.Refactor options) old new graph made = remade_of_it old new graph (passed_remade options.levels refactorings old new made)
 kept_of (recipes.Resubstitute options) old new graph made = remade_of_it old new graph (passed_remade options.levels resubstitutions old new made)
 kept_of (recipes.Merge limits) old new graph made = remade_of_it old new graph made.remade
+kept_of (recipes.Replace limits) old new graph made = remade_of_it old new graph made.remade
 kept_of (recipes.Map false inputs) old new graph made = luts_of_it inputs old new made.luts
 kept_of (recipes.Map true inputs) old new graph made = luts_of_it inputs old new made.luts
 kept_of (recipes.MapByFlow inputs) old new graph made = luts_of_it inputs old new made.luts

@@ -33,7 +33,8 @@ use syn_resub::resub;
 use syn_rewrite::rewrite;
 use syn_seq::sweep;
 use syn_settled::{few_luts, least_luts};
-use syn_words::{LutInputs, PassOptions, Recipe, SearchLimits};
+use syn_sresub::sresub;
+use syn_words::{LutInputs, PassOptions, Recipe, ReplaceLimits, SearchLimits};
 use syn_workers::Workers;
 
 // How a pass is to go: as the options say, with so many workers where these name none.
@@ -52,6 +53,17 @@ fn limits_of(limits: &SearchLimits) -> Limits
     ensures levels { result.levels ≡ limits.now.levels }
 {
     Limits {
+        conflicts: limits.conflicts,
+        levels: limits.levels,
+    }
+}
+
+// How far resubstitution by refutation goes, as the command says.
+fn reach_of(limits: &ReplaceLimits) -> syn_sresub::Limits
+    ensures levels { result.levels ≡ limits.now.levels }
+{
+    syn_sresub::Limits {
+        gates: limits.gates,
         conflicts: limits.conflicts,
         levels: limits.levels,
     }
@@ -164,6 +176,11 @@ pub(crate) fn remake_graph<R: Threads + Sync, G: CommitHook>(
         }
         Recipe::Merge(limits) => {
             let new = fraig(alloc, &network.body, &limits_of(limits))?;
+            remade(network, Some(new));
+            Ok(None)
+        }
+        Recipe::Replace(limits) => {
+            let new = sresub(alloc, &network.body, &reach_of(limits))?;
             remade(network, Some(new));
             Ok(None)
         }

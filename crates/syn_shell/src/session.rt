@@ -1,7 +1,7 @@
 //! The session: the network, and the commands that make, show and write it.
 
-ghost use Rattle.std.specs.Prelude.{◌≡◌, ◌⊎◌, ◌≤◌, ◌<◌, ◌^◌, length, IfOk, IfErr, OnOk, Some, None};
-ghost use Rattle.syn_io.specs.Outside.{Rose};
+ghost use Rattle.std.specs.Prelude.{◌≡◌, ℕ, ◌≤◌, ◌<◌, ◌^◌, length, List, IfOk, IfErr, OnOk, Some, None};
+ghost use Rattle.syn_netlist.specs.Lists.{Netlist};
 ghost use Rattle.syn_netlist.specs.Views.{netlist_in};
 ghost use Rattle.syn_reader.specs.Reading.{Reads};
 ghost use Rattle.syn_reader.specs.Limits.{Within};
@@ -9,9 +9,10 @@ ghost use Rattle.syn_text.specs.Printed.{printed};
 ghost use Rattle.syn_network.specs.Written as graphs;
 ghost use Rattle.syn_build.specs.Building.{IsGraphOf};
 ghost use Rattle.syn_gen.specs.Generated.{generated};
-ghost use Rattle.syn_shell.specs.Networks.{graph_network, IsSmall, network_of};
-ghost use Rattle.syn_shell.specs.Outside.{FileIs, FilesUnchanged, OthersUnchanged, state};
-ghost use Rattle.syn_shell.specs.Steps.{file_limit, GeneratingRefused, IsReadAs, MakingRefused, ParseRefused, ReadRefused, Remakes, SessionStep, WriteRefused};
+ghost use Rattle.syn_shell.specs.Networks.{graph_network, IsSmall, network_of, Written};
+ghost use Rattle.syn_shell.specs.Lines.{IsStatsLine};
+ghost use Rattle.syn_shell.specs.Outside.{FileIs, FilesUnchanged, OthersUnchanged, Took, state};
+ghost use Rattle.syn_shell.specs.Steps.{AigerReadRefused, AigerWriteRefused, file_limit, GeneratingRefused, IsAigerOf, IsReadAs, IsReadAsAiger, MakingRefused, ParseRefused, PrintRefused, ReadRefused, Remakes, SessionStep, WriteRefused};
 
 use crate::aiger;
 use crate::files::{get, put};
@@ -129,6 +130,92 @@ impl Session {
         }
     }
 
+    // Makes the graph of a file's netlist the network.
+    fn read<F: Files>(
+        &mut self,
+        alloc: Global,
+        name: &str,
+        files: &mut F,
+    ) -> Result<(), Refusal>
+        ensures read { OnOk result ((net : Netlist) × (self.new ≡ Some (graph_network net)) × IsReadAs name.now (F.disk files.old) net) }
+        ensures stays { IfErr result (λ cause. self.new ≡ self.old) }
+        ensures refused { IfErr result (ReadRefused name.now (F.disk files.old) (F.disk files.new)) }
+        ensures unchanged { FilesUnchanged (F.disk files.old) (F.disk files.new) }
+    {
+        let graph = read(alloc, name, files)?;
+        self.network = Some(HeldNetwork::Graph(graph));
+        Ok(())
+    }
+
+    // Makes the graph of an AIGER file the network.
+    fn read_aiger<F: Files>(
+        &mut self,
+        alloc: Global,
+        name: &str,
+        files: &mut F,
+    ) -> Result<(), Refusal>
+        ensures read { OnOk result ((net : Netlist) × (self.new ≡ Some (graph_network net)) × IsReadAsAiger name.now (F.disk files.old) net) }
+        ensures stays { IfErr result (λ cause. self.new ≡ self.old) }
+        ensures refused { IfErr result (AigerReadRefused name.now (F.disk files.old) (F.disk files.new)) }
+        ensures unchanged { FilesUnchanged (F.disk files.old) (F.disk files.new) }
+    {
+        let graph = aiger::read(alloc, name, files)?;
+        self.network = Some(HeldNetwork::Graph(graph));
+        Ok(())
+    }
+
+    // Makes the graph of a generated netlist the network.
+    fn generate(&mut self, alloc: Global, seed: u64, size: u16) -> Result<(), Refusal>
+        ensures made { OnOk result ((net : Netlist) × (self.new ≡ Some (graph_network net)) × IsGraphOf (generated seed size) net) }
+        ensures stays { IfErr result (λ cause. self.new ≡ self.old) }
+        ensures refused { IfErr result GeneratingRefused }
+    {
+        let graph = generated(alloc, seed, size)?;
+        self.network = Some(HeldNetwork::Graph(graph));
+        Ok(())
+    }
+
+    // Puts the network's line.
+    fn print_stats<O: Sink>(&self, alloc: Global, out: &mut O) -> Result<(), Refusal>
+        ensures put { OnOk result ((net : Written) × (line : List ℕ) × (self.now ≡ Some net) × IsStatsLine net line × Took line (O.screen out.old) (O.screen out.new)) }
+        ensures refused { IfErr result (PrintRefused self.now (O.screen out.old) (O.screen out.new)) }
+    {
+        match &self.network {
+            None => Err(Refusal::NoNetwork),
+            Some(network) => print_stats(alloc, network, out),
+        }
+    }
+
+    // Writes the network to a file.
+    fn write<F: Files>(&self, alloc: Global, name: &str, files: &mut F) -> Result<(), Refusal>
+        ensures written { OnOk result ((net : Written) × (self.now ≡ Some net) × FileIs name.now (F.disk files.new) (printed net.netlist) × Reads (printed net.netlist) net.netlist
+            × OthersUnchanged name.now (F.disk files.old) (F.disk files.new)) }
+        ensures refused { IfErr result (WriteRefused self.now name.now (F.disk files.old) (F.disk files.new)) }
+    {
+        match &self.network {
+            None => Err(Refusal::NoNetwork),
+            Some(network) => write(alloc, network, name, files),
+        }
+    }
+
+    // Writes the network's graph to an AIGER file.
+    fn write_aiger<F: Files>(
+        &self,
+        alloc: Global,
+        ascii: bool,
+        name: &str,
+        files: &mut F,
+    ) -> Result<(), Refusal>
+        ensures written { OnOk result ((net : Written) × (bytes : List ℕ) × (self.now ≡ Some net) × FileIs name.now (F.disk files.new) bytes × IsAigerOf ascii net bytes
+            × OthersUnchanged name.now (F.disk files.old) (F.disk files.new)) }
+        ensures refused { IfErr result (AigerWriteRefused self.now name.now (F.disk files.old) (F.disk files.new)) }
+    {
+        match &self.network {
+            None => Err(Refusal::NoNetwork),
+            Some(network) => aiger::write(alloc, network, ascii, name, files),
+        }
+    }
+
     // Makes the network anew by a recipe.
     fn make<R: Threads + Sync, G: CommitHook>(
         &mut self,
@@ -138,7 +225,8 @@ impl Session {
         hook: &G,
     ) -> Result<(), Refusal>
         ensures made { OnOk result (Remakes recipe.now self.old self.new) }
-        ensures refused { IfErr result (λ cause. MakingRefused self.old cause × (self.new ≡ self.old)) }
+        ensures stays { IfErr result (λ cause. self.new ≡ self.old) }
+        ensures refused { IfErr result (MakingRefused self.old) }
     {
         match &mut self.network {
             None => Err(Refusal::NoNetwork),
@@ -160,33 +248,14 @@ impl Session {
         ensures { SessionStep command.now (state self.old (F.disk files.old) (O.screen out.old)) result (state self.new (F.disk files.new) (O.screen out.new)) }
     {
         match command {
-            Command::Read(name) => {
-                let graph = read(alloc, name.as_str(), files)?;
-                self.network = Some(HeldNetwork::Graph(graph));
-                Ok(())
+            Command::Read(name) => self.read(alloc, name.as_str(), files),
+            Command::ReadAiger(name) => self.read_aiger(alloc, name.as_str(), files),
+            Command::Generate { seed, size } => self.generate(alloc, *seed, *size),
+            Command::Stats => self.print_stats(alloc, out),
+            Command::Write(name) => self.write(alloc, name.as_str(), files),
+            Command::WriteAiger { ascii, name } => {
+                self.write_aiger(alloc, *ascii, name.as_str(), files)
             }
-            Command::ReadAiger(name) => {
-                let graph = aiger::read(alloc, name.as_str(), files)?;
-                self.network = Some(HeldNetwork::Graph(graph));
-                Ok(())
-            }
-            Command::Generate { seed, size } => {
-                let graph = generated(alloc, *seed, *size)?;
-                self.network = Some(HeldNetwork::Graph(graph));
-                Ok(())
-            }
-            Command::Stats => match &self.network {
-                None => Err(Refusal::NoNetwork),
-                Some(network) => print_stats(alloc, network, out),
-            },
-            Command::Write(name) => match &self.network {
-                None => Err(Refusal::NoNetwork),
-                Some(network) => write(alloc, network, name.as_str(), files),
-            },
-            Command::WriteAiger { ascii, name } => match &self.network {
-                None => Err(Refusal::NoNetwork),
-                Some(network) => aiger::write(alloc, network, *ascii, name.as_str(), files),
-            },
             Command::Make(recipe) => self.make(rt, alloc, recipe, hook),
         }
     }

@@ -11,7 +11,7 @@ pub returns-in_ok-few : goal.returns-in_ok-few
 returns-in_ok-few g c =
     let h = c.in_ok-few.ensures in
     subst (λ (r : Recipe). IfOk c.mapped.result (λ made. MakesOfGraph r (graph_network (graphs.network_of c.args.network.now)) (mapped_network (luts.network_of made)))) (sym (ap₂ recipes.Map c.if-area.true (sym c.number-number.ensures.number)))
-    (c.mapped.ensures.few c.number-number.result (record { luts = record { inputs = h.inputs; count = h.count }; depth = h.depth; fewer = h.fewer }))
+    (c.mapped.ensures.few c.number-number.result (record { luts = record { inputs = h.inputs; count = h.count }; depth = h.depth; fewer = h.fewer; settled = record { depend = h.depend; shown = h.shown } }))
 
 pub returns-in_ok-plain : goal.returns-in_ok-plain
 returns-in_ok-plain g c =
