@@ -1,5 +1,5 @@
 -- A run that was ready is refused for want of memory alone, or where a call failed.
-use Rattle.std.proofs.Common.{◌≡◌, ◌⊎◌, ℕ, ◌+◌, ◌<◌, ◌≤◌, List, [], ◌∷◌, ◌++◌, length, refl, sym, ◌∙◌, subst, arith, inl, inr, Option, None, Some, IfSome, IsSome}
+use Rattle.std.proofs.Common.{◌≡◌, ◌⊎◌, ℕ, ◌+◌, ◌<◌, ◌≤◌, Bool, false, List, [], ◌∷◌, ◌++◌, length, refl, sym, ◌∙◌, subst, arith, inl, inr, Option, None, Some, IfSome, IsSome}
 use Rattle.std.specs.Option.{IsSomeAnd}
 use Rattle.syn_io.specs.Outside.{Disk, Input, Screen, file_at, next_line}
 use Rattle.syn_netlist.specs.Lists.{Netlist}
@@ -23,7 +23,7 @@ use Rattle.syn_build.specs.BuildFaults.{most_gates}
 use Rattle.syn_shell.specs.Networks.{Written, gates_in}
 use Rattle.syn_shell.specs.Outside.{State, script_limit}
 use Rattle.syn_shell.specs.Lines.{refusal_status}
-use Rattle.syn_shell.specs.Steps.{Denied, file_limit, AigerReadRefused, AigerRefused, AigerWriteRefused, GeneratingRefused, GetRefused, MakingRefused, PrintRefused, ReadRefused, WriteRefused}
+use Rattle.syn_shell.specs.Steps.{Denied, file_limit, AigerReadRefused, AigerRefused, AigerWriteRefused, GeneratingRefused, GetRefused, MakingRefused, PrintRefused, ReadRefused, TextRefused, WriteRefused}
 use Rattle.syn_shell.specs.Scripts.{Refused, RunsCommands, RunsScript, ScriptRefused, nameless}
 use Rattle.syn_shell.specs.LineMode.{LineRefused, NoFurther, RunsLines, listed, most_lines}
 use Rattle.syn_shell.specs.Usage.{Usage, OneScript, EachLine, Faulty, usage_of}
@@ -120,31 +120,35 @@ write_fine m name before after PutFailed needs why = failed
 write_fine m name before after NoMemory needs why = no_memory
 write_fine m name before after other needs why = absurd why
 
--- not too many gates make the network a graph, and no latch has a type
-abbrev HasAiger : Option Written → Type 0
-HasAiger m = IsSomeAnd m (λ net. (gates_in net ≤ most_gates) × (first_typed net.netlist.frame ≡ None))
+-- not too many gates make the network a graph, and no latch has a type where types aren't left out
+abbrev HasAiger : Bool → Option Written → Type 0
+HasAiger bare m = IsSomeAnd m (λ net. (gates_in net ≤ most_gates) × (bare ≡ false → first_typed net.netlist.frame ≡ None))
 
-there_is_an_aiger : (m : Option Written) → HasAiger m → IsSome m
-there_is_an_aiger None needs = absurd needs
-there_is_an_aiger (Some net) needs = refl
+there_is_an_aiger : (bare : Bool) (m : Option Written) → HasAiger bare m → IsSome m
+there_is_an_aiger bare None needs = absurd needs
+there_is_an_aiger bare (Some net) needs = refl
 
-has_aiger : (m : Option Written) (cause : Refusal) → HasAiger m → IsSomeAnd m (λ net. AigerRefused net cause) → IsFine (refusal_status cause)
-has_aiger None cause needs why = absurd needs
-has_aiger (Some net) cause needs why = by cause why
+has_aiger : (bare : Bool) (m : Option Written) (cause : Refusal) → HasAiger bare m → IsSomeAnd m (λ net. AigerRefused bare net cause) → IsFine (refusal_status cause)
+has_aiger bare None cause needs why = absurd needs
+has_aiger bare (Some net) cause needs why = by cause why
   where
     none : (found : Option (List ℕ)) (latch : List ℕ) → found ≡ None → found ≡ Some latch → ⊥
     none found latch e h = let z : ◌≡◌ {A = Option (List ℕ)} None (Some latch) = sym e ∙ h in cc
 
-    by : (c : Refusal) → AigerRefused net c → IsFine (refusal_status c)
+    by : (c : Refusal) → AigerRefused bare net c → IsFine (refusal_status c)
     by (TooManyGates gates) why = let few = needs.0 in absurd (omega (arith, few, why.0, why.1))
-    by (LatchType latch) why = absurd (none (first_typed net.netlist.frame) latch needs.1 why.1)
+    by (LatchType latch) why = absurd (none (first_typed net.netlist.frame) latch (needs.1 why.0) why.2)
     by NoMemory why = no_memory
     by other why = absurd why
 
-aiger_write_fine : (m : Option Written) (name : List ℕ) (before after : Disk) (cause : Refusal) → HasAiger m → AigerWriteRefused m name before after cause → IsFine (refusal_status cause)
-aiger_write_fine m name before after (TooManyGates gates) needs why = has_aiger m (TooManyGates gates) needs why.0
-aiger_write_fine m name before after (LatchType latch) needs why = has_aiger m (LatchType latch) needs why.0
-aiger_write_fine m name before after other needs why = write_fine m name before after other (there_is_an_aiger m needs) why
+aiger_write_fine : (bare : Bool) (m : Option Written) (name : List ℕ) (before after : Disk) (cause : Refusal) → HasAiger bare m → AigerWriteRefused bare m name before after cause → IsFine (refusal_status cause)
+aiger_write_fine bare m name before after (TooManyGates gates) needs why = has_aiger bare m (TooManyGates gates) needs why.0
+aiger_write_fine bare m name before after (LatchType latch) needs why = has_aiger bare m (LatchType latch) needs why.0
+aiger_write_fine bare m name before after other needs why = write_fine m name before after other (there_is_an_aiger bare m needs) why
+
+text_fine : (text : List ℕ) (before after : Screen) (cause : Refusal) → TextRefused text before after cause → IsFine (refusal_status cause)
+text_fine text before after SinkFailed why = failed
+text_fine text before after other why = absurd why
 
 -- not too many gates make the network a graph
 abbrev IsGraphable : Option Written → Type 0
@@ -174,7 +178,10 @@ denied_fine not_both (commands.ReadAiger name) before after cause needs (stays, 
 denied_fine not_both (commands.Generate seed size) before after cause needs (stays, why, stand, same) = generating_fine cause why
 denied_fine not_both commands.Stats before after cause needs (stays, why, same) = print_fine before.network before.sink after.sink cause needs why
 denied_fine not_both (commands.Write name) before after cause needs (stays, why, same) = write_fine before.network name before.files after.files cause needs why
-denied_fine not_both (commands.WriteAiger ascii name) before after cause needs (stays, why, same) = aiger_write_fine before.network name before.files after.files cause needs why
+denied_fine not_both (commands.WriteAiger ascii bare name) before after cause needs (stays, why, same) = aiger_write_fine bare before.network name before.files after.files cause needs why
+denied_fine not_both (commands.Print text) before after cause needs (stays, why, same) = text_fine text before.sink after.sink cause why
+denied_fine not_both (commands.Source name) before after cause needs none = absurd none
+denied_fine not_both commands.Quit before after cause needs none = absurd none
 denied_fine not_both (commands.Make recipe) before after cause needs (stays, why, stand, same) = making_fine before.network cause needs why
 
 abbrev OutcomeFine : Option Refused → Type 0

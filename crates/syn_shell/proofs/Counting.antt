@@ -7,7 +7,7 @@ use Rattle.syn_words.specs.declared.Command.TheVariants as commands
 use Rattle.syn_shell.specs.declared.refusal.Refusal.{Refusal}
 use Rattle.syn_shell.specs.declared.refusal.Refusal.TheVariants.{Words, Script, Read, ReadAiger, FileTooLong, LineTooLong, TooManyGates, LatchType, NoNetwork, GetFailed, PutFailed, LineFailed, SinkFailed, NoMemory}
 use Rattle.syn_shell.specs.Outside.{State}
-use Rattle.syn_shell.specs.Steps.{Accepted, Denied, GetRefused, ReadRefused, AigerReadRefused, GeneratingRefused, MakingRefused, PrintRefused, WriteRefused, AigerWriteRefused}
+use Rattle.syn_shell.specs.Steps.{Accepted, Denied, GetRefused, ReadRefused, AigerReadRefused, GeneratingRefused, MakingRefused, PrintRefused, TextRefused, WriteRefused, AigerWriteRefused}
 use Rattle.syn_shell.specs.Scripts.{Refused, RunsCommands, RunsScript, ScriptRefused, SinkGaveUp, Announced, nameless}
 use Rattle.syn_shell.specs.LineMode.{EndsBySink, GoesOn, LineRefused, NoFurther, RunsLines, listed}
 use Rattle.syn_shell.specs.Usage.{Usage, OneScript, EachLine, Faulty, usage_of}
@@ -75,10 +75,14 @@ write_counted m file name PutFailed d d' s s' (some, rose, others) e = record { 
 write_counted m file name NoMemory d d' s s' others e = record { files = covers_none d.faults d'.faults others.later; sink = sink_same s s' e; lines = refl }
 write_counted m file name other d d' s s' why e = absurd why
 
-aiger_write_counted : (m : Option Written) (file name : List ℕ) (cause : Refusal) (d d' : Disk) (s s' : Screen) → AigerWriteRefused m file d d' cause → s' ≡ s → Counted (record { cause = cause; name = name } ∷ []) d s d' s'
-aiger_write_counted m file name (TooManyGates gates) d d' s s' why e = record { files = disk_same d d' why.1; sink = sink_same s s' e; lines = refl }
-aiger_write_counted m file name (LatchType latch) d d' s s' why e = record { files = disk_same d d' why.1; sink = sink_same s s' e; lines = refl }
-aiger_write_counted m file name other d d' s s' why e = write_counted m file name other d d' s s' why e
+aiger_write_counted : (bare : Bool) (m : Option Written) (file name : List ℕ) (cause : Refusal) (d d' : Disk) (s s' : Screen) → AigerWriteRefused bare m file d d' cause → s' ≡ s → Counted (record { cause = cause; name = name } ∷ []) d s d' s'
+aiger_write_counted bare m file name (TooManyGates gates) d d' s s' why e = record { files = disk_same d d' why.1; sink = sink_same s s' e; lines = refl }
+aiger_write_counted bare m file name (LatchType latch) d d' s s' why e = record { files = disk_same d d' why.1; sink = sink_same s s' e; lines = refl }
+aiger_write_counted bare m file name other d d' s s' why e = write_counted m file name other d d' s s' why e
+
+text_counted : (text name : List ℕ) (cause : Refusal) (d d' : Disk) (s s' : Screen) → TextRefused text s s' cause → d' ≡ d → Counted (record { cause = cause; name = name } ∷ []) d s d' s'
+text_counted text name SinkFailed d d' s s' part e = record { files = disk_same d d' e; sink = covers_one s.faults s'.faults part.later part.failed; lines = refl }
+text_counted text name other d d' s s' why e = absurd why
 
 making_counted : (m : Option Written) (name : List ℕ) (cause : Refusal) (d d' : Disk) (s s' : Screen) → MakingRefused m cause → d' ≡ d → s' ≡ s → Counted (record { cause = cause; name = name } ∷ []) d s d' s'
 making_counted m name NoNetwork d d' s s' why e f = record { files = disk_same d d' e; sink = sink_same s s' f; lines = refl }
@@ -98,8 +102,14 @@ refused_counted (commands.ReadAiger file) name cause before after (stays, why, s
 refused_counted (commands.Generate seed size) name cause before after (stays, why, e, f) = generating_counted name cause before.files after.files before.sink after.sink why e f
 refused_counted commands.Stats name cause before after (stays, why, e) = print_counted before.network name cause before.files after.files before.sink after.sink why e
 refused_counted (commands.Write file) name cause before after (stays, why, e) = write_counted before.network file name cause before.files after.files before.sink after.sink why e
-refused_counted (commands.WriteAiger ascii file) name cause before after (stays, why, e) = aiger_write_counted before.network file name cause before.files after.files before.sink after.sink why e
+refused_counted (commands.WriteAiger ascii bare file) name cause before after (stays, why, e) = aiger_write_counted bare before.network file name cause before.files after.files before.sink after.sink why e
+refused_counted (commands.Print text) name cause before after (stays, why, e) = text_counted text name cause before.files after.files before.sink after.sink why e
+refused_counted (commands.Source file) name cause before after none = absurd none
+refused_counted commands.Quit name cause before after none = absurd none
 refused_counted (commands.Make recipe) name cause before after (stays, why, e, f) = making_counted before.network name cause before.files after.files before.sink after.sink why e f
+
+stands_counted : (before after : State) → after ≡ before → Counted [] before.files before.sink after.files after.sink
+stands_counted before after e = record { files = disk_same before.files after.files (ap (λ (x : State). x.files) e); sink = sink_same before.sink after.sink (ap (λ (x : State). x.sink) e); lines = refl }
 
 accepted_counted : (c : Command) (before after : State) → Accepted c before after → Counted [] before.files before.sink after.files after.sink
 accepted_counted (commands.Read file) before after (net, is, read, stand, e) = record { files = covers_none before.files.faults after.files.faults stand.later; sink = sink_same before.sink after.sink e; lines = refl }
@@ -107,7 +117,10 @@ accepted_counted (commands.ReadAiger file) before after (net, is, read, stand, e
 accepted_counted (commands.Generate seed size) before after (net, is, graph, e, f) = record { files = disk_same before.files after.files e; sink = sink_same before.sink after.sink f; lines = refl }
 accepted_counted commands.Stats before after (net, line, some, stays, e, text, took) = record { files = disk_same before.files after.files e; sink = covers_none before.sink.faults after.sink.faults took.later; lines = refl }
 accepted_counted (commands.Write file) before after (net, some, stays, bytes, reads, others, e) = record { files = covers_none before.files.faults after.files.faults others.later; sink = sink_same before.sink after.sink e; lines = refl }
-accepted_counted (commands.WriteAiger ascii file) before after (net, bytes, some, stays, there, are, others, e) = record { files = covers_none before.files.faults after.files.faults others.later; sink = sink_same before.sink after.sink e; lines = refl }
+accepted_counted (commands.WriteAiger ascii bare file) before after (net, bytes, some, stays, there, are, others, e) = record { files = covers_none before.files.faults after.files.faults others.later; sink = sink_same before.sink after.sink e; lines = refl }
+accepted_counted (commands.Print text) before after (stays, e, took) = record { files = disk_same before.files after.files e; sink = covers_none before.sink.faults after.sink.faults took.later; lines = refl }
+accepted_counted (commands.Source file) before after same = stands_counted before after same
+accepted_counted commands.Quit before after same = stands_counted before after same
 accepted_counted (commands.Make recipe) before after (made, e, f) = record { files = disk_same before.files after.files e; sink = sink_same before.sink after.sink f; lines = refl }
 
 -- parts one after the other
@@ -122,11 +135,8 @@ counted_both xs ys d e d' s t s' g h = record {
 abbrev CountedIn : List Refused → State → State → Type 0
 CountedIn refusals before after = Counted refusals before.files before.sink after.files after.sink
 
-state_counted : (before after : State) → after ≡ before → CountedIn [] before after
-state_counted before after e = record { files = disk_same before.files after.files (ap (λ (x : State). x.files) e); sink = sink_same before.sink after.sink (ap (λ (x : State). x.sink) e); lines = refl }
-
 commands_counted : (cs : List Command) (before after : State) (outcome : Option Refused) → RunsCommands cs before outcome after → CountedIn (listed outcome) before after
-commands_counted [] before after outcome (none, same) = subst (λ (o : Option Refused). CountedIn (listed o) before after) (sym none) (state_counted before after same)
+commands_counted [] before after outcome (none, same) = subst (λ (o : Option Refused). CountedIn (listed o) before after) (sym none) (stands_counted before after same)
 commands_counted (c ∷ cs) before after outcome (inl (between, step, more)) =
     counted_both [] (listed outcome) before.files between.files after.files before.sink between.sink after.sink
     (accepted_counted c before between step) (commands_counted cs between after outcome more)
@@ -141,9 +151,9 @@ nothing_counted refused before after f s l h = record {
 }
 
 unrun_counted : (text : List ℕ) (cause : Refusal) (before after : State) → ScriptRefused text cause → after ≡ before → CountedIn (nameless cause ∷ []) before after
-unrun_counted text LineTooLong before after why e = nothing_counted (nameless LineTooLong) before after refl refl refl (state_counted before after e)
-unrun_counted text (Script fault) before after why e = nothing_counted (nameless (Script fault)) before after refl refl refl (state_counted before after e)
-unrun_counted text NoMemory before after why e = nothing_counted (nameless NoMemory) before after refl refl refl (state_counted before after e)
+unrun_counted text LineTooLong before after why e = nothing_counted (nameless LineTooLong) before after refl refl refl (stands_counted before after e)
+unrun_counted text (Script fault) before after why e = nothing_counted (nameless (Script fault)) before after refl refl refl (stands_counted before after e)
+unrun_counted text NoMemory before after why e = nothing_counted (nameless NoMemory) before after refl refl refl (stands_counted before after e)
 unrun_counted text other before after why e = absurd why
 
 script_counted : (text : List ℕ) (before after : State) (outcome : Option Refused) → RunsScript text before outcome after → CountedIn (listed outcome) before after
@@ -165,7 +175,7 @@ telling_counted refused before after (inl told) = announced_counted refused befo
 telling_counted refused before after (inr gave_up) = gave_up_counted refused before after gave_up
 
 goes_on_counted : (outcome : Option Refused) (before after : State) → GoesOn outcome before after → CountedIn [] before after
-goes_on_counted None before after e = state_counted before after e
+goes_on_counted None before after e = stands_counted before after e
 goes_on_counted (Some refused) before after told = announced_counted refused before after told
 
 ends_counted : (outcome : Option Refused) (before after : State) → EndsBySink outcome before after → CountedIn [] before after
@@ -221,7 +231,7 @@ refused_line_counted cause before after i i' why h = record {
 -- the lines
 
 lines_counted : (lines : List (List ℕ)) (taken : ℕ) (before after : State) (refusals : List Refused) (i i' : Input) → RunsLines lines taken before i refusals after i' → CoverIn refusals before i after i'
-lines_counted [] taken before after refusals i i' (inl (gave, none, same)) = subst (λ (rs : List Refused). CoverIn rs before i after i') (sym none) (beside [] before after i i' (state_counted before after same) gave.later)
+lines_counted [] taken before after refusals i i' (inl (gave, none, same)) = subst (λ (rs : List Refused). CoverIn rs before i after i') (sym none) (beside [] before after i i' (stands_counted before after same) gave.later)
 lines_counted [] taken before after refusals i i' (inr (cause, why, is, telling)) =
     subst (λ (rs : List Refused). CoverIn rs before i after i') (sym is) (refused_line_counted cause before after i i' (further_counted taken cause i i' why) (telling_counted (nameless cause) before after telling))
 lines_counted (line ∷ lines) taken before after refusals i i' (j, outcome, done, lt, gave, runs, inl (told, more, on, is, rest)) =

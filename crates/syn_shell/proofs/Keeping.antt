@@ -97,7 +97,10 @@ denied_stays (commands.ReadAiger name) before cause after h = h.0
 denied_stays (commands.Generate seed size) before cause after h = h.0
 denied_stays commands.Stats before cause after h = h.0
 denied_stays (commands.Write name) before cause after h = h.0
-denied_stays (commands.WriteAiger ascii name) before cause after h = h.0
+denied_stays (commands.WriteAiger ascii bare name) before cause after h = h.0
+denied_stays (commands.Print text) before cause after h = h.0
+denied_stays (commands.Source name) before cause after h = absurd h
+denied_stays commands.Quit before cause after h = absurd h
 denied_stays (commands.Make recipe) before cause after h = h.0
 
 accepted_kept : AreLaws → (c : Command) (before after : State) (origin : Option Origin) → SessionStep c before (Ok tt) after → IsKept origin before.network → IsKept (origin_behind c before.files (Ok tt) origin) after.network
@@ -107,7 +110,10 @@ accepted_kept laws (commands.ReadAiger name) before after origin (net, is, read,
 accepted_kept laws (commands.Generate seed size) before after origin (net, is, graph, stand, same) kept = (graph_network net, is, (_, refl, graph.same, graph.ordered))
 accepted_kept laws commands.Stats before after origin (net, line, is, stays, files, text, took) kept = stays_kept origin before after stays kept
 accepted_kept laws (commands.Write name) before after origin (net, is, stays, file, reads, others, sink) kept = stays_kept origin before after stays kept
-accepted_kept laws (commands.WriteAiger ascii name) before after origin (net, bytes, is, stays, file, are, others, sink) kept = stays_kept origin before after stays kept
+accepted_kept laws (commands.WriteAiger ascii bare name) before after origin (net, bytes, is, stays, file, are, others, sink) kept = stays_kept origin before after stays kept
+accepted_kept laws (commands.Print text) before after origin (stays, files, took) kept = stays_kept origin before after stays kept
+accepted_kept laws (commands.Source name) before after origin same kept = stays_kept origin before after (ap (λ (s : State). s.network) same) kept
+accepted_kept laws commands.Quit before after origin same kept = stays_kept origin before after (ap (λ (s : State). s.network) same) kept
 accepted_kept laws (commands.Make recipe) before after origin (made, files, sink) kept = remade_kept laws recipe origin before.network after.network made kept
 
 step_kept : AreLaws → (c : Command) (before : State) (answer : Result (Unit {0}) Refusal) (after : State) (origin : Option Origin) → SessionStep c before answer after → IsKept origin before.network
@@ -192,8 +198,8 @@ given_of (Some origin) c net before after is gives (kept, there, keeps) =
 
 write_gives : (found : Option Origin) (c : Command) (before after : State) → writes c ≡ true → IsKept found before.network → SessionStep c before (Ok tt) after → Given found c after
 write_gives found (commands.Write name) before after writing kept (net, is, stays, file, reads, others, sink) = given_of found (commands.Write name) net before after is (file, reads) kept
-write_gives found (commands.WriteAiger ascii name) before after writing kept (net, bytes, is, stays, file, are, others, sink) =
-    given_of found (commands.WriteAiger ascii name) net before after is (bytes, aig_of are.graph.netlist, file, are.spells, are.keeps) kept
+write_gives found (commands.WriteAiger ascii bare name) before after writing kept (net, bytes, is, stays, file, are, others, sink) =
+    given_of found (commands.WriteAiger ascii bare name) net before after is (bytes, aig_of are.graph.netlist, file, are.spells, are.keeps) kept
 write_gives found other before after writing kept step = absurd (cc)
 
 write_among : (found : Option Origin) (c : Command) (before : State) (answer : Result (Unit {0}) Refusal) (after : State) → writes c ≡ true → answer ≡ Ok tt

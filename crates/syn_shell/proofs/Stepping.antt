@@ -13,7 +13,7 @@ use Rattle.syn_shell.specs.declared.refusal.Refusal.{Refusal}
 use Rattle.syn_shell.specs.Networks.{Written, graph_network}
 use Rattle.syn_shell.specs.Lines.{IsStatsLine}
 use Rattle.syn_shell.specs.Outside.{FileIs, FilesUnchanged, OthersUnchanged, Took, State, state}
-use Rattle.syn_shell.specs.Steps.{AigerReadRefused, AigerWriteRefused, GeneratingRefused, IsAigerOf, IsReadAs, IsReadAsAiger, MakingRefused, PrintRefused, ReadRefused, Remakes, SessionStep, WriteRefused}
+use Rattle.syn_shell.specs.Steps.{AigerReadRefused, AigerWriteRefused, GeneratingRefused, IsAigerOf, IsReadAs, IsReadAsAiger, MakingRefused, PrintRefused, ReadRefused, Remakes, SessionStep, TextRefused, WriteRefused}
 
 -- what was answered
 abbrev Answer : Type 0
@@ -54,12 +54,17 @@ pub write_done : (name : List ℕ) (m : Option Written) (d d' : Disk) (s : Scree
 write_done name m d d' s (Ok done) (net, is, file, reads, others) why = (net, is, refl, file, reads, others, refl)
 write_done name m d d' s (Err cause) written why = (refl, why, refl)
 
-pub aiger_write_done : (ascii : Bool) (name : List ℕ) (m : Option Written) (d d' : Disk) (s : Screen) (answer : Answer)
-    → OnOk answer ((net : Written) × (bytes : List ℕ) × (m ≡ Some net) × FileIs name d' bytes × IsAigerOf ascii net bytes × OthersUnchanged name d d')
-    → IfErr answer (AigerWriteRefused m name d d')
-    → SessionStep (commands.WriteAiger ascii name) (state m d s) answer (state m d' s)
-aiger_write_done ascii name m d d' s (Ok done) (net, bytes, is, file, are, others) why = (net, bytes, is, refl, file, are, others, refl)
-aiger_write_done ascii name m d d' s (Err cause) written why = (refl, why, refl)
+pub aiger_write_done : (ascii bare : Bool) (name : List ℕ) (m : Option Written) (d d' : Disk) (s : Screen) (answer : Answer)
+    → OnOk answer ((net : Written) × (bytes : List ℕ) × (m ≡ Some net) × FileIs name d' bytes × IsAigerOf ascii bare net bytes × OthersUnchanged name d d')
+    → IfErr answer (AigerWriteRefused bare m name d d')
+    → SessionStep (commands.WriteAiger ascii bare name) (state m d s) answer (state m d' s)
+aiger_write_done ascii bare name m d d' s (Ok done) (net, bytes, is, file, are, others) why = (net, bytes, is, refl, file, are, others, refl)
+aiger_write_done ascii bare name m d d' s (Err cause) written why = (refl, why, refl)
+
+pub text_done : (text : List ℕ) (m : Option Written) (d : Disk) (s s' : Screen) (answer : Answer) → OnOk answer (Took text s s') → IfErr answer (TextRefused text s s')
+    → SessionStep (commands.Print text) (state m d s) answer (state m d s')
+text_done text m d s s' (Ok done) took why = (refl, refl, took)
+text_done text m d s s' (Err cause) took why = (refl, why, refl)
 
 pub make_done : (recipe : Recipe) (m m' : Option Written) (d : Disk) (s : Screen) (answer : Answer)
     → OnOk answer (Remakes recipe m m') → IfErr answer (λ cause. m' ≡ m) → IfErr answer (MakingRefused m)

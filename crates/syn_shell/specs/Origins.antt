@@ -19,6 +19,7 @@ use Rattle.syn_words.specs.declared.recipes.Recipe.{Recipe}
 use Rattle.syn_words.specs.declared.recipes.Recipe.TheVariants as recipes
 use Rattle.syn_shell.specs.declared.refusal.Refusal.{Refusal}
 use Rattle.syn_shell.specs.Outside.{State, FileIs}
+use Rattle.syn_shell.specs.Steps.{kept_by}
 use Rattle.syn_shell.specs.Scripts.{Refused, RunsCommands, RunsScript}
 use Rattle.syn_shell.specs.LineMode.{RunsLines}
 use Rattle.syn_shell.specs.Usage.{Usage, OneScript, EachLine, Faulty, usage_of}
@@ -121,13 +122,13 @@ Keeps origin m = (n : Netlist) × ComesFrom origin.place n × IsSameBy origin.sw
 -- the command writes a file
 abbrev pub writes : Command → Bool
 writes (commands.Write name) = true
-writes (commands.WriteAiger ascii name) = true
+writes (commands.WriteAiger ascii bare name) = true
 writes other = false
 
--- What is found in the file that a command wrote, by its format: the printed form of the netlist, which reads back from it; or bytes that spell an AIGER file that keeps what the netlist means.
+-- What is found in the file that a command wrote, by its format: the printed form of the netlist, which reads back from it; or bytes that spell an AIGER file that keeps what the netlist means, but for the types of latches where these are left out.
 abbrev pub Gives : Command → Disk → Netlist → Type 0
 Gives (commands.Write name) files m = FileIs name files (printed m) × Reads (printed m) m
-Gives (commands.WriteAiger ascii name) files m = (bytes : List ℕ) × (g : Aig) × FileIs name files bytes × Spells bytes g × IsWrittenAs m g
+Gives (commands.WriteAiger ascii bare name) files m = (bytes : List ℕ) × (g : Aig) × FileIs name files bytes × Spells bytes g × IsWrittenAs (kept_by bare m) g
 Gives other files m = ⊥
 
 -- What each write of a run gives: behind an accepted write, whatever steps were before and after it, the file gives a netlist that keeps what was read or generated last before the write, which there is.

@@ -30,14 +30,17 @@ IsReadable name files = IsSomeAnd files.told (λ list. IsSomeAnd (file_at name l
 abbrev pub IsReadableAiger : List ℕ → Disk → Type 0
 IsReadableAiger name files = IsSomeAnd files.told (λ list. IsSomeAnd (file_at name list) (λ bytes. (length bytes ≤ file_limit) × (g : Aig) × Spells bytes g × aiger.Within g))
 
--- What a command needs: its file, nothing, or a network, to make it anew or to write it as an AIGER file one that not too many gates make a graph, and for the latter one without types of latches.
+-- What a command needs: its file, nothing, or a network, to make it anew or to write it as an AIGER file one that not too many gates make a graph, and for the latter one without types of latches where these aren't left out.
 abbrev pub Needs : Command → State → Type 0
 Needs (commands.Read name) before = IsReadable name before.files
 Needs (commands.ReadAiger name) before = IsReadableAiger name before.files
 Needs (commands.Generate seed size) before = ⊤
 Needs commands.Stats before = IsSome before.network
 Needs (commands.Write name) before = IsSome before.network
-Needs (commands.WriteAiger ascii name) before = IsSomeAnd before.network (λ net. (gates_in net ≤ most_gates) × (first_typed net.netlist.frame ≡ None))
+Needs (commands.WriteAiger ascii bare name) before = IsSomeAnd before.network (λ net. (gates_in net ≤ most_gates) × (bare ≡ false → first_typed net.netlist.frame ≡ None))
+Needs (commands.Print text) before = ⊤
+Needs (commands.Source name) before = ⊤
+Needs commands.Quit before = ⊤
 Needs (commands.Make recipe) before = IsSomeAnd before.network (λ net. gates_in net ≤ most_gates)
 
 -- What each command that was run needs is there.

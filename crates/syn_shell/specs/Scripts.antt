@@ -25,7 +25,7 @@ abbrev pub name_in : Command → List ℕ
 name_in (commands.Read name) = name
 name_in (commands.Write name) = name
 name_in (commands.ReadAiger name) = name
-name_in (commands.WriteAiger ascii name) = name
+name_in (commands.WriteAiger ascii bare name) = name
 name_in other = []
 
 -- The commands one after the other, up to the first that is refused.

@@ -1,4 +1,4 @@
--- What each command does, accepted or refused: a relation between the network, the files and the sink before and after it. There are commands that read a file, of either format, that generate a netlist, that print, that write a file, in either format, and that make the network anew by a recipe.
+-- What each command does, accepted or refused: a relation between the network, the files and the sink before and after it. There are commands that read a file, of either format, that generate a netlist, that print the network's line or a text, that write a file, in either format, and that make the network anew by a recipe.
 use Rattle.std.specs.Prelude.{◌≡◌, ℕ, ◌≤◌, ◌<◌, Bool, true, false, List, length, Option, Some, None, IfSome, IsSome, IsSomeAnd, Result, Ok, Err, ⊤}
 use Rattle.syn_io.specs.Outside.{Rose, file_at, Disk, Screen}
 use Rattle.syn_netlist.specs.Lists.{Netlist}
@@ -11,7 +11,7 @@ use Rattle.syn_aiger_files.specs.Printed as aiger_printed
 use Rattle.syn_aiger.specs.Faults.{Spells}
 use Rattle.syn_aiger.specs.Faults as aiger
 use Rattle.syn_aiger.specs.Networks.{IsGraphOfAig}
-use Rattle.syn_aiger.specs.Writing.{IsWrittenAs, aig_of, first_typed}
+use Rattle.syn_aiger.specs.Writing.{IsWrittenAs, aig_of, first_typed, without_types}
 use Rattle.syn_words.specs.declared.Command.{Command}
 use Rattle.syn_words.specs.declared.Command.TheVariants as commands
 use Rattle.syn_words.specs.declared.recipes.Recipe.{Recipe}
@@ -101,6 +101,11 @@ PrintRefused m before after SinkFailed = (net : Written) × (line : List ℕ) ×
 PrintRefused m before after NoMemory = after ≡ before
 PrintRefused m before after other = ⊥
 
+-- Why a text isn't put, and what the sink took of it.
+abbrev pub TextRefused : List ℕ → Screen → Screen → Refusal → Type 0
+TextRefused text before after SinkFailed = TookPart text before after
+TextRefused text before after other = ⊥
+
 -- Why a write is refused, and what became of the files.
 abbrev pub WriteRefused : Option Written → List ℕ → Disk → Disk → Refusal → Type 0
 WriteRefused m name before after NoNetwork = (m ≡ None) × (after ≡ before)
@@ -113,28 +118,33 @@ abbrev pub IsGraphFor : Bool → Written → Written → Type 0
 IsGraphFor false net graph = graph ≡ net
 IsGraphFor true net graph = IsRemade net graph
 
--- What an accepted write of an AIGER file puts: the bytes of the file of a graph for the network, in the format; they spell that file, and it keeps what the network means. Not too many gates make the network a graph, and no latch has a type.
-pub record IsAigerOf (ascii : Bool) (net : Written) (bytes : List ℕ) : Type 0 where
+-- The netlist that an AIGER file keeps: itself, or it without the types of its latches where these are left out.
+abbrev pub kept_by : Bool → Netlist → Netlist
+kept_by false m = m
+kept_by true m = without_types m
+
+-- What an accepted write of an AIGER file puts: the bytes of the file of a graph for the network, in the format; they spell that file, and it keeps what the network means, but for the types of latches where these are left out. Not too many gates make the network a graph, and else no latch has a type.
+pub record IsAigerOf (ascii bare : Bool) (net : Written) (bytes : List ℕ) : Type 0 where
   pub graph : Written
   pub made : IsGraphFor net.mapped net graph
   pub gates : gates_in net ≤ most_gates
-  pub untyped : first_typed net.netlist.frame ≡ None
+  pub typeless : bare ≡ false → first_typed net.netlist.frame ≡ None
   pub is : bytes ≡ aiger_printed.printed ascii (aig_of graph.netlist)
   pub spells : Spells bytes (aig_of graph.netlist)
-  pub keeps : IsWrittenAs net.netlist (aig_of graph.netlist)
+  pub keeps : IsWrittenAs (kept_by bare net.netlist) (aig_of graph.netlist)
 
--- Why a network has no AIGER file: too many gates make it a graph; else its first latch with a type is told. Memory may be refused.
-abbrev pub AigerRefused : Written → Refusal → Type 0
-AigerRefused net (TooManyGates gates) = (gates ≡ gates_in net) × (most_gates < gates)
-AigerRefused net (LatchType latch) = (gates_in net ≤ most_gates) × (first_typed net.netlist.frame ≡ Some latch)
-AigerRefused net NoMemory = ⊤
-AigerRefused net other = ⊥
+-- Why a network has no AIGER file: too many gates make it a graph; else its first latch with a type is told, where types aren't left out. Memory may be refused.
+abbrev pub AigerRefused : Bool → Written → Refusal → Type 0
+AigerRefused bare net (TooManyGates gates) = (gates ≡ gates_in net) × (most_gates < gates)
+AigerRefused bare net (LatchType latch) = (bare ≡ false) × (gates_in net ≤ most_gates) × (first_typed net.netlist.frame ≡ Some latch)
+AigerRefused bare net NoMemory = ⊤
+AigerRefused bare net other = ⊥
 
 -- Why a write of an AIGER file is refused, and what became of the files: there is no such file of the network, or as any write.
-abbrev pub AigerWriteRefused : Option Written → List ℕ → Disk → Disk → Refusal → Type 0
-AigerWriteRefused m name before after (TooManyGates gates) = IsSomeAnd m (λ net. AigerRefused net (TooManyGates gates)) × (after ≡ before)
-AigerWriteRefused m name before after (LatchType latch) = IsSomeAnd m (λ net. AigerRefused net (LatchType latch)) × (after ≡ before)
-AigerWriteRefused m name before after other = WriteRefused m name before after other
+abbrev pub AigerWriteRefused : Bool → Option Written → List ℕ → Disk → Disk → Refusal → Type 0
+AigerWriteRefused bare m name before after (TooManyGates gates) = IsSomeAnd m (λ net. AigerRefused bare net (TooManyGates gates)) × (after ≡ before)
+AigerWriteRefused bare m name before after (LatchType latch) = IsSomeAnd m (λ net. AigerRefused bare net (LatchType latch)) × (after ≡ before)
+AigerWriteRefused bare m name before after other = WriteRefused m name before after other
 
 -- There is a network, not too many gates make it a graph, and the recipe makes another of it.
 abbrev pub Remakes : Recipe → Option Written → Option Written → Type 0
@@ -156,7 +166,7 @@ GeneratingRefused other = ⊥
 abbrev pub NetworkStays : State → State → Type 0
 NetworkStays before after = after.network ≡ before.network
 
--- A command that is accepted. What is written reads back as what the network is.
+-- A command that is accepted. What is written reads back as what the network is. The commands of a file stand in its place when a run begins, and nothing stands behind the end of a run, so both do nothing themselves.
 abbrev pub Accepted : Command → State → State → Type 0
 Accepted (commands.Read name) before after =
     (net : Netlist) × (after.network ≡ Some (graph_network net)) × IsReadAs name before.files net × FilesUnchanged before.files after.files × (after.sink ≡ before.sink)
@@ -169,9 +179,12 @@ Accepted commands.Stats before after =
 Accepted (commands.Write name) before after =
     (net : Written) × (before.network ≡ Some net) × NetworkStays before after × FileIs name after.files (printed net.netlist) × Reads (printed net.netlist) net.netlist
     × OthersUnchanged name before.files after.files × (after.sink ≡ before.sink)
-Accepted (commands.WriteAiger ascii name) before after =
-    (net : Written) × (bytes : List ℕ) × (before.network ≡ Some net) × NetworkStays before after × FileIs name after.files bytes × IsAigerOf ascii net bytes
+Accepted (commands.WriteAiger ascii bare name) before after =
+    (net : Written) × (bytes : List ℕ) × (before.network ≡ Some net) × NetworkStays before after × FileIs name after.files bytes × IsAigerOf ascii bare net bytes
     × OthersUnchanged name before.files after.files × (after.sink ≡ before.sink)
+Accepted (commands.Print text) before after = NetworkStays before after × (after.files ≡ before.files) × Took text before.sink after.sink
+Accepted (commands.Source name) before after = after ≡ before
+Accepted commands.Quit before after = after ≡ before
 Accepted (commands.Make recipe) before after = Remakes recipe before.network after.network × (after.files ≡ before.files) × (after.sink ≡ before.sink)
 
 -- A command that is refused. It leaves the network.
@@ -181,7 +194,10 @@ Denied (commands.ReadAiger name) before cause after = NetworkStays before after 
 Denied (commands.Generate seed size) before cause after = NetworkStays before after × GeneratingRefused cause × (after.files ≡ before.files) × (after.sink ≡ before.sink)
 Denied commands.Stats before cause after = NetworkStays before after × PrintRefused before.network before.sink after.sink cause × (after.files ≡ before.files)
 Denied (commands.Write name) before cause after = NetworkStays before after × WriteRefused before.network name before.files after.files cause × (after.sink ≡ before.sink)
-Denied (commands.WriteAiger ascii name) before cause after = NetworkStays before after × AigerWriteRefused before.network name before.files after.files cause × (after.sink ≡ before.sink)
+Denied (commands.WriteAiger ascii bare name) before cause after = NetworkStays before after × AigerWriteRefused bare before.network name before.files after.files cause × (after.sink ≡ before.sink)
+Denied (commands.Print text) before cause after = NetworkStays before after × TextRefused text before.sink after.sink cause × (after.files ≡ before.files)
+Denied (commands.Source name) before cause after = ⊥
+Denied commands.Quit before cause after = ⊥
 Denied (commands.Make recipe) before cause after = NetworkStays before after × MakingRefused before.network cause × (after.files ≡ before.files) × (after.sink ≡ before.sink)
 
 -- One command, from the network, the files and the sink before it to those after it.

@@ -12,7 +12,7 @@ ghost use Rattle.syn_gen.specs.Generated.{generated};
 ghost use Rattle.syn_shell.specs.Networks.{graph_network, IsSmall, network_of, Written};
 ghost use Rattle.syn_shell.specs.Lines.{IsStatsLine};
 ghost use Rattle.syn_shell.specs.Outside.{FileIs, FilesUnchanged, OthersUnchanged, Took, state};
-ghost use Rattle.syn_shell.specs.Steps.{AigerReadRefused, AigerWriteRefused, file_limit, GeneratingRefused, IsAigerOf, IsReadAs, IsReadAsAiger, MakingRefused, ParseRefused, PrintRefused, ReadRefused, Remakes, SessionStep, WriteRefused};
+ghost use Rattle.syn_shell.specs.Steps.{AigerReadRefused, AigerWriteRefused, file_limit, GeneratingRefused, IsAigerOf, IsReadAs, IsReadAsAiger, MakingRefused, ParseRefused, PrintRefused, ReadRefused, Remakes, SessionStep, TextRefused, WriteRefused};
 
 use crate::aiger;
 use crate::files::{get, put};
@@ -119,6 +119,17 @@ fn write<F: Files>(
     put(alloc, name, bytes.as_slice(), files)
 }
 
+// Puts a text.
+fn put_text<O: Sink>(text: &[u8], out: &mut O) -> Result<(), Refusal>
+    ensures took { OnOk result (Took text.now (O.screen out.old) (O.screen out.new)) }
+    ensures refused { IfErr result (TextRefused text.now (O.screen out.old) (O.screen out.new)) }
+{
+    match out.put(text) {
+        Ok(()) => Ok(()),
+        Err(_) => Err(Refusal::SinkFailed),
+    }
+}
+
 impl Session {
     /// No network yet; and so many workers, 1 to 16, for each command that names no number of them.
     pub fn new(workers: Workers) -> Session
@@ -203,16 +214,17 @@ impl Session {
         &self,
         alloc: Global,
         ascii: bool,
+        bare: bool,
         name: &str,
         files: &mut F,
     ) -> Result<(), Refusal>
-        ensures written { OnOk result ((net : Written) × (bytes : List ℕ) × (self.now ≡ Some net) × FileIs name.now (F.disk files.new) bytes × IsAigerOf ascii net bytes
+        ensures written { OnOk result ((net : Written) × (bytes : List ℕ) × (self.now ≡ Some net) × FileIs name.now (F.disk files.new) bytes × IsAigerOf ascii bare net bytes
             × OthersUnchanged name.now (F.disk files.old) (F.disk files.new)) }
-        ensures refused { IfErr result (AigerWriteRefused self.now name.now (F.disk files.old) (F.disk files.new)) }
+        ensures refused { IfErr result (AigerWriteRefused bare self.now name.now (F.disk files.old) (F.disk files.new)) }
     {
         match &self.network {
             None => Err(Refusal::NoNetwork),
-            Some(network) => aiger::write(alloc, network, ascii, name, files),
+            Some(network) => aiger::write(alloc, network, ascii, bare, name, files),
         }
     }
 
@@ -253,9 +265,13 @@ impl Session {
             Command::Generate { seed, size } => self.generate(alloc, *seed, *size),
             Command::Stats => self.print_stats(alloc, out),
             Command::Write(name) => self.write(alloc, name.as_str(), files),
-            Command::WriteAiger { ascii, name } => {
-                self.write_aiger(alloc, *ascii, name.as_str(), files)
-            }
+            Command::WriteAiger {
+                ascii,
+                untyped,
+                name,
+            } => self.write_aiger(alloc, *ascii, *untyped, name.as_str(), files),
+            Command::Print(text) => put_text(text.as_slice(), out),
+            Command::Source(_) | Command::Quit => Ok(()),
             Command::Make(recipe) => self.make(rt, alloc, recipe, hook),
         }
     }

@@ -6,7 +6,7 @@ use Rattle.syn_reader.specs.Limits.{most_sources}
 use Rattle.syn_network.specs.GraphShape.{and_tables}
 use Rattle.syn_network.specs.Spelling.{NetworkSpells, network}
 use Rattle.syn_build.specs.BuildFaults.{most_gates}
-use Rattle.syn_shell.proofs.aiger.bytes_of.Goals as goal
+use Rattle.syn_shell.proofs.aiger.typed_bytes_of.Goals as goal
 
 pub write_aig-requires-clause-rows : goal.write_aig-requires-clause-rows
 write_aig-requires-clause-rows c =
