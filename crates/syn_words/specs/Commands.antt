@@ -3,11 +3,13 @@ use Rattle.std.specs.Prelude.{ℕ, Bool, true, false, min, max, option_map, if�
 use Rattle.syn_words.specs.declared.words.Phrase.{Phrase}
 use Rattle.syn_words.specs.Forms.{and_then, given_by}
 use Rattle.syn_words.specs.declared.forms.Form.{Form}
+use Rattle.syn_words.specs.declared.forms.Numbered.{Numbered}
 use Rattle.syn_words.specs.declared.forms.Operands.TheVariants as operands
 use Rattle.syn_words.specs.declared.word_reader.Given.{Given}
 use Rattle.syn_words.specs.declared.table.Keyword.{Keyword}
 use Rattle.syn_words.specs.declared.table.Keyword.TheVariants as keywords
 use Rattle.syn_words.specs.declared.recipes.PassOptions.{PassOptions}
+use Rattle.syn_words.specs.declared.recipes.ReplaceLimits.{ReplaceLimits}
 use Rattle.syn_words.specs.declared.recipes.SearchLimits.{SearchLimits}
 use Rattle.syn_words.specs.declared.recipes.Recipe.{Recipe}
 use Rattle.syn_words.specs.declared.recipes.Recipe.TheVariants as recipes
@@ -18,31 +20,39 @@ use Rattle.syn_words.specs.declared.ScriptFault.TheVariants.{UnknownCommand}
 
 -- No word.
 abbrev pub no_words : Form
-no_words = record { flags = (None, None, None); numbered = None; operands = operands.Nothing }
+no_words = record { flags = (None, None, None); numbered = (None, None); operands = operands.Nothing }
 
 -- A file's name.
 abbrev pub name_alone : Form
-name_alone = record { flags = (None, None, None); numbered = None; operands = operands.Name }
+name_alone = record { flags = (None, None, None); numbered = (None, None); operands = operands.Name }
 
 -- An option without a number, and then a file's name.
 abbrev pub flag_and_name : ℕ → Form
-flag_and_name letter = record { flags = (Some letter, None, None); numbered = None; operands = operands.Name }
+flag_and_name letter = record { flags = (Some letter, None, None); numbered = (None, None); operands = operands.Name }
 
 -- Options alone: `-z`, where it may stand, `-L`, `-l`, which says what is so without it, and `-w` with a number of workers from 1 to 16.
 abbrev pub with_workers : Option ℕ → Form
-with_workers zero = record { flags = (zero, Some 76, Some 108); numbered = Some (record { letter = 119; range = record { least = 1; most = 16 } }); operands = operands.Nothing }
+with_workers zero = record { flags = (zero, Some 76, Some 108); numbered = (Some (record { letter = 119; range = record { least = 1; most = 16 } }), None); operands = operands.Nothing }
 
--- Options alone: `-L`, and `-C` with a number of conflicts from 0 to 1000000.
-abbrev pub with_conflicts : Form
-with_conflicts = record { flags = (None, Some 76, None); numbered = Some (record { letter = 67; range = record { least = 0; most = 1000000 } }); operands = operands.Nothing }
+-- The option `-C` with a number of conflicts from 0 to 1000000.
+abbrev pub conflicts_option : Numbered
+conflicts_option = record { letter = 67; range = record { least = 0; most = 1000000 } }
+
+-- The option `-N` with a number of ANDs, 1 or 2.
+abbrev pub gates_option : Numbered
+gates_option = record { letter = 78; range = record { least = 1; most = 2 } }
+
+-- Options alone: `-L`, `-C` with a number of conflicts, and one more with a number, where there is one.
+abbrev pub with_conflicts : Option Numbered → Form
+with_conflicts further = record { flags = (None, Some 76, None); numbered = (Some conflicts_option, further); operands = operands.Nothing }
 
 -- Options alone: one without a number, where there is one, and `-K` with a number of inputs from 2 to 8.
 abbrev pub with_inputs : Option ℕ → Form
-with_inputs flag = record { flags = (flag, None, None); numbered = Some (record { letter = 75; range = record { least = 2; most = 8 } }); operands = operands.Nothing }
+with_inputs flag = record { flags = (flag, None, None); numbered = (Some (record { letter = 75; range = record { least = 2; most = 8 } }), None); operands = operands.Nothing }
 
 -- Two numbers alone: a seed of 64 bits, and a number of tables from 1 to 32768.
 abbrev pub seed_and_size : Form
-seed_and_size = record { flags = (None, None, None); numbered = None; operands = operands.TwoNumbers (record { least = 0; most = 18446744073709551615 }) (record { least = 1; most = 32768 }) }
+seed_and_size = record { flags = (None, None, None); numbered = (None, None); operands = operands.TwoNumbers (record { least = 0; most = 18446744073709551615 }) (record { least = 1; most = 32768 }) }
 
 -- A row of the table: a name, what may stand behind it, and its keyword.
 abbrev pub Row : Type 0
@@ -74,7 +84,9 @@ table =
     ∷ (codes "rs", with_workers (Some 122), keywords.Resubstitute)
     ∷ (codes "rsz", with_workers None, keywords.ResubstituteZero)
     ∷ (codes "flowmap", with_inputs None, keywords.MapByFlow)
-    ∷ (codes "fraig", with_conflicts, keywords.Merge)
+    ∷ (codes "fraig", with_conflicts None, keywords.Merge)
+    ∷ (codes "sresub", with_conflicts (Some gates_option), keywords.Replace)
+    ∷ (codes "srs", with_conflicts (Some gates_option), keywords.Replace)
     ∷ (codes "resyn", no_words, keywords.Resyn)
     ∷ (codes "compress2", no_words, keywords.Resyn2)
     ∷ (codes "read_aiger", name_alone, keywords.ReadAiger)
@@ -119,6 +131,19 @@ given_conflicts (Some number) = min number 1000000
 -- How a search goes by what was given behind a name: by how many conflicts, and with `-L`.
 abbrev pub given_limits : Given → SearchLimits
 given_limits given = record { conflicts = given_conflicts given.number; levels = given.flags.1 }
+
+-- A number of new ANDs, 1 at least and 2 at most; the form lets no other through.
+abbrev pub gates_of : ℕ → ℕ
+gates_of number = max 1 (min number 2)
+
+-- The number of new ANDs that was given, 1 where none was.
+abbrev pub given_gates : Option ℕ → ℕ
+given_gates None = 1
+given_gates (Some number) = gates_of number
+
+-- How nodes are replaced by what was given behind a name: by how many new ANDs and conflicts, and with `-L`.
+abbrev pub replace_limits : Given → ReplaceLimits
+replace_limits given = record { gates = given_gates given.further; conflicts = given_conflicts given.number; levels = given.flags.1 }
 
 -- The command that makes the network anew by a recipe.
 abbrev pub make : Recipe → Command
@@ -185,6 +210,7 @@ commands_of keywords.RefactorZero given = make (recipes.Refactor (given_options 
 commands_of keywords.Resubstitute given = make (recipes.Resubstitute (given_options given.flags.0 given)) ∷ []
 commands_of keywords.ResubstituteZero given = make (recipes.Resubstitute (given_options true given)) ∷ []
 commands_of keywords.Merge given = make (recipes.Merge (given_limits given)) ∷ []
+commands_of keywords.Replace given = make (recipes.Replace (replace_limits given)) ∷ []
 commands_of keywords.Map given = make (recipes.Map given.flags.0 (given_inputs given.number)) ∷ []
 commands_of keywords.MapByFlow given = make (recipes.MapByFlow (given_inputs given.number)) ∷ []
 commands_of keywords.Sweep given = make recipes.Sweep ∷ []

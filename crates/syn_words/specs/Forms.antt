@@ -1,5 +1,5 @@
 -- Forms: what may stand behind a command's name, read word by word.
-use Rattle.std.specs.Prelude.{ℕ, true, false, Bool, is_some, if◌then◌else◌, List, [], ◌∷◌, Option, Some, None, Result, Ok, Err, bytes_eq}
+use Rattle.std.specs.Prelude.{ℕ, false, Bool, is_some, if◌then◌else◌, List, [], ◌∷◌, Option, Some, None, Result, Ok, Err, bytes_eq}
 use Rattle.syn_lex.specs.Words.{Word}
 use Rattle.syn_words.specs.Numbers.{number_at}
 use Rattle.syn_words.specs.Flags.{Flags, are_flags, letters_of, with_flags}
@@ -24,14 +24,14 @@ and_then (Err fault) next = Err fault
 abbrev pub is_option : ℕ → List ℕ → Bool
 is_option letter text = bytes_eq (45 ∷ letter ∷ []) text
 
--- The range of the number behind the word, where it is the form's option with a number.
+-- The range of the number behind the word, where it is this option with a number.
 abbrev pub number_behind : Option Numbered → List ℕ → Option NumberRange
 number_behind None text = None
 number_behind (Some numbered) text = if is_option numbered.letter text then Some numbered.range else None
 
 -- Nothing was given yet.
 abbrev pub nothing_given : Given
-nothing_given = record { flags = (false, false, false); number = None; name = []; numbers = (0, 0) }
+nothing_given = record { flags = (false, false, false); number = None; further = None; name = []; numbers = (0, 0) }
 
 -- The words behind a name are read from here.
 abbrev pub from_the_name : Progress
@@ -40,34 +40,45 @@ from_the_name = record { given = nothing_given; awaits = awaits.Options }
 -- A word of options without a number, by which these are given, or one of them is given twice.
 abbrev pub with_options : Option Flags → Given → Word → Result Progress ScriptFault
 with_options None given word = Err (ExtraWord word.at)
-with_options (Some flags) given word = Ok (record { given = record { flags = flags; number = given.number; name = given.name; numbers = given.numbers }; awaits = awaits.Options })
+with_options (Some flags) given word = Ok (record { given = record { flags = flags; number = given.number; further = given.further; name = given.name; numbers = given.numbers }; awaits = awaits.Options })
 
--- The option with a number, once.
-abbrev pub with_numbered : NumberRange → Given → Word → Result Progress ScriptFault
-with_numbered range given word = if is_some given.number then Err (ExtraWord word.at) else Ok (record { given = given; awaits = awaits.OptionNumber range })
+-- An option with a number, once: this is awaited.
+abbrev pub with_numbered : Option ℕ → Awaits → Given → Word → Result Progress ScriptFault
+with_numbered given_before awaited given word = if is_some given_before then Err (ExtraWord word.at) else Ok (record { given = given; awaits = awaited })
 
 -- The first word that is no option.
 abbrev pub with_first : Operands → Given → Word → Result Progress ScriptFault
 with_first operands.Nothing given word = Err (ExtraWord word.at)
-with_first operands.Name given word = Ok (record { given = record { flags = given.flags; number = given.number; name = word.text; numbers = given.numbers }; awaits = awaits.Nothing })
+with_first operands.Name given word = Ok (record { given = record { flags = given.flags; number = given.number; further = given.further; name = word.text; numbers = given.numbers }; awaits = awaits.Nothing })
 with_first (operands.TwoNumbers first second) given word =
-    and_then (number_at first word) (λ n. Ok (record { given = record { flags = given.flags; number = given.number; name = given.name; numbers = (n, 0) }; awaits = awaits.SecondNumber second }))
+    and_then (number_at first word) (λ n. Ok (record { given = record { flags = given.flags; number = given.number; further = given.further; name = given.name; numbers = (n, 0) }; awaits = awaits.SecondNumber second }))
 
--- Of a word that may be an option with a number: it is one, or the first word that is none.
-abbrev pub with_further : Option NumberRange → Form → Given → Word → Result Progress ScriptFault
-with_further (Some range) form given word = with_numbered range given word
-with_further None form given word = with_first form.operands given word
+-- Of a word that may be the second option with a number: it is that one, or the first word that is no option.
+abbrev pub with_second : Option NumberRange → Form → Given → Word → Result Progress ScriptFault
+with_second (Some range) form given word = with_numbered given.further (awaits.FurtherNumber range) given word
+with_second None form given word = with_first form.operands given word
+
+-- The same by the form's second option with a number.
+abbrev pub with_further : Form → Given → Word → Result Progress ScriptFault
+with_further form given word = with_second (number_behind form.numbered.1 word.text) form given word
+
+-- Of a word that may be the first option with a number: it is that one, or a further word.
+abbrev pub with_either : Option NumberRange → Form → Given → Word → Result Progress ScriptFault
+with_either (Some range) form given word = with_numbered given.number (awaits.OptionNumber range) given word
+with_either None form given word = with_further form given word
 
 -- One word further, by what is awaited.
 abbrev pub after_word : Form → Awaits → Given → Word → Result Progress ScriptFault
 after_word form awaits.Options given word =
     if are_flags form (letters_of word.text)
     then with_options (with_flags form given.flags (letters_of word.text)) given word
-    else with_further (number_behind form.numbered word.text) form given word
+    else with_either (number_behind form.numbered.0 word.text) form given word
 after_word form (awaits.OptionNumber range) given word =
-    and_then (number_at range word) (λ n. Ok (record { given = record { flags = given.flags; number = Some n; name = given.name; numbers = given.numbers }; awaits = awaits.Options }))
+    and_then (number_at range word) (λ n. Ok (record { given = record { flags = given.flags; number = Some n; further = given.further; name = given.name; numbers = given.numbers }; awaits = awaits.Options }))
+after_word form (awaits.FurtherNumber range) given word =
+    and_then (number_at range word) (λ n. Ok (record { given = record { flags = given.flags; number = given.number; further = Some n; name = given.name; numbers = given.numbers }; awaits = awaits.Options }))
 after_word form (awaits.SecondNumber range) given word =
-    and_then (number_at range word) (λ n. Ok (record { given = record { flags = given.flags; number = given.number; name = given.name; numbers = (given.numbers.0, n) }; awaits = awaits.Nothing }))
+    and_then (number_at range word) (λ n. Ok (record { given = record { flags = given.flags; number = given.number; further = given.further; name = given.name; numbers = (given.numbers.0, n) }; awaits = awaits.Nothing }))
 after_word form awaits.Nothing given word = Err (ExtraWord word.at)
 
 -- No further word, where a first one may be awaited.
@@ -80,6 +91,7 @@ without_first (operands.TwoNumbers first second) end given = Err (MissingWord en
 abbrev pub at_end : Form → ℕ → Awaits → Given → Result Given ScriptFault
 at_end form end awaits.Options given = without_first form.operands end given
 at_end form end (awaits.OptionNumber range) given = Err (MissingWord end)
+at_end form end (awaits.FurtherNumber range) given = Err (MissingWord end)
 at_end form end (awaits.SecondNumber range) given = Err (MissingWord end)
 at_end form end awaits.Nothing given = Ok given
 

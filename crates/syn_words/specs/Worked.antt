@@ -4,8 +4,9 @@ use Rattle.syn_words.specs.Words.{words_at}
 use Rattle.syn_words.specs.Commands.{flag_and_name, options}
 use Rattle.syn_words.specs.Forms.{given_by}
 use Rattle.syn_words.specs.Scripts.{IsScript, IsFirstFault}
+use Rattle.syn_words.specs.declared.Command.{Command}
 use Rattle.syn_words.specs.declared.Command.TheVariants.{Read, Write, ReadAiger, WriteAiger, Stats, Generate, Make}
-use Rattle.syn_words.specs.declared.recipes.Recipe.TheVariants.{Strash, Balance, Rewrite, Refactor, Resubstitute, Merge, Map, MapByFlow, Sweep}
+use Rattle.syn_words.specs.declared.recipes.Recipe.TheVariants.{Strash, Balance, Rewrite, Refactor, Resubstitute, Merge, Replace, Map, MapByFlow, Sweep}
 use Rattle.syn_words.specs.declared.ScriptFault.{ScriptFault}
 use Rattle.syn_words.specs.declared.ScriptFault.TheVariants.{BadByte, UnknownCommand, MissingWord, ExtraWord, BadNumber, OutOfRange}
 use Rattle.syn_words.specs.declared.forms.Form.{Form}
@@ -19,15 +20,23 @@ Gives form text wanted = given_by form 99 (words_at 0 text) ≡ wanted
 
 -- Flags `-z`, `-L` and `-l`, and an option `-w` with a number from 1 to 16.
 abbrev pub flags_and_workers : Form
-flags_and_workers = record { flags = (Some 122, Some 76, Some 108); numbered = Some (record { letter = 119; range = record { least = 1; most = 16 } }); operands = Nothing }
+flags_and_workers = record { flags = (Some 122, Some 76, Some 108); numbered = (Some (record { letter = 119; range = record { least = 1; most = 16 } }), None); operands = Nothing }
+
+-- A flag `-L`, an option `-C` with a number from 0 to 9, and an option `-N` with one from 1 to 2.
+abbrev pub two_options : Form
+two_options = record { flags = (Some 76, None, None); numbered = (Some (record { letter = 67; range = record { least = 0; most = 9 } }), Some (record { letter = 78; range = record { least = 1; most = 2 } })); operands = Nothing }
 
 -- A number of 64 bits, and one from 1 to 32768.
 abbrev pub two_numbers : Form
-two_numbers = record { flags = (None, None, None); numbered = None; operands = TwoNumbers (record { least = 0; most = 18446744073709551615 }) (record { least = 1; most = 32768 }) }
+two_numbers = record { flags = (None, None, None); numbered = (None, None); operands = TwoNumbers (record { least = 0; most = 18446744073709551615 }) (record { least = 1; most = 32768 }) }
 
 -- So many conflicts a question, and whether no observed signal may get deeper.
 abbrev pub limits : ℕ → Bool → SearchLimits
 limits conflicts levels = record { conflicts = conflicts; levels = levels }
+
+-- The command that replaces nodes: by so many new ANDs and conflicts, and whether no observed signal may get deeper.
+abbrev pub replacing : ℕ → ℕ → Bool → Command
+replacing gates conflicts levels = Make (Replace (record { gates = gates; conflicts = conflicts; levels = levels }))
 
 pub record WorkedScripts : Type 0 where
   pub empty : IsScript [] []
@@ -59,6 +68,8 @@ pub record WorkedScripts : Type 0 where
   pub compressing : IsScript (codes "compress2")
       (Make Balance ∷ Make (Rewrite (options false false None)) ∷ Make (Refactor (options false false None)) ∷ Make Balance ∷ Make (Rewrite (options false false None)) ∷ Make (Rewrite (options true false None)) ∷ Make Balance ∷ Make (Refactor (options true false None)) ∷ Make (Rewrite (options true false None)) ∷ Make Balance ∷ [])
   pub merging : IsScript (codes "fraig; fraig -C 7; fraig -L -C 1000000; fraig -C 0 -L") (Make (Merge (limits 100 false)) ∷ Make (Merge (limits 7 false)) ∷ Make (Merge (limits 1000000 true)) ∷ Make (Merge (limits 0 true)) ∷ [])
+  pub replaced : IsScript (codes "sresub; srs -N 2; sresub -L -C 7 -N 1; srs -N 2 -C 0 -L; sresub -C 1000000 -N 02")
+      (replacing 1 100 false ∷ replacing 2 100 false ∷ replacing 1 7 true ∷ replacing 2 0 true ∷ replacing 2 1000000 false ∷ [])
   pub generated : IsScript (codes "gen 18446744073709551615 32768; ps") (Generate 18446744073709551615 32768 ∷ Stats ∷ [])
   pub sweeping : IsScript (codes "read_blif a; scl; ps") (Read (codes "a") ∷ Make Sweep ∷ Stats ∷ [])
   pub resubstitution : IsScript (codes "rs; resub -w 4 -z; rsz -w 2") (Make (Resubstitute (options false false None)) ∷ Make (Resubstitute (options true false (Some 4))) ∷ Make (Resubstitute (options true false (Some 2))) ∷ [])
@@ -76,6 +87,18 @@ pub record WorkedScripts : Type 0 where
   pub conflicts_no_number : IsFirstFault (codes "fraig -C -L") (BadNumber 9)
   pub workers_of_merging : IsFirstFault (codes "fraig -w 4") (ExtraWord 6)
   pub levels_of_merging : IsFirstFault (codes "fraig -l") (ExtraWord 6)
+  pub no_new_gates : IsFirstFault (codes "sresub -N 0") (OutOfRange 10)
+  pub too_many_new_gates : IsFirstFault (codes "srs -L -N 3") (OutOfRange 10)
+  pub no_number_of_gates : IsFirstFault (codes "sresub -N; ps") (MissingWord 9)
+  pub gates_no_number : IsFirstFault (codes "sresub -N -C 7") (BadNumber 10)
+  pub gates_twice : IsFirstFault (codes "sresub -N 1 -C 7 -N 1") (ExtraWord 17)
+  pub conflicts_twice : IsFirstFault (codes "srs -C 1 -N 2 -C 1") (ExtraWord 14)
+  pub too_many_conflicts_of_replacing : IsFirstFault (codes "srs -N 1 -C 1000001") (OutOfRange 12)
+  pub levels_twice_of_replacing : IsFirstFault (codes "srs -L -N 1 -L") (ExtraWord 12)
+  pub joined_with_gates : IsFirstFault (codes "srs -LN 2") (ExtraWord 4)
+  pub workers_of_replacing : IsFirstFault (codes "sresub -w 4") (ExtraWord 7)
+  pub gates_of_merging : IsFirstFault (codes "fraig -N 1") (ExtraWord 6)
+  pub number_of_gates_alone : IsFirstFault (codes "sresub 2") (ExtraWord 7)
   pub option_of_resyn : IsFirstFault (codes "resyn -z") (ExtraWord 6)
   pub levels_kept_already : IsFirstFault (codes "resyn2l -L") (ExtraWord 8)
   pub levels_of_balancing : IsFirstFault (codes "b -l") (ExtraWord 2)
@@ -114,20 +137,20 @@ pub record WorkedScripts : Type 0 where
   pub byte_before_all : IsFirstFault (codes "rewrit; " ++ 127 ∷ []) (BadByte 8)
 
 pub record WorkedForms : Type 0 where
-  pub options : Gives flags_and_workers (codes "-z -w 4") (Ok (record { flags = (true, false, false); number = Some 4; name = []; numbers = (0, 0) }))
-  pub other_order : Gives flags_and_workers (codes "-w 4 -z") (Ok (record { flags = (true, false, false); number = Some 4; name = []; numbers = (0, 0) }))
-  pub levels : Gives flags_and_workers (codes "-L -w 4") (Ok (record { flags = (false, true, false); number = Some 4; name = []; numbers = (0, 0) }))
-  pub both_flags : Gives flags_and_workers (codes "-L -z") (Ok (record { flags = (true, true, false); number = None; name = []; numbers = (0, 0) }))
+  pub options : Gives flags_and_workers (codes "-z -w 4") (Ok (record { flags = (true, false, false); number = Some 4; further = None; name = []; numbers = (0, 0) }))
+  pub other_order : Gives flags_and_workers (codes "-w 4 -z") (Ok (record { flags = (true, false, false); number = Some 4; further = None; name = []; numbers = (0, 0) }))
+  pub levels : Gives flags_and_workers (codes "-L -w 4") (Ok (record { flags = (false, true, false); number = Some 4; further = None; name = []; numbers = (0, 0) }))
+  pub both_flags : Gives flags_and_workers (codes "-L -z") (Ok (record { flags = (true, true, false); number = None; further = None; name = []; numbers = (0, 0) }))
   pub levels_twice : Gives flags_and_workers (codes "-L -z -L") (Err (ExtraWord 6))
-  pub third_flag : Gives flags_and_workers (codes "-l") (Ok (record { flags = (false, false, true); number = None; name = []; numbers = (0, 0) }))
-  pub joined : Gives flags_and_workers (codes "-zL") (Ok (record { flags = (true, true, false); number = None; name = []; numbers = (0, 0) }))
-  pub joined_around_a_number : Gives flags_and_workers (codes "-lL -w 4 -z") (Ok (record { flags = (true, true, true); number = Some 4; name = []; numbers = (0, 0) }))
+  pub third_flag : Gives flags_and_workers (codes "-l") (Ok (record { flags = (false, false, true); number = None; further = None; name = []; numbers = (0, 0) }))
+  pub joined : Gives flags_and_workers (codes "-zL") (Ok (record { flags = (true, true, false); number = None; further = None; name = []; numbers = (0, 0) }))
+  pub joined_around_a_number : Gives flags_and_workers (codes "-lL -w 4 -z") (Ok (record { flags = (true, true, true); number = Some 4; further = None; name = []; numbers = (0, 0) }))
   pub joined_twice : Gives flags_and_workers (codes "-LlL") (Err (ExtraWord 0))
   pub given_and_joined : Gives flags_and_workers (codes "-l -zl") (Err (ExtraWord 3))
   pub joined_with_another : Gives flags_and_workers (codes "-zx") (Err (ExtraWord 0))
   pub hyphen_alone : Gives flags_and_workers (codes "-") (Err (ExtraWord 0))
-  pub no_option : Gives flags_and_workers [] (Ok (record { flags = (false, false, false); number = None; name = []; numbers = (0, 0) }))
-  pub leading_zeros : Gives flags_and_workers (codes "-w 0016") (Ok (record { flags = (false, false, false); number = Some 16; name = []; numbers = (0, 0) }))
+  pub no_option : Gives flags_and_workers [] (Ok (record { flags = (false, false, false); number = None; further = None; name = []; numbers = (0, 0) }))
+  pub leading_zeros : Gives flags_and_workers (codes "-w 0016") (Ok (record { flags = (false, false, false); number = Some 16; further = None; name = []; numbers = (0, 0) }))
   pub number_missing : Gives flags_and_workers (codes "-w") (Err (MissingWord 99))
   pub no_number : Gives flags_and_workers (codes "-w -z") (Err (BadNumber 3))
   pub signed : Gives flags_and_workers (codes "-w +4") (Err (BadNumber 3))
@@ -135,13 +158,19 @@ pub record WorkedForms : Type 0 where
   pub too_great : Gives flags_and_workers (codes "-w 17") (Err (OutOfRange 3))
   pub flag_twice : Gives flags_and_workers (codes "-z -z") (Err (ExtraWord 3))
   pub number_twice : Gives flags_and_workers (codes "-w 4 -w x") (Err (ExtraWord 5))
+  pub two_numbered : Gives two_options (codes "-C 7 -N 2") (Ok (record { flags = (false, false, false); number = Some 7; further = Some 2; name = []; numbers = (0, 0) }))
+  pub second_numbered_first : Gives two_options (codes "-N 2 -L -C 7") (Ok (record { flags = (true, false, false); number = Some 7; further = Some 2; name = []; numbers = (0, 0) }))
+  pub second_numbered_alone : Gives two_options (codes "-N 1") (Ok (record { flags = (false, false, false); number = None; further = Some 1; name = []; numbers = (0, 0) }))
+  pub second_number_missing : Gives two_options (codes "-C 1 -N") (Err (MissingWord 99))
+  pub second_number_too_great : Gives two_options (codes "-C 1 -N 7") (Err (OutOfRange 8))
+  pub second_number_twice : Gives two_options (codes "-N 1 -C 1 -N x") (Err (ExtraWord 10))
   pub stray_word : Gives flags_and_workers (codes "z") (Err (ExtraWord 0))
-  pub flag_before_a_name : Gives (flag_and_name 97) (codes "-a o") (Ok (record { flags = (true, false, false); number = None; name = codes "o"; numbers = (0, 0) }))
+  pub flag_before_a_name : Gives (flag_and_name 97) (codes "-a o") (Ok (record { flags = (true, false, false); number = None; further = None; name = codes "o"; numbers = (0, 0) }))
   pub flag_behind_a_name : Gives (flag_and_name 97) (codes "o -a") (Err (ExtraWord 2))
   pub flag_for_a_name : Gives (flag_and_name 97) (codes "-a -a") (Err (ExtraWord 3))
-  pub flags_for_a_name : Gives (flag_and_name 97) (codes "-ab") (Ok (record { flags = (false, false, false); number = None; name = codes "-ab"; numbers = (0, 0) }))
+  pub flags_for_a_name : Gives (flag_and_name 97) (codes "-ab") (Ok (record { flags = (false, false, false); number = None; further = None; name = codes "-ab"; numbers = (0, 0) }))
   pub name_missing : Gives (flag_and_name 97) (codes "-a") (Err (MissingWord 99))
-  pub seed_and_size : Gives two_numbers (codes "18446744073709551615 1") (Ok (record { flags = (false, false, false); number = None; name = []; numbers = (18446744073709551615, 1) }))
+  pub seed_and_size : Gives two_numbers (codes "18446744073709551615 1") (Ok (record { flags = (false, false, false); number = None; further = None; name = []; numbers = (18446744073709551615, 1) }))
   pub size_missing : Gives two_numbers (codes "1") (Err (MissingWord 99))
   pub size_no_number : Gives two_numbers (codes "1 x") (Err (BadNumber 2))
   pub size_too_great : Gives two_numbers (codes "1 32769") (Err (OutOfRange 2))

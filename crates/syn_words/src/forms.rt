@@ -29,7 +29,7 @@ pub enum Operands {
 pub struct Form {
     /// The letters of the options without a number. Those given may stand behind one hyphen.
     pub flags: (Option<u8>, Option<u8>, Option<u8>),
-    /// The option with a number.
-    pub numbered: Option<Numbered>,
+    /// The options with a number.
+    pub numbered: (Option<Numbered>, Option<Numbered>),
     pub operands: Operands,
 }

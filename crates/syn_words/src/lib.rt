@@ -5,7 +5,7 @@
 //! words is skipped. The whole script is read before anything runs, and the first fault in text
 //! order is answered, alone.
 //!
-//! What may stand behind a name is data, a form: three options without a number, an option with
+//! What may stand behind a name is data, a form: three options without a number, two with
 //! a number in a range, and then a file's name or two numbers. One function reads words by a form,
 //! and one table has a row a name: the form, and the keyword, which says what the words spell
 //! (`specs/Commands.antt`, and in the code `table.rt` and `spelling.rt`). A command that makes the
@@ -32,7 +32,7 @@ pub use inputs::LutInputs;
 pub use laws::{either_or, not_both, one_fault, one_script, worked_forms, worked_scripts};
 pub use names::FileName;
 pub use numbers::number_in;
-pub use recipes::{PassOptions, Recipe, SearchLimits};
+pub use recipes::{PassOptions, Recipe, ReplaceLimits, SearchLimits};
 use spelling::push_commands;
 use std::alloc::{AllocError, AllocFailed, Global};
 use thiserror::Error;

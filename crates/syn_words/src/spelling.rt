@@ -1,14 +1,14 @@
 //! What a command's name spells with what was given behind it.
 
 ghost use Rattle.std.specs.Prelude.{◌≡◌, ◌⊎◌, [], ◌∷◌, Err, Ok, IfOk, OnOk, IfErr, None, option_map};
-ghost use Rattle.syn_words.specs.Commands.{commands_of, given_conflicts, given_limits, given_options, options, resyn, resyn2, resyn2l, said, size_of, workers_of};
+ghost use Rattle.syn_words.specs.Commands.{commands_of, gates_of, given_conflicts, given_gates, given_limits, given_options, options, replace_limits, resyn, resyn2, resyn2l, said, size_of, workers_of};
 ghost use Rattle.syn_words.specs.Scripts.{said_onto};
 ghost use Rattle.syn_words.specs.declared.Command.TheVariants as commands;
 
 use crate::inputs::LutInputs;
 use crate::names::FileName;
-use crate::recipes::{PassOptions, Recipe, SearchLimits};
-use crate::table::{Keyword, MAX_CONFLICTS, MAX_TABLES, entry_of};
+use crate::recipes::{PassOptions, Recipe, ReplaceLimits, SearchLimits};
+use crate::table::{Keyword, MAX_CONFLICTS, MAX_GATES, MAX_TABLES, entry_of};
 use crate::word_reader::{Given, given_by};
 use crate::words::Phrase;
 use crate::{Command, ScriptFault};
@@ -17,6 +17,9 @@ use syn_workers::{MAX_WORKERS, Workers};
 
 // So many conflicts where no number is given.
 const USUAL_CONFLICTS: u32 = 100;
+
+// So many new ANDs in place of a node where no number is given.
+const USUAL_GATES: u32 = 1;
 
 // A number of workers, one at least and the most at most.
 fn workers_of(number: u64) -> Workers
@@ -72,6 +75,34 @@ fn given_limits(given: &Given<'_>) -> SearchLimits
     ensures { result ≡ given_limits given.now }
 {
     SearchLimits {
+        conflicts: given_conflicts(given.number),
+        levels: given.flags.1,
+    }
+}
+
+// A number of new ANDs, one at least and the most at most.
+fn gates_of(number: u64) -> u32
+    ensures { result ≡ gates_of number }
+{
+    number.min(MAX_GATES as u64).max(1) as u32
+}
+
+// The number of new ANDs that was given, and the usual one where none was.
+fn given_gates(number: Option<u64>) -> u32
+    ensures { result ≡ given_gates number }
+{
+    match number {
+        None => USUAL_GATES,
+        Some(number) => gates_of(number),
+    }
+}
+
+// How nodes are replaced by what was given.
+fn replace_limits(given: &Given<'_>) -> ReplaceLimits
+    ensures { result ≡ replace_limits given.now }
+{
+    ReplaceLimits {
+        gates: given_gates(given.further),
         conflicts: given_conflicts(given.number),
         levels: given.flags.1,
     }
@@ -170,6 +201,7 @@ fn commands_of(
     let plain = given_options(flag, &given);
     let zero = given_options(true, &given);
     let limits = given_limits(&given);
+    let replacing = replace_limits(&given);
     let inputs = LutInputs::of(given.number);
     let (seed, size) = (given.numbers.0, size_of(given.numbers.1));
     match keyword {
@@ -194,6 +226,7 @@ fn commands_of(
         Keyword::Resubstitute => make(alloc, Recipe::Resubstitute(plain)),
         Keyword::ResubstituteZero => make(alloc, Recipe::Resubstitute(zero)),
         Keyword::Merge => make(alloc, Recipe::Merge(limits)),
+        Keyword::Replace => make(alloc, Recipe::Replace(replacing)),
         Keyword::Map => make(alloc, Recipe::Map { area: flag, inputs }),
         Keyword::MapByFlow => make(alloc, Recipe::MapByFlow(inputs)),
         Keyword::Sweep => make(alloc, Recipe::Sweep),

@@ -2,7 +2,7 @@
 
 ghost use Rattle.std.specs.Prelude.{◌≡◌};
 ghost use Rattle.syn_words.specs.Flags.{with_flags};
-ghost use Rattle.syn_words.specs.Forms.{after_word, at_end, given_by, is_option, nothing_given, number_behind, with_first, with_options};
+ghost use Rattle.syn_words.specs.Forms.{after_word, at_end, given_by, is_option, nothing_given, number_behind, with_first, with_further, with_options};
 
 use crate::ScriptFault;
 use crate::flags::{Flags, are_flags, letters_of, with_flags};
@@ -16,8 +16,10 @@ use crate::words::{CommandWords, Word, next_word};
 pub struct Given<'a> {
     /// Whether each option without a number was given.
     pub flags: Flags,
-    /// The number of the option with one, where it was given.
+    /// The number of the first option with one, where it was given.
     pub number: Option<u64>,
+    /// The number of the second such option, where it was given.
+    pub further: Option<u64>,
     /// The file's name, empty where none is expected.
     pub name: WordText<'a>,
     /// The numbers, 0 where none are expected.
@@ -29,8 +31,10 @@ pub struct Given<'a> {
 pub enum Awaits {
     /// An option, or the first word that is none.
     Options,
-    /// The number of an option.
+    /// The number of the first option with one.
     OptionNumber(NumberRange),
+    /// The number of the second such option.
+    FurtherNumber(NumberRange),
     /// The second of two numbers.
     SecondNumber(NumberRange),
     /// No word.
@@ -51,7 +55,7 @@ fn is_option(letter: u8, text: &[u8]) -> bool
     [b'-', letter].as_slice() == text
 }
 
-// The range of the number behind a word, where it is the option with a number.
+// The range of the number behind a word, where it is this option with a number.
 fn number_behind(numbered: Option<Numbered>, text: &[u8]) -> Option<NumberRange>
     ensures { result ≡ number_behind numbered text.now }
 {
@@ -69,6 +73,7 @@ impl<'a> Given<'a> {
         Given {
             flags: (false, false, false),
             number: None,
+            further: None,
             name: WordText::empty(),
             numbers: (0, 0),
         }
@@ -116,6 +121,17 @@ impl<'a> Given<'a> {
         Ok(self.before(Awaits::Options))
     }
 
+    // With the second option with a number, or with the first word that is no option.
+    fn with_further(self, form: Form, word: Word<'a>) -> Result<Progress<'a>, ScriptFault>
+        ensures { result ≡ with_further form self.entry word.entry }
+    {
+        match number_behind(form.numbered.1, word.text.as_slice()) {
+            None => self.with_first(form.operands, word),
+            Some(_) if self.further.is_some() => Err(ScriptFault::ExtraWord(word.at)),
+            Some(range) => Ok(self.before(Awaits::FurtherNumber(range))),
+        }
+    }
+
     // With an option, or with the first word that is none.
     fn with_option(self, form: Form, word: Word<'a>) -> Result<Progress<'a>, ScriptFault>
         ensures { result ≡ after_word form Awaits.Options self.entry word.entry }
@@ -125,8 +141,8 @@ impl<'a> Given<'a> {
             let flags = with_flags(&form, self.flags, letters);
             return self.with_options(flags, word);
         }
-        match number_behind(form.numbered, word.text.as_slice()) {
-            None => self.with_first(form.operands, word),
+        match number_behind(form.numbered.0, word.text.as_slice()) {
+            None => self.with_further(form, word),
             Some(_) if self.number.is_some() => Err(ScriptFault::ExtraWord(word.at)),
             Some(range) => Ok(self.before(Awaits::OptionNumber(range))),
         }
@@ -139,7 +155,7 @@ impl<'a> Given<'a> {
         let complete = match awaits {
             Awaits::Nothing => true,
             Awaits::Options => form.operands == Operands::Nothing,
-            Awaits::OptionNumber(_) | Awaits::SecondNumber(_) => false,
+            Awaits::OptionNumber(_) | Awaits::FurtherNumber(_) | Awaits::SecondNumber(_) => false,
         };
         if complete {
             Ok(self)
@@ -159,6 +175,10 @@ impl<'a> Progress<'a> {
             Awaits::Options => given.with_option(form, word),
             Awaits::OptionNumber(range) => {
                 given.number = Some(number_at(range, &word)?);
+                Ok(given.before(Awaits::Options))
+            }
+            Awaits::FurtherNumber(range) => {
+                given.further = Some(number_at(range, &word)?);
                 Ok(given.before(Awaits::Options))
             }
             Awaits::SecondNumber(range) => {
