@@ -64,7 +64,7 @@ none_of words (refused ∷ more) before after i i' runs e = absurd (both_ways (n
 
 -- a status of 0 comes only where nothing was refused
 pub ran_accepted : (words : List (List ℕ)) (d d' : Disk) (s s' : Screen) (i i' : Input) (status : ℕ) → Ran words d s i d' s' i' status → status ≡ 0 → RanAccepted words d s i d' s' i'
-ran_accepted words d d' s s' i i' status ran e = (ran.network, none_of words ran.refusals _ _ i i' ran.runs (sym ran.status_is ∙ e))
+ran_accepted words d d' s s' i i' status ran e = (ran.kept, none_of words ran.refusals _ _ i i' ran.runs (sym ran.status_is ∙ e))
 
 -- no more lines are run than the most
 pub few_run : (lines : List (List ℕ)) (taken : ℕ) (before after : State) (refusals : List Refused) (i i' : Input) → taken ≤ most_lines → RunsLines lines taken before i refusals after i' → taken + length lines ≤ most_lines

@@ -121,7 +121,7 @@ accepted_counted (commands.WriteAiger ascii bare file) before after (net, bytes,
 accepted_counted (commands.Print text) before after (stays, e, took) = record { files = disk_same before.files after.files e; sink = covers_none before.sink.faults after.sink.faults took.later; lines = refl }
 accepted_counted (commands.Source file) before after same = stands_counted before after same
 accepted_counted commands.Quit before after same = stands_counted before after same
-accepted_counted (commands.Make recipe) before after (made, e, f) = record { files = disk_same before.files after.files e; sink = sink_same before.sink after.sink f; lines = refl }
+accepted_counted (commands.Make recipe) before after (made, stays, e, f) = record { files = disk_same before.files after.files e; sink = sink_same before.sink after.sink f; lines = refl }
 
 -- parts one after the other
 

@@ -7,13 +7,12 @@ use Rattle.syn_aiger_files.specs.declared.fault.AigFault.{AigFault}
 use Rattle.syn_aiger_files.specs.declared.fault.AigFault.TheVariants as aiger
 use Rattle.syn_shell.specs.declared.refusal.Refusal.{Refusal}
 use Rattle.syn_shell.specs.declared.refusal.Refusal.TheVariants.{Words, Script, Read, ReadAiger, FileTooLong, LineTooLong, TooManyLines, TooManyGates, LatchType, NoNetwork, GetFailed, PutFailed, LineFailed, SinkFailed, NoMemory}
-use Rattle.syn_shell.specs.Networks.{Written}
 use Rattle.syn_shell.specs.declared.refusal_lines.Reported.{Reported}
 use Rattle.syn_shell.specs.declared.refusal_lines.Reported.TheVariants.{Whole, Cut}
 use Rattle.syn_shell.specs.declared.line_mode.Turn.{Turn}
 use Rattle.syn_shell.specs.declared.line_mode.Turn.TheVariants as turn
 use Rattle.syn_io.specs.Outside.{Disk, Screen, Input}
-use Rattle.syn_shell.specs.Outside.{State, state, GaveLine, GaveNone}
+use Rattle.syn_shell.specs.Outside.{Kept, State, nothing_yet, state, GaveLine, GaveNone}
 use Rattle.syn_shell.specs.Lines.{aiger_status, read_status, refusal_status}
 use Rattle.syn_shell.specs.Scripts.{Refused, nameless, RunsScript}
 use Rattle.syn_shell.specs.LineMode.{GoesOn, LineRefused, NoFurther, RunsLines, listed, most_lines}
@@ -87,14 +86,14 @@ pub none_left : (status taken : ℕ) (st : State) (i i' : Input) → status ≡ 
 none_left status taken st i i' is gave = ([], [], inl (gave, refl, refl), is)
 
 -- no further line is run, and that is told
-pub none_run : (status taken : ℕ) (t : Reported) (cause : Refusal) (m : Option Written) (d : Disk) (s s' : Screen) (i i' : Input) → status ≡ status_in t → NoFurther taken i i' cause → AnnouncesAs t (nameless cause) s s'
+pub none_run : (status taken : ℕ) (t : Reported) (cause : Refusal) (m : Kept) (d : Disk) (s s' : Screen) (i i' : Input) → status ≡ status_in t → NoFurther taken i i' cause → AnnouncesAs t (nameless cause) s s'
     → RanLines status taken (state m d s) i (state m d s') i'
 none_run status taken t cause m d s s' i i' is why tells = ([], nameless cause ∷ [], inr (cause, why, refl, (nothing_run t cause m d s s' tells).1), is ∙ nothing_status t cause s s' tells)
 
 pub turned_none : (st : State) (i i' : Input) → GaveNone i i' → Turned (turn.Ends 0) st i st i'
 turned_none st i i' gave = ([], [], λ taken lt. inl (gave, refl, refl), refl)
 
-pub turned_refused : (status : ℕ) (t : Reported) (cause : Refusal) (m : Option Written) (d : Disk) (s s' : Screen) (i i' : Input) → status ≡ status_in t → LineRefused i i' cause → AnnouncesAs t (nameless cause) s s'
+pub turned_refused : (status : ℕ) (t : Reported) (cause : Refusal) (m : Kept) (d : Disk) (s s' : Screen) (i i' : Input) → status ≡ status_in t → LineRefused i i' cause → AnnouncesAs t (nameless cause) s s'
     → Turned (turn.Ends status) (state m d s) i (state m d s') i'
 turned_refused status t cause m d s s' i i' is why tells = ([], nameless cause ∷ [], λ taken lt. inr (cause, inl why, refl, (nothing_run t cause m d s s' tells).1), is ∙ nothing_status t cause s s' tells)
 
@@ -110,9 +109,9 @@ turned_by (Some (Whole status)) line st st' i j gave (refused, done, runs, told)
 turned_by (Some (Cut status)) line st st' i j gave (refused, done, runs, told) = (line ∷ [], refused ∷ [], λ taken lt. (j, Some refused, done, lt, gave, runs, inr (told.1, refl, refl, refl)), told.0)
 
 -- the lines begin with no network
-pub begins : (lines : List (List ℕ)) (more : List Refused) (m : Option Written) (d : Disk) (s : Screen) (after : State) (i i' : Input) → m ≡ None → RunsLines lines 0 (state m d s) i more after i'
-    → RanLines (first_status 0 (status_of more)) 0 (state None d s) i after i'
-begins lines more m d s after i i' is runs = (lines, more, subst (λ (n : Option Written). RunsLines lines 0 (state n d s) i more after i') is runs, refl)
+pub begins : (lines : List (List ℕ)) (more : List Refused) (m : Kept) (d : Disk) (s : Screen) (after : State) (i i' : Input) → m ≡ nothing_yet → RunsLines lines 0 (state m d s) i more after i'
+    → RanLines (first_status 0 (status_of more)) 0 (state nothing_yet d s) i after i'
+begins lines more m d s after i i' is runs = (lines, more, subst (λ (n : Kept). RunsLines lines 0 (state n d s) i more after i') is runs, refl)
 
 -- the status at an end
 pub at_end : (result status next : ℕ) (refusals : List Refused) (before after : State) (i i' : Input) → next ≡ status_of refusals → result ≡ first_status status next

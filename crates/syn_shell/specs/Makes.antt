@@ -1,5 +1,5 @@
 -- What recipes make of a network, as it is written.
-use Rattle.std.specs.Prelude.{◌≡◌, ℕ, ◌+◌, ◌≤◌, ◌<◌, Bool, true, false, List, length, map}
+use Rattle.std.specs.Prelude.{◌≡◌, ℕ, ◌+◌, ◌≤◌, ◌<◌, Bool, true, false, List, length, map, Option, None, Some}
 use Rattle.syn_rows.specs.declared.Row.{Row}
 use Rattle.syn_rows.specs.Rows.{node_of}
 use Rattle.syn_rows.specs.Levels.{level_in, levels_of}
@@ -112,6 +112,11 @@ pub record IsSweptTo (old new : Written) : Type 0 where
   pub graph : new.mapped ≡ false
   pub sweep : IsSweepOf old.netlist new.netlist
 
+-- the most inputs of a LUT by what is named: six where nothing is
+abbrev pub most_inputs : Option ℕ → ℕ
+most_inputs None = 6
+most_inputs (Some most) = most
+
 -- What a recipe makes of a graph.
 abbrev pub MakesOfGraph : Recipe → Written → Written → Type 0
 MakesOfGraph recipes.Strash = IsRemade
@@ -121,9 +126,9 @@ MakesOfGraph (recipes.Refactor options) = IsPassed options.levels refactorings
 MakesOfGraph (recipes.Resubstitute options) = IsPassed options.levels resubstitutions
 MakesOfGraph (recipes.Merge limits) = IsMerged limits.levels
 MakesOfGraph (recipes.Replace limits) = IsMerged limits.levels
-MakesOfGraph (recipes.Map false inputs) = IsMappedTo inputs
-MakesOfGraph (recipes.Map true inputs) = IsMappedForArea inputs
-MakesOfGraph (recipes.MapByFlow inputs) = IsLeastMappedTo inputs
+MakesOfGraph (recipes.Map false inputs) = IsMappedTo (most_inputs inputs)
+MakesOfGraph (recipes.Map true inputs) = IsMappedForArea (most_inputs inputs)
+MakesOfGraph (recipes.MapByFlow inputs) = IsLeastMappedTo (most_inputs inputs)
 MakesOfGraph recipes.Sweep = IsSweptTo
 
 -- What a recipe for graphs makes of a network by its mark: of a net of LUTs what it makes of the graph that hashing made of that before.

@@ -1,10 +1,9 @@
 -- A whole run: what the words mean, the scripts one after the other, the lines of the refusals, the status.
-use Rattle.std.specs.Prelude.{◌≡◌, ◌⊎◌, ℕ, List, [], ◌∷◌, Option, None}
-use Rattle.syn_shell.specs.Networks.{Written}
+use Rattle.std.specs.Prelude.{◌≡◌, ◌⊎◌, ℕ, List, [], ◌∷◌, Option}
 use Rattle.syn_shell.specs.declared.refusal.Refusal.{Refusal}
 use Rattle.syn_shell.specs.declared.refusal.Refusal.TheVariants.{Words, NoMemory}
 use Rattle.syn_io.specs.Outside.{Disk, Screen, Input}
-use Rattle.syn_shell.specs.Outside.{State, state}
+use Rattle.syn_shell.specs.Outside.{Kept, State, nothing_yet, state}
 use Rattle.syn_shell.specs.Lines.{refusal_status}
 use Rattle.syn_shell.specs.Counts.{FaultsCover}
 use Rattle.syn_shell.specs.Usage.{Usage, OneScript, EachLine, Faulty, usage_of}
@@ -39,12 +38,12 @@ status_of (refused ∷ more) = refusal_status refused.cause
 
 -- Nothing was refused: the script was run to its end, or the lines until none was left.
 abbrev pub RanAccepted : List (List ℕ) → Disk → Screen → Input → Disk → Screen → Input → Type 0
-RanAccepted words d s i d' s' i' = (network : Option Written) × RunsUsage (usage_of words) (state None d s) i [] (state network d' s') i'
+RanAccepted words d s i d' s' i' = (kept : Kept) × RunsUsage (usage_of words) (state nothing_yet d s) i [] (state kept d' s') i'
 
 -- A whole run on words, from the files, the sink and the lines before it to those after it, and its status. It begins with no network. No more refusals are of the files, the lines or the sink than their counts of faults rose by.
 pub record Ran (words : List (List ℕ)) (d : Disk) (s : Screen) (i : Input) (d' : Disk) (s' : Screen) (i' : Input) (status : ℕ) : Type 0 where
-  pub network : Option Written
+  pub kept : Kept
   pub refusals : List Refused
-  pub runs : RunsWords words (state None d s) i refusals (state network d' s') i'
+  pub runs : RunsWords words (state nothing_yet d s) i refusals (state kept d' s') i'
   pub status_is : status ≡ status_of refusals
   pub faults : FaultsCover refusals d s i d' s' i'

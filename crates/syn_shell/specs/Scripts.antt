@@ -55,6 +55,7 @@ RunsScript text before outcome after =
 -- Of two states: only what the sink took may be another.
 pub record OnlySink (before after : State) : Type 0 where
   pub network : after.network ≡ before.network
+  pub inputs : after.inputs ≡ before.inputs
   pub files : after.files ≡ before.files
 
 -- The line of a refusal was put. A sink that failed has no line.

@@ -1,4 +1,4 @@
--- What each command does, accepted or refused: a relation between the network, the files and the sink before and after it. There are commands that read a file, of either format, that generate a netlist, that print the network's line or a text, that write a file, in either format, and that make the network anew by a recipe.
+-- What each command does, accepted or refused: a relation between what the session keeps, the files and the sink before and after it. There are commands that read a file, of either format, that generate a netlist, that print the network's line or a text, that write a file, in either format, and that make the network anew by a recipe.
 use Rattle.std.specs.Prelude.{◌≡◌, ℕ, ◌≤◌, ◌<◌, Bool, true, false, List, length, Option, Some, None, IfSome, IsSome, IsSomeAnd, Result, Ok, Err, ⊤}
 use Rattle.syn_io.specs.Outside.{Rose, file_at, Disk, Screen}
 use Rattle.syn_netlist.specs.Lists.{Netlist}
@@ -15,6 +15,7 @@ use Rattle.syn_aiger.specs.Writing.{IsWrittenAs, aig_of, first_typed, without_ty
 use Rattle.syn_words.specs.declared.Command.{Command}
 use Rattle.syn_words.specs.declared.Command.TheVariants as commands
 use Rattle.syn_words.specs.declared.recipes.Recipe.{Recipe}
+use Rattle.syn_words.specs.declared.recipes.Recipe.TheVariants as recipes
 use Rattle.syn_reader.specs.declared.ReadFault.{ReadFault}
 use Rattle.syn_reader.specs.Causes.{fault_in}
 use Rattle.syn_reader.specs.Limits.{Within, IsFirstFault}
@@ -150,6 +151,17 @@ AigerWriteRefused bare m name before after other = WriteRefused m name before af
 abbrev pub Remakes : Recipe → Option Written → Option Written → Type 0
 Remakes recipe m m' = (old : Written) × (new : Written) × (m ≡ Some old) × (m' ≡ Some new) × (gates_in old ≤ most_gates) × Makes recipe old new
 
+-- what is named, or this
+abbrev pub inputs_or : Option ℕ → ℕ → ℕ
+inputs_or None most = most
+inputs_or (Some named) most = named
+
+-- A recipe with this most inputs of a LUT where it names no number.
+abbrev pub with_inputs : ℕ → Recipe → Recipe
+with_inputs most (recipes.Map area named) = recipes.Map area (Some (inputs_or named most))
+with_inputs most (recipes.MapByFlow named) = recipes.MapByFlow (Some (inputs_or named most))
+with_inputs most other = other
+
 -- Why a network is not made anew.
 abbrev pub MakingRefused : Option Written → Refusal → Type 0
 MakingRefused m NoNetwork = m ≡ None
@@ -162,45 +174,51 @@ abbrev pub GeneratingRefused : Refusal → Type 0
 GeneratingRefused NoMemory = ⊤
 GeneratingRefused other = ⊥
 
--- The network stays, whatever becomes of the files and of the sink.
-abbrev pub NetworkStays : State → State → Type 0
-NetworkStays before after = after.network ≡ before.network
+-- What the session keeps stays, whatever becomes of the files and of the sink.
+pub record Stays (before after : State) : Type 0 where
+  pub network : after.network ≡ before.network
+  pub inputs : after.inputs ≡ before.inputs
+
+-- The graph of a netlist becomes the network, and the number of inputs stays.
+pub record Becomes (net : Netlist) (before after : State) : Type 0 where
+  pub network : after.network ≡ Some (graph_network net)
+  pub inputs : after.inputs ≡ before.inputs
 
 -- A command that is accepted. What is written reads back as what the network is. The commands of a file stand in its place when a run begins, and nothing stands behind the end of a run, so both do nothing themselves.
 abbrev pub Accepted : Command → State → State → Type 0
 Accepted (commands.Read name) before after =
-    (net : Netlist) × (after.network ≡ Some (graph_network net)) × IsReadAs name before.files net × FilesUnchanged before.files after.files × (after.sink ≡ before.sink)
+    (net : Netlist) × Becomes net before after × IsReadAs name before.files net × FilesUnchanged before.files after.files × (after.sink ≡ before.sink)
 Accepted (commands.ReadAiger name) before after =
-    (net : Netlist) × (after.network ≡ Some (graph_network net)) × IsReadAsAiger name before.files net × FilesUnchanged before.files after.files × (after.sink ≡ before.sink)
+    (net : Netlist) × Becomes net before after × IsReadAsAiger name before.files net × FilesUnchanged before.files after.files × (after.sink ≡ before.sink)
 Accepted (commands.Generate seed size) before after =
-    (net : Netlist) × (after.network ≡ Some (graph_network net)) × IsGraphOf (generated seed size) net × (after.files ≡ before.files) × (after.sink ≡ before.sink)
+    (net : Netlist) × Becomes net before after × IsGraphOf (generated seed size) net × (after.files ≡ before.files) × (after.sink ≡ before.sink)
 Accepted commands.Stats before after =
-    (net : Written) × (line : List ℕ) × (before.network ≡ Some net) × NetworkStays before after × (after.files ≡ before.files) × IsStatsLine net line × Took line before.sink after.sink
+    (net : Written) × (line : List ℕ) × (before.network ≡ Some net) × Stays before after × (after.files ≡ before.files) × IsStatsLine net line × Took line before.sink after.sink
 Accepted (commands.Write name) before after =
-    (net : Written) × (before.network ≡ Some net) × NetworkStays before after × FileIs name after.files (printed net.netlist) × Reads (printed net.netlist) net.netlist
+    (net : Written) × (before.network ≡ Some net) × Stays before after × FileIs name after.files (printed net.netlist) × Reads (printed net.netlist) net.netlist
     × OthersUnchanged name before.files after.files × (after.sink ≡ before.sink)
 Accepted (commands.WriteAiger ascii bare name) before after =
-    (net : Written) × (bytes : List ℕ) × (before.network ≡ Some net) × NetworkStays before after × FileIs name after.files bytes × IsAigerOf ascii bare net bytes
+    (net : Written) × (bytes : List ℕ) × (before.network ≡ Some net) × Stays before after × FileIs name after.files bytes × IsAigerOf ascii bare net bytes
     × OthersUnchanged name before.files after.files × (after.sink ≡ before.sink)
-Accepted (commands.Print text) before after = NetworkStays before after × (after.files ≡ before.files) × Took text before.sink after.sink
+Accepted (commands.Print text) before after = Stays before after × (after.files ≡ before.files) × Took text before.sink after.sink
 Accepted (commands.Source name) before after = after ≡ before
 Accepted commands.Quit before after = after ≡ before
-Accepted (commands.Make recipe) before after = Remakes recipe before.network after.network × (after.files ≡ before.files) × (after.sink ≡ before.sink)
+Accepted (commands.Make recipe) before after = Remakes (with_inputs before.inputs recipe) before.network after.network × (after.inputs ≡ before.inputs) × (after.files ≡ before.files) × (after.sink ≡ before.sink)
 
--- A command that is refused. It leaves the network.
+-- A command that is refused. It leaves what the session keeps.
 abbrev pub Denied : Command → State → Refusal → State → Type 0
-Denied (commands.Read name) before cause after = NetworkStays before after × ReadRefused name before.files after.files cause × FilesUnchanged before.files after.files × (after.sink ≡ before.sink)
-Denied (commands.ReadAiger name) before cause after = NetworkStays before after × AigerReadRefused name before.files after.files cause × FilesUnchanged before.files after.files × (after.sink ≡ before.sink)
-Denied (commands.Generate seed size) before cause after = NetworkStays before after × GeneratingRefused cause × (after.files ≡ before.files) × (after.sink ≡ before.sink)
-Denied commands.Stats before cause after = NetworkStays before after × PrintRefused before.network before.sink after.sink cause × (after.files ≡ before.files)
-Denied (commands.Write name) before cause after = NetworkStays before after × WriteRefused before.network name before.files after.files cause × (after.sink ≡ before.sink)
-Denied (commands.WriteAiger ascii bare name) before cause after = NetworkStays before after × AigerWriteRefused bare before.network name before.files after.files cause × (after.sink ≡ before.sink)
-Denied (commands.Print text) before cause after = NetworkStays before after × TextRefused text before.sink after.sink cause × (after.files ≡ before.files)
+Denied (commands.Read name) before cause after = Stays before after × ReadRefused name before.files after.files cause × FilesUnchanged before.files after.files × (after.sink ≡ before.sink)
+Denied (commands.ReadAiger name) before cause after = Stays before after × AigerReadRefused name before.files after.files cause × FilesUnchanged before.files after.files × (after.sink ≡ before.sink)
+Denied (commands.Generate seed size) before cause after = Stays before after × GeneratingRefused cause × (after.files ≡ before.files) × (after.sink ≡ before.sink)
+Denied commands.Stats before cause after = Stays before after × PrintRefused before.network before.sink after.sink cause × (after.files ≡ before.files)
+Denied (commands.Write name) before cause after = Stays before after × WriteRefused before.network name before.files after.files cause × (after.sink ≡ before.sink)
+Denied (commands.WriteAiger ascii bare name) before cause after = Stays before after × AigerWriteRefused bare before.network name before.files after.files cause × (after.sink ≡ before.sink)
+Denied (commands.Print text) before cause after = Stays before after × TextRefused text before.sink after.sink cause × (after.files ≡ before.files)
 Denied (commands.Source name) before cause after = ⊥
 Denied commands.Quit before cause after = ⊥
-Denied (commands.Make recipe) before cause after = NetworkStays before after × MakingRefused before.network cause × (after.files ≡ before.files) × (after.sink ≡ before.sink)
+Denied (commands.Make recipe) before cause after = Stays before after × MakingRefused before.network cause × (after.files ≡ before.files) × (after.sink ≡ before.sink)
 
--- One command, from the network, the files and the sink before it to those after it.
+-- One command, from what the session keeps, the files and the sink before it to those after it.
 abbrev pub SessionStep : Command → State → Result (Unit {0}) Refusal → State → Type 0
 SessionStep command before (Ok done) after = Accepted command before after
 SessionStep command before (Err cause) after = Denied command before cause after

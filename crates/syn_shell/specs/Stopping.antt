@@ -11,8 +11,7 @@ use Rattle.syn_shell.specs.declared.refusal_lines.Reported.TheVariants.{Whole, C
 use Rattle.syn_shell.specs.declared.line_mode.Turn.{Turn}
 use Rattle.syn_shell.specs.declared.line_mode.Turn.TheVariants as turn
 use Rattle.syn_io.specs.Outside.{Disk, Screen, Input}
-use Rattle.syn_shell.specs.Outside.{State, state, Took, GaveLine, GaveNone, script_limit}
-use Rattle.syn_shell.specs.Networks.{Written}
+use Rattle.syn_shell.specs.Outside.{Kept, State, nothing_yet, state, Took, GaveLine, GaveNone, script_limit}
 use Rattle.syn_shell.specs.Lines.{refusal_line, refusal_status}
 use Rattle.syn_shell.specs.Scripts.{Refused, RunsScript, ScriptRefused, Announced, SinkGaveUp, TookLess}
 use Rattle.syn_shell.specs.LineMode.{GoesOn, LineRefused, RunsLines, listed, most_lines}
@@ -55,7 +54,7 @@ status_left (Some announcement) = status_in announcement
 
 -- One script was run from no network, with this status.
 abbrev pub RanOne : ℕ → List ℕ → Disk → Screen → Disk → Screen → Type 0
-RanOne status text d s d' s' = (left : Option Reported) × (m : Option Written) × Leaves left text (state None d s) (state m d' s') × (status ≡ status_left left)
+RanOne status text d s d' s' = (left : Option Reported) × (m : Kept) × Leaves left text (state nothing_yet d s) (state m d' s') × (status ≡ status_left left)
 
 -- What a call for the next line gave.
 abbrev pub Gave : Result (Option (Vec ℕ Global)) Refusal → Input → Input → Type 0

@@ -9,6 +9,7 @@ mod laws;
 mod line_mode;
 mod lines;
 mod network;
+mod recipes;
 mod refusal;
 mod refusal_lines;
 mod scripts;

@@ -1,10 +1,9 @@
 //! Line mode: each line is a script, and the run goes on behind a refusal.
 
-ghost use Rattle.std.specs.Prelude.{◌≡◌, ◌≤◌, None, Option};
+ghost use Rattle.std.specs.Prelude.{◌≡◌, ◌≤◌};
 ghost use Rattle.syn_io.specs.Outside.{Disk};
-ghost use Rattle.syn_shell.specs.Networks.{Written};
 ghost use Rattle.syn_shell.specs.LineMode.{most_lines};
-ghost use Rattle.syn_shell.specs.Outside.{state};
+ghost use Rattle.syn_shell.specs.Outside.{Kept, nothing_yet, state};
 ghost use Rattle.syn_shell.specs.Stopping.{first_status, Gave, RanLines, Turned};
 
 use crate::refusal::Refusal;
@@ -73,7 +72,7 @@ fn take_turn<R: Threads + Sync, F: Files, L: Lines, O: Sink, G: CommitHook>(
 
 // Behind as many lines as are run a further one is refused.
 fn refuse_one_more_line<L: Lines, O: Sink>(alloc: Global, lines: &mut L, out: &mut O) -> u8
-    ensures each { (m : Option Written) (files : Disk) → RanLines result most_lines (state m files (O.screen out.old)) (L.input lines.old) (state m files (O.screen out.new)) (L.input lines.new) }
+    ensures each { (m : Kept) (files : Disk) → RanLines result most_lines (state m files (O.screen out.old)) (L.input lines.old) (state m files (O.screen out.new)) (L.input lines.new) }
 {
     match next_line(alloc, lines) {
         Ok(None) => 0,
@@ -92,7 +91,7 @@ pub(crate) fn run_lines<R: Threads + Sync, F: Files, L: Lines, O: Sink, G: Commi
     out: &mut O,
     hook: &G,
 ) -> u8
-    ensures { (m : Option Written) × RanLines result 0 (state None (F.disk files.old) (O.screen out.old)) (L.input lines.old)
+    ensures { (m : Kept) × RanLines result 0 (state nothing_yet (F.disk files.old) (O.screen out.old)) (L.input lines.old)
         (state m (F.disk files.new) (O.screen out.new)) (L.input lines.new) }
 {
     let mut session = Session::new(workers);

@@ -1,6 +1,6 @@
 //! The session: the network, and the commands that make, show and write it.
 
-ghost use Rattle.std.specs.Prelude.{◌≡◌, ℕ, ◌≤◌, ◌<◌, ◌^◌, length, List, IfOk, IfErr, OnOk, Some, None};
+ghost use Rattle.std.specs.Prelude.{◌≡◌, ℕ, ◌≤◌, ◌<◌, ◌^◌, length, List, IfOk, IfErr, OnOk, Some};
 ghost use Rattle.syn_netlist.specs.Lists.{Netlist};
 ghost use Rattle.syn_netlist.specs.Views.{netlist_in};
 ghost use Rattle.syn_reader.specs.Reading.{Reads};
@@ -11,13 +11,14 @@ ghost use Rattle.syn_build.specs.Building.{IsGraphOf};
 ghost use Rattle.syn_gen.specs.Generated.{generated};
 ghost use Rattle.syn_shell.specs.Networks.{graph_network, IsSmall, network_of, Written};
 ghost use Rattle.syn_shell.specs.Lines.{IsStatsLine};
-ghost use Rattle.syn_shell.specs.Outside.{FileIs, FilesUnchanged, OthersUnchanged, Took, state};
-ghost use Rattle.syn_shell.specs.Steps.{AigerReadRefused, AigerWriteRefused, file_limit, GeneratingRefused, IsAigerOf, IsReadAs, IsReadAsAiger, MakingRefused, ParseRefused, PrintRefused, ReadRefused, Remakes, SessionStep, TextRefused, WriteRefused};
+ghost use Rattle.syn_shell.specs.Outside.{FileIs, FilesUnchanged, nothing_yet, OthersUnchanged, Took, state};
+ghost use Rattle.syn_shell.specs.Steps.{AigerReadRefused, AigerWriteRefused, file_limit, GeneratingRefused, IsAigerOf, IsReadAs, IsReadAsAiger, MakingRefused, ParseRefused, PrintRefused, ReadRefused, Remakes, SessionStep, TextRefused, with_inputs, WriteRefused};
 
 use crate::aiger;
 use crate::files::{get, put};
 use crate::lines::print_stats;
 use crate::network::HeldNetwork;
+use crate::recipes::with_inputs;
 use crate::refusal::Refusal;
 use std::alloc::{AllocError, Global};
 use std::marker::Model;
@@ -28,24 +29,27 @@ use syn_io::{Files, Sink};
 use syn_netlist::CheckedNetlist;
 use syn_network::Network;
 use syn_reader::ReadFault;
-use syn_words::{Command, Recipe};
+use syn_words::{Command, LutInputs, Recipe};
 use syn_workers::Workers;
 
-/// What is kept from command to command: the network, a graph or a net of LUTs. Contracts see it as it is written: the
-/// netlist, with the mark whether it is a net of LUTs. The number of workers changes nothing that they see.
+/// What is kept from command to command: the network, a graph or a net of LUTs, and the most inputs of a LUT where a command
+/// names no number. Contracts see the network as it is written: the netlist, with the mark whether it is a net of LUTs. The
+/// number of workers changes nothing that they see.
 #[derive(Debug, Drop)]
 pub struct Session {
     network: Option<HeldNetwork>,
+    inputs: LutInputs,
     workers: Workers,
 }
 
 impl Model for Session {
     ghost use Rattle.std.specs.Prelude.{◌≤◌, IfSome, Option};
-    ghost use Rattle.syn_shell.specs.Networks.{IsSmall, Written, network_in};
+    ghost use Rattle.syn_shell.specs.Networks.{IsSmall, network_in};
+    ghost use Rattle.syn_shell.specs.Outside.{Kept};
 
-    ghost Value = { Option Written };
+    ghost Value = { Kept };
 
-    ghost view = { λ session. network_in session.network };
+    ghost view = { λ session. record { network = network_in session.network; inputs = session.inputs } };
 
     ghost invariant = { λ session. IfSome (network_in session.network) IsSmall };
 }
@@ -133,10 +137,11 @@ fn put_text<O: Sink>(text: &[u8], out: &mut O) -> Result<(), Refusal>
 impl Session {
     /// No network yet; and so many workers, 1 to 16, for each command that names no number of them.
     pub fn new(workers: Workers) -> Session
-        ensures { result ≡ None }
+        ensures { result ≡ nothing_yet }
     {
         Session {
             network: None,
+            inputs: LutInputs::usual(),
             workers,
         }
     }
@@ -148,9 +153,10 @@ impl Session {
         name: &str,
         files: &mut F,
     ) -> Result<(), Refusal>
-        ensures read { OnOk result ((net : Netlist) × (self.new ≡ Some (graph_network net)) × IsReadAs name.now (F.disk files.old) net) }
-        ensures stays { IfErr result (λ cause. self.new ≡ self.old) }
+        ensures read { OnOk result ((net : Netlist) × (self.new.network ≡ Some (graph_network net)) × IsReadAs name.now (F.disk files.old) net) }
+        ensures stays { IfErr result (λ cause. self.new.network ≡ self.old.network) }
         ensures refused { IfErr result (ReadRefused name.now (F.disk files.old) (F.disk files.new)) }
+        ensures inputs { self.new.inputs ≡ self.old.inputs }
         ensures unchanged { FilesUnchanged (F.disk files.old) (F.disk files.new) }
     {
         let graph = read(alloc, name, files)?;
@@ -165,9 +171,10 @@ impl Session {
         name: &str,
         files: &mut F,
     ) -> Result<(), Refusal>
-        ensures read { OnOk result ((net : Netlist) × (self.new ≡ Some (graph_network net)) × IsReadAsAiger name.now (F.disk files.old) net) }
-        ensures stays { IfErr result (λ cause. self.new ≡ self.old) }
+        ensures read { OnOk result ((net : Netlist) × (self.new.network ≡ Some (graph_network net)) × IsReadAsAiger name.now (F.disk files.old) net) }
+        ensures stays { IfErr result (λ cause. self.new.network ≡ self.old.network) }
         ensures refused { IfErr result (AigerReadRefused name.now (F.disk files.old) (F.disk files.new)) }
+        ensures inputs { self.new.inputs ≡ self.old.inputs }
         ensures unchanged { FilesUnchanged (F.disk files.old) (F.disk files.new) }
     {
         let graph = aiger::read(alloc, name, files)?;
@@ -177,9 +184,10 @@ impl Session {
 
     // Makes the graph of a generated netlist the network.
     fn generate(&mut self, alloc: Global, seed: u64, size: u16) -> Result<(), Refusal>
-        ensures made { OnOk result ((net : Netlist) × (self.new ≡ Some (graph_network net)) × IsGraphOf (generated seed size) net) }
-        ensures stays { IfErr result (λ cause. self.new ≡ self.old) }
+        ensures made { OnOk result ((net : Netlist) × (self.new.network ≡ Some (graph_network net)) × IsGraphOf (generated seed size) net) }
+        ensures stays { IfErr result (λ cause. self.new.network ≡ self.old.network) }
         ensures refused { IfErr result GeneratingRefused }
+        ensures inputs { self.new.inputs ≡ self.old.inputs }
     {
         let graph = generated(alloc, seed, size)?;
         self.network = Some(HeldNetwork::Graph(graph));
@@ -188,8 +196,8 @@ impl Session {
 
     // Puts the network's line.
     fn print_stats<O: Sink>(&self, alloc: Global, out: &mut O) -> Result<(), Refusal>
-        ensures put { OnOk result ((net : Written) × (line : List ℕ) × (self.now ≡ Some net) × IsStatsLine net line × Took line (O.screen out.old) (O.screen out.new)) }
-        ensures refused { IfErr result (PrintRefused self.now (O.screen out.old) (O.screen out.new)) }
+        ensures put { OnOk result ((net : Written) × (line : List ℕ) × (self.now.network ≡ Some net) × IsStatsLine net line × Took line (O.screen out.old) (O.screen out.new)) }
+        ensures refused { IfErr result (PrintRefused self.now.network (O.screen out.old) (O.screen out.new)) }
     {
         match &self.network {
             None => Err(Refusal::NoNetwork),
@@ -199,9 +207,9 @@ impl Session {
 
     // Writes the network to a file.
     fn write<F: Files>(&self, alloc: Global, name: &str, files: &mut F) -> Result<(), Refusal>
-        ensures written { OnOk result ((net : Written) × (self.now ≡ Some net) × FileIs name.now (F.disk files.new) (printed net.netlist) × Reads (printed net.netlist) net.netlist
+        ensures written { OnOk result ((net : Written) × (self.now.network ≡ Some net) × FileIs name.now (F.disk files.new) (printed net.netlist) × Reads (printed net.netlist) net.netlist
             × OthersUnchanged name.now (F.disk files.old) (F.disk files.new)) }
-        ensures refused { IfErr result (WriteRefused self.now name.now (F.disk files.old) (F.disk files.new)) }
+        ensures refused { IfErr result (WriteRefused self.now.network name.now (F.disk files.old) (F.disk files.new)) }
     {
         match &self.network {
             None => Err(Refusal::NoNetwork),
@@ -218,9 +226,9 @@ impl Session {
         name: &str,
         files: &mut F,
     ) -> Result<(), Refusal>
-        ensures written { OnOk result ((net : Written) × (bytes : List ℕ) × (self.now ≡ Some net) × FileIs name.now (F.disk files.new) bytes × IsAigerOf ascii bare net bytes
+        ensures written { OnOk result ((net : Written) × (bytes : List ℕ) × (self.now.network ≡ Some net) × FileIs name.now (F.disk files.new) bytes × IsAigerOf ascii bare net bytes
             × OthersUnchanged name.now (F.disk files.old) (F.disk files.new)) }
-        ensures refused { IfErr result (AigerWriteRefused bare self.now name.now (F.disk files.old) (F.disk files.new)) }
+        ensures refused { IfErr result (AigerWriteRefused bare self.now.network name.now (F.disk files.old) (F.disk files.new)) }
     {
         match &self.network {
             None => Err(Refusal::NoNetwork),
@@ -228,7 +236,7 @@ impl Session {
         }
     }
 
-    // Makes the network anew by a recipe.
+    // Makes the network anew by a recipe, with the session's number of inputs where it names none.
     fn make<R: Threads + Sync, G: CommitHook>(
         &mut self,
         rt: &R,
@@ -236,13 +244,15 @@ impl Session {
         recipe: &Recipe,
         hook: &G,
     ) -> Result<(), Refusal>
-        ensures made { OnOk result (Remakes recipe.now self.old self.new) }
-        ensures stays { IfErr result (λ cause. self.new ≡ self.old) }
-        ensures refused { IfErr result (MakingRefused self.old) }
+        ensures made { OnOk result (Remakes (with_inputs self.old.inputs recipe.now) self.old.network self.new.network) }
+        ensures stays { IfErr result (λ cause. self.new.network ≡ self.old.network) }
+        ensures refused { IfErr result (MakingRefused self.old.network) }
+        ensures inputs { self.new.inputs ≡ self.old.inputs }
     {
+        let recipe = with_inputs(recipe, &self.inputs);
         match &mut self.network {
             None => Err(Refusal::NoNetwork),
-            Some(network) => network.remake(rt, alloc, recipe, self.workers, hook),
+            Some(network) => network.remake(rt, alloc, &recipe, self.workers, hook),
         }
     }
 

@@ -1,7 +1,7 @@
-use Rattle.std.proofs.Common.{refl, sym, ap, subst, ◌∙◌}
+use Rattle.std.proofs.Common.{ℕ, refl, sym, subst, ◌∙◌}
 use Rattle.syn_network.specs.declared.networks.Network.{Network}
 use Rattle.syn_words.specs.declared.recipes.Recipe.TheVariants as recipes
-use Rattle.syn_shell.specs.Makes.{IsSweptTo}
+use Rattle.syn_shell.specs.Makes.{IsLeastMappedTo, IsSweptTo}
 use Rattle.syn_shell.proofs.RemadeGraphs.{written}
 use Rattle.syn_shell.proofs.Recipes.{made_by}
 use Rattle.syn_shell.proofs.commands.remake_graph.Goals as goal
@@ -30,8 +30,8 @@ returns-in_ok-made-in-Map-clause-made g c = made_by _ (recipes.Map c.in-Map.area
 pub returns-in_ok-mapped-in-MapByFlow-clause-made : goal.returns-in_ok-mapped-in-MapByFlow-clause-made
 returns-in_ok-mapped-in-MapByFlow-clause-made g c =
     let h = c.in_ok-net-in-MapByFlow.ensures in
-    made_by _ (recipes.MapByFlow c.number.result) _ _ (c.in-MapByFlow.is ∙ ap recipes.MapByFlow (sym c.number.ensures.number))
-    (c.in_ok-mapped-in-MapByFlow.ensures.least c.number.result (record { luts = record { inputs = h.inputs; count = h.count }; least = h.least; settled = record { depend = h.depend; shown = h.shown } }))
+    made_by _ (recipes.MapByFlow c.in-MapByFlow.inputs) _ _ c.in-MapByFlow.is
+    (subst (λ (k : ℕ). IsLeastMappedTo k (written c.args.network.now) _) c.number_in.ensures.number (c.in_ok-mapped-in-MapByFlow.ensures.least c.number_in.result (record { luts = record { inputs = h.inputs; count = h.count }; least = h.least; settled = record { depend = h.depend; shown = h.shown } })))
 
 pub returns-in_ok-new-in-Sweep-clause-made : goal.returns-in_ok-new-in-Sweep-clause-made
 returns-in_ok-new-in-Sweep-clause-made g c =
