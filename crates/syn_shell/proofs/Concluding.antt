@@ -12,7 +12,7 @@ use Rattle.syn_shell.specs.Outside.{State}
 use Rattle.syn_shell.specs.Lines.{aiger_status, read_status, refusal_status}
 use Rattle.syn_shell.specs.Scripts.{Refused}
 use Rattle.syn_shell.specs.LineMode.{RunsLines, most_lines}
-use Rattle.syn_shell.specs.Usage.{usage_of}
+use Rattle.syn_usage.specs.Usage.{usage_of}
 use Rattle.syn_shell.specs.Counts.{Covers, FaultsCover, SomeFault}
 use Rattle.syn_shell.specs.Runs.{Ran, RanAccepted, RunsUsage, RunsWords, status_of}
 use Rattle.syn_shell.proofs.Turning.{is_refused}

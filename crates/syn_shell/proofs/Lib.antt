@@ -1,9 +1,8 @@
-mod SimpleUsage
-mod RefusedWords
 mod Numbers
 mod Taking
 mod Putting
 mod Following
+mod Stepping
 mod RemadeGraphs
 mod MappedGraphs
 mod Recipes

@@ -12,7 +12,8 @@ use Rattle.syn_words.specs.declared.recipes.Recipe.{Recipe}
 use Rattle.syn_shell.specs.declared.refusal.Refusal.{Refusal}
 use Rattle.syn_shell.specs.Networks.{Written, graph_network}
 use Rattle.syn_shell.specs.Lines.{IsStatsLine}
-use Rattle.syn_shell.specs.Outside.{FileIs, FilesUnchanged, Kept, OthersUnchanged, Took, State, state}
+use Rattle.syn_command_files.specs.Told.{FileIs, FilesUnchanged}
+use Rattle.syn_shell.specs.Outside.{Kept, OthersUnchanged, Took, State, state}
 use Rattle.syn_shell.specs.Steps.{AigerReadRefused, AigerWriteRefused, GeneratingRefused, IsAigerOf, IsReadAs, IsReadAsAiger, MakingRefused, PrintRefused, ReadRefused, Remakes, SessionStep, TextRefused, WriteRefused, with_inputs}
 
 -- what was answered

@@ -23,15 +23,6 @@ pub record State : Type 0 where
 abbrev pub state : Kept → Disk → Screen → State
 state kept files sink = record { network = kept.network; inputs = kept.inputs; files = files; sink = sink }
 
--- No file changed.
-pub record FilesUnchanged (before after : Disk) : Type 0 where
-  pub told : after.told ≡ before.told
-  pub later : before.faults ≤ after.faults
-
--- The file of that name has these bytes, where the files are told.
-abbrev pub FileIs : List ℕ → Disk → List ℕ → Type 0
-FileIs name files bytes = IfSome files.told (λ list. file_at name list ≡ Some bytes)
-
 -- No file but the one of that name changed.
 pub record OthersUnchanged (name : List ℕ) (before after : Disk) : Type 0 where
   pub told : IfSome before.told (λ was. IsSomeAnd after.told (λ now. without_file name now ≡ without_file name was))

@@ -6,22 +6,30 @@ use Rattle.syn_io.specs.Outside.{Disk, Screen, Input}
 use Rattle.syn_shell.specs.Outside.{Kept, State, nothing_yet, state}
 use Rattle.syn_shell.specs.Lines.{refusal_status}
 use Rattle.syn_shell.specs.Counts.{FaultsCover}
-use Rattle.syn_shell.specs.Usage.{Usage, OneScript, EachLine, Faulty, usage_of}
-use Rattle.syn_shell.specs.Scripts.{Refused, nameless, RunsScript, Announced, SinkGaveUp}
+use Rattle.syn_usage.specs.declared.arguments.UsageFault.{UsageFault}
+use Rattle.syn_usage.specs.declared.arguments.UsageFault.TheVariants as usage
+use Rattle.syn_usage.specs.Usage.{Usage, OneScript, OneFile, EachLine, Faulty, usage_of}
+use Rattle.syn_shell.specs.Scripts.{Refused, InFile, InText, nameless, RunsScript, Announced, SinkGaveUp, Source}
 use Rattle.syn_shell.specs.LineMode.{GoesOn, EndsBySink, RunsLines, listed}
+
+-- why a run is refused, by why its words are
+abbrev pub usage_cause : UsageFault → Refusal
+usage_cause usage.Words = Words
+usage_cause usage.NoMemory = NoMemory
 
 -- Nothing is run: the refusal is told, as far as the sink takes it.
 abbrev pub RunsNothing : Refusal → State → List Refused → State → Type 0
 RunsNothing cause before refusals after = (refusals ≡ nameless cause ∷ []) × (Announced (nameless cause) before after ⊎ SinkGaveUp (nameless cause) before after)
 
--- One script is run, and its refusal told, as far as the sink takes it.
-abbrev pub RunsOne : List ℕ → State → List Refused → State → Type 0
-RunsOne text before refusals after =
-    (outcome : Option Refused) × (done : State) × RunsScript text before outcome done × (refusals ≡ listed outcome) × (GoesOn outcome done after ⊎ EndsBySink outcome done after)
+-- One script, or one file of commands, is run, and its refusal told, as far as the sink takes it.
+abbrev pub RunsOne : Source → State → List Refused → State → Type 0
+RunsOne source before refusals after =
+    (outcome : Option Refused) × (done : State) × RunsScript source before outcome done × (refusals ≡ listed outcome) × (GoesOn outcome done after ⊎ EndsBySink outcome done after)
 
 -- What is run, by what the words mean.
 abbrev pub RunsUsage : Usage → State → Input → List Refused → State → Input → Type 0
-RunsUsage (OneScript text) before i refusals after i' = RunsOne text before refusals after × (i' ≡ i)
+RunsUsage (OneScript text) before i refusals after i' = RunsOne (InText text) before refusals after × (i' ≡ i)
+RunsUsage (OneFile name) before i refusals after i' = RunsOne (InFile name) before refusals after × (i' ≡ i)
 RunsUsage EachLine before i refusals after i' = (lines : List (List ℕ)) × RunsLines lines 0 before i refusals after i'
 RunsUsage Faulty before i refusals after i' = RunsNothing Words before refusals after × (i' ≡ i)
 

@@ -1,4 +1,4 @@
--- What each command does, accepted or refused: a relation between what the session keeps, the files and the sink before and after it. There are commands that read a file, of either format, that generate a netlist, that print the network's line or a text, that write a file, in either format, and that make the network anew by a recipe.
+-- What each command does, accepted or refused: a relation between what the session keeps, the files and the sink before and after it. There are commands that read a file, of either format or of LUTs, that generate a netlist, that print the network's line or a text, that write a file, in either format, and that make the network anew by a recipe.
 use Rattle.std.specs.Prelude.{◌≡◌, ℕ, ◌≤◌, ◌<◌, Bool, true, false, List, length, Option, Some, None, IfSome, IsSome, IsSomeAnd, Result, Ok, Err, ⊤}
 use Rattle.syn_io.specs.Outside.{Rose, file_at, Disk, Screen}
 use Rattle.syn_netlist.specs.Lists.{Netlist}
@@ -12,6 +12,8 @@ use Rattle.syn_aiger.specs.Faults.{Spells}
 use Rattle.syn_aiger.specs.Faults as aiger
 use Rattle.syn_aiger.specs.Networks.{IsGraphOfAig}
 use Rattle.syn_aiger.specs.Writing.{IsWrittenAs, aig_of, first_typed, without_types}
+use Rattle.syn_command_files.specs.declared.luts.LutFileFault.{LutFileFault}
+use Rattle.syn_command_files.specs.Luts.{line_of, most_inputs}
 use Rattle.syn_words.specs.declared.Command.{Command}
 use Rattle.syn_words.specs.declared.Command.TheVariants as commands
 use Rattle.syn_words.specs.declared.recipes.Recipe.{Recipe}
@@ -22,8 +24,9 @@ use Rattle.syn_reader.specs.Limits.{Within, IsFirstFault}
 use Rattle.syn_reader.specs.Reading.{Reads}
 use Rattle.syn_build.specs.Building.{IsGraphOf}
 use Rattle.syn_shell.specs.declared.refusal.Refusal.{Refusal}
-use Rattle.syn_shell.specs.declared.refusal.Refusal.TheVariants.{Read, ReadAiger, FileTooLong, TooManyGates, LatchType, NoNetwork, GetFailed, PutFailed, SinkFailed, NoMemory}
-use Rattle.syn_shell.specs.Outside.{State, FilesUnchanged, FileIs, OthersUnchanged, Took, TookPart}
+use Rattle.syn_shell.specs.declared.refusal.Refusal.TheVariants.{Read, ReadAiger, ReadLuts, FileTooLong, TooManyGates, LatchType, NoNetwork, GetFailed, PutFailed, SinkFailed, NoMemory}
+use Rattle.syn_command_files.specs.Told.{FilesUnchanged, FileIs}
+use Rattle.syn_shell.specs.Outside.{State, OthersUnchanged, Took, TookPart}
 use Rattle.syn_shell.specs.Networks.{Written, gates_in, graph_network}
 use Rattle.syn_shell.specs.Makes.{IsRemade, Makes}
 use Rattle.syn_shell.specs.Lines.{IsStatsLine}
@@ -66,6 +69,20 @@ pub record IsFaultyAiger (name : List ℕ) (files : Disk) (fault : AigFault) : T
   pub short : length bytes ≤ file_limit
   pub first : aiger.IsFirstFault bytes fault
 
+-- What an accepted file of LUTs makes the most inputs of a LUT: its bytes say that.
+pub record AreLutsOf (name : List ℕ) (files : Disk) (most : ℕ) : Type 0 where
+  pub bytes : List ℕ
+  pub file : FileIs name files bytes
+  pub short : length bytes ≤ file_limit
+  pub says : most_inputs bytes ≡ Ok most
+
+-- The bytes of a file of LUTs have this first fault.
+pub record AreFaultyLuts (name : List ℕ) (files : Disk) (fault : LutFileFault) : Type 0 where
+  pub bytes : List ℕ
+  pub file : FileIs name files bytes
+  pub short : length bytes ≤ file_limit
+  pub first : most_inputs bytes ≡ Err (line_of fault)
+
 -- Why bytes spell no netlist: their first fault, or memory was refused.
 abbrev pub ParseRefused : List ℕ → Refusal → Type 0
 ParseRefused bytes (Read fault) = IsSomeAnd (fault_in fault) (IsFirstFault bytes)
@@ -94,6 +111,11 @@ ReadRefused name before after other = GetRefused name before after other
 abbrev pub AigerReadRefused : List ℕ → Disk → Disk → Refusal → Type 0
 AigerReadRefused name before after (ReadAiger fault) = IsFaultyAiger name before fault
 AigerReadRefused name before after other = GetRefused name before after other
+
+-- The same of a file of LUTs.
+abbrev pub LutsRefused : List ℕ → Disk → Disk → Refusal → Type 0
+LutsRefused name before after (ReadLuts fault) = AreFaultyLuts name before fault
+LutsRefused name before after other = GetRefused name before after other
 
 -- Why a network's line is refused, and what the sink took of it.
 abbrev pub PrintRefused : Option Written → Screen → Screen → Refusal → Type 0
@@ -190,6 +212,8 @@ Accepted (commands.Read name) before after =
     (net : Netlist) × Becomes net before after × IsReadAs name before.files net × FilesUnchanged before.files after.files × (after.sink ≡ before.sink)
 Accepted (commands.ReadAiger name) before after =
     (net : Netlist) × Becomes net before after × IsReadAsAiger name before.files net × FilesUnchanged before.files after.files × (after.sink ≡ before.sink)
+Accepted (commands.ReadLuts name) before after =
+    (after.network ≡ before.network) × AreLutsOf name before.files after.inputs × FilesUnchanged before.files after.files × (after.sink ≡ before.sink)
 Accepted (commands.Generate seed size) before after =
     (net : Netlist) × Becomes net before after × IsGraphOf (generated seed size) net × (after.files ≡ before.files) × (after.sink ≡ before.sink)
 Accepted commands.Stats before after =
@@ -209,6 +233,7 @@ Accepted (commands.Make recipe) before after = Remakes (with_inputs before.input
 abbrev pub Denied : Command → State → Refusal → State → Type 0
 Denied (commands.Read name) before cause after = Stays before after × ReadRefused name before.files after.files cause × FilesUnchanged before.files after.files × (after.sink ≡ before.sink)
 Denied (commands.ReadAiger name) before cause after = Stays before after × AigerReadRefused name before.files after.files cause × FilesUnchanged before.files after.files × (after.sink ≡ before.sink)
+Denied (commands.ReadLuts name) before cause after = Stays before after × LutsRefused name before.files after.files cause × FilesUnchanged before.files after.files × (after.sink ≡ before.sink)
 Denied (commands.Generate seed size) before cause after = Stays before after × GeneratingRefused cause × (after.files ≡ before.files) × (after.sink ≡ before.sink)
 Denied commands.Stats before cause after = Stays before after × PrintRefused before.network before.sink after.sink cause × (after.files ≡ before.files)
 Denied (commands.Write name) before cause after = Stays before after × WriteRefused before.network name before.files after.files cause × (after.sink ≡ before.sink)

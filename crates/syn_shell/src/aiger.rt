@@ -7,7 +7,8 @@ ghost use Rattle.syn_aiger.specs.Faults.{Spells};
 ghost use Rattle.syn_aiger.specs.Faults as aiger;
 ghost use Rattle.syn_aiger.specs.Networks.{IsGraphOfAig};
 ghost use Rattle.syn_shell.specs.Networks.{graph_network, IsSmall, network_of};
-ghost use Rattle.syn_shell.specs.Outside.{FileIs, FilesUnchanged, OthersUnchanged};
+ghost use Rattle.syn_command_files.specs.Told.{FileIs, FilesUnchanged};
+ghost use Rattle.syn_shell.specs.Outside.{OthersUnchanged};
 ghost use Rattle.syn_shell.specs.Steps.{AigerParseRefused, AigerReadRefused, AigerRefused, AigerWriteRefused, file_limit, IsAigerOf, IsReadAsAiger};
 
 use crate::commands::graph_of;

@@ -1,4 +1,4 @@
-//! Line mode: each line is a script, and the run goes on behind a refusal.
+//! Line mode: each line is a script, and the run goes on behind a refusal, and ends behind `quit`.
 
 ghost use Rattle.std.specs.Prelude.{◌≡◌, ◌≤◌};
 ghost use Rattle.syn_io.specs.Outside.{Disk};
@@ -8,7 +8,7 @@ ghost use Rattle.syn_shell.specs.Stopping.{first_status, Gave, RanLines, Turned}
 
 use crate::refusal::Refusal;
 use crate::refusal_lines::{Reported, report_refusal};
-use crate::scripts::{SCRIPT_LIMIT, run_script};
+use crate::scripts::{Ending, SCRIPT_LIMIT, Source, run_script};
 use crate::session::Session;
 use std::alloc::Global;
 use std::thread::Threads;
@@ -63,10 +63,12 @@ fn take_turn<R: Threads + Sync, F: Files, L: Lines, O: Sink, G: CommitHook>(
         Ok(None) => return Turn::Ends(0),
         Err(cause) => return Turn::Ends(report_refusal(out, &cause, &[]).status()),
     };
-    match run_script(rt, alloc, session, line.as_slice(), files, out, hook) {
-        None => Turn::GoesOn(0),
-        Some(Reported::Whole(status)) => Turn::GoesOn(status),
-        Some(Reported::Cut(status)) => Turn::Ends(status),
+    let source = Source::Text(line.as_slice());
+    match run_script(rt, alloc, session, source, files, out, hook) {
+        Ending::Through => Turn::GoesOn(0),
+        Ending::Quit => Turn::Ends(0),
+        Ending::Stops(Reported::Whole(status)) => Turn::GoesOn(status),
+        Ending::Stops(Reported::Cut(status)) => Turn::Ends(status),
     }
 }
 

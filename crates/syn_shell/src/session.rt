@@ -11,7 +11,8 @@ ghost use Rattle.syn_build.specs.Building.{IsGraphOf};
 ghost use Rattle.syn_gen.specs.Generated.{generated};
 ghost use Rattle.syn_shell.specs.Networks.{graph_network, IsSmall, network_of, Written};
 ghost use Rattle.syn_shell.specs.Lines.{IsStatsLine};
-ghost use Rattle.syn_shell.specs.Outside.{FileIs, FilesUnchanged, nothing_yet, OthersUnchanged, Took, state};
+ghost use Rattle.syn_command_files.specs.Told.{FileIs, FilesUnchanged};
+ghost use Rattle.syn_shell.specs.Outside.{nothing_yet, OthersUnchanged, Took, state};
 ghost use Rattle.syn_shell.specs.Steps.{AigerReadRefused, AigerWriteRefused, file_limit, GeneratingRefused, IsAigerOf, IsReadAs, IsReadAsAiger, MakingRefused, ParseRefused, PrintRefused, ReadRefused, Remakes, SessionStep, TextRefused, with_inputs, WriteRefused};
 
 use crate::aiger;
