@@ -14,7 +14,7 @@ use Rattle.syn_shell.specs.Networks.{Written, graph_network}
 use Rattle.syn_shell.specs.Lines.{IsStatsLine}
 use Rattle.syn_command_files.specs.Told.{FileIs, FilesUnchanged}
 use Rattle.syn_shell.specs.Outside.{Kept, OthersUnchanged, Took, State, state}
-use Rattle.syn_shell.specs.Steps.{AigerReadRefused, AigerWriteRefused, GeneratingRefused, IsAigerOf, IsReadAs, IsReadAsAiger, MakingRefused, PrintRefused, ReadRefused, Remakes, SessionStep, TextRefused, WriteRefused, with_inputs}
+use Rattle.syn_shell.specs.Steps.{AigerReadRefused, AreLutsOf, AigerWriteRefused, GeneratingRefused, IsAigerOf, IsReadAs, IsReadAsAiger, LutsRefused, MakingRefused, PrintRefused, ReadRefused, Remakes, SessionStep, TextRefused, WriteRefused, with_inputs}
 
 -- what was answered
 abbrev Answer : Type 0
@@ -35,6 +35,12 @@ pub aiger_read_done : (name : List ℕ) (k k' : Kept) (d d' : Disk) (s : Screen)
     → k'.inputs ≡ k.inputs → FilesUnchanged d d' → SessionStep (commands.ReadAiger name) (state k d s) answer (state k' d' s)
 aiger_read_done name k k' d d' s (Ok done) (net, is, read) stays why inputs same = (net, record { network = is; inputs = inputs }, read, same, refl)
 aiger_read_done name k k' d d' s (Err cause) read stays why inputs same = (record { network = stays; inputs = inputs }, why, same, refl)
+
+pub luts_done : (name : List ℕ) (k k' : Kept) (d d' : Disk) (s : Screen) (answer : Answer)
+    → OnOk answer (AreLutsOf name d k'.inputs) → IfErr answer (λ cause. k'.inputs ≡ k.inputs) → IfErr answer (LutsRefused name d d') → k'.network ≡ k.network → FilesUnchanged d d'
+    → SessionStep (commands.ReadLuts name) (state k d s) answer (state k' d' s)
+luts_done name k k' d d' s (Ok done) luts stays why network same = (network, luts, same, refl)
+luts_done name k k' d d' s (Err cause) luts stays why network same = (record { network = network; inputs = stays }, why, same, refl)
 
 pub generated_done : (seed size : ℕ) (k k' : Kept) (d : Disk) (s : Screen) (answer : Answer)
     → OnOk answer ((net : Netlist) × (k'.network ≡ Some (graph_network net)) × IsGraphOf (generated seed size) net) → IfErr answer (λ cause. k'.network ≡ k.network) → IfErr answer GeneratingRefused

@@ -19,7 +19,7 @@ use Rattle.syn_shell.specs.declared.scripts.Ending.{Ending}
 use Rattle.syn_shell.specs.declared.scripts.Ending.TheVariants.{Quit, Stops, Through}
 use Rattle.syn_shell.specs.LineMode.{StaysOn, GoesOn, LineRefused, NoFurther, RunsLines, listed, most_lines}
 use Rattle.syn_shell.specs.Runs.{status_of}
-use Rattle.syn_shell.specs.Stopping.{first_status, status_in, Leaves, RanLines, AnnouncesAs, Turned}
+use Rattle.syn_shell.specs.Stopping.{first_status, status_in, Leaves, RanLines, AnnouncesAs, Turned, turn_of}
 use Rattle.syn_shell.proofs.Hearing.{nothing_run, nothing_status}
 
 -- no refusal has the status of an accepted run
@@ -107,13 +107,6 @@ turned_refused status t cause m d s s' i i' is why tells = ([], nameless cause �
 stays_on : (source : Source) (before : State) (refused : Refused) (after : State) (runs : RunsScript source before (Some refused) after) → StaysOn source before (Some refused) after runs
 stays_on source before refused after (inl unread) = tt
 stays_on source before refused after (inr (commands, start, loads, only, runs)) = λ none. absurd (cc)
-
--- a turn by what its script left
-abbrev pub turn_of : Ending → Turn
-turn_of Through = turn.GoesOn 0
-turn_of Quit = turn.Ends 0
-turn_of (Stops (Whole status)) = turn.GoesOn status
-turn_of (Stops (Cut status)) = turn.Ends status
 
 pub turned_by : (left : Ending) (line : List ℕ) (st st' : State) (i j : Input) → GaveLine line i j → Leaves left (InText line) st st' → Turned (turn_of left) st i st' j
 turned_by Through line st st' i j gave (runs, stays) = (line, None, st', gave, runs, refl, stays, refl)

@@ -69,6 +69,13 @@ Gave (Err cause) before after = LineRefused before after cause
 abbrev pub first_status : ℕ → ℕ → ℕ
 first_status status next = if status == 0 then next else status
 
+-- the turn of a line by what its script left
+abbrev pub turn_of : Ending → Turn
+turn_of Through = turn.GoesOn 0
+turn_of Quit = turn.Ends 0
+turn_of (Stops (Whole status)) = turn.GoesOn status
+turn_of (Stops (Cut status)) = turn.Ends status
+
 -- One line was run and the run goes on, or it ends, however many lines below the most were run before.
 abbrev pub Turned : Turn → State → Input → State → Input → Type 0
 Turned (turn.GoesOn status) before i after j =

@@ -4,7 +4,7 @@ ghost use Rattle.std.specs.Prelude.{◌≡◌, ◌≤◌};
 ghost use Rattle.syn_io.specs.Outside.{Disk};
 ghost use Rattle.syn_shell.specs.LineMode.{most_lines};
 ghost use Rattle.syn_shell.specs.Outside.{Kept, nothing_yet, state};
-ghost use Rattle.syn_shell.specs.Stopping.{first_status, Gave, RanLines, Turned};
+ghost use Rattle.syn_shell.specs.Stopping.{first_status, Gave, RanLines, turn_of, Turned};
 
 use crate::refusal::Refusal;
 use crate::refusal_lines::{Reported, report_refusal};
@@ -24,6 +24,20 @@ const MAX_LINES: u32 = 1_048_576;
 enum Turn {
     GoesOn(u8),
     Ends(u8),
+}
+
+impl Turn {
+    // The turn of a line whose script ended so.
+    fn behind(ending: Ending) -> Turn
+        ensures { result ≡ turn_of ending }
+    {
+        match ending {
+            Ending::Through => Turn::GoesOn(0),
+            Ending::Quit => Turn::Ends(0),
+            Ending::Stops(Reported::Whole(status)) => Turn::GoesOn(status),
+            Ending::Stops(Reported::Cut(status)) => Turn::Ends(status),
+        }
+    }
 }
 
 // The next line.
@@ -64,12 +78,7 @@ fn take_turn<R: Threads + Sync, F: Files, L: Lines, O: Sink, G: CommitHook>(
         Err(cause) => return Turn::Ends(report_refusal(out, &cause, &[]).status()),
     };
     let source = Source::Text(line.as_slice());
-    match run_script(rt, alloc, session, source, files, out, hook) {
-        Ending::Through => Turn::GoesOn(0),
-        Ending::Quit => Turn::Ends(0),
-        Ending::Stops(Reported::Whole(status)) => Turn::GoesOn(status),
-        Ending::Stops(Reported::Cut(status)) => Turn::Ends(status),
-    }
+    Turn::behind(run_script(rt, alloc, session, source, files, out, hook))
 }
 
 // Behind as many lines as are run a further one is refused.

@@ -6,7 +6,7 @@ ghost use Rattle.syn_command_files.specs.Told.{FilesUnchanged};
 ghost use Rattle.syn_shell.specs.LineMode.{has_quit};
 ghost use Rattle.syn_shell.specs.Outside.{state};
 ghost use Rattle.syn_shell.specs.Scripts.{LoadFails, Loads, name_in, RunsCommands};
-ghost use Rattle.syn_shell.specs.Stopping.{Leaves, outcome_of, source_in};
+ghost use Rattle.syn_shell.specs.Stopping.{Leaves, outcome_of, source_in, status_left};
 
 use crate::refusal::Refusal;
 use crate::refusal_lines::{Reported, report_refusal};
@@ -37,6 +37,18 @@ pub(crate) enum Ending {
     Quit,
     /// Something was refused.
     Stops(Reported),
+}
+
+impl Ending {
+    /// The status of the refusal, 0 where nothing was refused.
+    pub(crate) fn status(self) -> u8
+        ensures { result ≡ status_left self }
+    {
+        match self {
+            Ending::Through | Ending::Quit => 0,
+            Ending::Stops(reported) => reported.status(),
+        }
+    }
 }
 
 // A refusal, with the bytes of the name of the file that its command names.

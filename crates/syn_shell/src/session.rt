@@ -13,7 +13,7 @@ ghost use Rattle.syn_shell.specs.Networks.{graph_network, IsSmall, network_of, W
 ghost use Rattle.syn_shell.specs.Lines.{IsStatsLine};
 ghost use Rattle.syn_command_files.specs.Told.{FileIs, FilesUnchanged};
 ghost use Rattle.syn_shell.specs.Outside.{nothing_yet, OthersUnchanged, Took, state};
-ghost use Rattle.syn_shell.specs.Steps.{AigerReadRefused, AigerWriteRefused, file_limit, GeneratingRefused, IsAigerOf, IsReadAs, IsReadAsAiger, MakingRefused, ParseRefused, PrintRefused, ReadRefused, Remakes, SessionStep, TextRefused, with_inputs, WriteRefused};
+ghost use Rattle.syn_shell.specs.Steps.{AigerReadRefused, AreLutsOf, AigerWriteRefused, file_limit, GeneratingRefused, IsAigerOf, IsReadAs, IsReadAsAiger, LutsRefused, MakingRefused, ParseRefused, PrintRefused, ReadRefused, Remakes, SessionStep, TextRefused, with_inputs, WriteRefused};
 
 use crate::aiger;
 use crate::files::{get, put};
@@ -25,6 +25,7 @@ use std::alloc::{AllocError, Global};
 use std::marker::Model;
 use std::thread::Threads;
 use syn_build::{build, build_checked};
+use syn_command_files::lut_inputs_of;
 use syn_commit::CommitHook;
 use syn_io::{Files, Sink};
 use syn_netlist::CheckedNetlist;
@@ -183,6 +184,29 @@ impl Session {
         Ok(())
     }
 
+    // Takes the most inputs of a LUT from a file of LUTs.
+    fn read_luts<F: Files>(
+        &mut self,
+        alloc: Global,
+        name: &str,
+        files: &mut F,
+    ) -> Result<(), Refusal>
+        ensures luts { OnOk result (AreLutsOf name.now (F.disk files.old) self.new.inputs) }
+        ensures stays { IfErr result (λ cause. self.new.inputs ≡ self.old.inputs) }
+        ensures refused { IfErr result (LutsRefused name.now (F.disk files.old) (F.disk files.new)) }
+        ensures network { self.new.network ≡ self.old.network }
+        ensures unchanged { FilesUnchanged (F.disk files.old) (F.disk files.new) }
+    {
+        let bytes = get(alloc, name, files)?;
+        match lut_inputs_of(bytes.as_slice()) {
+            Ok(inputs) => {
+                self.inputs = inputs;
+                Ok(())
+            }
+            Err(fault) => Err(Refusal::ReadLuts(fault)),
+        }
+    }
+
     // Makes the graph of a generated netlist the network.
     fn generate(&mut self, alloc: Global, seed: u64, size: u16) -> Result<(), Refusal>
         ensures made { OnOk result ((net : Netlist) × (self.new.network ≡ Some (graph_network net)) × IsGraphOf (generated seed size) net) }
@@ -273,6 +297,7 @@ impl Session {
         match command {
             Command::Read(name) => self.read(alloc, name.as_str(), files),
             Command::ReadAiger(name) => self.read_aiger(alloc, name.as_str(), files),
+            Command::ReadLuts(name) => self.read_luts(alloc, name.as_str(), files),
             Command::Generate { seed, size } => self.generate(alloc, *seed, *size),
             Command::Stats => self.print_stats(alloc, out),
             Command::Write(name) => self.write(alloc, name.as_str(), files),

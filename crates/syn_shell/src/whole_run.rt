@@ -9,7 +9,7 @@ ghost use Rattle.syn_shell.specs.Runs.{Ran, RanAccepted};
 use crate::line_mode::run_lines;
 use crate::refusal::Refusal;
 use crate::refusal_lines::report_refusal;
-use crate::scripts::{Ending, Source, run_script};
+use crate::scripts::{Source, run_script};
 use crate::session::Session;
 use std::alloc::Global;
 use std::thread::Threads;
@@ -31,10 +31,7 @@ fn run_one<R: Threads + Sync, F: Files, O: Sink, G: CommitHook>(
     ensures { RanOne result (source_in source.entry) (F.disk files.old) (O.screen out.old) (F.disk files.new) (O.screen out.new) }
 {
     let mut session = Session::new(workers);
-    match run_script(rt, alloc, &mut session, source, files, out, hook) {
-        Ending::Through | Ending::Quit => 0,
-        Ending::Stops(announcement) => announcement.status(),
-    }
+    run_script(rt, alloc, &mut session, source, files, out, hook).status()
 }
 
 // Runs what the words mean.
@@ -65,11 +62,13 @@ fn run_words<R: Threads + Sync, F: Files, L: Lines, O: Sink, G: CommitHook>(
     }
 }
 
-/// Runs the script of the words, or the file of commands that they name, or without either each line as a script, and gives the status: 0 where nothing was
-/// refused, else that of the first refusal. The line of each refusal is put to the sink.
+/// Runs the script of the words, or the file of commands that they name, or without either each line as a script, and
+/// gives the status: 0 where nothing was refused, else that of the first refusal. The line of each refusal is put to the
+/// sink.
 ///
 /// A script ends at its first refusal. The run of lines goes on behind it; it ends where no line is left, where none
-/// can be read, where one is too long or one too many, where memory for one is refused, and where the sink fails.
+/// can be read, where one is too long or one too many, where memory for one is refused, where the sink fails, and behind
+/// a line that `quit` ended.
 /// A status of 7 comes only where a call of the files, of the lines or of the sink failed. Where the words are well
 /// formed, scripts and lines are within their limits and spell commands, what each command needs is there in the state
 /// in which it is run, and no such call failed, the status is 0, or 8 for want of memory.
