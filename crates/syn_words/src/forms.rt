@@ -20,8 +20,14 @@ pub enum Operands {
     Nothing,
     /// A file's name.
     Name,
+    /// A file's name with the ending of a format.
+    NameWithFormat,
     /// Two numbers, each in its range.
     TwoNumbers(NumberRange, NumberRange),
+    /// A command's name, or no word.
+    Command,
+    /// Any words, those that look like options among them.
+    Words,
 }
 
 /// What may stand behind a command's name: options in any order, each once at most, and then words.

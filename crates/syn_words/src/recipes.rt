@@ -51,15 +51,15 @@ pub enum Recipe {
     Merge(SearchLimits),
     /// `sresub [-N n] [-C n] [-L]`, `srs`: replaces nodes by others, or by few new ANDs, that are shown to have their values.
     Replace(ReplaceLimits),
-    /// `if [-a] [-K n]`: maps the network to LUTs of so many inputs at most.
+    /// `if [-a] [-K n]`: maps the network to LUTs of so many inputs at most; of as many as the session has, where none is named.
     Map {
         /// Whether few LUTs are looked for.
         area: bool,
         /// The most inputs of a LUT.
-        inputs: LutInputs,
+        inputs: Option<LutInputs>,
     },
-    /// `flowmap [-K n]`: maps the network to LUTs of so many inputs at most, at the least depth that there is.
-    MapByFlow(LutInputs),
+    /// `flowmap [-K n]`: maps the network to LUTs of so many inputs at most, likewise, at the least depth that there is.
+    MapByFlow(Option<LutInputs>),
     /// `scl`: drops latches that no output needs, and makes one of latches that always hold the same.
     Sweep,
 }

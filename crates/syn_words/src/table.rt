@@ -1,7 +1,7 @@
 //! The table of commands: a row a name, with what may stand behind it and its keyword.
 
 ghost use Rattle.std.specs.Prelude.{◌≡◌, map};
-ghost use Rattle.syn_words.specs.Commands.{entry_in, table};
+ghost use Rattle.syn_words.specs.Table.{entry_in, table};
 
 use crate::forms::{Form, NumberRange, Numbered, Operands};
 use syn_workers::MAX_WORKERS;
@@ -12,6 +12,13 @@ pub enum Keyword {
     ReadBlif,
     WriteBlif,
     PrintStats,
+    PrintLevels,
+    Echo,
+    Help,
+    Quit,
+    Source,
+    ReadLuts,
+    Dress,
     Strash,
     Balance,
     Rewrite,
@@ -30,6 +37,8 @@ pub enum Keyword {
     Replace,
     Resyn,
     ReadAiger,
+    Read,
+    Write,
     WriteAiger,
 }
 
@@ -97,6 +106,20 @@ const NOTHING: Form = Form {
     operands: Operands::Nothing,
 };
 
+// Any words.
+const WORDS: Form = Form {
+    flags: (None, None, None),
+    numbered: (None, None),
+    operands: Operands::Words,
+};
+
+// A command's name, or no word.
+const COMMAND: Form = Form {
+    flags: (None, None, None),
+    numbered: (None, None),
+    operands: Operands::Command,
+};
+
 // A file's name.
 const NAME: Form = Form {
     flags: (None, None, None),
@@ -104,9 +127,16 @@ const NAME: Form = Form {
     operands: Operands::Name,
 };
 
-// `-a`, and then a file's name.
-const ASCII_AND_NAME: Form = Form {
-    flags: (Some(b'a'), None, None),
+// A file's name with the ending of a format.
+const NAME_WITH_FORMAT: Form = Form {
+    flags: (None, None, None),
+    numbered: (None, None),
+    operands: Operands::NameWithFormat,
+};
+
+// `-a`, `-t`, and then a file's name.
+const AIGER_NAME: Form = Form {
+    flags: (Some(b'a'), Some(b't'), None),
     numbered: (None, None),
     operands: Operands::Name,
 };
@@ -161,11 +191,20 @@ const SEED_AND_SIZE: Form = Form {
 };
 
 // The names, long and short.
-const TABLE: [Row; 30] = [
+const TABLE: [Row; 41] = [
     (b"read_blif", NAME, Keyword::ReadBlif),
     (b"write_blif", NAME, Keyword::WriteBlif),
     (b"print_stats", NOTHING, Keyword::PrintStats),
     (b"ps", NOTHING, Keyword::PrintStats),
+    (b"print_level", NOTHING, Keyword::PrintLevels),
+    (b"echo", WORDS, Keyword::Echo),
+    (b"help", COMMAND, Keyword::Help),
+    (b"quit", NOTHING, Keyword::Quit),
+    (b"q", NOTHING, Keyword::Quit),
+    (b"exit", NOTHING, Keyword::Quit),
+    (b"source", NAME, Keyword::Source),
+    (b"read_lut", NAME, Keyword::ReadLuts),
+    (b"dress", NAME, Keyword::Dress),
     (b"strash", NOTHING, Keyword::Strash),
     (b"st", NOTHING, Keyword::Strash),
     (b"balance", NOTHING, Keyword::Balance),
@@ -191,7 +230,9 @@ const TABLE: [Row; 30] = [
     (b"resyn", NOTHING, Keyword::Resyn),
     (b"compress2", NOTHING, Keyword::Resyn2),
     (b"read_aiger", NAME, Keyword::ReadAiger),
-    (b"write_aiger", ASCII_AND_NAME, Keyword::WriteAiger),
+    (b"write_aiger", AIGER_NAME, Keyword::WriteAiger),
+    (b"read", NAME_WITH_FORMAT, Keyword::Read),
+    (b"write", NAME_WITH_FORMAT, Keyword::Write),
 ];
 
 // What the first row of a name has, if there is one.
