@@ -130,7 +130,6 @@ commands_of keywords.WriteAiger given = commands.WriteAiger given.flags.0 given.
 commands_of keywords.Read given = reading given.format (map meant given.name) ∷ []
 commands_of keywords.Write given = writing given.format (map meant given.name) ∷ []
 commands_of keywords.PrintStats given = commands.Stats ∷ []
-commands_of keywords.PrintLevels given = commands.Levels ∷ []
 commands_of keywords.Echo given = commands.Print (echoed given.words) ∷ []
 commands_of keywords.Help given = commands.Print (helped given.topic) ∷ []
 commands_of keywords.Quit given = commands.Quit ∷ []

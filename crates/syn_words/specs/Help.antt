@@ -14,7 +14,6 @@ topic_of keywords.WriteAiger = (codes "write_aiger [-a] [-t] FILE", codes "write
 topic_of keywords.Read = (codes "read FILE", codes "is read_blif for a name that ends in .blif, read_aiger for one in .aig or .aag", [])
 topic_of keywords.Write = (codes "write FILE", codes "is write_blif for a name that ends in .blif, write_aiger for one in .aig, write_aiger -a for one in .aag", [])
 topic_of keywords.PrintStats = (codes "print_stats, ps", codes "prints name, inputs and outputs, latches, ANDs or LUTs, and levels", [])
-topic_of keywords.PrintLevels = (codes "print_level", codes "prints, for each level, how many observed signals have it", [])
 topic_of keywords.Strash = (codes "strash, st", codes "turns a mapped network into a graph, by structural hashing", [])
 topic_of keywords.Balance = (codes "balance, b", codes "rebuilds trees of ANDs, the shallow operands first", [])
 topic_of keywords.Rewrite = (codes "rewrite, rw [-z] [-L] [-l] [-w N]", codes "replaces cones of four inputs until no listed replacement saves an AND", topics.PASS_OPTIONS.now)
@@ -34,7 +33,7 @@ topic_of keywords.MapByFlow = (codes "flowmap [-K N]", codes "maps to LUTs of at
 topic_of keywords.Echo = (codes "echo WORDS", codes "prints the words, one blank apart", [])
 topic_of keywords.Help = (codes "help [COMMAND]", codes "prints a line a command, or what is to know of one", [])
 topic_of keywords.Source = (codes "source FILE", codes "runs the commands of a file", [])
-topic_of keywords.ReadLuts = (codes "read_lut FILE", codes "reads areas of LUTs, and how many inputs they have at most where no -K is given", [])
+topic_of keywords.ReadLuts = (codes "read_lut FILE", codes "reads how many inputs a LUT has at most where no -K is given", [])
 topic_of keywords.Dress = (codes "dress FILE", codes "does nothing: names are kept anyway", [])
 topic_of keywords.Quit = (codes "quit, q, exit", codes "ends the run, also of the lines behind", [])
 

@@ -65,7 +65,6 @@ table =
     ∷ (codes "write_blif", name_alone, keywords.WriteBlif)
     ∷ (codes "print_stats", no_words, keywords.PrintStats)
     ∷ (codes "ps", no_words, keywords.PrintStats)
-    ∷ (codes "print_level", no_words, keywords.PrintLevels)
     ∷ (codes "echo", any_words, keywords.Echo)
     ∷ (codes "help", command_name, keywords.Help)
     ∷ (codes "quit", no_words, keywords.Quit)

@@ -8,7 +8,7 @@ use Rattle.syn_words.specs.Flags.{Flags}
 use Rattle.syn_words.specs.Forms.{given_by}
 use Rattle.syn_words.specs.Scripts.{IsScript, IsFirstFault}
 use Rattle.syn_words.specs.declared.Command.{Command}
-use Rattle.syn_words.specs.declared.Command.TheVariants.{Read, Write, ReadAiger, WriteAiger, Stats, Levels, Print, Quit, Source, ReadLuts, Generate, Make}
+use Rattle.syn_words.specs.declared.Command.TheVariants.{Read, Write, ReadAiger, WriteAiger, Stats, Print, Quit, Source, ReadLuts, Generate, Make}
 use Rattle.syn_words.specs.declared.recipes.Recipe.TheVariants.{Strash, Balance, Rewrite, Refactor, Resubstitute, Merge, Replace, Map, MapByFlow, Sweep}
 use Rattle.syn_words.specs.declared.ScriptFault.{ScriptFault}
 use Rattle.syn_words.specs.declared.ScriptFault.TheVariants.{BadByte, UnknownCommand, MissingWord, ExtraWord, UnknownEnding, BadNumber, OutOfRange}
@@ -91,7 +91,6 @@ pub record WorkedScripts : Type 0 where
   pub leaving : IsScript (codes "q; quit; exit; ps") (Quit ∷ Quit ∷ Quit ∷ Stats ∷ [])
   pub sourcing : IsScript (codes "source a.abc; dress b; ps") (Source (codes "a.abc") ∷ Stats ∷ [])
   pub reading_luts : IsScript (codes "read_lut l; if -K 6") (ReadLuts (codes "l") ∷ Make (Map false (Some 6)) ∷ [])
-  pub printing_levels : IsScript (codes "print_level") (Levels ∷ [])
   pub generated : IsScript (codes "gen 18446744073709551615 32768; ps") (Generate 18446744073709551615 32768 ∷ Stats ∷ [])
   pub sweeping : IsScript (codes "read_blif a; scl; ps") (Read (codes "a") ∷ Make Sweep ∷ Stats ∷ [])
   pub resubstitution : IsScript (codes "rs; resub -w 4 -z; rsz -w 2") (Make (Resubstitute (options false false None)) ∷ Make (Resubstitute (options true false (Some 4))) ∷ Make (Resubstitute (options true false (Some 2))) ∷ [])
@@ -117,7 +116,6 @@ pub record WorkedScripts : Type 0 where
   pub conflicts_no_number : IsFirstFault (codes "fraig -C -L") (BadNumber 9)
   pub workers_of_merging : IsFirstFault (codes "fraig -w 4") (ExtraWord 6)
   pub levels_of_merging : IsFirstFault (codes "fraig -l") (ExtraWord 6)
-  pub option_of_printing_levels : IsFirstFault (codes "print_level -a") (ExtraWord 12)
   pub help_on_no_command : IsFirstFault (codes "help rewrit") (UnknownCommand 5)
   pub help_on_two : IsFirstFault (codes "help b st") (ExtraWord 7)
   pub nothing_to_dress : IsFirstFault (codes "dress; ps") (MissingWord 5)

@@ -32,7 +32,6 @@ const ORDER: &[Keyword] = &[
     Keyword::Read,
     Keyword::Write,
     Keyword::PrintStats,
-    Keyword::PrintLevels,
     Keyword::Strash,
     Keyword::Balance,
     Keyword::Rewrite,
@@ -102,11 +101,6 @@ fn topic_of(keyword: Keyword) -> Topic
         Keyword::PrintStats => (
             b"print_stats, ps",
             b"prints name, inputs and outputs, latches, ANDs or LUTs, and levels",
-            b"",
-        ),
-        Keyword::PrintLevels => (
-            b"print_level",
-            b"prints, for each level, how many observed signals have it",
             b"",
         ),
         Keyword::Strash => (
@@ -182,7 +176,7 @@ fn topic_of(keyword: Keyword) -> Topic
         Keyword::Source => (b"source FILE", b"runs the commands of a file", b""),
         Keyword::ReadLuts => (
             b"read_lut FILE",
-            b"reads areas of LUTs, and how many inputs they have at most where no -K is given",
+            b"reads how many inputs a LUT has at most where no -K is given",
             b"",
         ),
         Keyword::Dress => (b"dress FILE", b"does nothing: names are kept anyway", b""),

@@ -71,8 +71,6 @@ pub enum Command {
     },
     /// `print_stats`, `ps`: prints the network's line.
     Stats,
-    /// `print_level`: prints, for each level, how many observed signals have it.
-    Levels,
     /// `echo WORDS`, `help [COMMAND]`: prints a text.
     Print(Text),
     /// `quit`, `q`, `exit`: ends the run.

@@ -260,7 +260,6 @@ fn commands_of(
         Keyword::Read => one(alloc, reading(given.format, name)),
         Keyword::Write => one(alloc, writing(given.format, name)),
         Keyword::PrintStats => one(alloc, Command::Stats),
-        Keyword::PrintLevels => one(alloc, Command::Levels),
         Keyword::Echo => one(alloc, Command::Print(echoed(alloc, given.words)?)),
         Keyword::Help => one(alloc, Command::Print(helped(alloc, given.topic)?)),
         Keyword::Quit => one(alloc, Command::Quit),

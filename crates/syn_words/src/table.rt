@@ -12,7 +12,6 @@ pub enum Keyword {
     ReadBlif,
     WriteBlif,
     PrintStats,
-    PrintLevels,
     Echo,
     Help,
     Quit,
@@ -191,12 +190,11 @@ const SEED_AND_SIZE: Form = Form {
 };
 
 // The names, long and short.
-const TABLE: [Row; 41] = [
+const TABLE: [Row; 40] = [
     (b"read_blif", NAME, Keyword::ReadBlif),
     (b"write_blif", NAME, Keyword::WriteBlif),
     (b"print_stats", NOTHING, Keyword::PrintStats),
     (b"ps", NOTHING, Keyword::PrintStats),
-    (b"print_level", NOTHING, Keyword::PrintLevels),
     (b"echo", WORDS, Keyword::Echo),
     (b"help", COMMAND, Keyword::Help),
     (b"quit", NOTHING, Keyword::Quit),
