@@ -1,0 +1,5 @@
+pub mod Quitting
+pub mod Putting
+pub mod Refusing
+pub mod Deciding
+pub mod Working
