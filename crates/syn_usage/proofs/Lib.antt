@@ -1,2 +1,2 @@
 mod SimpleUsage
-mod FaultyWords
+mod UsageOfWords

@@ -1,7 +1,8 @@
 //! What the program's words ask for.
 
 ghost use Rattle.std.specs.Prelude.{◌≡◌, ◌≤◌, [], map, option_map, string_bytes, IfErr, IfNone, IfOk, IfSome, Some};
-ghost use Rattle.syn_usage.specs.CommandLine.{file_in, refusals, script_in, workers_in, workers_of, workers_text_in};
+ghost use Rattle.clap.specs.Words.{app_of};
+ghost use Rattle.syn_usage.specs.CommandLine.{file_in, refusals, script_in, usage, workers_in, workers_of, workers_text_in};
 ghost use Rattle.syn_usage.specs.Usage.{Faulty, run_by, usage_in, usage_of, WordsRefused};
 ghost use Rattle.syn_usage.specs.WorkedCommandLines.{WorkedCommandLines};
 
@@ -51,6 +52,23 @@ impl From<AllocError> for UsageFault {
     }
 }
 
+// The command of which the program's words are a call.
+fn usage<'a>(alloc: Global) -> Result<Command<'a>, AllocError>
+    ensures { IfOk result (λ command. app_of command ≡ usage) }
+{
+    let silent = Arg::new(alloc, "silent")
+        .short('s')
+        .action(ArgAction::SetTrue);
+    let with_silent = Command::new(alloc, "synth").arg(silent)?;
+    let script = Arg::new(alloc, "script").short('c');
+    let with_script = with_silent.arg(script)?;
+    let file = Arg::new(alloc, "file").short('f');
+    let with_file = with_script.arg(file)?;
+    let workers = Arg::new(alloc, "workers").short('w');
+    let command = with_file.arg(workers)?;
+    Ok(command)
+}
+
 // The texts of the options that have one, where they are given.
 #[derive(Clone, Copy)]
 struct Texts<'a> {
@@ -67,16 +85,7 @@ fn texts_of<'a>(alloc: Global, words: &'a [String]) -> Result<Texts<'a>, UsageFa
     ensures workers { IfOk result (λ texts. option_map (λ text. text.now) texts.workers ≡ workers_text_in (map string_bytes words.entry.now)) }
     ensures refused { IfErr result (WordsRefused (map string_bytes words.entry.now)) }
 {
-    let silent = Arg::new(alloc, "silent")
-        .short('s')
-        .action(ArgAction::SetTrue);
-    let script = Arg::new(alloc, "script").short('c');
-    let file = Arg::new(alloc, "file").short('f');
-    let workers = Arg::new(alloc, "workers").short('w');
-    let with_silent = Command::new(alloc, "synth").arg(silent)?;
-    let with_script = with_silent.arg(script)?;
-    let with_file = with_script.arg(file)?;
-    let command = with_file.arg(workers)?;
+    let command = usage(alloc)?;
     match command.try_get_matches_from(words) {
         Ok(matches) => Ok(Texts {
             script: matches.get_str("script"),
