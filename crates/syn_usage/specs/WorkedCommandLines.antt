@@ -1,5 +1,5 @@
 -- Worked words with what they ask for, and words that are refused.
-use Rattle.std.specs.Prelude.{ℕ, ◌≡◌, ◌×◌, List, [], ◌∷◌, Option, Some, codes}
+use Rattle.std.specs.Prelude.{ℕ, ◌≡◌, List, [], ◌∷◌, Option, Some, codes}
 use Rattle.syn_usage.specs.CommandLine.{workers_in}
 use Rattle.syn_usage.specs.Usage.{Usage, OneScript, OneFile, EachLine, Faulty, usage_of}
 

@@ -4,20 +4,20 @@ use Rattle.syn_usage.specs.Usage.{run_by}
 use Rattle.syn_usage.proofs.UsageOfWords.{taken_is_run, without_work_is_faulty, without_workers_is_faulty}
 use Rattle.syn_usage.proofs.arguments.arguments_in.Goals as goal
 
-pub returns-in-None : goal.returns-in-None
-returns-in-None c =
+pub returns-in_default : goal.returns-in_default
+returns-in_default c =
     let words : List (List ℕ) = map string_bytes c.args.words.now in
     record {
       run = tt;
       workers = tt;
       refused = without_work_is_faulty (refusals words) (workers_in words) (run_by (script_in words) (file_in words))
-          (ap₂ run_by (sym c.in_ok-texts.ensures.script) (sym c.in_ok-texts.ensures.file) ∙ c.in-None.ensures.both);
+          (ap₂ run_by (sym c.in_ok-texts.ensures.script) (sym c.in_ok-texts.ensures.file) ∙ c.in_default.ensures.both);
     }
 
-pub returns-in-None-workers_of : goal.returns-in-None-workers_of
-returns-in-None-workers_of c =
+pub returns-in_default-workers_of : goal.returns-in_default-workers_of
+returns-in_default-workers_of c =
     let words : List (List ℕ) = map string_bytes c.args.words.now in
-    let none : workers_in words ≡ None = ap workers_of (sym c.in_ok-texts.ensures.workers) ∙ sym c.in-None-workers_of.ensures in
+    let none : workers_in words ≡ None = ap workers_of (sym c.in_ok-texts.ensures.workers) ∙ sym c.in_default-workers_of.ensures in
     record {
       run = tt;
       workers = tt;
