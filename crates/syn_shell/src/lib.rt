@@ -4,11 +4,11 @@
 mod aiger;
 mod commands;
 mod files;
+mod inputs;
 mod laws;
 mod line_mode;
 mod lines;
 mod network;
-mod recipes;
 mod refusal;
 mod refusal_lines;
 mod scripts;

@@ -19,7 +19,7 @@ use crate::aiger;
 use crate::files::{get, put};
 use crate::lines::print_stats;
 use crate::network::HeldNetwork;
-use crate::recipes::with_inputs;
+use crate::inputs::with_inputs;
 use crate::refusal::Refusal;
 use std::alloc::{AllocError, Global};
 use std::marker::Model;
