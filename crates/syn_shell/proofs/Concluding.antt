@@ -69,7 +69,7 @@ ran_accepted words d d' s s' i i' status ran e = (ran.kept, none_of words ran.re
 -- no more lines are run than the most
 pub few_run : (lines : List (List ℕ)) (taken : ℕ) (before after : State) (refusals : List Refused) (i i' : Input) → taken ≤ most_lines → RunsLines lines taken before i refusals after i' → taken + length lines ≤ most_lines
 few_run [] taken before after refusals i i' le runs = omega arith
-few_run (line ∷ lines) taken before after refusals i i' le (j, outcome, done, lt, gave, runs, inl (told, more, on, is, rest)) =
+few_run (line ∷ lines) taken before after refusals i i' le (j, outcome, done, lt, gave, runs, inl (told, more, on, stays, is, rest)) =
     let rest_few : taken + 1 + length lines ≤ most_lines = few_run lines (taken + 1) told after more j i' (omega arith) rest in
     omega (arith, rest_few)
 few_run (line ∷ lines) taken before after refusals i i' le (j, outcome, done, lt, gave, runs, inr (ends, is, none, same)) = omega (arith, lt, ap length none)

@@ -52,8 +52,9 @@ Leaves (Stops telling) source before after = (refused : Refused) × (done : Stat
 
 -- the status that a script left: that of its refusal, 0 where nothing was refused
 abbrev pub status_left : Ending → ℕ
+status_left Through = 0
+status_left Quit = 0
 status_left (Stops announcement) = status_in announcement
-status_left other = 0
 
 -- One script, or one file of commands, was run from what a session begins with, with this status.
 abbrev pub RanOne : ℕ → Source → Disk → Screen → Disk → Screen → Type 0
