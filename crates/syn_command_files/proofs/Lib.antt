@@ -2,4 +2,5 @@ pub mod Quitting
 pub mod Putting
 pub mod Refusing
 pub mod Deciding
+pub mod Concluding
 pub mod Working

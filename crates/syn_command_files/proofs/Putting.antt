@@ -1,12 +1,19 @@
 -- What putting commands behind others comes to: one step of it, what it never leaves, and that it comes to one thing.
-use Rattle.std.proofs.Common.{◌≡◌, ℕ, zero, suc, ◌+◌, ◌-◌, ◌≤◌, ◌<◌, length, List, [], ◌∷◌, ◌++◌, true, Option, None, Some, IsSomeAnd, Result, Ok, Err, refl, sym, subst, inl, inr, arith}
+use Rattle.std.proofs.Common.{◌≡◌, ℕ, zero, suc, ◌-◌, ◌<◌, length, List, [], ◌∷◌, ◌++◌, true, Option, None, Some, IsSomeAnd, Result, Ok, Err, refl, sym, subst, inl, inr, arith}
 use Rattle.syn_words.specs.declared.Command.{Command}
+use Rattle.syn_words.specs.declared.ScriptFault.{ScriptFault}
 use Rattle.syn_words.specs.Files.{meaning_of_file}
 use Rattle.syn_io.specs.Outside.{file_at}
 use Rattle.syn_command_files.specs.declared.LoadFault.{LoadFault}
 use Rattle.syn_command_files.specs.declared.LoadFault.TheVariants as faults
-use Rattle.syn_command_files.specs.Sources.{FailsIn, FileFails, FileSays, HasText, has_no_source, Puts, PutsAll, Refused, refused, source_in, Sources, text_limit}
+use Rattle.syn_command_files.specs.Sources.{FailsIn, FileFails, FileSays, has_no_source, Puts, PutsAll, Refused, refused, source_in, Sources, text_limit}
 use Rattle.syn_command_files.proofs.Quitting.{no_source_behind, no_source_parts}
+
+pub ok_is_not_err : (out : List Command) (refusal : Refused) → Ok out ≡ Err refusal → ⊥
+ok_is_not_err out refusal is = cc
+
+pub err_is_not_ok : (out : List Command) (refusal : Refused) → Err refusal ≡ Ok out → ⊥
+err_is_not_ok out refusal is = cc
 
 -- one step
 
@@ -33,7 +40,9 @@ pub puts_file : (depth : ℕ) (told : Option (List (List ℕ × List ℕ))) (c :
     → Puts (Sources depth told) (source_in c) c before outcome
 puts_file zero told c name said before outcome deep is says puts = absurd (omega (arith, deep))
 puts_file (suc depth) told c name said before outcome deep is says puts =
-    subst (λ (o : Option (List ℕ)). Puts (Sources (suc depth) told) o c before outcome) (sym is) (inl (said, says, puts))
+    let lower : suc depth - 1 ≡ depth = omega arith in
+    let inner : PutsAll (Sources depth told) said before outcome = subst (λ (d : ℕ). PutsAll (Sources d told) said before outcome) lower puts in
+    subst (λ (o : Option (List ℕ)). Puts (Sources (suc depth) told) o c before outcome) (sym is) (inl (said, says, inner))
 
 pub puts_fault : (depth : ℕ) (told : Option (List (List ℕ × List ℕ))) (c : Command) (name : List ℕ) (before : List Command) (refusal : Refused)
     → 0 < depth → source_in c ≡ Some name → FailsIn told name refusal → Puts (Sources depth told) (source_in c) c before (Err refusal)
@@ -66,21 +75,21 @@ all_plain S keeps [] before out plain puts =
     subst (λ (cs : List Command). has_no_source cs ≡ true) (sym out_is) plain
 all_plain S keeps (c ∷ cs) before out plain (inl (between, one, more)) =
     all_plain S keeps cs between out (puts_plain S keeps c before between (source_in c) refl plain one) more
-all_plain S keeps (c ∷ cs) before out plain (inr (refusal, is, one)) = cc
+all_plain S keeps (c ∷ cs) before out plain (inr (refusal, is, one)) = absurd (ok_is_not_err out refusal is)
 
 pub sources_plain : (depth : ℕ) (told : Option (List (List ℕ × List ℕ))) → KeepsPlain (Sources depth told)
-sources_plain zero told name before out plain is = cc
+sources_plain zero told name before out plain is = absurd (ok_is_not_err out (refused faults.TooDeep name) is)
 sources_plain (suc depth) told name before out plain (inl (said, says, puts)) = all_plain (Sources depth told) (sources_plain depth told) said before out plain puts
-sources_plain (suc depth) told name before out plain (inr (refusal, fails, is)) = cc
+sources_plain (suc depth) told name before out plain (inr (refusal, fails, is)) = absurd (ok_is_not_err out refusal is)
 
 -- where no command stands for those of a file, none is refused
 pub plain_passes : (S : List ℕ → List Command → Result (List Command) Refused → Type 0) (cs before : List Command) (refusal : Refused)
     → has_no_source cs ≡ true → PutsAll S cs before (Err refusal) → ⊥
-plain_passes S [] before refusal plain puts = cc
+plain_passes S [] before refusal plain puts = err_is_not_ok before refusal puts
 plain_passes S (c ∷ cs) before refusal plain (inl (between, one, more)) = plain_passes S cs between refusal (no_source_parts c cs plain).1 more
 plain_passes S (c ∷ cs) before refusal plain (inr (other, is, one)) =
     let puts : Puts S None c before (Err other) = subst (λ (o : Option (List ℕ)). Puts S o c before (Err other)) (no_source_parts c cs plain).0 one in
-    cc
+    err_is_not_ok (before ++ c ∷ []) other puts
 
 -- what commands come to is one thing, but where a call failed
 
@@ -93,17 +102,17 @@ abbrev pub AllAgree : (List ℕ → List Command → Result (List Command) Refus
 AllAgree S = (name : List ℕ) (before : List Command) (x y : Result (List Command) Refused) → S name before x → S name before y → Agree x y
 
 agree_refused : (x y : Result (List Command) Refused) (refusal : Refused) → x ≡ Err refusal → Agree x y
-agree_refused (Ok a) y refusal is = cc
+agree_refused (Ok a) y refusal is = absurd (ok_is_not_err a refusal is)
 agree_refused (Err other) y refusal is = tt
 
 agree_failed : (x y : Result (List Command) Refused) (refusal : Refused) → y ≡ Err refusal → refusal.cause ≡ faults.GetFailed → Agree x y
-agree_failed (Ok a) (Ok b) refusal is failed = cc
+agree_failed (Ok a) (Ok b) refusal is failed = absurd (ok_is_not_err b refusal is)
 agree_failed (Ok a) (Err other) refusal is failed = cc
 agree_failed (Err other) y refusal is failed = tt
 
 agree_same : (x y : Result (List Command) Refused) (out : List Command) → x ≡ Ok out → y ≡ Ok out → Agree x y
 agree_same (Ok a) (Ok b) out left right = cc
-agree_same (Ok a) (Err other) out left right = cc
+agree_same (Ok a) (Err other) out left right = absurd (err_is_not_ok out other right)
 agree_same (Err other) y out left right = tt
 
 puts_agree : (S : List ℕ → List Command → Result (List Command) Refused → Type 0) → AllAgree S → (c : Command) (before : List Command) (o : Option (List ℕ)) (x y : Result (List Command) Refused)
@@ -121,12 +130,27 @@ all_agree S agrees (c ∷ cs) before x y (inl (a, one, more)) (inr (refusal, is,
     agree_failed x y refusal is (puts_agree S agrees c before (source_in c) (Ok a) (Err refusal) one other)
 all_agree S agrees (c ∷ cs) before x y (inr (refusal, is, one)) q = agree_refused x y refusal is
 
+no_meaning : (text : List ℕ) (said : List Command) (fault : ScriptFault) → meaning_of_file text ≡ Ok said → meaning_of_file text ≡ Err fault → ⊥
+no_meaning text said fault says first = cc
+
+one_meaning : (text : List ℕ) (said other : List Command) → meaning_of_file text ≡ Ok said → meaning_of_file text ≡ Ok other → said ≡ other
+one_meaning text said other says tells = cc
+
+one_text : (list : List (List ℕ × List ℕ)) (name text other : List ℕ) → file_at name list ≡ Some text → file_at name list ≡ Some other → text ≡ other
+one_text list name text other is also = cc
+
+says_no_fault : (list : List (List ℕ × List ℕ)) (name : List ℕ) (said : List Command) (text other : List ℕ) (fault : ScriptFault)
+    → file_at name list ≡ Some text → file_at name list ≡ Some other → meaning_of_file text ≡ Ok said → meaning_of_file other ≡ Err fault → ⊥
+says_no_fault list name said text other fault is also says first =
+    let same : text ≡ other = one_text list name text other is also in
+    let P : List ℕ → Type 0 = λ t. meaning_of_file t ≡ Ok said in
+    no_meaning other said fault (subst P same says) first
+
 -- a file that says commands fails by a failed call alone
 pub says_or_fails : (list : List (List ℕ × List ℕ)) (name : List ℕ) (said : List Command) (cause : LoadFault)
     → FileSays (Some list) name said → FileFails (Some list) name cause → cause ≡ faults.GetFailed
 says_or_fails list name said (faults.File line word fault) (text, has, says) (other, had, first) =
-    let same : Ok said ≡ Err fault = let file = has.file in let again = had.file in let found = first.first in cc in
-    cc
+    absurd (says_no_fault list name said text other fault has.file had.file says first.first)
 says_or_fails list name said faults.FileTooLong (text, has, says) long =
     let more : text_limit < length text = subst (λ (o : Option (List ℕ)). IsSomeAnd o (λ bytes. text_limit < length bytes)) has.file long in
     absurd (omega (arith, more, has.short))
@@ -138,7 +162,9 @@ says_or_fails list name said faults.NoMemory says fails = absurd fails
 
 -- and says no others
 pub says_one : (list : List (List ℕ × List ℕ)) (name : List ℕ) (said other : List Command) → FileSays (Some list) name said → FileSays (Some list) name other → said ≡ other
-says_one list name said other (text, has, says) (same, had, tells) = let file = has.file in let again = had.file in cc
+says_one list name said other (text, has, says) (same, had, tells) =
+    let P : List ℕ → Type 0 = λ t. meaning_of_file t ≡ Ok said in
+    one_meaning same said other (subst P (one_text list name text same has.file had.file) says) tells
 
 sources_agree : (depth : ℕ) (list : List (List ℕ × List ℕ)) → AllAgree (Sources depth (Some list))
 sources_agree zero list name before x y p q = agree_refused x y (refused faults.TooDeep name) p

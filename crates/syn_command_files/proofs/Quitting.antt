@@ -18,13 +18,19 @@ pub until_again : (cs : List Command) → until_quit (until_quit cs) ≡ until_q
 until_again [] = refl
 until_again (c ∷ cs) = cut_again c cs (until_again cs) (is_quit c) refl
 
+pub differ : false ≡ true → ⊥
+differ is = cc
+
+some_is_not_none : (name : List ℕ) → Some name ≡ None → ⊥
+some_is_not_none name is = cc
+
 stays_parts : (o : Option (List ℕ)) (b : Bool) → stays o b ≡ true → (o ≡ None) × (b ≡ true)
 stays_parts None b h = (refl, h)
-stays_parts (Some name) b h = cc
+stays_parts (Some name) b h = absurd (differ h)
 
 stays_of : (o : Option (List ℕ)) (b : Bool) → o ≡ None → b ≡ true → stays o b ≡ true
 stays_of None b e h = h
-stays_of (Some name) b e h = cc
+stays_of (Some name) b e h = absurd (some_is_not_none name e)
 
 pub no_source_parts : (c : Command) (cs : List Command) → has_no_source (c ∷ cs) ≡ true → (source_in c ≡ None) × (has_no_source cs ≡ true)
 no_source_parts c cs h = stays_parts (source_in c) (has_no_source cs) h

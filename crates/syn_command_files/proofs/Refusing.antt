@@ -1,11 +1,11 @@
 -- Refusals, from the cause to the command that names the file; what is left to be put, step by step.
-use Rattle.std.proofs.Common.{◌≡◌, ◌⊎◌, ℕ, ◌+◌, ◌-◌, ◌^◌, ◌≤◌, ◌<◌, min, List, [], ◌∷◌, ◌++◌, Option, None, Some, Result, Ok, Err, refl, sym, ap, ◌∙◌, subst, inl, inr, arith}
-use Rattle.syn_io.specs.Outside.{Disk, Rose}
+use Rattle.std.proofs.Common.{◌≡◌, ◌⊎◌, ℕ, ◌-◌, ◌≤◌, ◌<◌, List, [], ◌∷◌, ◌++◌, Option, None, Some, IfErr, Result, Ok, Err, refl, sym, ap, ◌∙◌, subst, inl, inr, arith}
+use Rattle.syn_io.specs.Outside.{Disk}
 use Rattle.syn_words.specs.declared.Command.{Command}
-use Rattle.syn_words.specs.Files.{IsCommandFile}
 use Rattle.syn_command_files.specs.declared.LoadFault.{LoadFault}
 use Rattle.syn_command_files.specs.declared.LoadFault.TheVariants as faults
-use Rattle.syn_command_files.specs.Sources.{CountsFailure, FailsAt, FailsIn, FaultIn, FileFails, FileSays, Flattens, HasText, no_memory, OpensFile, Puts, PutsAll, Refused, refused, source_in, Sources}
+use Rattle.syn_command_files.specs.declared.Unread.{Unread}
+use Rattle.syn_command_files.specs.Sources.{CountsFailure, FailsAt, FailsIn, FaultIn, FileFails, FileSays, Flattens, HasText, no_memory, OpensFile, Puts, refusal_of, Refused, refused, source_in, Sources}
 use Rattle.syn_command_files.proofs.Putting.{ends, goes_on, puts_fault, puts_file, puts_itself, puts_no_deeper, stops}
 
 pub fails_in : (told : Option (List (List ℕ × List ℕ))) (name : List ℕ) (cause : LoadFault) (r : Refused) → FileFails told name cause
@@ -91,3 +91,11 @@ refused_in depth told now then all first left before rest said c name r so_far i
 
 pub all_put : (depth : ℕ) (told : Option (List (List ℕ × List ℕ))) (all first left before : List Command) → Left depth told all first left before → left ≡ [] → Flattens depth told first all (Ok before)
 all_put depth told all first left before so_far none = so_far (Ok before) (ends (Sources depth told) left before none)
+
+-- the same of a refusal that is passed on
+pub passed_on : {T : Type 0} (depth : ℕ) (told : Option (List (List ℕ × List ℕ))) (all first : List Command) (r : Result T Unread) (y e : Unread) → r ≡ Err y → y ≡ e
+    → (refusal_of e ≡ no_memory) ⊎ Flattens depth told first all (Err (refusal_of e))
+    → IfErr r (λ unread. (refusal_of unread ≡ no_memory) ⊎ Flattens depth told first all (Err (refusal_of unread)))
+passed_on depth told all first r y e p q refused =
+    subst (λ (s : Result _ Unread). IfErr s (λ unread. (refusal_of unread ≡ no_memory) ⊎ Flattens depth told first all (Err (refusal_of unread))))
+    (sym (p ∙ ap (λ (u : Unread). Err u) q)) refused

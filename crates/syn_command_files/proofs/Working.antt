@@ -1,13 +1,12 @@
 -- The worked scripts and files, command by command.
-use Rattle.std.proofs.Common.{◌≡◌, ℕ, zero, suc, List, [], ◌∷◌, ◌++◌, false, true, Option, Some, None, Ok, Err, codes, refl, inl, inr, lit≤}
+use Rattle.std.proofs.Common.{ℕ, zero, suc, List, [], ◌∷◌, ◌++◌, false, true, None, Err, codes, refl, inl, inr, lit≤}
 use Rattle.syn_words.specs.Commands.{options}
 use Rattle.syn_words.specs.declared.Command.{Command}
 use Rattle.syn_words.specs.declared.Command.TheVariants.{Make, Quit, Source, Stats}
 use Rattle.syn_words.specs.declared.recipes.Recipe.TheVariants.{Balance, Rewrite}
 use Rattle.syn_words.specs.declared.ScriptFault.TheVariants.{MissingWord, UnknownCommand}
-use Rattle.syn_command_files.specs.declared.LoadFault.TheVariants.{File, GetFailed, Script, TooDeep}
-use Rattle.syn_command_files.specs.Sources.{FileFails, FileSays, HasText, Refused, refused, Sources}
-use Rattle.syn_command_files.specs.Loading.{ScriptRefused}
+use Rattle.syn_command_files.specs.declared.LoadFault.TheVariants.{File, GetFailed, TooDeep}
+use Rattle.syn_command_files.specs.Sources.{FileFails, FileSays, Refused, refused, Sources}
 use Rattle.syn_command_files.specs.Worked.{files, line, WorkedLoads}
 
 abbrev b : Command
@@ -56,39 +55,87 @@ none = refused GetFailed (codes "none")
 pub worked : WorkedLoads
 worked = record {
   alone = (b ∷ Stats ∷ [], record { short = lit≤ tt; says = refl }, (b ∷ Stats ∷ [], inl (b ∷ [], refl, inl (b ∷ Stats ∷ [], refl, refl)), refl));
-  in_place =
-      (Stats ∷ source (codes "two") ∷ b ∷ [], record { short = lit≤ tt; says = refl },
-      (Stats ∷ b ∷ rwz ∷ Stats ∷ b ∷ [],
-      inl (Stats ∷ [], refl,
-      inl (Stats ∷ b ∷ rwz ∷ Stats ∷ [],
-      inl (b ∷ source (codes "one") ∷ Stats ∷ [], two_says,
-      inl (Stats ∷ b ∷ [], refl,
-      inl (Stats ∷ b ∷ rwz ∷ [], inl (rwz ∷ [], one_says, inl (Stats ∷ b ∷ rwz ∷ [], refl, refl)),
-      inl (Stats ∷ b ∷ rwz ∷ Stats ∷ [], refl, refl)))),
-      inl (Stats ∷ b ∷ rwz ∷ Stats ∷ b ∷ [], refl, refl))), refl));
-  of_a_file =
-      (b ∷ source (codes "one") ∷ Stats ∷ [], two_says,
-      (b ∷ rwz ∷ Stats ∷ [],
-      inl (b ∷ [], refl,
-      inl (b ∷ rwz ∷ [], inl (rwz ∷ [], one_says, inl (b ∷ rwz ∷ [], refl, refl)),
-      inl (b ∷ rwz ∷ Stats ∷ [], refl, refl))), refl));
-  ended =
-      (Stats ∷ Quit ∷ b ∷ [], record { short = lit≤ tt; says = refl },
-      (Stats ∷ Quit ∷ b ∷ [], inl (Stats ∷ [], refl, inl (Stats ∷ Quit ∷ [], refl, inl (Stats ∷ Quit ∷ b ∷ [], refl, refl))), refl));
-  ended_in_a_file =
-      (Stats ∷ source (codes "end") ∷ b ∷ [], record { short = lit≤ tt; says = refl },
-      (Stats ∷ b ∷ Quit ∷ Stats ∷ b ∷ [],
-      inl (Stats ∷ [], refl,
-      inl (Stats ∷ b ∷ Quit ∷ Stats ∷ [],
-      inl (b ∷ Quit ∷ Stats ∷ [], end_says, inl (Stats ∷ b ∷ [], refl, inl (Stats ∷ b ∷ Quit ∷ [], refl, inl (Stats ∷ b ∷ Quit ∷ Stats ∷ [], refl, refl)))),
-      inl (Stats ∷ b ∷ Quit ∷ Stats ∷ b ∷ [], refl, refl))), refl));
+  in_place = (
+    Stats ∷ source (codes "two") ∷ b ∷ [],
+    record { short = lit≤ tt; says = refl },
+    (
+      Stats ∷ b ∷ rwz ∷ Stats ∷ b ∷ [],
+      inl (
+        Stats ∷ [],
+        refl,
+        inl (
+          Stats ∷ b ∷ rwz ∷ Stats ∷ [],
+          inl (
+            b ∷ source (codes "one") ∷ Stats ∷ [],
+            two_says,
+            inl (
+              Stats ∷ b ∷ [],
+              refl,
+              inl (
+                Stats ∷ b ∷ rwz ∷ [],
+                inl (rwz ∷ [], one_says, inl (Stats ∷ b ∷ rwz ∷ [], refl, refl)),
+                inl (Stats ∷ b ∷ rwz ∷ Stats ∷ [], refl, refl),
+              ),
+            ),
+          ),
+          inl (Stats ∷ b ∷ rwz ∷ Stats ∷ b ∷ [], refl, refl),
+        ),
+      ),
+      refl,
+    ),
+  );
+  of_a_file = (
+    b ∷ source (codes "one") ∷ Stats ∷ [],
+    two_says,
+    (
+      b ∷ rwz ∷ Stats ∷ [],
+      inl (
+        b ∷ [],
+        refl,
+        inl (
+          b ∷ rwz ∷ [],
+          inl (rwz ∷ [], one_says, inl (b ∷ rwz ∷ [], refl, refl)),
+          inl (b ∷ rwz ∷ Stats ∷ [], refl, refl),
+        ),
+      ),
+      refl,
+    ),
+  );
+  ended = (
+    Stats ∷ Quit ∷ b ∷ [],
+    record { short = lit≤ tt; says = refl },
+    (Stats ∷ Quit ∷ b ∷ [], inl (Stats ∷ [], refl, inl (Stats ∷ Quit ∷ [], refl, inl (Stats ∷ Quit ∷ b ∷ [], refl, refl))), refl),
+  );
+  ended_in_a_file = (
+    Stats ∷ source (codes "end") ∷ b ∷ [],
+    record { short = lit≤ tt; says = refl },
+    (
+      Stats ∷ b ∷ Quit ∷ Stats ∷ b ∷ [],
+      inl (
+        Stats ∷ [],
+        refl,
+        inl (
+          Stats ∷ b ∷ Quit ∷ Stats ∷ [],
+          inl (b ∷ Quit ∷ Stats ∷ [], end_says, inl (Stats ∷ b ∷ [], refl, inl (Stats ∷ b ∷ Quit ∷ [], refl, inl (Stats ∷ b ∷ Quit ∷ Stats ∷ [], refl, refl)))),
+          inl (Stats ∷ b ∷ Quit ∷ Stats ∷ b ∷ [], refl, refl),
+        ),
+      ),
+      refl,
+    ),
+  );
   too_deep = inr (inr (source (codes "own") ∷ [], record { short = lit≤ tt; says = refl }, inr (own, refl, own_too_deep 16)));
   fault_in_a_file =
-      inr (inr (b ∷ source (codes "bad") ∷ source (codes "none") ∷ [], record { short = lit≤ tt; says = refl },
-      inl (b ∷ [], refl, inr (bad, refl, inr (bad, (bad_fails, refl), refl)))));
+      inr (inr (
+        b ∷ source (codes "bad") ∷ source (codes "none") ∷ [],
+        record { short = lit≤ tt; says = refl },
+        inl (b ∷ [], refl, inr (bad, refl, inr (bad, (bad_fails, refl), refl))),
+      ));
   fault_behind_the_end =
-      inr (inr (Quit ∷ source (codes "bad") ∷ [], record { short = lit≤ tt; says = refl },
-      inl (Quit ∷ [], refl, inr (bad, refl, inr (bad, (bad_fails, refl), refl)))));
+      inr (inr (
+        Quit ∷ source (codes "bad") ∷ [],
+        record { short = lit≤ tt; says = refl },
+        inl (Quit ∷ [], refl, inr (bad, refl, inr (bad, (bad_fails, refl), refl))),
+      ));
   own_fault_first = inr (inr (source (codes "early") ∷ [], record { short = lit≤ tt; says = refl }, inr (early, refl, inr (early, (early_fails, refl), refl))));
   script_first = inr (inl (refl, (lit≤ tt, refl, λ is. cc)));
   missing = inr (inr (source (codes "none") ∷ [], record { short = lit≤ tt; says = refl }, inr (none, refl, inr (none, (tt, refl), refl))));

@@ -1,5 +1,5 @@
 -- What a script and a file of commands come to before anything runs: the commands up to the first `quit`, or the first fault.
-use Rattle.std.specs.Prelude.{◌≡◌, ◌≢◌, ◌⊎◌, ℕ, ◌≤◌, ◌<◌, length, List, [], ◌∷◌, Option, Result, Ok, Err, ⊤}
+use Rattle.std.specs.Prelude.{◌≡◌, ◌≢◌, ◌⊎◌, ℕ, ◌≤◌, ◌<◌, length, List, [], Option, Ok, Err, ⊤}
 use Rattle.syn_words.specs.declared.Command.{Command}
 use Rattle.syn_words.specs.declared.ScriptFault.TheVariants as script
 use Rattle.syn_words.specs.Scripts.{IsScript, IsFirstFault}

@@ -1,6 +1,5 @@
 -- Files of LUTs: a row a line, a number of inputs, an area, and delays.
-use Rattle.std.specs.Prelude.{◌≡◌, ℕ, suc, nat_le, nat_lt, max, ◌&&◌, ◌||◌, ◌==◌, not, Bool, true, false, if◌then◌else◌, List, [], ◌∷◌, take, drop, map, Option, Some, None, Result, Ok, Err}
-use Rattle.std.specs.List.{list_all}
+use Rattle.std.specs.Prelude.{ℕ, suc, nat_lt, max, ◌&&◌, ◌||◌, ◌==◌, not, Bool, true, if◌then◌else◌, List, [], ◌∷◌, take, drop, Option, Some, None, Result, Ok, Err}
 use Rattle.syn_lex.specs.Pieces.{before, pieces}
 use Rattle.syn_lex.specs.Words.{Word, words_by}
 use Rattle.syn_words.specs.declared.forms.NumberRange.{NumberRange}

@@ -24,7 +24,7 @@ const LEAST_MOST: u64 = 2;
 pub enum LutFileFault {
     /// The line of this number, from 1, is the first that isn't a row of 1 to 8 inputs. Where each is
     /// one and none has 2 or more, it is the last line; 0 where there is none.
-    #[error("line {0}: no LUTs")]
+    #[error("line {0}: lut row")]
     Line(u32),
 }
 
@@ -136,7 +136,7 @@ pub fn lut_inputs_of(text: &[u8]) -> Result<LutInputs, LutFileFault>
         let Some(inputs) = inputs_in(row_words(row)) else {
             return Err(LutFileFault::Line(line));
         };
-        most = inputs.max(most);
+        most = most.max(inputs);
         rest = below;
     }
     if most < LEAST_MOST {

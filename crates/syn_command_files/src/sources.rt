@@ -104,8 +104,10 @@ fn opened<F: Files>(
     if depth == 0 {
         return Err(unread(alloc, LoadFault::TooDeep, name));
     }
-    let said = said_by_file(alloc, name, files)?;
-    Ok(Some(said))
+    match said_by_file(alloc, name, files) {
+        Ok(said) => Ok(Some(said)),
+        Err(unread) => Err(unread),
+    }
 }
 
 // Puts a command behind others.
@@ -135,9 +137,10 @@ pub(crate) fn push_commands<F: Files>(
     ensures unchanged { FilesUnchanged (F.disk files.old) (F.disk files.new) }
 {
     for command in commands {
-        match opened(alloc, depth, &command, files)? {
-            None => push_command(alloc, command, flat)?,
-            Some(said) => push_commands(alloc, depth - 1, said, files, flat)?,
+        match opened(alloc, depth, &command, files) {
+            Err(unread) => return Err(unread),
+            Ok(None) => push_command(alloc, command, flat)?,
+            Ok(Some(said)) => push_commands(alloc, depth - 1, said, files, flat)?,
         }
     }
     Ok(())
