@@ -137,7 +137,7 @@ pub fn load_script<F: Files>(
     ensures unchanged { FilesUnchanged (F.disk files.old) (F.disk files.new) }
 
     // Where the files are told and all is well, only memory or a call of the files can be refused; memory alone where none is named.
-    ensures accepted { (commands : List Command) → IsSome (F.disk files.old).told → LoadsScript text.now (F.disk files.old).told commands
+    ensures accepted { (cs : List Command) → IsSome (F.disk files.old).told → LoadsScript text.now (F.disk files.old).told cs
         → IfErr result (λ unread. IsOutside unread.cause) }
     ensures alone { (said : List Command) → ScriptSays text.now said → has_no_source said ≡ true → IfErr result (λ unread. unread.cause ≡ LoadFault.NoMemory) }
 {
@@ -156,7 +156,7 @@ pub fn load_file<F: Files>(alloc: Global, name: &str, files: &mut F) -> Result<V
     ensures unchanged { FilesUnchanged (F.disk files.old) (F.disk files.new) }
 
     // Where the files are told and all is well, only memory or a call of the files can be refused.
-    ensures accepted { (commands : List Command) → IsSome (F.disk files.old).told → LoadsFile name.now (F.disk files.old).told commands
+    ensures accepted { (cs : List Command) → IsSome (F.disk files.old).told → LoadsFile name.now (F.disk files.old).told cs
         → IfErr result (λ unread. IsOutside unread.cause) }
 {
     file(alloc, name, files)

@@ -4,10 +4,10 @@
 //! fraction or none. `#` begins a comment, and a line without words is nothing. Areas and delays are
 //! read and not used.
 
-ghost use Rattle.std.specs.Prelude.{◌≡◌, ◌<◌, ◌≤◌, ◌==◌, ◌^◌, Err, IfErr, IfOk, IfSome, length, Ok, take, drop};
+ghost use Rattle.std.specs.Prelude.{◌≡◌, ◌<◌, ◌≤◌, ◌^◌, Err, IfErr, IfOk, IfSome, length, Ok};
 ghost use Rattle.std.specs.List.{list_all};
 ghost use Rattle.syn_words.specs.Numbers.{is_digit, is_number};
-ghost use Rattle.syn_command_files.specs.Luts.{are_decimals, inputs_in, is_decimal, is_fraction, is_row_byte, line_of, most_inputs, row_inputs, row_words};
+ghost use Rattle.syn_command_files.specs.Luts.{are_decimals, inputs_in, is_decimal, is_fraction, line_of, most_inputs, row_words};
 
 use syn_lex::{WordBytes, Words, bytes_before, cut_piece};
 use syn_words::{LutInputs, NumberRange, number_in};

@@ -1,6 +1,6 @@
 //! The commands of files, in the place of the commands that name them.
 
-ghost use Rattle.std.specs.Prelude.{◌≡◌, ◌≤◌, ◌⊎◌, [], ◌∷◌, ◌++◌, length, Err, List, Ok, OnOk, IfOk, IfErr, option_map};
+ghost use Rattle.std.specs.Prelude.{◌≡◌, ◌≤◌, ◌⊎◌, [], ◌∷◌, ◌++◌, length, Err, Ok, OnOk, IfOk, IfErr, option_map};
 ghost use Rattle.syn_words.specs.Files.{IsCommandFile};
 ghost use Rattle.syn_command_files.specs.Told.{FilesUnchanged};
 ghost use Rattle.syn_command_files.specs.Sources.{CountsFailure, FailsAt, FailsIn, FaultIn, FileSays, Flattens, HasText, no_memory, Opens, refusal_of, refused, source_in, text_limit};
