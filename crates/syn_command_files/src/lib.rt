@@ -19,6 +19,7 @@ mod sources;
 pub use laws::{worked_loads, worked_luts};
 pub use luts::{LutFileFault, lut_inputs_of};
 use quits::cut_at_quit;
+pub use quits::is_quit;
 use sources::{push_commands, said_by_file};
 use std::alloc::Global;
 use syn_io::Files;

@@ -5,7 +5,8 @@ ghost use Rattle.syn_command_files.specs.Sources.{count_until_quit, is_quit, unt
 
 use syn_words::Command;
 
-fn is_quit(command: &Command) -> bool
+/// Whether a command ends the run.
+pub fn is_quit(command: &Command) -> bool
     ensures { result ≡ is_quit command.now }
 {
     match command {

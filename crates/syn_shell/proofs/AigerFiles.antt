@@ -4,7 +4,7 @@ use Rattle.std.proofs.lemmas.List.{length-append, length-map}
 use Rattle.syn_netlist.specs.Lists.{Frame, Latch, Netlist, control_of, latch_output, latch_reads, observed, sources}
 use Rattle.syn_netlist.specs.Meaning.{SameMeaning}
 use Rattle.syn_netlist.specs.Values.{Consistent}
-use Rattle.syn_netlist.specs.Words.{has_word}
+use Rattle.syn_netlist.specs.Words.{has_word, without}
 use Rattle.syn_netlist.proofs.Sets.{has_head, has_left, has_right}
 use Rattle.syn_seq.proofs.Alike.{outputs_alike, reads_alike}
 use Rattle.syn_build.specs.BuildFaults.{most_gates}
@@ -76,7 +76,7 @@ bare_feeds [] = refl
 bare_feeds (l ∷ ls) = ap (λ (ws : List (List ℕ)). l.feed ∷ ws) (bare_feeds ls)
 
 bare_sources : (f : Frame) → sources (bare_frame f) ≡ sources f
-bare_sources f = ap (λ (ws : List (List ℕ)). f.inputs ++ ws) (bare_outputs f.latches)
+bare_sources f = ap (λ (ws : List (List ℕ)). f.inputs ++ (without f.inputs f.clocks ++ ws)) (bare_outputs f.latches)
 
 bare_alike : (old graph : Netlist) (g : Aig) → SameMeaning old graph → IsWrittenAs (without_types graph) g → IsWrittenAs (without_types old) g
 bare_alike old graph g same h = record {

@@ -152,6 +152,14 @@ commands_counted (c ∷ cs) before after outcome (inl (between, step, more)) =
 commands_counted (c ∷ cs) before after outcome (inr (cause, is, step)) =
     subst (λ (o : Option Refused). CountedIn (listed o) before after) (sym is) (refused_counted c _ cause before after step)
 
+-- a refusal that is neither of the files nor of the sink nor of the lines
+nothing_counted : (refused : Refused) (before after : State) → how_many is_of_files (refused ∷ []) ≡ 0 → how_many is_of_sink (refused ∷ []) ≡ 0 → how_many is_of_lines (refused ∷ []) ≡ 0 → CountedIn [] before after → CountedIn (refused ∷ []) before after
+nothing_counted refused before after f s l h = record {
+  files = covers_as before.files.faults after.files.faults 0 _ (sym f) h.files;
+  sink = covers_as before.sink.faults after.sink.faults 0 _ (sym s) h.sink;
+  lines = l;
+}
+
 -- why there are no commands
 load_counted : (cause : LoadFault) (name : List ℕ) (d d' : Disk) (s s' : Screen) → CountsFailure cause d d' → d.faults ≤ d'.faults → s' ≡ s → Counted (record { cause = cause_of cause; name = name } ∷ []) d s d' s'
 load_counted (faults.Script fault) name d d' s s' counted le e = record { files = covers_none d.faults d'.faults le; sink = sink_same s s' e; lines = refl }

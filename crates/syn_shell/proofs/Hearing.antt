@@ -57,10 +57,12 @@ script_stopped t source refused before m d s s' runs tells = (refused, state m d
 -- a script that is run to its end, by whether a command ends the run
 pub script_through : (source : Source) (commands : Vec Command Global) (cs : List Command) (m : Kept) (d d' : Disk) (s : Screen) (after : State) → Loads source d.told commands.items
     → FilesUnchanged d d' → cs ≡ commands.items → RunsCommands cs (state m d' s) None after → has_quit cs ≡ false → Leaves Through source (state m d s) after
+unfolding script_runs
 script_through source commands cs m d d' s after loads unchanged is runs none =
     (script_runs source commands cs None m d d' s after loads unchanged is runs, λ through. subst (λ (x : List Command). has_quit x ≡ false) is none)
 
 pub script_quits : (source : Source) (commands : Vec Command Global) (cs : List Command) (m : Kept) (d d' : Disk) (s : Screen) (after : State) → Loads source d.told commands.items
     → FilesUnchanged d d' → cs ≡ commands.items → RunsCommands cs (state m d' s) None after → has_quit cs ≡ true → Leaves Quit source (state m d s) after
+unfolding script_runs
 script_quits source commands cs m d d' s after loads unchanged is runs some =
     (script_runs source commands cs None m d d' s after loads unchanged is runs, (refl, subst (λ (x : List Command). has_quit x ≡ true) is some))

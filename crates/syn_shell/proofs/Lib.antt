@@ -2,7 +2,6 @@ mod Numbers
 mod Taking
 mod Putting
 mod Following
-mod Stepping
 mod RemadeGraphs
 mod MappedGraphs
 mod Recipes

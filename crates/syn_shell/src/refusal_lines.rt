@@ -171,6 +171,32 @@ fn gap_before(word: &[u8]) -> &'static [u8]
     if word.is_empty() { b"" } else { b" " }
 }
 
+// Puts a place in a file, what is wrong there, and a word behind a gap.
+fn put_in_file<O: Sink>(
+    out: &mut O,
+    name: &[u8],
+    line: u32,
+    what: &[u8],
+    gap: &[u8],
+    word: &[u8],
+) -> Result<(), SinkFailed>
+    ensures { Puts result (joined (name.now ∷ codes ":" ∷ decimal line ∷ codes ": " ∷ what.now ∷ gap.now ∷ word.now ∷ [])) (O.screen out.old) (O.screen out.new) }
+{
+    let mut buffer = Buffer::new();
+    put_all(
+        out,
+        &[
+            name,
+            b":",
+            buffer.format(line as u64).as_bytes(),
+            b": ",
+            what,
+            gap,
+            word,
+        ],
+    )
+}
+
 // Puts a fault of a file of commands: its place, what it says, and its word.
 fn put_command_fault<O: Sink>(
     out: &mut O,
@@ -181,19 +207,7 @@ fn put_command_fault<O: Sink>(
 ) -> Result<(), SinkFailed>
     ensures { Puts result (command_fault_text name.now line word.now fault.now) (O.screen out.old) (O.screen out.new) }
 {
-    let mut buffer = Buffer::new();
-    put_all(
-        out,
-        &[
-            name,
-            b":",
-            buffer.format(line as u64).as_bytes(),
-            b": ",
-            fault_words(fault),
-            gap_before(word),
-            word,
-        ],
-    )
+    put_in_file(out, name, line, fault_words(fault), gap_before(word), word)
 }
 
 // The line, the name in it, if any, and what is wrong there, where a fault of a file tells a line.

@@ -13,9 +13,9 @@ use crate::refusal_lines::{Reported, report_refusal};
 use crate::session::Session;
 use std::alloc::Global;
 use std::thread::Threads;
+use syn_command_files::{Unread, is_quit, load_file, load_script};
 use syn_commit::CommitHook;
 use syn_io::{Files, Sink};
-use syn_command_files::{Unread, load_file, load_script};
 use syn_words::Command;
 
 /// The most bytes of a line.
@@ -104,7 +104,7 @@ fn has_quit(commands: &[Command]) -> bool
     ensures { result ≡ has_quit commands.now }
 {
     for command in commands {
-        if let Command::Quit = command {
+        if is_quit(command) {
             return true;
         }
     }

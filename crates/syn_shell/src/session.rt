@@ -17,9 +17,9 @@ ghost use Rattle.syn_shell.specs.Steps.{AigerReadRefused, AreLutsOf, AigerWriteR
 
 use crate::aiger;
 use crate::files::{get, put};
+use crate::inputs::with_inputs;
 use crate::lines::print_stats;
 use crate::network::HeldNetwork;
-use crate::inputs::with_inputs;
 use crate::refusal::Refusal;
 use std::alloc::{AllocError, Global};
 use std::marker::Model;
@@ -149,12 +149,7 @@ impl Session {
     }
 
     // Makes the graph of a file's netlist the network.
-    fn read<F: Files>(
-        &mut self,
-        alloc: Global,
-        name: &str,
-        files: &mut F,
-    ) -> Result<(), Refusal>
+    fn read<F: Files>(&mut self, alloc: Global, name: &str, files: &mut F) -> Result<(), Refusal>
         ensures read { OnOk result ((net : Netlist) × (self.new.network ≡ Some (graph_network net)) × IsReadAs name.now (F.disk files.old) net) }
         ensures stays { IfErr result (λ cause. self.new.network ≡ self.old.network) }
         ensures refused { IfErr result (ReadRefused name.now (F.disk files.old) (F.disk files.new)) }
@@ -261,7 +256,26 @@ impl Session {
         }
     }
 
-    // Makes the network anew by a recipe, with the session's number of inputs where it names none.
+    // Makes the network anew by a recipe.
+    fn remake<R: Threads + Sync, G: CommitHook>(
+        &mut self,
+        rt: &R,
+        alloc: Global,
+        recipe: &Recipe,
+        hook: &G,
+    ) -> Result<(), Refusal>
+        ensures made { OnOk result (Remakes recipe.now self.old.network self.new.network) }
+        ensures stays { IfErr result (λ cause. self.new.network ≡ self.old.network) }
+        ensures refused { IfErr result (MakingRefused self.old.network) }
+        ensures inputs { self.new.inputs ≡ self.old.inputs }
+    {
+        match &mut self.network {
+            None => Err(Refusal::NoNetwork),
+            Some(network) => network.remake(rt, alloc, recipe, self.workers, hook),
+        }
+    }
+
+    // The same, with the session's number of inputs where the recipe names none.
     fn make<R: Threads + Sync, G: CommitHook>(
         &mut self,
         rt: &R,
@@ -275,10 +289,7 @@ impl Session {
         ensures inputs { self.new.inputs ≡ self.old.inputs }
     {
         let recipe = with_inputs(recipe, &self.inputs);
-        match &mut self.network {
-            None => Err(Refusal::NoNetwork),
-            Some(network) => network.remake(rt, alloc, &recipe, self.workers, hook),
-        }
+        self.remake(rt, alloc, &recipe, hook)
     }
 
     /// Does one command. Refused, it leaves the network. The hook is told of each commit of rewriting, refactoring
