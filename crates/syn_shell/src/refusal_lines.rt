@@ -172,13 +172,13 @@ fn gap_before(word: &[u8]) -> &'static [u8]
 }
 
 // Puts a place in a file, what is wrong there, and a word behind a gap.
-fn put_in_file<O: Sink>(
+fn put_in_file<'a, O: Sink>(
     out: &mut O,
-    name: &[u8],
+    name: &'a [u8],
     line: u32,
-    what: &[u8],
-    gap: &[u8],
-    word: &[u8],
+    what: &'a [u8],
+    gap: &'a [u8],
+    word: &'a [u8],
 ) -> Result<(), SinkFailed>
     ensures { Puts result (joined (name.now ∷ codes ":" ∷ decimal line ∷ codes ": " ∷ what.now ∷ gap.now ∷ word.now ∷ [])) (O.screen out.old) (O.screen out.new) }
 {
