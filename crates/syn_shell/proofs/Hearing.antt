@@ -1,5 +1,5 @@
 -- What became of the line of a refusal.
-use Rattle.std.proofs.Common.{◌≡◌, true, false, List, [], ◌∷◌, refl, subst, inl, inr, Option, None, Some, Vec, Global}
+use Rattle.std.proofs.Common.{◌≡◌, ℕ, true, false, List, [], ◌∷◌, refl, subst, inl, inr, Option, None, Some, Vec, Global}
 use Rattle.syn_words.specs.declared.Command.{Command}
 use Rattle.syn_shell.specs.declared.refusal.Refusal.{Refusal}
 use Rattle.syn_shell.specs.declared.refusal_lines.Reported.{Reported}
@@ -27,6 +27,10 @@ nothing_run (Cut status) cause m d s s' h = (refl, inr (is_announced (Cut status
 pub nothing_status : (t : Reported) (cause : Refusal) (s s' : Screen) → AnnouncesAs t (nameless cause) s s' → status_in t ≡ refusal_status cause
 nothing_status (Whole status) cause s s' h = h.0
 nothing_status (Cut status) cause s s' h = h.0
+
+-- another name of what is told
+pub told_as : (t : Reported) (cause other : Refusal) (name text : List ℕ) (s s' : Screen) → cause ≡ other → name ≡ text → AnnouncesAs t (record { cause = cause; name = name }) s s' → AnnouncesAs t (record { cause = other; name = text }) s s'
+told_as t cause other name text s s' e f h = subst (λ (c : Refusal). AnnouncesAs t (record { cause = c; name = text }) s s') e (subst (λ (n : List ℕ). AnnouncesAs t (record { cause = cause; name = n }) s s') f h)
 
 -- a script that comes to no commands
 pub script_refused : (t : Reported) (source : Source) (refusal : sources.Refused) (m : Kept) (d d' : Disk) (s s' : Screen) → LoadFails source d.told refusal → CountsFailure refusal.cause d d' → FilesUnchanged d d'

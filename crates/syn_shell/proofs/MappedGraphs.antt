@@ -144,6 +144,10 @@ least_mapped_to laws k was net made h are =
       settled = settled_there laws was net made h are.settled;
     }
 
+-- by another name of the number of inputs
+pub least_by : (j k : ℕ) (old new : Written) → j ≡ k → IsLeastMappedTo j old new → IsLeastMappedTo k old new
+least_by j k old new is made = subst (λ (n : ℕ). IsLeastMappedTo n old new) is made
+
 -- what holds of all LUTs of a graph under its names holds of those that were made
 pub of_made : (was : Network) (net : LutNet) (made : Result LutNetwork AllocError) (holds : LutNetwork → Type 0) → IfOk made (λ n. frame_in n.frame ≡ frame_in was.frame) → IfOk made (λ n. n.body ≡ net) → HasFunctionOf was.body net
     → ((n : LutNetwork) → AreOf was net n → holds n) → IfOk made holds

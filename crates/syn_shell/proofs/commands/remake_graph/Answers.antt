@@ -1,7 +1,8 @@
-use Rattle.std.proofs.Common.{ℕ, refl, sym, subst, ◌∙◌}
+use Rattle.std.proofs.Common.{refl, sym, subst, ◌∙◌}
 use Rattle.syn_network.specs.declared.networks.Network.{Network}
 use Rattle.syn_words.specs.declared.recipes.Recipe.TheVariants as recipes
-use Rattle.syn_shell.specs.Makes.{IsLeastMappedTo, IsSweptTo}
+use Rattle.syn_shell.specs.Makes.{IsSweptTo}
+use Rattle.syn_shell.proofs.MappedGraphs.{least_by}
 use Rattle.syn_shell.proofs.RemadeGraphs.{written}
 use Rattle.syn_shell.proofs.Recipes.{made_by}
 use Rattle.syn_shell.proofs.commands.remake_graph.Goals as goal
@@ -31,7 +32,7 @@ pub returns-in_ok-mapped-in-MapByFlow-clause-made : goal.returns-in_ok-mapped-in
 returns-in_ok-mapped-in-MapByFlow-clause-made g c =
     let h = c.in_ok-net-in-MapByFlow.ensures in
     made_by _ (recipes.MapByFlow c.in-MapByFlow.inputs) _ _ c.in-MapByFlow.is
-    (subst (λ (k : ℕ). IsLeastMappedTo k (written c.args.network.now) _) c.number_in.ensures.number (c.in_ok-mapped-in-MapByFlow.ensures.least c.number_in.result (record { luts = record { inputs = h.inputs; count = h.count }; least = h.least; settled = record { depend = h.depend; shown = h.shown } })))
+    (least_by _ _ _ _ c.number_in.ensures.number (c.in_ok-mapped-in-MapByFlow.ensures.least c.number_in.result (record { luts = record { inputs = h.inputs; count = h.count }; least = h.least; settled = record { depend = h.depend; shown = h.shown } })))
 
 pub returns-in_ok-new-in-Sweep-clause-made : goal.returns-in_ok-new-in-Sweep-clause-made
 returns-in_ok-new-in-Sweep-clause-made g c =
