@@ -1,6 +1,7 @@
-use Rattle.std.proofs.Common.{◌∙◌, sym, Some}
+use Rattle.std.proofs.Common.{◌∙◌, ap, sym, Some}
 use Rattle.syn_command_files.specs.Sources.{refusal_of}
 use Rattle.syn_io.specs.Outside.{Disk, Screen}
+use Rattle.syn_shell.specs.LineMode.{has_quit}
 use Rattle.syn_shell.specs.Outside.{State, state}
 use Rattle.syn_shell.specs.Scripts.{Refused, cause_of}
 use Rattle.syn_shell.specs.Stopping.{source_in}
@@ -19,13 +20,13 @@ pub returns-in-Ok-run_commands : goal.returns-in-Ok-run_commands
 returns-in-Ok-run_commands g c =
     let after : State = state c.run_commands.new.session (g.F.Files.disk c.run_commands.new.files) (g.O.Sink.screen c.run_commands.new.out) in
     script_quits (source_in c.args.source) c.in-Ok.commands c.as_slice-2.result.now c.args.session.now (g.F.Files.disk c.args.files.now) (g.F.Files.disk c.commands_in.new.files) (g.O.Sink.screen c.args.out.now) after
-    c.in-Ok.ensures.commands c.commands_in.ensures.unchanged c.as_slice-2.ensures.value c.in-Ok-run_commands.ensures (sym c.has_quit.ensures ∙ c.if-has_quit.true)
+    c.in-Ok.ensures.commands c.commands_in.ensures.unchanged c.as_slice-2.ensures.value c.in-Ok-run_commands.ensures (ap has_quit (c.as_slice-2.ensures.value ∙ sym c.as_slice-in-Ok-run_commands.ensures.value) ∙ sym c.has_quit.ensures ∙ c.if-has_quit.true)
 
 pub returns-in-Ok-2 : goal.returns-in-Ok-2
 returns-in-Ok-2 g c =
     let after : State = state c.run_commands.new.session (g.F.Files.disk c.run_commands.new.files) (g.O.Sink.screen c.run_commands.new.out) in
     script_through (source_in c.args.source) c.in-Ok.commands c.as_slice-2.result.now c.args.session.now (g.F.Files.disk c.args.files.now) (g.F.Files.disk c.commands_in.new.files) (g.O.Sink.screen c.args.out.now) after
-    c.in-Ok.ensures.commands c.commands_in.ensures.unchanged c.as_slice-2.ensures.value c.in-Ok-2.ensures (sym c.has_quit.ensures ∙ c.if-has_quit.false)
+    c.in-Ok.ensures.commands c.commands_in.ensures.unchanged c.as_slice-2.ensures.value c.in-Ok-2.ensures (ap has_quit (c.as_slice-2.ensures.value ∙ sym c.as_slice-in-Ok-run_commands.ensures.value) ∙ sym c.has_quit.ensures ∙ c.if-has_quit.false)
 
 pub returns : goal.returns
 returns g c =
