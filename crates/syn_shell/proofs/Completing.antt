@@ -1,5 +1,5 @@
 -- A run that was ready is refused for want of memory alone, or where a call failed.
-use Rattle.std.proofs.Common.{◌≡◌, ◌⊎◌, ℕ, ◌+◌, ◌<◌, ◌≤◌, List, [], ◌∷◌, ◌++◌, length, refl, sym, ◌∙◌, subst, arith, inl, inr, Option, None, Some, IfSome, IsSome}
+use Rattle.std.proofs.Common.{◌≡◌, ◌⊎◌, ℕ, ◌+◌, ◌<◌, ◌≤◌, Bool, false, List, [], ◌∷◌, ◌++◌, length, refl, sym, ◌∙◌, subst, arith, inl, inr, Option, None, Some, IfSome, IsSome, Result, Ok, Err}
 use Rattle.std.specs.Option.{IsSomeAnd}
 use Rattle.syn_io.specs.Outside.{Disk, Input, Screen, file_at, next_line}
 use Rattle.syn_netlist.specs.Lists.{Netlist}
@@ -15,20 +15,24 @@ use Rattle.syn_aiger.specs.Laws as aiger_laws
 use Rattle.syn_aiger.specs.Writing.{first_typed}
 use Rattle.syn_words.specs.declared.Command.{Command}
 use Rattle.syn_words.specs.declared.Command.TheVariants as commands
-use Rattle.syn_words.specs.Scripts.{IsScript}
-use Rattle.syn_words.proofs.Deciding.{script_has_no_fault}
+use Rattle.syn_command_files.specs.declared.LoadFault.{LoadFault}
+use Rattle.syn_command_files.specs.declared.LoadFault.TheVariants as faults
+use Rattle.syn_command_files.specs.Loading.{IsOutside}
+use Rattle.syn_command_files.specs.Luts.{line_of, most_inputs}
+use Rattle.syn_command_files.specs.Sources as sources
+use Rattle.syn_command_files.proofs.Deciding.{file_accepted, script_accepted, script_alone}
 use Rattle.syn_shell.specs.declared.refusal.Refusal.{Refusal}
-use Rattle.syn_shell.specs.declared.refusal.Refusal.TheVariants.{Script, Read, ReadAiger, FileTooLong, LineTooLong, TooManyGates, LatchType, NoNetwork, GetFailed, PutFailed, LineFailed, SinkFailed, NoMemory}
+use Rattle.syn_shell.specs.declared.refusal.Refusal.TheVariants.{Read, ReadAiger, ReadLuts, FileTooLong, LineTooLong, TooManyGates, LatchType, NoNetwork, GetFailed, PutFailed, LineFailed, SinkFailed, NoMemory}
 use Rattle.syn_build.specs.BuildFaults.{most_gates}
 use Rattle.syn_shell.specs.Networks.{Written, gates_in}
 use Rattle.syn_shell.specs.Outside.{State, script_limit}
 use Rattle.syn_shell.specs.Lines.{refusal_status}
-use Rattle.syn_shell.specs.Steps.{Denied, file_limit, AigerReadRefused, AigerRefused, AigerWriteRefused, GeneratingRefused, GetRefused, MakingRefused, PrintRefused, ReadRefused, WriteRefused}
-use Rattle.syn_shell.specs.Scripts.{Refused, RunsCommands, RunsScript, ScriptRefused, nameless}
+use Rattle.syn_shell.specs.Steps.{Denied, file_limit, AigerReadRefused, AigerRefused, AigerWriteRefused, GeneratingRefused, GetRefused, LutsRefused, MakingRefused, PrintRefused, ReadRefused, TextRefused, WriteRefused}
+use Rattle.syn_shell.specs.Scripts.{Refused, InFile, InText, LoadFails, RunsCommands, RunsScript, Source, cause_of, nameless}
 use Rattle.syn_shell.specs.LineMode.{LineRefused, NoFurther, RunsLines, listed, most_lines}
-use Rattle.syn_shell.specs.Usage.{Usage, OneScript, EachLine, Faulty, usage_of}
+use Rattle.syn_usage.specs.Usage.{Usage, OneScript, OneFile, EachLine, Faulty, usage_of}
 use Rattle.syn_shell.specs.Runs.{RunsUsage, RunsWords, status_of}
-use Rattle.syn_shell.specs.Readiness.{CommandsReady, IsComplete, IsReadable, IsReadableAiger, LineReady, LinesReady, Needs, ScriptReady, UsageReady, WordsReady}
+use Rattle.syn_shell.specs.Readiness.{CommandsReady, HasLuts, IsComplete, IsLoadable, IsReadable, IsReadableAiger, LineReady, LinesReady, Needs, ScriptReady, UsageReady, WordsReady}
 use Rattle.syn_shell.proofs.Concluding.{ran_seven}
 
 -- statuses that a ready run may end with, if a call may have failed
@@ -81,6 +85,10 @@ ReadsWithin bytes = (length bytes ≤ file_limit) × (net : Netlist) × Reads by
 abbrev SpellsWithin : List ℕ → Type 0
 SpellsWithin bytes = (length bytes ≤ file_limit) × (g : Aig) × Spells bytes g × aiger.Within g
 
+-- the bytes are short enough, and say the most inputs of a LUT
+abbrev HasMost : List ℕ → Type 0
+HasMost bytes = (length bytes ≤ file_limit) × (most : ℕ) × (most_inputs bytes ≡ Ok most)
+
 no_fault_here : NotBoth → (bytes : List ℕ) (fault : Option Fault) → ReadsWithin bytes → IsSomeAnd fault (IsFirstFault bytes) → ⊥
 no_fault_here not_both bytes None needs first = first
 no_fault_here not_both bytes (Some fault) (short, net, reads, within) first = not_both bytes net fault reads within first
@@ -108,6 +116,13 @@ aiger_read_fine not_both name before after (ReadAiger fault) needs why =
     absurd (not_both.aiger why.bytes g fault spells within why.first)
 aiger_read_fine not_both name before after other needs why = get_fine SpellsWithin (λ b h. h.0) name before after other needs why
 
+luts_fine : (name : List ℕ) (before after : Disk) (cause : Refusal) → HasLuts name before → LutsRefused name before after cause → IsFine (refusal_status cause)
+luts_fine name before after (ReadLuts fault) needs why = let (short, most, says) = there_in HasMost name before.told why.bytes needs why.file in absurd (no_fault why.bytes most (line_of fault) says why.first)
+  where
+    no_fault : (bytes : List ℕ) (most line : ℕ) → most_inputs bytes ≡ Ok most → most_inputs bytes ≡ Err line → ⊥
+    no_fault bytes most line is first = let both : ◌≡◌ {A = Result ℕ ℕ} (Ok most) (Err line) = sym is ∙ first in cc
+luts_fine name before after other needs why = get_fine HasMost (λ b h. h.0) name before after other needs why
+
 print_fine : (m : Option Written) (before after : Screen) (cause : Refusal) → IsSome m → PrintRefused m before after cause → IsFine (refusal_status cause)
 print_fine m before after NoNetwork needs why = absurd (there_is_one m needs why.0)
 print_fine m before after SinkFailed needs why = failed
@@ -120,31 +135,35 @@ write_fine m name before after PutFailed needs why = failed
 write_fine m name before after NoMemory needs why = no_memory
 write_fine m name before after other needs why = absurd why
 
--- not too many gates make the network a graph, and no latch has a type
-abbrev HasAiger : Option Written → Type 0
-HasAiger m = IsSomeAnd m (λ net. (gates_in net ≤ most_gates) × (first_typed net.netlist.frame ≡ None))
+-- not too many gates make the network a graph, and no latch has a type where types aren't left out
+abbrev HasAiger : Bool → Option Written → Type 0
+HasAiger bare m = IsSomeAnd m (λ net. (gates_in net ≤ most_gates) × (bare ≡ false → first_typed net.netlist.frame ≡ None))
 
-there_is_an_aiger : (m : Option Written) → HasAiger m → IsSome m
-there_is_an_aiger None needs = absurd needs
-there_is_an_aiger (Some net) needs = refl
+there_is_an_aiger : (bare : Bool) (m : Option Written) → HasAiger bare m → IsSome m
+there_is_an_aiger bare None needs = absurd needs
+there_is_an_aiger bare (Some net) needs = refl
 
-has_aiger : (m : Option Written) (cause : Refusal) → HasAiger m → IsSomeAnd m (λ net. AigerRefused net cause) → IsFine (refusal_status cause)
-has_aiger None cause needs why = absurd needs
-has_aiger (Some net) cause needs why = by cause why
+has_aiger : (bare : Bool) (m : Option Written) (cause : Refusal) → HasAiger bare m → IsSomeAnd m (λ net. AigerRefused bare net cause) → IsFine (refusal_status cause)
+has_aiger bare None cause needs why = absurd needs
+has_aiger bare (Some net) cause needs why = by cause why
   where
     none : (found : Option (List ℕ)) (latch : List ℕ) → found ≡ None → found ≡ Some latch → ⊥
     none found latch e h = let z : ◌≡◌ {A = Option (List ℕ)} None (Some latch) = sym e ∙ h in cc
 
-    by : (c : Refusal) → AigerRefused net c → IsFine (refusal_status c)
+    by : (c : Refusal) → AigerRefused bare net c → IsFine (refusal_status c)
     by (TooManyGates gates) why = let few = needs.0 in absurd (omega (arith, few, why.0, why.1))
-    by (LatchType latch) why = absurd (none (first_typed net.netlist.frame) latch needs.1 why.1)
+    by (LatchType latch) why = absurd (none (first_typed net.netlist.frame) latch (needs.1 why.0) why.2)
     by NoMemory why = no_memory
     by other why = absurd why
 
-aiger_write_fine : (m : Option Written) (name : List ℕ) (before after : Disk) (cause : Refusal) → HasAiger m → AigerWriteRefused m name before after cause → IsFine (refusal_status cause)
-aiger_write_fine m name before after (TooManyGates gates) needs why = has_aiger m (TooManyGates gates) needs why.0
-aiger_write_fine m name before after (LatchType latch) needs why = has_aiger m (LatchType latch) needs why.0
-aiger_write_fine m name before after other needs why = write_fine m name before after other (there_is_an_aiger m needs) why
+aiger_write_fine : (bare : Bool) (m : Option Written) (name : List ℕ) (before after : Disk) (cause : Refusal) → HasAiger bare m → AigerWriteRefused bare m name before after cause → IsFine (refusal_status cause)
+aiger_write_fine bare m name before after (TooManyGates gates) needs why = has_aiger bare m (TooManyGates gates) needs why.0
+aiger_write_fine bare m name before after (LatchType latch) needs why = has_aiger bare m (LatchType latch) needs why.0
+aiger_write_fine bare m name before after other needs why = write_fine m name before after other (there_is_an_aiger bare m needs) why
+
+text_fine : (text : List ℕ) (before after : Screen) (cause : Refusal) → TextRefused text before after cause → IsFine (refusal_status cause)
+text_fine text before after SinkFailed why = failed
+text_fine text before after other why = absurd why
 
 -- not too many gates make the network a graph
 abbrev IsGraphable : Option Written → Type 0
@@ -171,10 +190,14 @@ generating_fine other why = absurd why
 denied_fine : NothingIsBoth → (c : Command) (before after : State) (cause : Refusal) → Needs c before → Denied c before cause after → IsFine (refusal_status cause)
 denied_fine not_both (commands.Read name) before after cause needs (stays, why, stand, same) = read_fine not_both name before.files after.files cause needs why
 denied_fine not_both (commands.ReadAiger name) before after cause needs (stays, why, stand, same) = aiger_read_fine not_both name before.files after.files cause needs why
+denied_fine not_both (commands.ReadLuts name) before after cause needs (stays, why, stand, same) = luts_fine name before.files after.files cause needs why
 denied_fine not_both (commands.Generate seed size) before after cause needs (stays, why, stand, same) = generating_fine cause why
 denied_fine not_both commands.Stats before after cause needs (stays, why, same) = print_fine before.network before.sink after.sink cause needs why
 denied_fine not_both (commands.Write name) before after cause needs (stays, why, same) = write_fine before.network name before.files after.files cause needs why
-denied_fine not_both (commands.WriteAiger ascii name) before after cause needs (stays, why, same) = aiger_write_fine before.network name before.files after.files cause needs why
+denied_fine not_both (commands.WriteAiger ascii bare name) before after cause needs (stays, why, same) = aiger_write_fine bare before.network name before.files after.files cause needs why
+denied_fine not_both (commands.Print text) before after cause needs (stays, why, same) = text_fine text before.sink after.sink cause why
+denied_fine not_both (commands.Source name) before after cause needs none = absurd none
+denied_fine not_both commands.Quit before after cause needs none = absurd none
 denied_fine not_both (commands.Make recipe) before after cause needs (stays, why, stand, same) = making_fine before.network cause needs why
 
 abbrev OutcomeFine : Option Refused → Type 0
@@ -188,15 +211,26 @@ commands_fine not_both [] before after outcome (none, same) ready = outcome_as o
 commands_fine not_both (c ∷ cs) before after outcome (inl (between, step, more)) (needs, ready) = commands_fine not_both cs between after outcome more ready
 commands_fine not_both (c ∷ cs) before after outcome (inr (cause, is, step)) needs = outcome_as outcome _ is (denied_fine not_both c before after cause needs step)
 
-unrun_fine : (text : List ℕ) (cause : Refusal) → (length text ≤ script_limit) × (commands : List Command) × IsScript text commands → ScriptRefused text cause → IsFine (refusal_status cause)
-unrun_fine text LineTooLong (short, commands, script) why = absurd (omega (arith, short, why))
-unrun_fine text (Script fault) (short, commands, script) why = absurd (script_has_no_fault text commands fault script why.1)
-unrun_fine text NoMemory ready why = no_memory
-unrun_fine text other ready why = absurd why
+-- why there are no commands, where there may be some
+outside_fine : (cause : LoadFault) → IsOutside cause → IsFine (refusal_status (cause_of cause))
+outside_fine faults.GetFailed outside = failed
+outside_fine faults.NoMemory outside = no_memory
+outside_fine (faults.Script fault) outside = absurd outside
+outside_fine (faults.File line word fault) outside = absurd outside
+outside_fine faults.ScriptTooLong outside = absurd outside
+outside_fine faults.FileTooLong outside = absurd outside
+outside_fine faults.TooDeep outside = absurd outside
 
-script_fine : NothingIsBoth → (text : List ℕ) (before after : State) (outcome : Option Refused) (runs : RunsScript text before outcome after) → ScriptReady text before outcome after runs → OutcomeFine outcome
-script_fine not_both text before after outcome (inl (cause, why, (is, same))) ready = outcome_as outcome _ is (unrun_fine text cause ready why)
-script_fine not_both text before after outcome (inr (commands, short, script, runs)) ready = commands_fine not_both commands before after outcome runs ready
+unread_fine : (source : Source) (files : Disk) (refusal : sources.Refused) → IsLoadable source files → LoadFails source files.told refusal → IsFine (refusal_status (cause_of refusal.cause))
+unread_fine (InText text) files refusal (inl (told, commands, loads)) fails = outside_fine refusal.cause (script_accepted text files.told commands refusal told loads fails)
+unread_fine (InText text) files refusal (inr (said, says, alone)) fails =
+    subst (λ (c : LoadFault). IsFine (refusal_status (cause_of c))) (sym (script_alone text files.told said refusal says alone fails)) no_memory
+unread_fine (InFile name) files refusal (inl (told, commands, loads)) fails = outside_fine refusal.cause (file_accepted name files.told commands refusal told loads fails)
+unread_fine (InFile name) files refusal (inr none) fails = absurd none
+
+script_fine : NothingIsBoth → (source : Source) (before after : State) (outcome : Option Refused) (runs : RunsScript source before outcome after) → ScriptReady source before outcome after runs → OutcomeFine outcome
+script_fine not_both source before after outcome (inl (refusal, fails, unread)) ready = outcome_as outcome _ unread.told (unread_fine source before.files refusal ready fails)
+script_fine not_both source before after outcome (inr (commands, start, loads, only, runs)) ready = commands_fine not_both commands start after outcome runs ready
 
 -- the first status of more refusals behind those of a script
 first_fine : (outcome : Option Refused) (more : List Refused) → OutcomeFine outcome → IsFine (status_of more) → IsFine (status_of (listed outcome ++ more))
@@ -235,13 +269,14 @@ lines_fine : NothingIsBoth → (lines : List (List ℕ)) (taken : ℕ) (before a
     → LinesReady lines taken before i refusals after i' runs → IsFine (status_of refusals)
 lines_fine not_both [] taken before after refusals i i' (inl (gave, none, same)) ready = fine_as refusals [] none (inl refl)
 lines_fine not_both [] taken before after refusals i i' (inr (cause, why, is, announced)) ready = fine_as refusals (nameless cause ∷ []) is (further_fine taken cause i i' ready why)
-lines_fine not_both (line ∷ lines) taken before after refusals i i' (j, outcome, done, lt, gave, runs, inl (announced, more, on, is, rest)) (here, behind) =
-    fine_as refusals (listed outcome ++ more) is (first_fine outcome more (script_fine not_both line before done outcome runs here) (lines_fine not_both lines (taken + 1) announced after more j i' rest behind))
+lines_fine not_both (line ∷ lines) taken before after refusals i i' (j, outcome, done, lt, gave, runs, inl (announced, more, on, stays, is, rest)) (here, behind) =
+    fine_as refusals (listed outcome ++ more) is (first_fine outcome more (script_fine not_both (InText line) before done outcome runs here) (lines_fine not_both lines (taken + 1) announced after more j i' rest behind))
 lines_fine not_both (line ∷ lines) taken before after refusals i i' (j, outcome, done, lt, gave, runs, inr (ends, is, none, same)) here =
-    fine_as refusals (listed outcome) is (script_fine not_both line before done outcome runs here)
+    fine_as refusals (listed outcome) is (script_fine not_both (InText line) before done outcome runs here)
 
 usage_fine : NothingIsBoth → (usage : Usage) (before after : State) (refusals : List Refused) (i i' : Input) (runs : RunsUsage usage before i refusals after i') → UsageReady usage before i refusals after i' runs → IsFine (status_of refusals)
-usage_fine not_both (OneScript text) before after refusals i i' ((outcome, done, runs, is, ends), same) ready = fine_as refusals (listed outcome) is (script_fine not_both text before done outcome runs ready)
+usage_fine not_both (OneScript text) before after refusals i i' ((outcome, done, runs, is, ends), same) ready = fine_as refusals (listed outcome) is (script_fine not_both (InText text) before done outcome runs ready)
+usage_fine not_both (OneFile name) before after refusals i i' ((outcome, done, runs, is, ends), same) ready = fine_as refusals (listed outcome) is (script_fine not_both (InFile name) before done outcome runs ready)
 usage_fine not_both EachLine before after refusals i i' (lines, runs) ready = lines_fine not_both lines 0 before after refusals i i' runs ready
 usage_fine not_both Faulty before after refusals i i' runs ready = absurd ready
 

@@ -12,7 +12,7 @@ use Rattle.syn_shell.specs.Outside.{State}
 use Rattle.syn_shell.specs.Lines.{aiger_status, read_status, refusal_status}
 use Rattle.syn_shell.specs.Scripts.{Refused}
 use Rattle.syn_shell.specs.LineMode.{RunsLines, most_lines}
-use Rattle.syn_shell.specs.Usage.{usage_of}
+use Rattle.syn_usage.specs.Usage.{usage_of}
 use Rattle.syn_shell.specs.Counts.{Covers, FaultsCover, SomeFault}
 use Rattle.syn_shell.specs.Runs.{Ran, RanAccepted, RunsUsage, RunsWords, status_of}
 use Rattle.syn_shell.proofs.Turning.{is_refused}
@@ -64,12 +64,12 @@ none_of words (refused ∷ more) before after i i' runs e = absurd (both_ways (n
 
 -- a status of 0 comes only where nothing was refused
 pub ran_accepted : (words : List (List ℕ)) (d d' : Disk) (s s' : Screen) (i i' : Input) (status : ℕ) → Ran words d s i d' s' i' status → status ≡ 0 → RanAccepted words d s i d' s' i'
-ran_accepted words d d' s s' i i' status ran e = (ran.network, none_of words ran.refusals _ _ i i' ran.runs (sym ran.status_is ∙ e))
+ran_accepted words d d' s s' i i' status ran e = (ran.kept, none_of words ran.refusals _ _ i i' ran.runs (sym ran.status_is ∙ e))
 
 -- no more lines are run than the most
 pub few_run : (lines : List (List ℕ)) (taken : ℕ) (before after : State) (refusals : List Refused) (i i' : Input) → taken ≤ most_lines → RunsLines lines taken before i refusals after i' → taken + length lines ≤ most_lines
 few_run [] taken before after refusals i i' le runs = omega arith
-few_run (line ∷ lines) taken before after refusals i i' le (j, outcome, done, lt, gave, runs, inl (told, more, on, is, rest)) =
+few_run (line ∷ lines) taken before after refusals i i' le (j, outcome, done, lt, gave, runs, inl (told, more, on, stays, is, rest)) =
     let rest_few : taken + 1 + length lines ≤ most_lines = few_run lines (taken + 1) told after more j i' (omega arith) rest in
     omega (arith, rest_few)
 few_run (line ∷ lines) taken before after refusals i i' le (j, outcome, done, lt, gave, runs, inr (ends, is, none, same)) = omega (arith, lt, ap length none)

@@ -5,12 +5,15 @@ use Rattle.syn_shell.specs.Networks.{Written}
 use Rattle.syn_words.specs.declared.Command.{Command}
 use Rattle.syn_words.specs.declared.Command.TheVariants as commands
 use Rattle.syn_shell.specs.declared.refusal.Refusal.{Refusal}
-use Rattle.syn_shell.specs.declared.refusal.Refusal.TheVariants.{Words, Script, Read, ReadAiger, FileTooLong, LineTooLong, TooManyGates, LatchType, NoNetwork, GetFailed, PutFailed, LineFailed, SinkFailed, NoMemory}
+use Rattle.syn_shell.specs.declared.refusal.Refusal.TheVariants.{Words, Script, Read, ReadAiger, ReadLuts, FileTooLong, LineTooLong, TooManyGates, LatchType, NoNetwork, GetFailed, PutFailed, LineFailed, SinkFailed, NoMemory}
 use Rattle.syn_shell.specs.Outside.{State}
-use Rattle.syn_shell.specs.Steps.{Accepted, Denied, GetRefused, ReadRefused, AigerReadRefused, GeneratingRefused, MakingRefused, PrintRefused, WriteRefused, AigerWriteRefused}
-use Rattle.syn_shell.specs.Scripts.{Refused, RunsCommands, RunsScript, ScriptRefused, SinkGaveUp, Announced, nameless}
-use Rattle.syn_shell.specs.LineMode.{EndsBySink, GoesOn, LineRefused, NoFurther, RunsLines, listed}
-use Rattle.syn_shell.specs.Usage.{Usage, OneScript, EachLine, Faulty, usage_of}
+use Rattle.syn_shell.specs.Steps.{Accepted, Denied, GetRefused, ReadRefused, AigerReadRefused, GeneratingRefused, LutsRefused, MakingRefused, PrintRefused, TextRefused, WriteRefused, AigerWriteRefused}
+use Rattle.syn_shell.specs.Scripts.{Refused, InFile, InText, OnlyCounts, RunsCommands, RunsScript, SinkGaveUp, Announced, Source, cause_of, nameless}
+use Rattle.syn_shell.specs.LineMode.{EndsBySink, EndsLines, GoesOn, LineRefused, NoFurther, RunsLines, listed}
+use Rattle.syn_usage.specs.Usage.{Usage, OneScript, OneFile, EachLine, Faulty, usage_of}
+use Rattle.syn_command_files.specs.declared.LoadFault.{LoadFault}
+use Rattle.syn_command_files.specs.declared.LoadFault.TheVariants as faults
+use Rattle.syn_command_files.specs.Sources.{CountsFailure}
 use Rattle.syn_shell.specs.Runs.{RunsUsage, RunsWords}
 use Rattle.syn_shell.specs.Counts.{Covers, FaultsCover, how_many, is_of_files, is_of_lines, is_of_sink}
 
@@ -75,10 +78,18 @@ write_counted m file name PutFailed d d' s s' (some, rose, others) e = record { 
 write_counted m file name NoMemory d d' s s' others e = record { files = covers_none d.faults d'.faults others.later; sink = sink_same s s' e; lines = refl }
 write_counted m file name other d d' s s' why e = absurd why
 
-aiger_write_counted : (m : Option Written) (file name : List ℕ) (cause : Refusal) (d d' : Disk) (s s' : Screen) → AigerWriteRefused m file d d' cause → s' ≡ s → Counted (record { cause = cause; name = name } ∷ []) d s d' s'
-aiger_write_counted m file name (TooManyGates gates) d d' s s' why e = record { files = disk_same d d' why.1; sink = sink_same s s' e; lines = refl }
-aiger_write_counted m file name (LatchType latch) d d' s s' why e = record { files = disk_same d d' why.1; sink = sink_same s s' e; lines = refl }
-aiger_write_counted m file name other d d' s s' why e = write_counted m file name other d d' s s' why e
+aiger_write_counted : (bare : Bool) (m : Option Written) (file name : List ℕ) (cause : Refusal) (d d' : Disk) (s s' : Screen) → AigerWriteRefused bare m file d d' cause → s' ≡ s → Counted (record { cause = cause; name = name } ∷ []) d s d' s'
+aiger_write_counted bare m file name (TooManyGates gates) d d' s s' why e = record { files = disk_same d d' why.1; sink = sink_same s s' e; lines = refl }
+aiger_write_counted bare m file name (LatchType latch) d d' s s' why e = record { files = disk_same d d' why.1; sink = sink_same s s' e; lines = refl }
+aiger_write_counted bare m file name other d d' s s' why e = write_counted m file name other d d' s s' why e
+
+luts_counted : (file name : List ℕ) (cause : Refusal) (d d' : Disk) (s s' : Screen) → LutsRefused file d d' cause → d.faults ≤ d'.faults → s' ≡ s → Counted (record { cause = cause; name = name } ∷ []) d s d' s'
+luts_counted file name (ReadLuts fault) d d' s s' why le e = record { files = covers_none d.faults d'.faults le; sink = sink_same s s' e; lines = refl }
+luts_counted file name other d d' s s' why le e = get_counted file name other d d' s s' why le e
+
+text_counted : (text name : List ℕ) (cause : Refusal) (d d' : Disk) (s s' : Screen) → TextRefused text s s' cause → d' ≡ d → Counted (record { cause = cause; name = name } ∷ []) d s d' s'
+text_counted text name SinkFailed d d' s s' part e = record { files = disk_same d d' e; sink = covers_one s.faults s'.faults part.later part.failed; lines = refl }
+text_counted text name other d d' s s' why e = absurd why
 
 making_counted : (m : Option Written) (name : List ℕ) (cause : Refusal) (d d' : Disk) (s s' : Screen) → MakingRefused m cause → d' ≡ d → s' ≡ s → Counted (record { cause = cause; name = name } ∷ []) d s d' s'
 making_counted m name NoNetwork d d' s s' why e f = record { files = disk_same d d' e; sink = sink_same s s' f; lines = refl }
@@ -95,20 +106,31 @@ generating_counted name other d d' s s' why e f = absurd why
 refused_counted : (c : Command) (name : List ℕ) (cause : Refusal) (before after : State) → Denied c before cause after → Counted (record { cause = cause; name = name } ∷ []) before.files before.sink after.files after.sink
 refused_counted (commands.Read file) name cause before after (stays, why, stand, e) = read_counted file name cause before.files after.files before.sink after.sink why stand.later e
 refused_counted (commands.ReadAiger file) name cause before after (stays, why, stand, e) = aiger_read_counted file name cause before.files after.files before.sink after.sink why stand.later e
+refused_counted (commands.ReadLuts file) name cause before after (stays, why, stand, e) = luts_counted file name cause before.files after.files before.sink after.sink why stand.later e
 refused_counted (commands.Generate seed size) name cause before after (stays, why, e, f) = generating_counted name cause before.files after.files before.sink after.sink why e f
 refused_counted commands.Stats name cause before after (stays, why, e) = print_counted before.network name cause before.files after.files before.sink after.sink why e
 refused_counted (commands.Write file) name cause before after (stays, why, e) = write_counted before.network file name cause before.files after.files before.sink after.sink why e
-refused_counted (commands.WriteAiger ascii file) name cause before after (stays, why, e) = aiger_write_counted before.network file name cause before.files after.files before.sink after.sink why e
+refused_counted (commands.WriteAiger ascii bare file) name cause before after (stays, why, e) = aiger_write_counted bare before.network file name cause before.files after.files before.sink after.sink why e
+refused_counted (commands.Print text) name cause before after (stays, why, e) = text_counted text name cause before.files after.files before.sink after.sink why e
+refused_counted (commands.Source file) name cause before after none = absurd none
+refused_counted commands.Quit name cause before after none = absurd none
 refused_counted (commands.Make recipe) name cause before after (stays, why, e, f) = making_counted before.network name cause before.files after.files before.sink after.sink why e f
+
+stands_counted : (before after : State) → after ≡ before → Counted [] before.files before.sink after.files after.sink
+stands_counted before after e = record { files = disk_same before.files after.files (ap (λ (x : State). x.files) e); sink = sink_same before.sink after.sink (ap (λ (x : State). x.sink) e); lines = refl }
 
 accepted_counted : (c : Command) (before after : State) → Accepted c before after → Counted [] before.files before.sink after.files after.sink
 accepted_counted (commands.Read file) before after (net, is, read, stand, e) = record { files = covers_none before.files.faults after.files.faults stand.later; sink = sink_same before.sink after.sink e; lines = refl }
 accepted_counted (commands.ReadAiger file) before after (net, is, read, stand, e) = record { files = covers_none before.files.faults after.files.faults stand.later; sink = sink_same before.sink after.sink e; lines = refl }
+accepted_counted (commands.ReadLuts file) before after (same, luts, stand, e) = record { files = covers_none before.files.faults after.files.faults stand.later; sink = sink_same before.sink after.sink e; lines = refl }
 accepted_counted (commands.Generate seed size) before after (net, is, graph, e, f) = record { files = disk_same before.files after.files e; sink = sink_same before.sink after.sink f; lines = refl }
 accepted_counted commands.Stats before after (net, line, some, stays, e, text, took) = record { files = disk_same before.files after.files e; sink = covers_none before.sink.faults after.sink.faults took.later; lines = refl }
 accepted_counted (commands.Write file) before after (net, some, stays, bytes, reads, others, e) = record { files = covers_none before.files.faults after.files.faults others.later; sink = sink_same before.sink after.sink e; lines = refl }
-accepted_counted (commands.WriteAiger ascii file) before after (net, bytes, some, stays, there, are, others, e) = record { files = covers_none before.files.faults after.files.faults others.later; sink = sink_same before.sink after.sink e; lines = refl }
-accepted_counted (commands.Make recipe) before after (made, e, f) = record { files = disk_same before.files after.files e; sink = sink_same before.sink after.sink f; lines = refl }
+accepted_counted (commands.WriteAiger ascii bare file) before after (net, bytes, some, stays, there, are, others, e) = record { files = covers_none before.files.faults after.files.faults others.later; sink = sink_same before.sink after.sink e; lines = refl }
+accepted_counted (commands.Print text) before after (stays, e, took) = record { files = disk_same before.files after.files e; sink = covers_none before.sink.faults after.sink.faults took.later; lines = refl }
+accepted_counted (commands.Source file) before after same = stands_counted before after same
+accepted_counted commands.Quit before after same = stands_counted before after same
+accepted_counted (commands.Make recipe) before after (made, stays, e, f) = record { files = disk_same before.files after.files e; sink = sink_same before.sink after.sink f; lines = refl }
 
 -- parts one after the other
 
@@ -122,17 +144,15 @@ counted_both xs ys d e d' s t s' g h = record {
 abbrev CountedIn : List Refused → State → State → Type 0
 CountedIn refusals before after = Counted refusals before.files before.sink after.files after.sink
 
-state_counted : (before after : State) → after ≡ before → CountedIn [] before after
-state_counted before after e = record { files = disk_same before.files after.files (ap (λ (x : State). x.files) e); sink = sink_same before.sink after.sink (ap (λ (x : State). x.sink) e); lines = refl }
-
 commands_counted : (cs : List Command) (before after : State) (outcome : Option Refused) → RunsCommands cs before outcome after → CountedIn (listed outcome) before after
-commands_counted [] before after outcome (none, same) = subst (λ (o : Option Refused). CountedIn (listed o) before after) (sym none) (state_counted before after same)
+commands_counted [] before after outcome (none, same) = subst (λ (o : Option Refused). CountedIn (listed o) before after) (sym none) (stands_counted before after same)
 commands_counted (c ∷ cs) before after outcome (inl (between, step, more)) =
     counted_both [] (listed outcome) before.files between.files after.files before.sink between.sink after.sink
     (accepted_counted c before between step) (commands_counted cs between after outcome more)
 commands_counted (c ∷ cs) before after outcome (inr (cause, is, step)) =
     subst (λ (o : Option Refused). CountedIn (listed o) before after) (sym is) (refused_counted c _ cause before after step)
 
+-- a refusal that is neither of the files nor of the sink nor of the lines
 nothing_counted : (refused : Refused) (before after : State) → how_many is_of_files (refused ∷ []) ≡ 0 → how_many is_of_sink (refused ∷ []) ≡ 0 → how_many is_of_lines (refused ∷ []) ≡ 0 → CountedIn [] before after → CountedIn (refused ∷ []) before after
 nothing_counted refused before after f s l h = record {
   files = covers_as before.files.faults after.files.faults 0 _ (sym f) h.files;
@@ -140,15 +160,25 @@ nothing_counted refused before after f s l h = record {
   lines = l;
 }
 
-unrun_counted : (text : List ℕ) (cause : Refusal) (before after : State) → ScriptRefused text cause → after ≡ before → CountedIn (nameless cause ∷ []) before after
-unrun_counted text LineTooLong before after why e = nothing_counted (nameless LineTooLong) before after refl refl refl (state_counted before after e)
-unrun_counted text (Script fault) before after why e = nothing_counted (nameless (Script fault)) before after refl refl refl (state_counted before after e)
-unrun_counted text NoMemory before after why e = nothing_counted (nameless NoMemory) before after refl refl refl (state_counted before after e)
-unrun_counted text other before after why e = absurd why
+-- why there are no commands
+load_counted : (cause : LoadFault) (name : List ℕ) (d d' : Disk) (s s' : Screen) → CountsFailure cause d d' → d.faults ≤ d'.faults → s' ≡ s → Counted (record { cause = cause_of cause; name = name } ∷ []) d s d' s'
+load_counted (faults.Script fault) name d d' s s' counted le e = record { files = covers_none d.faults d'.faults le; sink = sink_same s s' e; lines = refl }
+load_counted (faults.File line word fault) name d d' s s' counted le e = record { files = covers_none d.faults d'.faults le; sink = sink_same s s' e; lines = refl }
+load_counted faults.ScriptTooLong name d d' s s' counted le e = record { files = covers_none d.faults d'.faults le; sink = sink_same s s' e; lines = refl }
+load_counted faults.FileTooLong name d d' s s' counted le e = record { files = covers_none d.faults d'.faults le; sink = sink_same s s' e; lines = refl }
+load_counted faults.TooDeep name d d' s s' counted le e = record { files = covers_none d.faults d'.faults le; sink = sink_same s s' e; lines = refl }
+load_counted faults.GetFailed name d d' s s' rose le e = record { files = covers_one d.faults d'.faults le rose; sink = sink_same s s' e; lines = refl }
+load_counted faults.NoMemory name d d' s s' counted le e = record { files = covers_none d.faults d'.faults le; sink = sink_same s s' e; lines = refl }
 
-script_counted : (text : List ℕ) (before after : State) (outcome : Option Refused) → RunsScript text before outcome after → CountedIn (listed outcome) before after
-script_counted text before after outcome (inl (cause, why, (is, same))) = subst (λ (o : Option Refused). CountedIn (listed o) before after) (sym is) (unrun_counted text cause before after why same)
-script_counted text before after outcome (inr (cs, short, script, runs)) = commands_counted cs before after outcome runs
+only_counted : (before after : State) → OnlyCounts before after → CountedIn [] before after
+only_counted before after only = record { files = covers_none before.files.faults after.files.faults only.files.later; sink = sink_same before.sink after.sink only.sink; lines = refl }
+
+script_counted : (source : Source) (before after : State) (outcome : Option Refused) → RunsScript source before outcome after → CountedIn (listed outcome) before after
+script_counted source before after outcome (inl (refusal, fails, unread)) =
+    subst (λ (o : Option Refused). CountedIn (listed o) before after) (sym unread.told)
+    (load_counted refusal.cause refusal.name before.files after.files before.sink after.sink unread.counted unread.only.files.later unread.only.sink)
+script_counted source before after outcome (inr (cs, start, loads, only, runs)) =
+    counted_both [] (listed outcome) before.files start.files after.files before.sink start.sink after.sink (only_counted before start only) (commands_counted cs start after outcome runs)
 
 announced_counted : (refused : Refused) (before after : State) → Announced refused before after → CountedIn [] before after
 announced_counted refused before after h = record { files = disk_same before.files after.files h.only.files; sink = covers_none before.sink.faults after.sink.faults h.line.later; lines = refl }
@@ -165,12 +195,16 @@ telling_counted refused before after (inl told) = announced_counted refused befo
 telling_counted refused before after (inr gave_up) = gave_up_counted refused before after gave_up
 
 goes_on_counted : (outcome : Option Refused) (before after : State) → GoesOn outcome before after → CountedIn [] before after
-goes_on_counted None before after e = state_counted before after e
+goes_on_counted None before after e = stands_counted before after e
 goes_on_counted (Some refused) before after told = announced_counted refused before after told
 
 ends_counted : (outcome : Option Refused) (before after : State) → EndsBySink outcome before after → CountedIn [] before after
 ends_counted None before after h = absurd h
 ends_counted (Some refused) before after gave_up = gave_up_counted refused before after gave_up
+
+ends_lines_counted : (line : List ℕ) (before : State) (outcome : Option Refused) (done after : State) (runs : RunsScript (InText line) before outcome done) → EndsLines (InText line) before outcome done after runs → CountedIn [] done after
+ends_lines_counted line before outcome done after runs (inl ends) = ends_counted outcome done after ends
+ends_lines_counted line before outcome done after runs (inr (quits, same)) = stands_counted done after same
 
 -- a refusal counted, and then its line told
 counted_then_none : (xs : List Refused) (before between after : State) → CountedIn xs before between → CountedIn [] between after → CountedIn xs before after
@@ -221,17 +255,17 @@ refused_line_counted cause before after i i' why h = record {
 -- the lines
 
 lines_counted : (lines : List (List ℕ)) (taken : ℕ) (before after : State) (refusals : List Refused) (i i' : Input) → RunsLines lines taken before i refusals after i' → CoverIn refusals before i after i'
-lines_counted [] taken before after refusals i i' (inl (gave, none, same)) = subst (λ (rs : List Refused). CoverIn rs before i after i') (sym none) (beside [] before after i i' (state_counted before after same) gave.later)
+lines_counted [] taken before after refusals i i' (inl (gave, none, same)) = subst (λ (rs : List Refused). CoverIn rs before i after i') (sym none) (beside [] before after i i' (stands_counted before after same) gave.later)
 lines_counted [] taken before after refusals i i' (inr (cause, why, is, telling)) =
     subst (λ (rs : List Refused). CoverIn rs before i after i') (sym is) (refused_line_counted cause before after i i' (further_counted taken cause i i' why) (telling_counted (nameless cause) before after telling))
-lines_counted (line ∷ lines) taken before after refusals i i' (j, outcome, done, lt, gave, runs, inl (told, more, on, is, rest)) =
+lines_counted (line ∷ lines) taken before after refusals i i' (j, outcome, done, lt, gave, runs, inl (told, more, on, stays, is, rest)) =
     subst (λ (rs : List Refused). CoverIn rs before i after i') (sym is)
     (cover_both (listed outcome) more before told after i j i'
-    (beside (listed outcome) before told i j (counted_then_none (listed outcome) before done told (script_counted line before done outcome runs) (goes_on_counted outcome done told on)) gave.later)
+    (beside (listed outcome) before told i j (counted_then_none (listed outcome) before done told (script_counted (InText line) before done outcome runs) (goes_on_counted outcome done told on)) gave.later)
     (lines_counted lines (taken + 1) told after more j i' rest))
 lines_counted (line ∷ lines) taken before after refusals i i' (j, outcome, done, lt, gave, runs, inr (ends, is, none, same)) =
     subst (λ (rs : List Refused). CoverIn rs before i after i') (sym is)
-    (beside (listed outcome) before after i i' (counted_then_none (listed outcome) before done after (script_counted line before done outcome runs) (ends_counted outcome done after ends))
+    (beside (listed outcome) before after i i' (counted_then_none (listed outcome) before done after (script_counted (InText line) before done outcome runs) (ends_lines_counted line before outcome done after runs ends))
     (omega (arith, gave.later, ap (λ (x : Input). x.faults) same)))
 
 -- a whole run
@@ -246,7 +280,10 @@ ends_one outcome done after (inr ends) = ends_counted outcome done after ends
 usage_counted : (usage : Usage) (before after : State) (refusals : List Refused) (i i' : Input) → RunsUsage usage before i refusals after i' → CoverIn refusals before i after i'
 usage_counted (OneScript text) before after refusals i i' ((outcome, done, runs, is, ends), same) =
     subst (λ (rs : List Refused). CoverIn rs before i after i') (sym is)
-    (beside (listed outcome) before after i i' (counted_then_none (listed outcome) before done after (script_counted text before done outcome runs) (ends_one outcome done after ends)) (same_input i i' same))
+    (beside (listed outcome) before after i i' (counted_then_none (listed outcome) before done after (script_counted (InText text) before done outcome runs) (ends_one outcome done after ends)) (same_input i i' same))
+usage_counted (OneFile name) before after refusals i i' ((outcome, done, runs, is, ends), same) =
+    subst (λ (rs : List Refused). CoverIn rs before i after i') (sym is)
+    (beside (listed outcome) before after i i' (counted_then_none (listed outcome) before done after (script_counted (InFile name) before done outcome runs) (ends_one outcome done after ends)) (same_input i i' same))
 usage_counted EachLine before after refusals i i' (lines, runs) = lines_counted lines 0 before after refusals i i' runs
 usage_counted Faulty before after refusals i i' ((is, telling), same) =
     subst (λ (rs : List Refused). CoverIn rs before i after i') (sym is)

@@ -15,10 +15,10 @@ use Rattle.syn_shell.specs.declared.refusal.Refusal.{Refusal}
 use Rattle.syn_shell.specs.Networks.{Written, graph_network}
 use Rattle.syn_shell.specs.Outside.{State}
 use Rattle.syn_shell.specs.Makes.{Makes, MakesOfGraph, OnGraph}
-use Rattle.syn_shell.specs.Steps.{Denied, Remakes, SessionStep}
-use Rattle.syn_shell.specs.Scripts.{Refused, RunsCommands, RunsScript}
-use Rattle.syn_shell.specs.LineMode.{EndsBySink, GoesOn, RunsLines}
-use Rattle.syn_shell.specs.Usage.{Usage, OneScript, EachLine, Faulty, usage_of}
+use Rattle.syn_shell.specs.Steps.{Denied, Remakes, SessionStep, with_inputs}
+use Rattle.syn_shell.specs.Scripts.{Refused, InFile, InText, RunsCommands, RunsScript, Source}
+use Rattle.syn_shell.specs.LineMode.{EndsBySink, EndsLines, GoesOn, RunsLines}
+use Rattle.syn_usage.specs.Usage.{Usage, OneScript, OneFile, EachLine, Faulty, usage_of}
 use Rattle.syn_shell.specs.Runs.{RunsUsage, RunsWords}
 use Rattle.syn_shell.proofs.Recipes.{kept_of, sweeps}
 use Rattle.syn_shell.specs.Origins.{EachWriteKeeps, Gives, IsSameBy, Keeps, Origin, Step, origin_after, origin_behind, origin_made, swept_since, steps_of_commands, steps_of_lines, steps_of_script, steps_of_usage, steps_of_words, writes}
@@ -81,6 +81,13 @@ made_origin : (r : Recipe) (origin : Option Origin) → (if sweeps r then swept_
 made_origin recipes.Sweep origin = refl
 made_origin other origin = refl
 
+-- a number of inputs changes nothing of where it comes from
+filled_origin : (most : ℕ) (r : Recipe) (origin : Option Origin) → origin_made (with_inputs most r) origin ≡ origin_made r origin
+filled_origin most (recipes.Map area named) origin = refl
+filled_origin most (recipes.MapByFlow named) origin = refl
+filled_origin most recipes.Sweep origin = refl
+filled_origin most other origin = refl
+
 kept_by : AreLaws → (swept : Bool) (origin : Origin) (old new : Written) → IsKeptIn swept old new → Keeps origin old.netlist → IsKept (if swept then swept_since (Some origin) else Some origin) (Some new)
 kept_by laws true origin old new (same, ordered) (n, from, first, above) = (new, refl, (n, from, both_same laws origin.swept true n old.netlist new.netlist above first same, ordered))
 kept_by laws false origin old new (same, ordered) (n, from, first, above) = (new, refl, (n, from, both_same laws origin.swept false n old.netlist new.netlist above first same, ordered))
@@ -92,23 +99,32 @@ remade_kept laws r (Some origin) m m' (old, new, was, is, gates, made) (net, the
     subst₂ IsKept (made_origin r (Some origin)) (sym is) (kept_by laws (sweeps r) origin old new (made_kept laws r old new made) here)
 
 denied_stays : (c : Command) (before : State) (cause : Refusal) (after : State) → Denied c before cause after → after.network ≡ before.network
-denied_stays (commands.Read name) before cause after h = h.0
-denied_stays (commands.ReadAiger name) before cause after h = h.0
-denied_stays (commands.Generate seed size) before cause after h = h.0
-denied_stays commands.Stats before cause after h = h.0
-denied_stays (commands.Write name) before cause after h = h.0
-denied_stays (commands.WriteAiger ascii name) before cause after h = h.0
-denied_stays (commands.Make recipe) before cause after h = h.0
+denied_stays (commands.Read name) before cause after h = h.0.network
+denied_stays (commands.ReadAiger name) before cause after h = h.0.network
+denied_stays (commands.ReadLuts name) before cause after h = h.0.network
+denied_stays (commands.Generate seed size) before cause after h = h.0.network
+denied_stays commands.Stats before cause after h = h.0.network
+denied_stays (commands.Write name) before cause after h = h.0.network
+denied_stays (commands.WriteAiger ascii bare name) before cause after h = h.0.network
+denied_stays (commands.Print text) before cause after h = h.0.network
+denied_stays (commands.Source name) before cause after h = absurd h
+denied_stays commands.Quit before cause after h = absurd h
+denied_stays (commands.Make recipe) before cause after h = h.0.network
 
 accepted_kept : AreLaws → (c : Command) (before after : State) (origin : Option Origin) → SessionStep c before (Ok tt) after → IsKept origin before.network → IsKept (origin_behind c before.files (Ok tt) origin) after.network
-accepted_kept laws (commands.Read name) before after origin (net, is, read, stand, same) kept = (graph_network net, is, (read.netlist, (read.bytes, read.file, read.reads), read.graph.same, read.graph.ordered))
+accepted_kept laws (commands.Read name) before after origin (net, is, read, stand, same) kept = (graph_network net, is.network, (read.netlist, (read.bytes, read.file, read.reads), read.graph.same, read.graph.ordered))
 accepted_kept laws (commands.ReadAiger name) before after origin (net, is, read, stand, same) kept =
-    (graph_network net, is, (net, (read.bytes, read.aig, read.file, read.spells, read.graph), means_itself laws net read.graph.ordered read.graph.shape, read.graph.ordered))
-accepted_kept laws (commands.Generate seed size) before after origin (net, is, graph, stand, same) kept = (graph_network net, is, (_, refl, graph.same, graph.ordered))
-accepted_kept laws commands.Stats before after origin (net, line, is, stays, files, text, took) kept = stays_kept origin before after stays kept
-accepted_kept laws (commands.Write name) before after origin (net, is, stays, file, reads, others, sink) kept = stays_kept origin before after stays kept
-accepted_kept laws (commands.WriteAiger ascii name) before after origin (net, bytes, is, stays, file, are, others, sink) kept = stays_kept origin before after stays kept
-accepted_kept laws (commands.Make recipe) before after origin (made, files, sink) kept = remade_kept laws recipe origin before.network after.network made kept
+    (graph_network net, is.network, (net, (read.bytes, read.aig, read.file, read.spells, read.graph), means_itself laws net read.graph.ordered read.graph.shape, read.graph.ordered))
+accepted_kept laws (commands.ReadLuts name) before after origin (same, luts, stand, sink) kept = stays_kept origin before after same kept
+accepted_kept laws (commands.Generate seed size) before after origin (net, is, graph, stand, same) kept = (graph_network net, is.network, (_, refl, graph.same, graph.ordered))
+accepted_kept laws commands.Stats before after origin (net, line, is, stays, files, text, took) kept = stays_kept origin before after stays.network kept
+accepted_kept laws (commands.Write name) before after origin (net, is, stays, file, reads, others, sink) kept = stays_kept origin before after stays.network kept
+accepted_kept laws (commands.WriteAiger ascii bare name) before after origin (net, bytes, is, stays, file, are, others, sink) kept = stays_kept origin before after stays.network kept
+accepted_kept laws (commands.Print text) before after origin (stays, files, took) kept = stays_kept origin before after stays.network kept
+accepted_kept laws (commands.Source name) before after origin same kept = stays_kept origin before after (ap (λ (s : State). s.network) same) kept
+accepted_kept laws commands.Quit before after origin same kept = stays_kept origin before after (ap (λ (s : State). s.network) same) kept
+accepted_kept laws (commands.Make recipe) before after origin (made, stays, files, sink) kept =
+    subst (λ (o : Option Origin). IsKept o after.network) (filled_origin before.inputs recipe origin) (remade_kept laws (with_inputs before.inputs recipe) origin before.network after.network made kept)
 
 step_kept : AreLaws → (c : Command) (before : State) (answer : Result (Unit {0}) Refusal) (after : State) (origin : Option Origin) → SessionStep c before answer after → IsKept origin before.network
     → IsKept (origin_behind c before.files answer origin) after.network
@@ -134,10 +150,11 @@ commands_lead [] before outcome after (none, same) = ap (λ (s : State). s.netwo
 commands_lead (c ∷ cs) before outcome after (inl (between, step, more)) = (refl, step, commands_lead cs between outcome after more)
 commands_lead (c ∷ cs) before outcome after (inr (cause, is, step)) = (refl, step, refl)
 
-script_leads : (text : List ℕ) (before : State) (outcome : Option Refused) (after : State) (runs : RunsScript text before outcome after)
-    → Leads before.network (steps_of_script text before outcome after runs) after.network
-script_leads text before outcome after (inl (cause, why, (is, same))) = ap (λ (s : State). s.network) same
-script_leads text before outcome after (inr (commands, short, script, runs)) = commands_lead commands before outcome after runs
+script_leads : (source : Source) (before : State) (outcome : Option Refused) (after : State) (runs : RunsScript source before outcome after)
+    → Leads before.network (steps_of_script source before outcome after runs) after.network
+script_leads source before outcome after (inl (refusal, fails, unread)) = unread.only.network
+script_leads source before outcome after (inr (commands, start, loads, only, runs)) =
+    subst (λ (m : Option Written). Leads m (steps_of_commands commands start outcome after runs) after.network) only.network (commands_lead commands start outcome after runs)
 
 goes_on_stays : (outcome : Option Refused) (before after : State) → GoesOn outcome before after → after.network ≡ before.network
 goes_on_stays None before after same = ap (λ (s : State). s.network) same
@@ -147,20 +164,25 @@ ends_stays : (outcome : Option Refused) (before after : State) → EndsBySink ou
 ends_stays None before after h = absurd h
 ends_stays (Some refused) before after gave_up = gave_up.only.network
 
+ends_lines_stay : (line : List ℕ) (before : State) (outcome : Option Refused) (done after : State) (runs : RunsScript (InText line) before outcome done) → EndsLines (InText line) before outcome done after runs → after.network ≡ done.network
+ends_lines_stay line before outcome done after runs (inl ends) = ends_stays outcome done after ends
+ends_lines_stay line before outcome done after runs (inr (quits, same)) = ap (λ (s : State). s.network) same
+
 lines_lead : (lines : List (List ℕ)) (taken : ℕ) (before : State) (i : Input) (refusals : List Refused) (after : State) (i' : Input) (runs : RunsLines lines taken before i refusals after i')
     → Leads before.network (steps_of_lines lines taken before i refusals after i' runs) after.network
 lines_lead [] taken before i refusals after i' (inl (gave, none, same)) = ap (λ (s : State). s.network) same
 lines_lead [] taken before i refusals after i' (inr (cause, why, is, inl told)) = told.only.network
 lines_lead [] taken before i refusals after i' (inr (cause, why, is, inr gave_up)) = gave_up.only.network
-lines_lead (line ∷ lines) taken before i refusals after i' (j, outcome, done, lt, gave, runs, inl (told, more, on, is, rest)) =
-    leads_on before.network told.network after.network (steps_of_script line before outcome done runs) (steps_of_lines lines (taken + 1) told j more after i' rest)
-    (leads_to before.network done.network told.network _ (script_leads line before outcome done runs) (goes_on_stays outcome done told on)) (lines_lead lines (taken + 1) told j more after i' rest)
+lines_lead (line ∷ lines) taken before i refusals after i' (j, outcome, done, lt, gave, runs, inl (told, more, on, stays, is, rest)) =
+    leads_on before.network told.network after.network (steps_of_script (InText line) before outcome done runs) (steps_of_lines lines (taken + 1) told j more after i' rest)
+    (leads_to before.network done.network told.network _ (script_leads (InText line) before outcome done runs) (goes_on_stays outcome done told on)) (lines_lead lines (taken + 1) told j more after i' rest)
 lines_lead (line ∷ lines) taken before i refusals after i' (j, outcome, done, lt, gave, runs, inr (ends, is, none, same)) =
-    leads_to before.network done.network after.network _ (script_leads line before outcome done runs) (ends_stays outcome done after ends)
+    leads_to before.network done.network after.network _ (script_leads (InText line) before outcome done runs) (ends_lines_stay line before outcome done after runs ends)
 
 usage_leads : (usage : Usage) (before : State) (i : Input) (refusals : List Refused) (after : State) (i' : Input) (runs : RunsUsage usage before i refusals after i')
     → (m : Option Written) × Leads before.network (steps_of_usage usage before i refusals after i' runs) m
-usage_leads (OneScript text) before i refusals after i' ((outcome, done, runs, is, ends), same) = (done.network, script_leads text before outcome done runs)
+usage_leads (OneScript text) before i refusals after i' ((outcome, done, runs, is, ends), same) = (done.network, script_leads (InText text) before outcome done runs)
+usage_leads (OneFile name) before i refusals after i' ((outcome, done, runs, is, ends), same) = (done.network, script_leads (InFile name) before outcome done runs)
 usage_leads EachLine before i refusals after i' (lines, runs) = (after.network, lines_lead lines 0 before i refusals after i' runs)
 usage_leads Faulty before i refusals after i' runs = (before.network, refl)
 
@@ -192,8 +214,8 @@ given_of (Some origin) c net before after is gives (kept, there, keeps) =
 
 write_gives : (found : Option Origin) (c : Command) (before after : State) → writes c ≡ true → IsKept found before.network → SessionStep c before (Ok tt) after → Given found c after
 write_gives found (commands.Write name) before after writing kept (net, is, stays, file, reads, others, sink) = given_of found (commands.Write name) net before after is (file, reads) kept
-write_gives found (commands.WriteAiger ascii name) before after writing kept (net, bytes, is, stays, file, are, others, sink) =
-    given_of found (commands.WriteAiger ascii name) net before after is (bytes, aig_of are.graph.netlist, file, are.spells, are.keeps) kept
+write_gives found (commands.WriteAiger ascii bare name) before after writing kept (net, bytes, is, stays, file, are, others, sink) =
+    given_of found (commands.WriteAiger ascii bare name) net before after is (bytes, aig_of are.graph.netlist, file, are.spells, are.keeps) kept
 write_gives found other before after writing kept step = absurd (cc)
 
 write_among : (found : Option Origin) (c : Command) (before : State) (answer : Result (Unit {0}) Refusal) (after : State) → writes c ≡ true → answer ≡ Ok tt

@@ -1,5 +1,3 @@
-mod SimpleUsage
-mod RefusedWords
 mod Numbers
 mod Taking
 mod Putting

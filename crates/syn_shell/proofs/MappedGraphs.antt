@@ -22,14 +22,16 @@ use Rattle.syn_lutnet.specs.LutData.{greatest, net_depth, none_exceeds}
 use Rattle.syn_lutnet.specs.Data.{lut_data, luts_data}
 use Rattle.syn_lutnet.specs.Nets.{HasFunctionOf}
 use Rattle.syn_lutnet.specs.declared.nets.LutNet.{LutNet}
+use Rattle.syn_absorb.specs.Flips.{AllShown}
+use Rattle.syn_absorb.specs.Needed.{AllDepend}
 use Rattle.syn_flow.specs.Coverings.{IsLeastDepth}
 use Rattle.syn_covering.specs.Making.{IsMappedBy}
 use Rattle.syn_map.specs.Labels.{label_of}
 use Rattle.syn_map.specs.Mappings.{IsMapped}
 use Rattle.syn_area.specs.Plain.{AreNeeded}
 use Rattle.syn_shell.specs.Networks.{Written, graph_network, mapped_network}
-use Rattle.syn_shell.specs.Bodies.{AreFewLuts, AreLeastLuts, AreLuts, ArePlainLuts, depth_over, greatest_label}
-use Rattle.syn_shell.specs.Makes.{AreaIsNoWorse, IsInLuts, IsLeastMappedTo, IsMappedForArea, IsMappedTo}
+use Rattle.syn_shell.specs.Bodies.{AreFewLuts, AreLeastLuts, AreLuts, ArePlainLuts, AreSettledIn, depth_over, greatest_label}
+use Rattle.syn_shell.specs.Makes.{AreSettled, AreaIsNoWorse, IsInLuts, IsLeastMappedTo, IsMappedForArea, IsMappedTo}
 use Rattle.syn_shell.proofs.RemadeGraphs.{spelled, written}
 
 -- what a graph and LUTs under names are as netlists
@@ -107,12 +109,24 @@ mapped_to laws k was net made h are =
       count = many_luts laws.luts made net h.body ∙ there.2;
     }
 
+-- settled as they are made, they are so as they are written
+settled_there : LutLaws → (was : Network) (net : LutNet) (made : LutNetwork) → AreOf was net made → AreSettledIn was.body net → AreSettled (luts.network_of made)
+settled_there laws was net made h are =
+    let s = spelled_luts laws.luts made in
+    let many : was.body.source_count ≡ length (sources (frame_in made.frame)) = was.named.sources_are ∙ ap (λ (f : Frame). length (sources f)) (sym h.names) in
+    record {
+      depend = subst AllDepend (sym s.same_luts) (subst (λ (n : LutNet). AllDepend (luts_data n.luts)) (sym h.body) are.depend);
+      shown = subst (AllShown (length (sources (frame_in made.frame)) + 1)) (sym s.same_lits)
+          (subst (λ (n : ℕ). AllShown (n + 1) made.body.observed) many (subst (λ (n : LutNet). AllShown (was.body.source_count + 1) n.observed) (sym h.body) are.shown));
+    }
+
 -- no deeper than the greatest label, and no more of them than nodes need one
 pub mapped_for_area : LutLaws → (k : ℕ) (was : Network) (net : LutNet) (made : LutNetwork) → AreOf was net made → AreFewLuts k was.body net → IsMappedForArea k (written was) (written_luts made)
 mapped_for_area laws k was net made h are = record {
   luts = in_luts laws k was net made h are.luts;
   depth = omega (arith, deep_luts laws was net made h, are.depth, same_greatest laws.graphs k was);
   fewest = λ nodes there. omega (arith, many_luts laws.luts made net h.body, are.fewer nodes (needed_here laws.graphs k was nodes there));
+  settled = settled_there laws was net made h are.settled;
 }
 
 -- no deeper than any covering
@@ -127,7 +141,12 @@ least_mapped_to laws k was net made h are =
           (subst (λ (n : ℕ). IsLeastDepth k n (rows_of old) (observed_of old) deep) was.named.sources_are
           (subst (λ (ls : List Lit). IsLeastDepth k was.body.source_count (rows_of old) ls deep) (sym s.same_lits)
           (subst (λ (rs : List Row). IsLeastDepth k was.body.source_count rs was.body.observed deep) (sym s.same_rows) are.least)));
+      settled = settled_there laws was net made h are.settled;
     }
+
+-- by another name of the number of inputs
+pub least_by : (j k : ℕ) (old new : Written) → j ≡ k → IsLeastMappedTo j old new → IsLeastMappedTo k old new
+least_by j k old new is made = subst (λ (n : ℕ). IsLeastMappedTo n old new) is made
 
 -- what holds of all LUTs of a graph under its names holds of those that were made
 pub of_made : (was : Network) (net : LutNet) (made : Result LutNetwork AllocError) (holds : LutNetwork → Type 0) → IfOk made (λ n. frame_in n.frame ≡ frame_in was.frame) → IfOk made (λ n. n.body ≡ net) → HasFunctionOf was.body net

@@ -6,19 +6,20 @@ use Rattle.syn_reader.specs.declared.ReadFault.TheVariants as file
 use Rattle.syn_aiger_files.specs.declared.fault.AigFault.{AigFault}
 use Rattle.syn_aiger_files.specs.declared.fault.AigFault.TheVariants as aiger
 use Rattle.syn_shell.specs.declared.refusal.Refusal.{Refusal}
-use Rattle.syn_shell.specs.declared.refusal.Refusal.TheVariants.{Words, Script, Read, ReadAiger, FileTooLong, LineTooLong, TooManyLines, TooManyGates, LatchType, NoNetwork, GetFailed, PutFailed, LineFailed, SinkFailed, NoMemory}
-use Rattle.syn_shell.specs.Networks.{Written}
+use Rattle.syn_shell.specs.declared.refusal.Refusal.TheVariants.{Words, Script, CommandFile, Read, ReadAiger, ReadLuts, FileTooLong, LineTooLong, CommandFileTooLong, TooDeep, TooManyLines, TooManyGates, LatchType, NoNetwork, GetFailed, PutFailed, LineFailed, SinkFailed, NoMemory}
 use Rattle.syn_shell.specs.declared.refusal_lines.Reported.{Reported}
 use Rattle.syn_shell.specs.declared.refusal_lines.Reported.TheVariants.{Whole, Cut}
 use Rattle.syn_shell.specs.declared.line_mode.Turn.{Turn}
 use Rattle.syn_shell.specs.declared.line_mode.Turn.TheVariants as turn
 use Rattle.syn_io.specs.Outside.{Disk, Screen, Input}
-use Rattle.syn_shell.specs.Outside.{State, state, GaveLine, GaveNone}
+use Rattle.syn_shell.specs.Outside.{Kept, State, nothing_yet, state, GaveLine, GaveNone}
 use Rattle.syn_shell.specs.Lines.{aiger_status, read_status, refusal_status}
-use Rattle.syn_shell.specs.Scripts.{Refused, nameless, RunsScript}
-use Rattle.syn_shell.specs.LineMode.{GoesOn, LineRefused, NoFurther, RunsLines, listed, most_lines}
+use Rattle.syn_shell.specs.Scripts.{InText, Source, Refused, nameless, RunsScript}
+use Rattle.syn_shell.specs.declared.scripts.Ending.{Ending}
+use Rattle.syn_shell.specs.declared.scripts.Ending.TheVariants.{Quit, Stops, Through}
+use Rattle.syn_shell.specs.LineMode.{StaysOn, GoesOn, LineRefused, NoFurther, RunsLines, listed, most_lines}
 use Rattle.syn_shell.specs.Runs.{status_of}
-use Rattle.syn_shell.specs.Stopping.{first_status, status_in, Leaves, RanLines, AnnouncesAs, Turned}
+use Rattle.syn_shell.specs.Stopping.{first_status, status_in, Leaves, RanLines, AnnouncesAs, Turned, turn_of}
 use Rattle.syn_shell.proofs.Hearing.{nothing_run, nothing_status}
 
 -- no refusal has the status of an accepted run
@@ -39,10 +40,14 @@ aiger_refused other = refl
 pub is_refused : (cause : Refusal) → nat_eq (refusal_status cause) 0 ≡ false
 is_refused Words = refl
 is_refused (Script fault) = refl
+is_refused (CommandFile line word fault) = refl
 is_refused (Read fault) = read_refused fault
 is_refused (ReadAiger fault) = aiger_refused fault
+is_refused (ReadLuts fault) = refl
 is_refused FileTooLong = refl
 is_refused LineTooLong = refl
+is_refused CommandFileTooLong = refl
+is_refused TooDeep = refl
 is_refused TooManyLines = refl
 is_refused (TooManyGates gates) = refl
 is_refused (LatchType latch) = refl
@@ -67,17 +72,17 @@ first_of_three a b c = elim (cases_Bool (nat_eq a 0)) [
 
 -- a line that was run stands before those that are run behind it
 pub one_more : (line : List ℕ) (lines : List (List ℕ)) (taken : ℕ) (before done told after : State) (i j i' : Input) (outcome : Option Refused) (more : List Refused) → taken < most_lines
-    → GaveLine line i j → RunsScript line before outcome done → GoesOn outcome done told → RunsLines lines (taken + 1) told j more after i' → RunsLines (line ∷ lines) taken before i (listed outcome ++ more) after i'
-one_more line lines taken before done told after i j i' outcome more lt gave runs on rest = (j, outcome, done, lt, gave, runs, inl (told, more, on, refl, rest))
+    → GaveLine line i j → (runs : RunsScript (InText line) before outcome done) → GoesOn outcome done told → StaysOn (InText line) before outcome done runs → RunsLines lines (taken + 1) told j more after i' → RunsLines (line ∷ lines) taken before i (listed outcome ++ more) after i'
+one_more line lines taken before done told after i j i' outcome more lt gave runs on stays rest = (j, outcome, done, lt, gave, runs, inl (told, more, on, stays, refl, rest))
 
 -- what is run behind a turn that goes on is run from before it
 pub turn_on : (taken status next kept : ℕ) (line : List ℕ) (outcome : Option Refused) (before done told after : State) (i j i' : Input) (lines : List (List ℕ)) (more : List Refused) → taken < most_lines
-    → GaveLine line i j → RunsScript line before outcome done → GoesOn outcome done told → next ≡ status_of (listed outcome) → kept ≡ first_status status next
+    → GaveLine line i j → (runs : RunsScript (InText line) before outcome done) → GoesOn outcome done told → StaysOn (InText line) before outcome done runs → next ≡ status_of (listed outcome) → kept ≡ first_status status next
     → RunsLines lines (taken + 1) told j more after i'
     → (all : List Refused) × RunsLines (line ∷ lines) taken before i all after i' × (first_status kept (status_of more) ≡ first_status status (status_of all))
-turn_on taken status next kept line outcome before done told after i j i' lines more lt gave runs on next_is kept_is rest = (
+turn_on taken status next kept line outcome before done told after i j i' lines more lt gave runs on stays next_is kept_is rest = (
   listed outcome ++ more,
-  one_more line lines taken before done told after i j i' outcome more lt gave runs on rest,
+  one_more line lines taken before done told after i j i' outcome more lt gave runs on stays rest,
   ap (λ (x : ℕ). first_status x (status_of more)) kept_is ∙ first_of_three status next (status_of more)
       ∙ ap (λ (x : ℕ). first_status status (first_status x (status_of more))) next_is ∙ ap (first_status status) (first_of_all outcome more),
 )
@@ -87,32 +92,32 @@ pub none_left : (status taken : ℕ) (st : State) (i i' : Input) → status ≡ 
 none_left status taken st i i' is gave = ([], [], inl (gave, refl, refl), is)
 
 -- no further line is run, and that is told
-pub none_run : (status taken : ℕ) (t : Reported) (cause : Refusal) (m : Option Written) (d : Disk) (s s' : Screen) (i i' : Input) → status ≡ status_in t → NoFurther taken i i' cause → AnnouncesAs t (nameless cause) s s'
+pub none_run : (status taken : ℕ) (t : Reported) (cause : Refusal) (m : Kept) (d : Disk) (s s' : Screen) (i i' : Input) → status ≡ status_in t → NoFurther taken i i' cause → AnnouncesAs t (nameless cause) s s'
     → RanLines status taken (state m d s) i (state m d s') i'
 none_run status taken t cause m d s s' i i' is why tells = ([], nameless cause ∷ [], inr (cause, why, refl, (nothing_run t cause m d s s' tells).1), is ∙ nothing_status t cause s s' tells)
 
 pub turned_none : (st : State) (i i' : Input) → GaveNone i i' → Turned (turn.Ends 0) st i st i'
 turned_none st i i' gave = ([], [], λ taken lt. inl (gave, refl, refl), refl)
 
-pub turned_refused : (status : ℕ) (t : Reported) (cause : Refusal) (m : Option Written) (d : Disk) (s s' : Screen) (i i' : Input) → status ≡ status_in t → LineRefused i i' cause → AnnouncesAs t (nameless cause) s s'
+pub turned_refused : (status : ℕ) (t : Reported) (cause : Refusal) (m : Kept) (d : Disk) (s s' : Screen) (i i' : Input) → status ≡ status_in t → LineRefused i i' cause → AnnouncesAs t (nameless cause) s s'
     → Turned (turn.Ends status) (state m d s) i (state m d s') i'
 turned_refused status t cause m d s s' i i' is why tells = ([], nameless cause ∷ [], λ taken lt. inr (cause, inl why, refl, (nothing_run t cause m d s s' tells).1), is ∙ nothing_status t cause s s' tells)
 
--- a turn by what its script left
-abbrev pub turn_of : Option Reported → Turn
-turn_of None = turn.GoesOn 0
-turn_of (Some (Whole status)) = turn.GoesOn status
-turn_of (Some (Cut status)) = turn.Ends status
+-- a script that is refused doesn't end the run by a command
+stays_on : (source : Source) (before : State) (refused : Refused) (after : State) (runs : RunsScript source before (Some refused) after) → StaysOn source before (Some refused) after runs
+stays_on source before refused after (inl unread) = tt
+stays_on source before refused after (inr (commands, start, loads, only, runs)) = λ none. absurd (cc)
 
-pub turned_by : (left : Option Reported) (line : List ℕ) (st st' : State) (i j : Input) → GaveLine line i j → Leaves left line st st' → Turned (turn_of left) st i st' j
-turned_by None line st st' i j gave runs = (line, None, st', gave, runs, refl, refl)
-turned_by (Some (Whole status)) line st st' i j gave (refused, done, runs, told) = (line, Some refused, done, gave, runs, told.1, told.0)
-turned_by (Some (Cut status)) line st st' i j gave (refused, done, runs, told) = (line ∷ [], refused ∷ [], λ taken lt. (j, Some refused, done, lt, gave, runs, inr (told.1, refl, refl, refl)), told.0)
+pub turned_by : (left : Ending) (line : List ℕ) (st st' : State) (i j : Input) → GaveLine line i j → Leaves left (InText line) st st' → Turned (turn_of left) st i st' j
+turned_by Through line st st' i j gave (runs, stays) = (line, None, st', gave, runs, refl, stays, refl)
+turned_by Quit line st st' i j gave (runs, quits) = (line ∷ [], [], λ taken lt. (j, None, st', lt, gave, runs, inr (inr (quits, refl), refl, refl, refl)), refl)
+turned_by (Stops (Whole status)) line st st' i j gave (refused, done, runs, told) = (line, Some refused, done, gave, runs, told.1, stays_on (InText line) st refused done runs, told.0)
+turned_by (Stops (Cut status)) line st st' i j gave (refused, done, runs, told) = (line ∷ [], refused ∷ [], λ taken lt. (j, Some refused, done, lt, gave, runs, inr (inl told.1, refl, refl, refl)), told.0)
 
 -- the lines begin with no network
-pub begins : (lines : List (List ℕ)) (more : List Refused) (m : Option Written) (d : Disk) (s : Screen) (after : State) (i i' : Input) → m ≡ None → RunsLines lines 0 (state m d s) i more after i'
-    → RanLines (first_status 0 (status_of more)) 0 (state None d s) i after i'
-begins lines more m d s after i i' is runs = (lines, more, subst (λ (n : Option Written). RunsLines lines 0 (state n d s) i more after i') is runs, refl)
+pub begins : (lines : List (List ℕ)) (more : List Refused) (m : Kept) (d : Disk) (s : Screen) (after : State) (i i' : Input) → m ≡ nothing_yet → RunsLines lines 0 (state m d s) i more after i'
+    → RanLines (first_status 0 (status_of more)) 0 (state nothing_yet d s) i after i'
+begins lines more m d s after i i' is runs = (lines, more, subst (λ (n : Kept). RunsLines lines 0 (state n d s) i more after i') is runs, refl)
 
 -- the status at an end
 pub at_end : (result status next : ℕ) (refusals : List Refused) (before after : State) (i i' : Input) → next ≡ status_of refusals → result ≡ first_status status next
@@ -124,8 +129,8 @@ pub goes_on_from : (taken status next kept : ℕ) (before told start after : Sta
     → RunsLines lines (taken + 1) told j more after i'
     → ((ls : List (List ℕ)) (all : List Refused) → RunsLines ls taken before i all after i' → RanLines (first_status status (status_of all)) 0 start i0 after i')
     → RanLines (first_status kept (status_of more)) 0 start i0 after i'
-goes_on_from taken status next kept before told start after i j i0 i' lines more lt (line, outcome, done, gave, runs, on, next_is) kept_is rest earlier =
-    let t = turn_on taken status next kept line outcome before done told after i j i' lines more lt gave runs on next_is kept_is rest in
+goes_on_from taken status next kept before told start after i j i0 i' lines more lt (line, outcome, done, gave, runs, on, stays, next_is) kept_is rest earlier =
+    let t = turn_on taken status next kept line outcome before done told after i j i' lines more lt gave runs on stays next_is kept_is rest in
     subst (λ (x : ℕ). RanLines x 0 start i0 after i') (sym t.2) (earlier (line ∷ lines) t.0 t.1)
 
 -- at a turn that ends the run

@@ -11,6 +11,8 @@ use Rattle.syn_pool.specs.Improving.{IsImproved, allowed}
 use Rattle.syn_lutnet.specs.LutData.{greatest, net_depth, none_exceeds}
 use Rattle.syn_lutnet.specs.Data.{luts_data}
 use Rattle.syn_lutnet.specs.declared.nets.LutNet.{LutNet}
+use Rattle.syn_absorb.specs.Flips.{AllShown}
+use Rattle.syn_absorb.specs.Needed.{AllDepend}
 use Rattle.syn_map.specs.Labels.{label_of}
 use Rattle.syn_map.specs.Mappings.{IsMapped}
 use Rattle.syn_area.specs.Plain.{AreNeeded}
@@ -21,7 +23,7 @@ pub record IsLeftBy (proposals : List Row → ℕ → List Replacement) (levels 
   pub some : IfSome made (IsImproved proposals levels graph)
   pub none : IfNone made (Closed graph.rows graph.observed (allowed levels proposals graph.rows))
 
--- Merging made a graph of this one: it has its function and no more ANDs, and where levels are kept no observed literal lies higher.
+-- Merging or resubstitution by refutation made a graph of this one: it has its function and no more ANDs, and where levels are kept no observed literal lies higher.
 pub record AreMerged (keeps : Bool) (graph made : Graph) : Type 0 where
   pub follows : Follows graph 0 made
   pub levels : keeps ≡ true → IsNoDeeper graph made
@@ -45,13 +47,20 @@ pub record ArePlainLuts (k : ℕ) (graph : Graph) (net : LutNet) : Type 0 where
   pub mapping : IsMapped k graph net
   pub depth : depth_over graph net ≡ greatest_label k graph
 
+-- Each LUT depends on each signal that it reads, and none is observed only complemented.
+pub record AreSettledIn (graph : Graph) (net : LutNet) : Type 0 where
+  pub depend : AllDepend (luts_data net.luts)
+  pub shown : AllShown (graph.source_count + 1) net.observed
+
 -- No deeper than that, and no more of them than nodes that need one over the chosen cuts.
 pub record AreFewLuts (k : ℕ) (graph : Graph) (net : LutNet) : Type 0 where
   pub luts : AreLuts k graph net
   pub depth : depth_over graph net ≤ greatest_label k graph
   pub fewer : (nodes : List ℕ) → AreNeeded k graph.rows graph.observed nodes → length net.luts ≤ length nodes
+  pub settled : AreSettledIn graph net
 
 -- No deeper than any covering.
 pub record AreLeastLuts (k : ℕ) (graph : Graph) (net : LutNet) : Type 0 where
   pub luts : AreLuts k graph net
   pub least : HasLeastDepth k graph net
+  pub settled : AreSettledIn graph net

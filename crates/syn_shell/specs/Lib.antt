@@ -4,9 +4,6 @@ pub mod Lines
 pub mod Makes
 pub mod Bodies
 pub mod Steps
-pub mod CommandLine
-pub mod WorkedCommandLines
-pub mod Usage
 pub mod Scripts
 pub mod LineMode
 pub mod Counts

@@ -1,10 +1,13 @@
 -- Line mode: each line is a script of its own, and the run goes on behind a refusal.
-use Rattle.std.specs.Prelude.{◌≡◌, ◌⊎◌, ℕ, ◌+◌, ◌<◌, ◌≤◌, List, [], ◌∷◌, ◌++◌, length, Option, Some, None}
+use Rattle.std.specs.Prelude.{◌≡◌, ◌⊎◌, ℕ, ◌+◌, ◌<◌, ◌≤◌, List, [], ◌∷◌, ◌++◌, length, Option, Some, None, Bool, true, false, if◌then◌else◌, ⊤}
+use mathlib.Core.Logic.{inl, inr}
 use Rattle.syn_io.specs.Outside.{Rose, Input}
+use Rattle.syn_words.specs.declared.Command.{Command}
+use Rattle.syn_command_files.specs.Sources.{is_quit}
 use Rattle.syn_shell.specs.declared.refusal.Refusal.{Refusal}
 use Rattle.syn_shell.specs.declared.refusal.Refusal.TheVariants.{LineTooLong, TooManyLines, LineFailed, NoMemory}
 use Rattle.syn_shell.specs.Outside.{State, GaveLine, GaveNone, LineIsLong}
-use Rattle.syn_shell.specs.Scripts.{Refused, nameless, RunsScript, Announced, SinkGaveUp}
+use Rattle.syn_shell.specs.Scripts.{Refused, InText, nameless, RunsScript, Announced, SinkGaveUp, Source}
 
 -- the most lines that are run
 abbrev pub most_lines : ℕ
@@ -48,13 +51,32 @@ abbrev pub EndsBySink : Option Refused → State → State → Type 0
 EndsBySink None before after = ⊥
 EndsBySink (Some refused) before after = SinkGaveUp refused before after
 
+-- The commands of a script that was run have one that ends the run.
+abbrev pub has_quit : List Command → Bool
+has_quit [] = false
+has_quit (c ∷ cs) = if is_quit c then true else has_quit cs
+
+-- A script was run to its end, and has a command that ends the run.
+abbrev pub Quits : (source : Source) (before : State) (outcome : Option Refused) (after : State) → RunsScript source before outcome after → Type 0
+Quits source before outcome after (inl unread) = ⊥
+Quits source before outcome after (inr (commands, start, loads, only, runs)) = (outcome ≡ None) × (has_quit commands ≡ true)
+
+-- It is none that does.
+abbrev pub StaysOn : (source : Source) (before : State) (outcome : Option Refused) (after : State) → RunsScript source before outcome after → Type 0
+StaysOn source before outcome after (inl unread) = ⊤
+StaysOn source before outcome after (inr (commands, start, loads, only, runs)) = outcome ≡ None → has_quit commands ≡ false
+
+-- Behind a script the run of lines ends: something was refused, and the sink failed, or the script ends the run.
+abbrev pub EndsLines : (source : Source) (before : State) (outcome : Option Refused) (done after : State) → RunsScript source before outcome done → Type 0
+EndsLines source before outcome done after runs = EndsBySink outcome done after ⊎ (Quits source before outcome done runs × (after ≡ done))
+
 -- These lines are run one after the other, after so many others, and then no further one; with the refusals in their order.
 abbrev pub RunsLines : List (List ℕ) → ℕ → State → Input → List Refused → State → Input → Type 0
 RunsLines [] taken before i refusals after i' = EndsHere taken before i refusals after i'
 RunsLines (line ∷ lines) taken before i refusals after i' =
-    (j : Input) × (outcome : Option Refused) × (done : State) × (taken < most_lines) × GaveLine line i j × RunsScript line before outcome done
-    × (((told : State) × (more : List Refused) × GoesOn outcome done told × (refusals ≡ listed outcome ++ more) × RunsLines lines (taken + 1) told j more after i')
-    ⊎ (EndsBySink outcome done after × (refusals ≡ listed outcome) × (lines ≡ []) × (i' ≡ j)))
+    (j : Input) × (outcome : Option Refused) × (done : State) × (taken < most_lines) × GaveLine line i j × (runs : RunsScript (InText line) before outcome done)
+    × (((told : State) × (more : List Refused) × GoesOn outcome done told × StaysOn (InText line) before outcome done runs × (refusals ≡ listed outcome ++ more) × RunsLines lines (taken + 1) told j more after i')
+    ⊎ (EndsLines (InText line) before outcome done after runs × (refusals ≡ listed outcome) × (lines ≡ []) × (i' ≡ j)))
 
 -- No run of lines runs more than the most; with the one that is refused as one too many, it takes one more at most.
 abbrev pub FewLines : Type 0

@@ -12,9 +12,10 @@ use Rattle.syn_reader.specs.declared.ReadFault.{ReadFault}
 use Rattle.syn_reader.specs.declared.ReadFault.TheVariants as read
 use Rattle.syn_aiger_files.specs.declared.fault.AigFault.{AigFault}
 use Rattle.syn_aiger_files.specs.declared.fault.AigFault.TheVariants as aiger
+use Rattle.syn_command_files.specs.Luts.{line_of}
 use Rattle.syn_shell.specs.Networks.{Written}
 use Rattle.syn_shell.specs.declared.refusal.Refusal.{Refusal}
-use Rattle.syn_shell.specs.declared.refusal.Refusal.TheVariants.{Words, Script, Read, ReadAiger, FileTooLong, LineTooLong, TooManyLines, TooManyGates, LatchType, NoNetwork, GetFailed, PutFailed, LineFailed, SinkFailed, NoMemory}
+use Rattle.syn_shell.specs.declared.refusal.Refusal.TheVariants.{Words, Script, CommandFile, Read, ReadAiger, ReadLuts, FileTooLong, LineTooLong, CommandFileTooLong, TooDeep, TooManyLines, TooManyGates, LatchType, NoNetwork, GetFailed, PutFailed, LineFailed, SinkFailed, NoMemory}
 
 -- the greatest number of a list, 0 where it is empty
 abbrev pub greatest : List ℕ → ℕ
@@ -66,7 +67,28 @@ script_text (script.MissingWord at) = at_place at (codes "missing word")
 script_text (script.ExtraWord at) = at_place at (codes "extra word")
 script_text (script.BadNumber at) = at_place at (codes "bad number")
 script_text (script.OutOfRange at) = at_place at (codes "out of range")
+script_text (script.UnknownEnding at) = at_place at (codes "unknown ending")
 script_text script.NoMemory = codes "out of memory"
+
+-- what it says without its place
+abbrev pub fault_words : ScriptFault → List ℕ
+fault_words (script.BadByte at) = codes "bad byte"
+fault_words (script.UnknownCommand at) = codes "unknown command"
+fault_words (script.MissingWord at) = codes "missing word"
+fault_words (script.ExtraWord at) = codes "extra word"
+fault_words (script.UnknownEnding at) = codes "unknown ending"
+fault_words (script.BadNumber at) = codes "bad number"
+fault_words (script.OutOfRange at) = codes "out of range"
+fault_words script.NoMemory = codes "out of memory"
+
+-- the blank before a word, where there is one
+abbrev pub gap_before : List ℕ → List ℕ
+gap_before [] = []
+gap_before (b ∷ bs) = codes " "
+
+-- what a fault of a file of commands says: the file and the line, what is wrong there, and the word
+abbrev pub command_fault_text : List ℕ → ℕ → List ℕ → ScriptFault → List ℕ
+command_fault_text name line word fault = joined (name ∷ codes ":" ∷ decimal line ∷ codes ": " ∷ fault_words fault ∷ gap_before word ∷ word ∷ [])
 
 -- a name in a line of a file and what is wrong with it there
 abbrev pub name_at_line : ℕ → List ℕ → List ℕ → List ℕ
@@ -131,14 +153,18 @@ aiger_text (aiger.TooManySources count) = joined (decimal count ∷ codes " sour
 aiger_text (aiger.TooManyGates count) = joined (decimal count ∷ codes " gates" ∷ [])
 aiger_text aiger.NoMemory = codes "out of memory"
 
--- what a refusal says; the name is that of the file that the command names
+-- what a refusal says; the name is that of the file that the command names, or of the file of commands in which the cause is
 abbrev pub refusal_text : Refusal → List ℕ → List ℕ
 refusal_text Words name = codes "command line"
 refusal_text (Script fault) name = script_text fault
+refusal_text (CommandFile line word fault) name = command_fault_text name line word fault
 refusal_text (Read fault) name = read_text fault
 refusal_text (ReadAiger fault) name = aiger_text fault
+refusal_text (ReadLuts fault) name = joined (codes "line " ∷ decimal (line_of fault) ∷ codes ": lut row" ∷ [])
 refusal_text FileTooLong name = codes "file longer than 16777216 bytes"
 refusal_text LineTooLong name = codes "line longer than 65536 bytes"
+refusal_text CommandFileTooLong name = codes "file of commands longer than 65536 bytes"
+refusal_text TooDeep name = codes "files of commands more than 16 deep"
 refusal_text TooManyLines name = codes "more than 1048576 lines"
 refusal_text (TooManyGates gates) name = joined (decimal gates ∷ codes " gates" ∷ [])
 refusal_text (LatchType latch) name = joined (latch ∷ codes " has a latch type" ∷ [])
@@ -172,10 +198,14 @@ aiger_status fault = 4
 abbrev pub refusal_status : Refusal → ℕ
 refusal_status Words = 2
 refusal_status (Script fault) = 3
+refusal_status (CommandFile line word fault) = 3
 refusal_status (Read fault) = read_status fault
 refusal_status (ReadAiger fault) = aiger_status fault
+refusal_status (ReadLuts fault) = 4
 refusal_status FileTooLong = 5
 refusal_status LineTooLong = 5
+refusal_status CommandFileTooLong = 5
+refusal_status TooDeep = 5
 refusal_status TooManyLines = 5
 refusal_status (TooManyGates gates) = 5
 refusal_status (LatchType latch) = 9

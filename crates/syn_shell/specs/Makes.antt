@@ -1,5 +1,5 @@
 -- What recipes make of a network, as it is written.
-use Rattle.std.specs.Prelude.{◌≡◌, ℕ, ◌≤◌, ◌<◌, Bool, true, false, List, length, map}
+use Rattle.std.specs.Prelude.{◌≡◌, ℕ, ◌+◌, ◌≤◌, ◌<◌, Bool, true, false, List, length, map, Option, None, Some}
 use Rattle.syn_rows.specs.declared.Row.{Row}
 use Rattle.syn_rows.specs.Rows.{node_of}
 use Rattle.syn_rows.specs.Levels.{level_in, levels_of}
@@ -7,9 +7,12 @@ use Rattle.syn_netlist.specs.Lists.{Netlist, sources}
 use Rattle.syn_netlist.specs.Meaning.{SameMeaning}
 use Rattle.syn_netlist.specs.Order.{Ordered}
 use Rattle.syn_network.specs.GraphShape.{GraphShape, and_tables, observed_of, rows_of}
-use Rattle.syn_network.specs.LutShape.{LutShape, count_of, depth_of, gates_of}
+use Rattle.syn_network.specs.LutShape.{LutShape, count_of, depth_of, gates_of, luts_of}
+use Rattle.syn_network.specs.LutShape as shape
 use Rattle.syn_hashed.specs.Hashed.{lit_at}
 use Rattle.syn_lutnet.specs.LutData.{greatest}
+use Rattle.syn_absorb.specs.Flips.{AllShown}
+use Rattle.syn_absorb.specs.Needed.{AllDepend}
 use Rattle.syn_map.specs.Labels.{label_of}
 use Rattle.syn_area.specs.Plain.{AreNeeded}
 use Rattle.syn_levels.specs.Levels.{keeping}
@@ -50,7 +53,7 @@ pub record IsBalanced (old new : Written) : Type 0 where
   pub remade : IsRemade old new
   pub levels : NoDeeper old.netlist new.netlist
 
--- What merging makes of a graph: it is remade, and where levels are kept no observed signal has a higher level than before.
+-- What merging and resubstitution by refutation make of a graph: it is remade, and where levels are kept no observed signal has a higher level than before.
 pub record IsMerged (keeps : Bool) (old new : Written) : Type 0 where
   pub remade : IsRemade old new
   pub levels : keeps ≡ true → NoDeeper old.netlist new.netlist
@@ -86,21 +89,33 @@ pub record IsMappedTo (inputs : ℕ) (old new : Written) : Type 0 where
   pub needed : AreNeeded inputs (rows_of old.netlist) (observed_of old.netlist) nodes
   pub count : count_of new.netlist ≡ length nodes
 
+-- LUTs as they are left behind mapping for few LUTs and by flow: each depends on each signal that it reads, and none is observed only complemented.
+pub record AreSettled (net : Netlist) : Type 0 where
+  pub depend : AllDepend (luts_of net)
+  pub shown : AllShown (length (sources net.frame) + 1) (shape.observed_of net)
+
 -- What mapping for few LUTs makes of a graph: a net of LUTs that is no deeper than what mapping makes, and has no more LUTs than nodes need one over the chosen cuts, by the rows that the graph spells.
 pub record IsMappedForArea (inputs : ℕ) (old new : Written) : Type 0 where
   pub luts : IsInLuts inputs old new
   pub depth : depth_of new.netlist ≤ greatest (label_of inputs (rows_of old.netlist)) (map node_of (observed_of old.netlist))
   pub fewest : (nodes : List ℕ) → AreNeeded inputs (rows_of old.netlist) (observed_of old.netlist) nodes → count_of new.netlist ≤ length nodes
+  pub settled : AreSettled new.netlist
 
 -- What mapping by flow makes of a graph: a net of LUTs, and no covering of the graph by LUTs of so many inputs at most is shallower, by the rows that it spells.
 pub record IsLeastMappedTo (inputs : ℕ) (old new : Written) : Type 0 where
   pub luts : IsInLuts inputs old new
   pub least : IsLeastDepth inputs (length (sources old.netlist.frame)) (rows_of old.netlist) (observed_of old.netlist) (depth_of new.netlist)
+  pub settled : AreSettled new.netlist
 
 -- What sweeping makes of a graph: one with the same outputs over every sequence of inputs, in which no latch is left that no output needs, and no two that can be one.
 pub record IsSweptTo (old new : Written) : Type 0 where
   pub graph : new.mapped ≡ false
   pub sweep : IsSweepOf old.netlist new.netlist
+
+-- the most inputs of a LUT by what is named: six where nothing is
+abbrev pub most_inputs : Option ℕ → ℕ
+most_inputs None = 6
+most_inputs (Some most) = most
 
 -- What a recipe makes of a graph.
 abbrev pub MakesOfGraph : Recipe → Written → Written → Type 0
@@ -110,9 +125,10 @@ MakesOfGraph (recipes.Rewrite options) = IsPassed options.levels rewritings
 MakesOfGraph (recipes.Refactor options) = IsPassed options.levels refactorings
 MakesOfGraph (recipes.Resubstitute options) = IsPassed options.levels resubstitutions
 MakesOfGraph (recipes.Merge limits) = IsMerged limits.levels
-MakesOfGraph (recipes.Map false inputs) = IsMappedTo inputs
-MakesOfGraph (recipes.Map true inputs) = IsMappedForArea inputs
-MakesOfGraph (recipes.MapByFlow inputs) = IsLeastMappedTo inputs
+MakesOfGraph (recipes.Replace limits) = IsMerged limits.levels
+MakesOfGraph (recipes.Map false inputs) = IsMappedTo (most_inputs inputs)
+MakesOfGraph (recipes.Map true inputs) = IsMappedForArea (most_inputs inputs)
+MakesOfGraph (recipes.MapByFlow inputs) = IsLeastMappedTo (most_inputs inputs)
 MakesOfGraph recipes.Sweep = IsSweptTo
 
 -- What a recipe for graphs makes of a network by its mark: of a net of LUTs what it makes of the graph that hashing made of that before.

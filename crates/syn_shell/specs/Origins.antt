@@ -18,10 +18,12 @@ use Rattle.syn_words.specs.declared.Command.TheVariants as commands
 use Rattle.syn_words.specs.declared.recipes.Recipe.{Recipe}
 use Rattle.syn_words.specs.declared.recipes.Recipe.TheVariants as recipes
 use Rattle.syn_shell.specs.declared.refusal.Refusal.{Refusal}
-use Rattle.syn_shell.specs.Outside.{State, FileIs}
-use Rattle.syn_shell.specs.Scripts.{Refused, RunsCommands, RunsScript}
+use Rattle.syn_command_files.specs.Told.{FileIs}
+use Rattle.syn_shell.specs.Outside.{State}
+use Rattle.syn_shell.specs.Steps.{kept_by}
+use Rattle.syn_shell.specs.Scripts.{Refused, InFile, InText, RunsCommands, RunsScript, Source}
 use Rattle.syn_shell.specs.LineMode.{RunsLines}
-use Rattle.syn_shell.specs.Usage.{Usage, OneScript, EachLine, Faulty, usage_of}
+use Rattle.syn_usage.specs.Usage.{Usage, OneScript, OneFile, EachLine, Faulty, usage_of}
 use Rattle.syn_shell.specs.Runs.{Ran, RunsUsage, RunsWords}
 
 -- A command that was run, with its answer, from the state before it to the one after it.
@@ -38,20 +40,21 @@ steps_of_commands (c ∷ cs) before outcome after (inl (between, step, more)) = 
 steps_of_commands (c ∷ cs) before outcome after (inr (cause, is, step)) = record { command = c; before = before; answer = Err cause; after = after } ∷ []
 
 -- those of a script: none where it was refused before any of its commands ran
-abbrev pub steps_of_script : (text : List ℕ) (before : State) (outcome : Option Refused) (after : State) → RunsScript text before outcome after → List Step
-steps_of_script text before outcome after (inl refused) = []
-steps_of_script text before outcome after (inr (commands, short, script, runs)) = steps_of_commands commands before outcome after runs
+abbrev pub steps_of_script : (source : Source) (before : State) (outcome : Option Refused) (after : State) → RunsScript source before outcome after → List Step
+steps_of_script source before outcome after (inl refused) = []
+steps_of_script source before outcome after (inr (commands, start, loads, only, runs)) = steps_of_commands commands start outcome after runs
 
 -- those of lines, one script after the other
 abbrev pub steps_of_lines : (lines : List (List ℕ)) (taken : ℕ) (before : State) (i : Input) (refusals : List Refused) (after : State) (i' : Input) → RunsLines lines taken before i refusals after i' → List Step
 steps_of_lines [] taken before i refusals after i' runs = []
-steps_of_lines (line ∷ lines) taken before i refusals after i' (j, outcome, done, lt, gave, runs, inl (told, more, on, is, rest)) =
-    steps_of_script line before outcome done runs ++ steps_of_lines lines (taken + 1) told j more after i' rest
-steps_of_lines (line ∷ lines) taken before i refusals after i' (j, outcome, done, lt, gave, runs, inr ends) = steps_of_script line before outcome done runs
+steps_of_lines (line ∷ lines) taken before i refusals after i' (j, outcome, done, lt, gave, runs, inl (told, more, on, stays, is, rest)) =
+    steps_of_script (InText line) before outcome done runs ++ steps_of_lines lines (taken + 1) told j more after i' rest
+steps_of_lines (line ∷ lines) taken before i refusals after i' (j, outcome, done, lt, gave, runs, inr ends) = steps_of_script (InText line) before outcome done runs
 
 -- those of what words ask for
 abbrev pub steps_of_usage : (usage : Usage) (before : State) (i : Input) (refusals : List Refused) (after : State) (i' : Input) → RunsUsage usage before i refusals after i' → List Step
-steps_of_usage (OneScript text) before i refusals after i' ((outcome, done, runs, is, ends), same) = steps_of_script text before outcome done runs
+steps_of_usage (OneScript text) before i refusals after i' ((outcome, done, runs, is, ends), same) = steps_of_script (InText text) before outcome done runs
+steps_of_usage (OneFile name) before i refusals after i' ((outcome, done, runs, is, ends), same) = steps_of_script (InFile name) before outcome done runs
 steps_of_usage EachLine before i refusals after i' (lines, runs) = steps_of_lines lines 0 before i refusals after i' runs
 steps_of_usage Faulty before i refusals after i' runs = []
 
@@ -121,13 +124,13 @@ Keeps origin m = (n : Netlist) × ComesFrom origin.place n × IsSameBy origin.sw
 -- the command writes a file
 abbrev pub writes : Command → Bool
 writes (commands.Write name) = true
-writes (commands.WriteAiger ascii name) = true
+writes (commands.WriteAiger ascii bare name) = true
 writes other = false
 
--- What is found in the file that a command wrote, by its format: the printed form of the netlist, which reads back from it; or bytes that spell an AIGER file that keeps what the netlist means.
+-- What is found in the file that a command wrote, by its format: the printed form of the netlist, which reads back from it; or bytes that spell an AIGER file that keeps what the netlist means, but for the types of latches where these are left out.
 abbrev pub Gives : Command → Disk → Netlist → Type 0
 Gives (commands.Write name) files m = FileIs name files (printed m) × Reads (printed m) m
-Gives (commands.WriteAiger ascii name) files m = (bytes : List ℕ) × (g : Aig) × FileIs name files bytes × Spells bytes g × IsWrittenAs m g
+Gives (commands.WriteAiger ascii bare name) files m = (bytes : List ℕ) × (g : Aig) × FileIs name files bytes × Spells bytes g × IsWrittenAs (kept_by bare m) g
 Gives other files m = ⊥
 
 -- What each write of a run gives: behind an accepted write, whatever steps were before and after it, the file gives a netlist that keeps what was read or generated last before the write, which there is.

@@ -4,23 +4,24 @@ use Rattle.syn_io.specs.declared.SinkFailed.{SinkFailed}
 use Rattle.syn_io.specs.Outside.{Disk, Input, Screen, Rose, file_at, without_file, GrewByPart, next_line, after_line}
 use Rattle.syn_shell.specs.Networks.{Written}
 
--- What commands work on: the session's network, the files and the sink.
+-- What a session keeps from command to command: its network, and the most inputs of a LUT where a command names no number.
+pub record Kept : Type 0 where
+  pub network : Option Written
+  pub inputs : ℕ
+
+-- What it begins with: no network, and LUTs of six inputs.
+abbrev pub nothing_yet : Kept
+nothing_yet = record { network = None; inputs = 6 }
+
+-- What commands work on: what the session keeps, the files and the sink.
 pub record State : Type 0 where
   pub network : Option Written
+  pub inputs : ℕ
   pub files : Disk
   pub sink : Screen
 
-abbrev pub state : Option Written → Disk → Screen → State
-state network files sink = record { network = network; files = files; sink = sink }
-
--- No file changed.
-pub record FilesUnchanged (before after : Disk) : Type 0 where
-  pub told : after.told ≡ before.told
-  pub later : before.faults ≤ after.faults
-
--- The file of that name has these bytes, where the files are told.
-abbrev pub FileIs : List ℕ → Disk → List ℕ → Type 0
-FileIs name files bytes = IfSome files.told (λ list. file_at name list ≡ Some bytes)
+abbrev pub state : Kept → Disk → Screen → State
+state kept files sink = record { network = kept.network; inputs = kept.inputs; files = files; sink = sink }
 
 -- No file but the one of that name changed.
 pub record OthersUnchanged (name : List ℕ) (before after : Disk) : Type 0 where

@@ -1,5 +1,5 @@
 -- When a run is ready: nothing stands in its way but want of memory and calls that fail. It is a condition on the run itself: what each command needs is there in the state in which the run ran it.
-use Rattle.std.specs.Prelude.{◌≡◌, ◌⊎◌, ℕ, ◌+◌, ◌<◌, ◌≤◌, List, [], ◌∷◌, length, Option, IfSome, IsSome, IsSomeAnd, None, ⊤}
+use Rattle.std.specs.Prelude.{◌≡◌, ◌⊎◌, ℕ, ◌+◌, ◌<◌, ◌≤◌, List, [], ◌∷◌, length, Bool, true, false, Option, IfSome, IsSome, IsSomeAnd, None, Ok, ⊤}
 use mathlib.Core.Logic.{inl, inr}
 use Rattle.syn_io.specs.Outside.{Disk, Input, Screen, file_at, next_line}
 use Rattle.syn_netlist.specs.Lists.{Netlist}
@@ -12,13 +12,15 @@ use Rattle.syn_aiger.specs.Faults as aiger
 use Rattle.syn_aiger.specs.Writing.{first_typed}
 use Rattle.syn_words.specs.declared.Command.{Command}
 use Rattle.syn_words.specs.declared.Command.TheVariants as commands
-use Rattle.syn_words.specs.Scripts.{IsScript}
+use Rattle.syn_command_files.specs.Luts.{most_inputs}
+use Rattle.syn_command_files.specs.Loading.{ScriptSays}
+use Rattle.syn_command_files.specs.Sources.{has_no_source}
 use Rattle.syn_shell.specs.Networks.{gates_in}
 use Rattle.syn_shell.specs.Outside.{State, script_limit}
 use Rattle.syn_shell.specs.Steps.{file_limit}
-use Rattle.syn_shell.specs.Scripts.{Refused, RunsCommands, RunsScript}
+use Rattle.syn_shell.specs.Scripts.{Refused, InFile, InText, Loads, RunsCommands, RunsScript, Source}
 use Rattle.syn_shell.specs.LineMode.{RunsLines, most_lines}
-use Rattle.syn_shell.specs.Usage.{Usage, OneScript, EachLine, Faulty, usage_of}
+use Rattle.syn_usage.specs.Usage.{Usage, OneScript, OneFile, EachLine, Faulty, usage_of}
 use Rattle.syn_shell.specs.Counts.{SomeFault}
 use Rattle.syn_shell.specs.Runs.{Ran, RunsUsage, RunsWords}
 
@@ -30,14 +32,22 @@ IsReadable name files = IsSomeAnd files.told (λ list. IsSomeAnd (file_at name l
 abbrev pub IsReadableAiger : List ℕ → Disk → Type 0
 IsReadableAiger name files = IsSomeAnd files.told (λ list. IsSomeAnd (file_at name list) (λ bytes. (length bytes ≤ file_limit) × (g : Aig) × Spells bytes g × aiger.Within g))
 
--- What a command needs: its file, nothing, or a network, to make it anew or to write it as an AIGER file one that not too many gates make a graph, and for the latter one without types of latches.
+-- The file of that name is told and there; it is short enough, and says the most inputs of a LUT.
+abbrev pub HasLuts : List ℕ → Disk → Type 0
+HasLuts name files = IsSomeAnd files.told (λ list. IsSomeAnd (file_at name list) (λ bytes. (length bytes ≤ file_limit) × (most : ℕ) × (most_inputs bytes ≡ Ok most)))
+
+-- What a command needs: its file, nothing, or a network, to make it anew or to write it as an AIGER file one that not too many gates make a graph, and for the latter one without types of latches where these aren't left out.
 abbrev pub Needs : Command → State → Type 0
 Needs (commands.Read name) before = IsReadable name before.files
 Needs (commands.ReadAiger name) before = IsReadableAiger name before.files
+Needs (commands.ReadLuts name) before = HasLuts name before.files
 Needs (commands.Generate seed size) before = ⊤
 Needs commands.Stats before = IsSome before.network
 Needs (commands.Write name) before = IsSome before.network
-Needs (commands.WriteAiger ascii name) before = IsSomeAnd before.network (λ net. (gates_in net ≤ most_gates) × (first_typed net.netlist.frame ≡ None))
+Needs (commands.WriteAiger ascii bare name) before = IsSomeAnd before.network (λ net. (gates_in net ≤ most_gates) × (bare ≡ false → first_typed net.netlist.frame ≡ None))
+Needs (commands.Print text) before = ⊤
+Needs (commands.Source name) before = ⊤
+Needs commands.Quit before = ⊤
 Needs (commands.Make recipe) before = IsSomeAnd before.network (λ net. gates_in net ≤ most_gates)
 
 -- What each command that was run needs is there.
@@ -46,10 +56,19 @@ CommandsReady [] before outcome after runs = ⊤
 CommandsReady (c ∷ cs) before outcome after (inl (between, step, more)) = Needs c before × CommandsReady cs between outcome after more
 CommandsReady (c ∷ cs) before outcome after (inr refused) = Needs c before
 
--- A script is within its limit and spells commands, and what they need is there.
-abbrev pub ScriptReady : (text : List ℕ) (before : State) (outcome : Option Refused) (after : State) → RunsScript text before outcome after → Type 0
-ScriptReady text before outcome after (inl refused) = (length text ≤ script_limit) × (commands : List Command) × IsScript text commands
-ScriptReady text before outcome after (inr (commands, short, script, runs)) = CommandsReady commands before outcome after runs
+-- A script that says commands and names no file.
+abbrev pub SaysAlone : Source → Type 0
+SaysAlone (InText text) = (said : List Command) × ScriptSays text said × (has_no_source said ≡ true)
+SaysAlone (InFile name) = ⊥
+
+-- A script or a file comes to commands: the files are told, and by them it does; or it names none.
+abbrev pub IsLoadable : Source → Disk → Type 0
+IsLoadable source files = (IsSome files.told × (commands : List Command) × Loads source files.told commands) ⊎ SaysAlone source
+
+-- It comes to commands, and what they need is there.
+abbrev pub ScriptReady : (source : Source) (before : State) (outcome : Option Refused) (after : State) → RunsScript source before outcome after → Type 0
+ScriptReady source before outcome after (inl refused) = IsLoadable source before.files
+ScriptReady source before outcome after (inr (commands, start, loads, only, runs)) = CommandsReady commands start outcome after runs
 
 -- A further line, where one is left, is within its limit, and the lines are within their number. It is told what is left.
 abbrev pub LineReady : ℕ → Input → Type 0
@@ -58,13 +77,14 @@ LineReady taken i = IsSomeAnd i.told (λ left. IfSome (next_line left) (λ line.
 -- The same of all lines, and each script is ready.
 abbrev pub LinesReady : (lines : List (List ℕ)) (taken : ℕ) (before : State) (i : Input) (refusals : List Refused) (after : State) (i' : Input) → RunsLines lines taken before i refusals after i' → Type 0
 LinesReady [] taken before i refusals after i' runs = LineReady taken i
-LinesReady (line ∷ lines) taken before i refusals after i' (j, outcome, done, lt, gave, runs, inl (announced, more, on, is, rest)) =
-    ScriptReady line before outcome done runs × LinesReady lines (taken + 1) announced j more after i' rest
-LinesReady (line ∷ lines) taken before i refusals after i' (j, outcome, done, lt, gave, runs, inr ends) = ScriptReady line before outcome done runs
+LinesReady (line ∷ lines) taken before i refusals after i' (j, outcome, done, lt, gave, runs, inl (announced, more, on, stays, is, rest)) =
+    ScriptReady (InText line) before outcome done runs × LinesReady lines (taken + 1) announced j more after i' rest
+LinesReady (line ∷ lines) taken before i refusals after i' (j, outcome, done, lt, gave, runs, inr ends) = ScriptReady (InText line) before outcome done runs
 
 -- The words are well formed, and what they ask for is ready.
 abbrev pub UsageReady : (usage : Usage) (before : State) (i : Input) (refusals : List Refused) (after : State) (i' : Input) → RunsUsage usage before i refusals after i' → Type 0
-UsageReady (OneScript text) before i refusals after i' ((outcome, done, runs, is, ends), same) = ScriptReady text before outcome done runs
+UsageReady (OneScript text) before i refusals after i' ((outcome, done, runs, is, ends), same) = ScriptReady (InText text) before outcome done runs
+UsageReady (OneFile name) before i refusals after i' ((outcome, done, runs, is, ends), same) = ScriptReady (InFile name) before outcome done runs
 UsageReady EachLine before i refusals after i' (lines, runs) = LinesReady lines 0 before i refusals after i' runs
 UsageReady Faulty before i refusals after i' runs = ⊥
 

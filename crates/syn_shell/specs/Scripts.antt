@@ -1,13 +1,17 @@
 -- A script: its commands one after the other up to the first that is refused, and the line of that refusal.
-use Rattle.std.specs.Prelude.{◌≡◌, ◌≢◌, ◌⊎◌, ℕ, ◌≤◌, ◌<◌, List, [], ◌∷◌, length, Option, Some, None, Ok, Err, ⊤}
+use Rattle.std.specs.Prelude.{◌≡◌, ◌≢◌, ◌⊎◌, ℕ, List, [], ◌∷◌, Option, Some, None, Ok, Err}
 use Rattle.syn_io.specs.Outside.{Screen}
 use Rattle.syn_words.specs.declared.Command.{Command}
 use Rattle.syn_words.specs.declared.Command.TheVariants as commands
-use Rattle.syn_words.specs.declared.ScriptFault.TheVariants as script
-use Rattle.syn_words.specs.Scripts.{IsScript, IsFirstFault}
+use Rattle.syn_command_files.specs.declared.LoadFault.{LoadFault}
+use Rattle.syn_command_files.specs.declared.LoadFault.TheVariants as faults
+use Rattle.syn_command_files.specs.Loading.{FileRefused, LoadsFile, LoadsScript, ScriptRefused}
+use Rattle.syn_command_files.specs.Sources.{CountsFailure}
+use Rattle.syn_command_files.specs.Sources as sources
+use Rattle.syn_command_files.specs.Told.{FilesUnchanged}
 use Rattle.syn_shell.specs.declared.refusal.Refusal.{Refusal}
-use Rattle.syn_shell.specs.declared.refusal.Refusal.TheVariants.{Script, LineTooLong, SinkFailed, NoMemory}
-use Rattle.syn_shell.specs.Outside.{State, Took, TookPart, script_limit}
+use Rattle.syn_shell.specs.declared.refusal.Refusal.TheVariants.{Script, CommandFile, CommandFileTooLong, LineTooLong, TooDeep, GetFailed, SinkFailed, NoMemory}
+use Rattle.syn_shell.specs.Outside.{State, Took, TookPart}
 use Rattle.syn_shell.specs.Lines.{refusal_line}
 use Rattle.syn_shell.specs.Steps.{SessionStep}
 
@@ -25,7 +29,8 @@ abbrev pub name_in : Command → List ℕ
 name_in (commands.Read name) = name
 name_in (commands.Write name) = name
 name_in (commands.ReadAiger name) = name
-name_in (commands.WriteAiger ascii name) = name
+name_in (commands.WriteAiger ascii bare name) = name
+name_in (commands.ReadLuts name) = name
 name_in other = []
 
 -- The commands one after the other, up to the first that is refused.
@@ -35,26 +40,58 @@ RunsCommands (c ∷ cs) before outcome after =
     ((between : State) × SessionStep c before (Ok tt) between × RunsCommands cs between outcome after)
     ⊎ ((cause : Refusal) × (outcome ≡ Some (record { cause = cause; name = name_in c })) × SessionStep c before (Err cause) after)
 
--- Why a script is refused before any of its commands runs: it is too long, or this is its first fault, or memory was refused.
-abbrev pub ScriptRefused : List ℕ → Refusal → Type 0
-ScriptRefused text LineTooLong = script_limit < length text
-ScriptRefused text (Script fault) = (length text ≤ script_limit) × IsFirstFault text fault × (fault ≢ script.NoMemory)
-ScriptRefused text NoMemory = ⊤
-ScriptRefused text other = ⊥
+-- What holds commands: the text of a script, or the file of a name.
+pub data Source : Type 0 where
+  InText : List ℕ → Source
+  InFile : List ℕ → Source
 
--- Nothing is done, for this cause.
-abbrev pub DoesNothing : Refusal → State → Option Refused → State → Type 0
-DoesNothing cause before outcome after = (outcome ≡ Some (nameless cause)) × (after ≡ before)
+-- It comes to these commands, by the files that are told.
+abbrev pub Loads : Source → Option (List (List ℕ × List ℕ)) → List Command → Type 0
+Loads (InText text) told commands = LoadsScript text told commands
+Loads (InFile name) told commands = LoadsFile name told commands
 
--- A script: it is refused before any of its commands runs, or its commands are run.
-abbrev pub RunsScript : List ℕ → State → Option Refused → State → Type 0
-RunsScript text before outcome after =
-    ((cause : Refusal) × ScriptRefused text cause × DoesNothing cause before outcome after)
-    ⊎ ((commands : List Command) × (length text ≤ script_limit) × IsScript text commands × RunsCommands commands before outcome after)
+-- It comes to none, for this cause in the file of this name.
+abbrev pub LoadFails : Source → Option (List (List ℕ × List ℕ)) → sources.Refused → Type 0
+LoadFails (InText text) told refusal = ScriptRefused text told refusal
+LoadFails (InFile name) told refusal = FileRefused name told refusal
+
+-- why a run is refused, by why there are no commands
+abbrev pub cause_of : LoadFault → Refusal
+cause_of (faults.Script fault) = Script fault
+cause_of (faults.File line word fault) = CommandFile line word fault
+cause_of faults.ScriptTooLong = LineTooLong
+cause_of faults.FileTooLong = CommandFileTooLong
+cause_of faults.TooDeep = TooDeep
+cause_of faults.GetFailed = GetFailed
+cause_of faults.NoMemory = NoMemory
+
+-- the refusal of a run, likewise
+abbrev pub refused_by : sources.Refused → Refused
+refused_by refusal = record { cause = cause_of refusal.cause; name = refusal.name }
+
+-- Of two states: only how often a call of the files has failed may be another.
+pub record OnlyCounts (before after : State) : Type 0 where
+  pub network : after.network ≡ before.network
+  pub inputs : after.inputs ≡ before.inputs
+  pub files : FilesUnchanged before.files after.files
+  pub sink : after.sink ≡ before.sink
+
+-- Nothing is run, since there are no commands.
+pub record IsUnread (refusal : sources.Refused) (before : State) (outcome : Option Refused) (after : State) : Type 0 where
+  pub told : outcome ≡ Some (refused_by refusal)
+  pub only : OnlyCounts before after
+  pub counted : CountsFailure refusal.cause before.files after.files
+
+-- A script, or a file of commands: it is refused before any of its commands runs, or its commands are run.
+abbrev pub RunsScript : Source → State → Option Refused → State → Type 0
+RunsScript source before outcome after =
+    ((refusal : sources.Refused) × LoadFails source before.files.told refusal × IsUnread refusal before outcome after)
+    ⊎ ((commands : List Command) × (start : State) × Loads source before.files.told commands × OnlyCounts before start × RunsCommands commands start outcome after)
 
 -- Of two states: only what the sink took may be another.
 pub record OnlySink (before after : State) : Type 0 where
   pub network : after.network ≡ before.network
+  pub inputs : after.inputs ≡ before.inputs
   pub files : after.files ≡ before.files
 
 -- The line of a refusal was put. A sink that failed has no line.

@@ -11,7 +11,7 @@ ghost use Rattle.syn_balance.specs.Balanced as balanced;
 ghost use Rattle.syn_gain.specs.Replacements.{Replacement};
 ghost use Rattle.syn_shell.specs.Networks.{gates_in, graph_network, IsSmall, mapped_network, network_of, made_in};
 ghost use Rattle.syn_shell.specs.Bodies.{AreFewLuts, AreLeastLuts, AreMerged, ArePlainLuts, IsLeftBy};
-ghost use Rattle.syn_shell.specs.Makes.{IsBalanced, IsLeastMappedTo, IsMappedForArea, IsMappedTo, IsMerged, IsPassed, IsRemade, Makes, MakesOfGraph};
+ghost use Rattle.syn_shell.specs.Makes.{IsBalanced, IsLeastMappedTo, IsMappedForArea, IsMappedTo, IsMerged, IsPassed, IsRemade, Makes, MakesOfGraph, most_inputs};
 ghost use Rattle.syn_words.specs.declared.recipes.Recipe.TheVariants as recipes;
 ghost use Rattle.syn_shell.specs.Steps.{MakingRefused};
 
@@ -33,7 +33,8 @@ use syn_resub::resub;
 use syn_rewrite::rewrite;
 use syn_seq::sweep;
 use syn_settled::{few_luts, least_luts};
-use syn_words::{LutInputs, PassOptions, Recipe, SearchLimits};
+use syn_sresub::sresub;
+use syn_words::{LutInputs, PassOptions, Recipe, ReplaceLimits, SearchLimits};
 use syn_workers::Workers;
 
 // How a pass is to go: as the options say, with so many workers where these name none.
@@ -52,6 +53,17 @@ fn limits_of(limits: &SearchLimits) -> Limits
     ensures levels { result.levels ≡ limits.now.levels }
 {
     Limits {
+        conflicts: limits.conflicts,
+        levels: limits.levels,
+    }
+}
+
+// How far resubstitution by refutation goes, as the command says.
+fn reach_of(limits: &ReplaceLimits) -> syn_sresub::Limits
+    ensures levels { result.levels ≡ limits.now.levels }
+{
+    syn_sresub::Limits {
+        gates: limits.gates,
         conflicts: limits.conflicts,
         levels: limits.levels,
     }
@@ -100,18 +112,30 @@ fn mapped(alloc: Global, network: &Network, net: LutNet) -> Result<LutNetwork, A
     network.mapped_copy(alloc, net)
 }
 
+// The most inputs of a LUT by what is named: six where nothing is.
+fn number_in(inputs: &Option<LutInputs>) -> u8
+    ensures number { result ≡ most_inputs inputs.now }
+    ensures many { 2 ≤ result }
+    ensures few { result ≤ 8 }
+{
+    match inputs {
+        None => LutInputs::usual().number(),
+        Some(inputs) => inputs.number(),
+    }
+}
+
 // LUTs of so many inputs at most under a copy of a graph's names: few of them where that is asked, else those of the chosen cuts.
 fn mapped_by<R: Threads + Sync>(
     rt: &R,
     alloc: Global,
     network: &Network,
     area: &bool,
-    inputs: &LutInputs,
+    inputs: &Option<LutInputs>,
     workers: Workers,
 ) -> Result<LutNetwork, AllocError>
     ensures { IfOk result (λ made. MakesOfGraph (recipes.Map area.now inputs.now) (graph_network (graphs.network_of network.now)) (mapped_network (luts.network_of made))) }
 {
-    let number = inputs.number();
+    let number = number_in(inputs);
     if *area {
         let few = few_luts(rt, alloc, &network.body, number, workers)?;
         mapped(alloc, network, few)
@@ -167,12 +191,17 @@ pub(crate) fn remake_graph<R: Threads + Sync, G: CommitHook>(
             remade(network, Some(new));
             Ok(None)
         }
+        Recipe::Replace(limits) => {
+            let new = sresub(alloc, &network.body, &reach_of(limits))?;
+            remade(network, Some(new));
+            Ok(None)
+        }
         Recipe::Map { area, inputs } => {
             let made = mapped_by(rt, alloc, network, area, inputs, workers)?;
             Ok(Some(made))
         }
         Recipe::MapByFlow(inputs) => {
-            let net = least_luts(alloc, &network.body, inputs.number())?;
+            let net = least_luts(alloc, &network.body, number_in(inputs))?;
             Ok(Some(mapped(alloc, network, net)?))
         }
         Recipe::Sweep => {

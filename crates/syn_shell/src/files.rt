@@ -2,7 +2,8 @@
 
 ghost use Rattle.std.specs.Prelude.{◌≡◌, ◌⊎◌, ◌≤◌, length, IfOk, IfErr, OnOk};
 ghost use Rattle.syn_io.specs.Outside.{Rose};
-ghost use Rattle.syn_shell.specs.Outside.{FileIs, FilesUnchanged, OthersUnchanged};
+ghost use Rattle.syn_command_files.specs.Told.{FileIs, FilesUnchanged};
+ghost use Rattle.syn_shell.specs.Outside.{OthersUnchanged};
 ghost use Rattle.syn_shell.specs.Steps.{file_limit, GetRefused};
 
 use crate::refusal::Refusal;

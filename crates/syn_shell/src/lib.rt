@@ -2,9 +2,9 @@
 #![tactic(auto)]
 
 mod aiger;
-mod arguments;
 mod commands;
 mod files;
+mod inputs;
 mod laws;
 mod line_mode;
 mod lines;
@@ -15,7 +15,6 @@ mod scripts;
 mod session;
 mod whole_run;
 
-pub use arguments::worked_words;
 pub use laws::{area_is_no_worse, each_write_keeps, few_lines};
 pub use refusal::Refusal;
 pub use session::Session;

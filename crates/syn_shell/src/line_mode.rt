@@ -1,15 +1,14 @@
-//! Line mode: each line is a script, and the run goes on behind a refusal.
+//! Line mode: each line is a script, and the run goes on behind a refusal, and ends behind `quit`.
 
-ghost use Rattle.std.specs.Prelude.{◌≡◌, ◌≤◌, None, Option};
+ghost use Rattle.std.specs.Prelude.{◌≡◌, ◌≤◌};
 ghost use Rattle.syn_io.specs.Outside.{Disk};
-ghost use Rattle.syn_shell.specs.Networks.{Written};
 ghost use Rattle.syn_shell.specs.LineMode.{most_lines};
-ghost use Rattle.syn_shell.specs.Outside.{state};
-ghost use Rattle.syn_shell.specs.Stopping.{first_status, Gave, RanLines, Turned};
+ghost use Rattle.syn_shell.specs.Outside.{Kept, nothing_yet, state};
+ghost use Rattle.syn_shell.specs.Stopping.{first_status, Gave, RanLines, turn_of, Turned};
 
 use crate::refusal::Refusal;
 use crate::refusal_lines::{Reported, report_refusal};
-use crate::scripts::{SCRIPT_LIMIT, run_script};
+use crate::scripts::{Ending, SCRIPT_LIMIT, Source, run_script};
 use crate::session::Session;
 use std::alloc::Global;
 use std::thread::Threads;
@@ -25,6 +24,20 @@ const MAX_LINES: u32 = 1_048_576;
 enum Turn {
     GoesOn(u8),
     Ends(u8),
+}
+
+impl Turn {
+    // The turn of a line whose script ended so.
+    fn behind(ending: Ending) -> Turn
+        ensures { result ≡ turn_of ending }
+    {
+        match ending {
+            Ending::Through => Turn::GoesOn(0),
+            Ending::Quit => Turn::Ends(0),
+            Ending::Stops(Reported::Whole(status)) => Turn::GoesOn(status),
+            Ending::Stops(Reported::Cut(status)) => Turn::Ends(status),
+        }
+    }
 }
 
 // The next line.
@@ -64,16 +77,13 @@ fn take_turn<R: Threads + Sync, F: Files, L: Lines, O: Sink, G: CommitHook>(
         Ok(None) => return Turn::Ends(0),
         Err(cause) => return Turn::Ends(report_refusal(out, &cause, &[]).status()),
     };
-    match run_script(rt, alloc, session, line.as_slice(), files, out, hook) {
-        None => Turn::GoesOn(0),
-        Some(Reported::Whole(status)) => Turn::GoesOn(status),
-        Some(Reported::Cut(status)) => Turn::Ends(status),
-    }
+    let source = Source::Text(line.as_slice());
+    Turn::behind(run_script(rt, alloc, session, source, files, out, hook))
 }
 
 // Behind as many lines as are run a further one is refused.
 fn refuse_one_more_line<L: Lines, O: Sink>(alloc: Global, lines: &mut L, out: &mut O) -> u8
-    ensures each { (m : Option Written) (files : Disk) → RanLines result most_lines (state m files (O.screen out.old)) (L.input lines.old) (state m files (O.screen out.new)) (L.input lines.new) }
+    ensures each { (m : Kept) (files : Disk) → RanLines result most_lines (state m files (O.screen out.old)) (L.input lines.old) (state m files (O.screen out.new)) (L.input lines.new) }
 {
     match next_line(alloc, lines) {
         Ok(None) => 0,
@@ -92,7 +102,7 @@ pub(crate) fn run_lines<R: Threads + Sync, F: Files, L: Lines, O: Sink, G: Commi
     out: &mut O,
     hook: &G,
 ) -> u8
-    ensures { (m : Option Written) × RanLines result 0 (state None (F.disk files.old) (O.screen out.old)) (L.input lines.old)
+    ensures { (m : Kept) × RanLines result 0 (state nothing_yet (F.disk files.old) (O.screen out.old)) (L.input lines.old)
         (state m (F.disk files.new) (O.screen out.new)) (L.input lines.new) }
 {
     let mut session = Session::new(workers);

@@ -1,7 +1,7 @@
 //! The lines of refusals, put in pieces that take no memory, and their statuses.
 
 ghost use Rattle.std.specs.Prelude.{◌≡◌, ◌++◌, ◌∷◌, [], codes, decimal, flat_map, map, IfNone, IfSome, None, Some};
-ghost use Rattle.syn_shell.specs.Lines.{aiger_status, aiger_text, at_place, chain_text, joined, name_at_line, read_status, read_text, refusal_line, refusal_status, refusal_text, script_text, fault_at_line, file_fault_text};
+ghost use Rattle.syn_shell.specs.Lines.{aiger_status, aiger_text, at_place, chain_text, command_fault_text, fault_words, gap_before, joined, name_at_line, read_status, read_text, refusal_line, refusal_status, refusal_text, script_text, fault_at_line, file_fault_text};
 ghost use Rattle.syn_shell.specs.Outside.{Puts};
 ghost use Rattle.syn_shell.specs.Scripts.{Refused};
 ghost use Rattle.syn_shell.specs.Stopping.{status_in, AnnouncesAs};
@@ -9,6 +9,7 @@ ghost use Rattle.syn_shell.specs.Stopping.{status_in, AnnouncesAs};
 use crate::refusal::Refusal;
 use itoa::Buffer;
 use syn_aiger_files::AigFault;
+use syn_command_files::LutFileFault;
 use syn_io::{Sink, SinkFailed};
 use syn_netlist::Word;
 use syn_reader::ReadFault;
@@ -142,8 +143,71 @@ fn put_script_fault<O: Sink>(out: &mut O, fault: &ScriptFault) -> Result<(), Sin
         ScriptFault::ExtraWord(at) => put_at_place(out, *at, b"extra word"),
         ScriptFault::BadNumber(at) => put_at_place(out, *at, b"bad number"),
         ScriptFault::OutOfRange(at) => put_at_place(out, *at, b"out of range"),
+        ScriptFault::UnknownEnding(at) => put_at_place(out, *at, b"unknown ending"),
         ScriptFault::NoMemory => put(out, b"out of memory"),
     }
+}
+
+// What a fault of a script says without its place.
+fn fault_words(fault: &ScriptFault) -> &'static [u8]
+    ensures { result.now ≡ fault_words fault.now }
+{
+    match fault {
+        ScriptFault::BadByte(_) => b"bad byte",
+        ScriptFault::UnknownCommand(_) => b"unknown command",
+        ScriptFault::MissingWord(_) => b"missing word",
+        ScriptFault::ExtraWord(_) => b"extra word",
+        ScriptFault::UnknownEnding(_) => b"unknown ending",
+        ScriptFault::BadNumber(_) => b"bad number",
+        ScriptFault::OutOfRange(_) => b"out of range",
+        ScriptFault::NoMemory => b"out of memory",
+    }
+}
+
+// The blank before a word, where there is one.
+fn gap_before(word: &[u8]) -> &'static [u8]
+    ensures { result.now ≡ gap_before word.now }
+{
+    if word.is_empty() { b"" } else { b" " }
+}
+
+// Puts a place in a file, what is wrong there, and a word behind a gap.
+fn put_in_file<'a, O: Sink>(
+    out: &mut O,
+    name: &'a [u8],
+    line: u32,
+    what: &'a [u8],
+    gap: &'a [u8],
+    word: &'a [u8],
+) -> Result<(), SinkFailed>
+    ensures { Puts result (joined (name.now ∷ codes ":" ∷ decimal line ∷ codes ": " ∷ what.now ∷ gap.now ∷ word.now ∷ [])) (O.screen out.old) (O.screen out.new) }
+{
+    let mut buffer = Buffer::new();
+    put_all(
+        out,
+        &[
+            name,
+            b":",
+            buffer.format(line as u64).as_bytes(),
+            b": ",
+            what,
+            gap,
+            word,
+        ],
+    )
+}
+
+// Puts a fault of a file of commands: its place, what it says, and its word.
+fn put_command_fault<O: Sink>(
+    out: &mut O,
+    name: &[u8],
+    line: u32,
+    word: &[u8],
+    fault: &ScriptFault,
+) -> Result<(), SinkFailed>
+    ensures { Puts result (command_fault_text name.now line word.now fault.now) (O.screen out.old) (O.screen out.new) }
+{
+    put_in_file(out, name, line, fault_words(fault), gap_before(word), word)
 }
 
 // The line, the name in it, if any, and what is wrong there, where a fault of a file tells a line.
@@ -251,10 +315,18 @@ fn put_text<O: Sink>(out: &mut O, refusal: &Refusal, name: &[u8]) -> Result<(), 
     match refusal {
         Refusal::Words => put(out, b"command line"),
         Refusal::Script(fault) => put_script_fault(out, fault),
+        Refusal::CommandFile { line, word, fault } => {
+            put_command_fault(out, name, *line, word.as_slice(), fault)
+        }
         Refusal::Read(fault) => put_read_fault(out, fault),
         Refusal::ReadAiger(fault) => put_aiger_fault(out, fault),
+        Refusal::ReadLuts(LutFileFault::Line(line)) => {
+            put_number(out, b"line ", *line as u64, b": lut row")
+        }
         Refusal::FileTooLong => put(out, b"file longer than 16777216 bytes"),
         Refusal::LineTooLong => put(out, b"line longer than 65536 bytes"),
+        Refusal::CommandFileTooLong => put(out, b"file of commands longer than 65536 bytes"),
+        Refusal::TooDeep => put(out, b"files of commands more than 16 deep"),
         Refusal::TooManyLines => put(out, b"more than 1048576 lines"),
         Refusal::TooManyGates(gates) => put_number(out, b"", *gates, b" gates"),
         Refusal::LatchType(latch) => put_all(out, &[latch.as_slice(), b" has a latch type"]),
@@ -304,11 +376,14 @@ fn status_of(refusal: &Refusal) -> u8
 {
     match refusal {
         Refusal::Words => 2,
-        Refusal::Script(_) => 3,
+        Refusal::Script(_) | Refusal::CommandFile { .. } => 3,
         Refusal::Read(fault) => read_status(fault),
         Refusal::ReadAiger(fault) => aiger_status(fault),
+        Refusal::ReadLuts(_) => 4,
         Refusal::FileTooLong
         | Refusal::LineTooLong
+        | Refusal::CommandFileTooLong
+        | Refusal::TooDeep
         | Refusal::TooManyLines
         | Refusal::TooManyGates(_) => 5,
         Refusal::NoNetwork => 6,

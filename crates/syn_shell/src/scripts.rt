@@ -1,21 +1,55 @@
-//! A script: its commands one after the other, up to the first that is refused.
+//! A script, or a file of commands: its commands one after the other, up to the first that is refused.
 
-ghost use Rattle.std.specs.Prelude.{◌≡◌, Err, None, Some};
+ghost use Rattle.std.specs.Prelude.{◌≡◌, Err, IfErr, IfOk, Some};
+ghost use Rattle.syn_command_files.specs.Sources.{CountsFailure, refusal_of};
+ghost use Rattle.syn_command_files.specs.Told.{FilesUnchanged};
+ghost use Rattle.syn_shell.specs.LineMode.{has_quit};
 ghost use Rattle.syn_shell.specs.Outside.{state};
-ghost use Rattle.syn_shell.specs.Scripts.{name_in, RunsCommands};
-ghost use Rattle.syn_shell.specs.Stopping.{Leaves, outcome_of, Parsed};
+ghost use Rattle.syn_shell.specs.Scripts.{LoadFails, Loads, name_in, RunsCommands};
+ghost use Rattle.syn_shell.specs.Stopping.{Leaves, outcome_of, source_in, status_left};
 
 use crate::refusal::Refusal;
 use crate::refusal_lines::{Reported, report_refusal};
 use crate::session::Session;
 use std::alloc::Global;
 use std::thread::Threads;
+use syn_command_files::{Unread, is_quit, load_file, load_script};
 use syn_commit::CommitHook;
 use syn_io::{Files, Sink};
-use syn_words::{Command, ScriptFault, parse_script};
+use syn_words::Command;
 
-/// The most bytes of a script, and of a line.
+/// The most bytes of a line.
 pub(crate) const SCRIPT_LIMIT: usize = 65_536;
+
+/// What holds commands: the text of a script, or the file of a name.
+#[derive(Clone, Copy, Debug)]
+pub(crate) enum Source<'a> {
+    Text(&'a [u8]),
+    File(&'a str),
+}
+
+/// How a script ended.
+#[derive(Clone, Copy, Debug, PartialEq, Eq)]
+pub(crate) enum Ending {
+    /// Nothing was refused, and the run goes on behind it.
+    Through,
+    /// Nothing was refused, and a command ended the run.
+    Quit,
+    /// Something was refused.
+    Stops(Reported),
+}
+
+impl Ending {
+    /// The status of the refusal, 0 where nothing was refused.
+    pub(crate) fn status(self) -> u8
+        ensures { result ≡ status_left self }
+    {
+        match self {
+            Ending::Through | Ending::Quit => 0,
+            Ending::Stops(reported) => reported.status(),
+        }
+    }
+}
 
 // A refusal, with the bytes of the name of the file that its command names.
 #[derive(Drop)]
@@ -32,6 +66,7 @@ fn name_in(command: &Command) -> &[u8]
         Command::Read(name)
         | Command::Write(name)
         | Command::ReadAiger(name)
+        | Command::ReadLuts(name)
         | Command::WriteAiger { name, .. } => name.as_str().as_bytes(),
         _ => &[],
     }
@@ -47,18 +82,33 @@ fn stopped_at(command: &Command, cause: Refusal) -> Stopped<'_>
     }
 }
 
-// The commands of a script.
-fn commands_in(alloc: Global, text: &[u8]) -> Result<Vec<Command>, Refusal>
-    ensures { Parsed text.now result }
+// The commands of a script or of a file, with those of the files that it names in their place.
+fn commands_in<F: Files>(
+    alloc: Global,
+    source: Source<'_>,
+    files: &mut F,
+) -> Result<Vec<Command>, Unread>
+    ensures commands { IfOk result (λ commands. Loads (source_in source.entry) (F.disk files.old).told commands.items) }
+    ensures refused { IfErr result (λ unread. LoadFails (source_in source.entry) (F.disk files.old).told (refusal_of unread)) }
+    ensures failed { IfErr result (λ unread. CountsFailure unread.cause (F.disk files.old) (F.disk files.new)) }
+    ensures unchanged { FilesUnchanged (F.disk files.old) (F.disk files.new) }
 {
-    if text.len() > SCRIPT_LIMIT {
-        return Err(Refusal::LineTooLong);
+    match source {
+        Source::Text(text) => load_script(alloc, text, files),
+        Source::File(name) => load_file(alloc, name, files),
     }
-    match parse_script(alloc, text) {
-        Ok(commands) => Ok(commands),
-        Err(ScriptFault::NoMemory) => Err(Refusal::NoMemory),
-        Err(fault) => Err(Refusal::Script(fault)),
+}
+
+// Whether there is a command that ends the run.
+fn has_quit(commands: &[Command]) -> bool
+    ensures { result ≡ has_quit commands.now }
+{
+    for command in commands {
+        if is_quit(command) {
+            return true;
+        }
     }
+    false
 }
 
 // The commands one after the other, up to the first that is refused.
@@ -82,25 +132,29 @@ fn run_commands<'a, R: Threads + Sync, F: Files, O: Sink, G: CommitHook>(
     Ok(())
 }
 
-/// Runs a script and tells its refusal, if there is one.
+/// Runs a script, or a file of commands, and tells its refusal, if there is one.
 pub(crate) fn run_script<R: Threads + Sync, F: Files, O: Sink, G: CommitHook>(
     rt: &R,
     alloc: Global,
     session: &mut Session,
-    text: &[u8],
+    source: Source<'_>,
     files: &mut F,
     out: &mut O,
     hook: &G,
-) -> Option<Reported>
-    ensures { Leaves result text.now (state session.old (F.disk files.old) (O.screen out.old))
+) -> Ending
+    ensures { Leaves result (source_in source.entry) (state session.old (F.disk files.old) (O.screen out.old))
         (state session.new (F.disk files.new) (O.screen out.new)) }
 {
-    let commands = match commands_in(alloc, text) {
+    let commands = match commands_in(alloc, source, files) {
         Ok(commands) => commands,
-        Err(cause) => return Some(report_refusal(out, &cause, &[])),
+        Err(unread) => {
+            let cause = Refusal::from(unread.cause);
+            return Ending::Stops(report_refusal(out, &cause, unread.name.as_slice()));
+        }
     };
     match run_commands(rt, alloc, session, commands.as_slice(), files, out, hook) {
-        Ok(()) => None,
-        Err(stopped) => Some(report_refusal(out, &stopped.cause, stopped.name)),
+        Ok(()) if has_quit(commands.as_slice()) => Ending::Quit,
+        Ok(()) => Ending::Through,
+        Err(stopped) => Ending::Stops(report_refusal(out, &stopped.cause, stopped.name)),
     }
 }

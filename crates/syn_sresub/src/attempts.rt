@@ -9,10 +9,10 @@ ghost use Rattle.syn_fraig.specs.Sweeping.{AreTrueBy};
 ghost use Rattle.syn_sresub.specs.Replacing.{IsAndOf, Replaces};
 
 use crate::guesses::Guess;
+use crate::loading::{load_nearest, refresh};
 use crate::questions::is_and;
 use crate::tools::Tools;
 use std::alloc::AllocError;
-use syn_fraig::load_cones;
 use syn_hashed::HashedRows;
 use syn_rows::{Lit, NODE_LIMIT, Row};
 use syn_sat::{Answer, Solver};
@@ -49,23 +49,11 @@ fn ask(
     ensures clauses { OnOk result (AreTrueBy rows.now solver.new.clauses) }
 {
     refresh(rows, solver)?;
-    tools.stack.push(m.node())?;
-    tools.stack.push(x.node())?;
-    tools.stack.push(y.node())?;
-    load_cones(rows, &mut tools.stack, solver)?;
+    tools.queue.push(m.node())?;
+    tools.queue.push(x.node())?;
+    tools.queue.push(y.node())?;
+    load_nearest(rows, &mut tools.queue, solver)?;
     is_and(solver, m, x, y, tools.conflicts)
-}
-
-// Empties a solver that has grown large, and gives it room for all rows.
-fn refresh(rows: &[Row], solver: &mut Solver) -> Result<(), AllocError>
-    requires few { length rows.now < NODE_LIMIT }
-    ensures { OnOk result (AreTrueBy rows.now solver.old.clauses → AreTrueBy rows.now solver.new.clauses) }
-{
-    solver.grow(rows.len() as u32)?;
-    if solver.is_large() {
-        solver.clear()?;
-    }
-    Ok(())
 }
 
 // The AND of two literals in place of one where the answer says that they have its value.

@@ -3,14 +3,15 @@
 //! literal and an AND of two more. `Standing`, the literals of the new rows, stand for the old nodes. Which literals may
 //! replace one is guessed from words of simulation (`Words`, `Divisors`), and what that frees from the references that are
 //! still needed (`References`); nothing is promised of these. A guess is taken only where the solver of `syn_sat` refutes that
-//! it differs, over the new rows, which only grow, so that its clauses stay true. The old graph is kept where the new one has
-//! no fewer ANDs.
+//! it differs, by some of the gates below it, over the new rows, which only grow, so that its clauses stay true. The old graph
+//! is kept where the new one has no fewer ANDs.
 #![tactic(auto)]
 
 mod alike;
 mod attempts;
 mod divisors;
 mod guesses;
+mod loading;
 mod questions;
 mod references;
 mod remaking;

@@ -21,7 +21,7 @@ const ALIKE: u32 = 4;
 #[derive(Debug, Drop)]
 pub(crate) struct Tools {
     /// Room for the nodes whose gates are to be loaded.
-    pub stack: Vec<u32>,
+    pub queue: Vec<u32>,
     /// At most so many conflicts of a search for each question.
     pub conflicts: u32,
     words: Words,
@@ -52,7 +52,7 @@ impl Tools {
         let depths = graph.levels(alloc)?;
         let alike = Alike::new(alloc)?;
         Ok(Tools {
-            stack: Vec::new(alloc),
+            queue: Vec::new(alloc),
             conflicts: limits.conflicts,
             words: Words::new(alloc),
             alike,

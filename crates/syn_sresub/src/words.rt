@@ -12,6 +12,10 @@ pub(crate) const COUNT: usize = 48;
 /// So many of these are random; the others are of models.
 const RANDOM: usize = 32;
 
+/// Each node pays for so many words of models. A model takes a word of every node, so that the time of all models together
+/// would grow as the square of a graph's size.
+const PAID: usize = 1000;
+
 /// The words of each node, behind each other.
 #[derive(Debug, Drop)]
 pub(crate) struct Words {
@@ -21,6 +25,8 @@ pub(crate) struct Words {
     random: Random,
     // Which word the next model gets.
     next: usize,
+    // So many words of models are paid for.
+    paid: usize,
 }
 
 /// All ones where a literal is complemented, to be added to its node's words.
@@ -43,6 +49,7 @@ impl Words {
             keys: Vec::new(alloc),
             random: Random::new(),
             next: RANDOM,
+            paid: 0,
         }
     }
 
@@ -131,6 +138,7 @@ impl Words {
     pub(crate) fn grow(&mut self, rows: &[Row]) -> Result<(), AllocError> {
         for node in self.keys.len()..rows.len() {
             self.push(rows[node], node)?;
+            self.paid = self.paid.saturating_add(PAID);
         }
         Ok(())
     }
@@ -147,8 +155,12 @@ impl Words {
         }
     }
 
-    /// Puts the solver's model in place of the oldest one, over the rows that have words.
+    /// Puts the solver's model in place of the oldest one, over the rows that have words, if that many words are paid for.
     pub(crate) fn take_model(&mut self, rows: &[Row], solver: &Solver) {
+        if self.paid < self.keys.len() {
+            return;
+        }
+        self.paid = self.paid.saturating_sub(self.keys.len());
         let place = self.next;
         self.next = if place.saturating_add(1) < COUNT {
             place.saturating_add(1)

@@ -1,10 +1,17 @@
 pub mod Bytes
+pub mod Quotes
 pub mod Words
 pub mod Phrases
 pub mod Numbers
 pub mod Flags
+pub mod Formats
+pub mod Table
 pub mod Forms
+pub mod Texts
+pub mod Help
 pub mod Commands
 pub mod Scripts
+pub mod Files
 pub mod Laws
 pub mod Worked
+pub mod WorkedFiles

@@ -1,5 +1,5 @@
 -- Scripts: what a text says, the commands that it spells or its first fault.
-use Rattle.std.specs.Prelude.{◌≡◌, ℕ, List, [], ◌∷◌, ◌++◌, Option, Some, None, Result, Ok, Err}
+use Rattle.std.specs.Prelude.{◌≡◌, ℕ, Bool, false, List, [], ◌∷◌, ◌++◌, Option, Some, None, Result, Ok, Err}
 use Rattle.syn_words.specs.Bytes.{bad_byte}
 use Rattle.syn_words.specs.Phrases.{phrases}
 use Rattle.syn_words.specs.declared.words.Phrase.{Phrase}
@@ -23,9 +23,13 @@ abbrev pub said_unless : Option ℕ → List Phrase → Result (List Command) Sc
 said_unless (Some at) phrases = Err (BadByte at)
 said_unless None phrases = said_after [] phrases
 
--- What a text says: the commands that its phrases spell in order, or its first fault in text order.
+-- What a text says, where bytes may be held in quotes or not: the commands that its phrases spell in order, or its first fault in text order.
+abbrev pub meaning_by : Bool → List ℕ → Result (List Command) ScriptFault
+meaning_by held text = said_unless (bad_byte held text) (phrases text)
+
+-- What a script says.
 abbrev pub meaning : List ℕ → Result (List Command) ScriptFault
-meaning text = said_unless (bad_byte text) (phrases text)
+meaning text = meaning_by false text
 
 -- The text is a script of these commands.
 abbrev pub IsScript : List ℕ → List Command → Type 0

@@ -1,15 +1,20 @@
 -- Worked scripts with their commands, texts with their first faults, and words read by forms.
-use Rattle.std.specs.Prelude.{◌≡◌, true, false, ℕ, Bool, List, [], ◌∷◌, ◌++◌, Some, None, Result, Ok, Err, codes}
+use Rattle.std.specs.Prelude.{◌≡◌, true, false, ℕ, Bool, List, [], ◌∷◌, ◌++◌, Option, Some, None, Result, Ok, Err, codes}
 use Rattle.syn_words.specs.Words.{words_at}
-use Rattle.syn_words.specs.Commands.{flag_and_name, options}
+use Rattle.syn_words.specs.Commands.{options}
+use Rattle.syn_words.specs.Help.{overview}
+use Rattle.syn_words.specs.Table.{flags_and_name}
+use Rattle.syn_words.specs.Flags.{Flags}
 use Rattle.syn_words.specs.Forms.{given_by}
 use Rattle.syn_words.specs.Scripts.{IsScript, IsFirstFault}
-use Rattle.syn_words.specs.declared.Command.TheVariants.{Read, Write, ReadAiger, WriteAiger, Stats, Generate, Make}
-use Rattle.syn_words.specs.declared.recipes.Recipe.TheVariants.{Strash, Balance, Rewrite, Refactor, Resubstitute, Merge, Map, MapByFlow, Sweep}
+use Rattle.syn_words.specs.declared.Command.{Command}
+use Rattle.syn_words.specs.declared.Command.TheVariants.{Read, Write, ReadAiger, WriteAiger, Stats, Print, Quit, Source, ReadLuts, Generate, Make}
+use Rattle.syn_words.specs.declared.recipes.Recipe.TheVariants.{Strash, Balance, Rewrite, Refactor, Resubstitute, Merge, Replace, Map, MapByFlow, Sweep}
 use Rattle.syn_words.specs.declared.ScriptFault.{ScriptFault}
-use Rattle.syn_words.specs.declared.ScriptFault.TheVariants.{BadByte, UnknownCommand, MissingWord, ExtraWord, BadNumber, OutOfRange}
+use Rattle.syn_words.specs.declared.ScriptFault.TheVariants.{BadByte, UnknownCommand, MissingWord, ExtraWord, UnknownEnding, BadNumber, OutOfRange}
+use Rattle.syn_words.specs.declared.formats.Format.TheVariants.{Blif}
 use Rattle.syn_words.specs.declared.forms.Form.{Form}
-use Rattle.syn_words.specs.declared.forms.Operands.TheVariants.{Nothing, TwoNumbers}
+use Rattle.syn_words.specs.declared.forms.Operands.TheVariants.{Nothing, TwoNumbers, Words}
 use Rattle.syn_words.specs.declared.recipes.SearchLimits.{SearchLimits}
 use Rattle.syn_words.specs.declared.word_reader.Given.{Given}
 
@@ -19,15 +24,31 @@ Gives form text wanted = given_by form 99 (words_at 0 text) ≡ wanted
 
 -- Flags `-z`, `-L` and `-l`, and an option `-w` with a number from 1 to 16.
 abbrev pub flags_and_workers : Form
-flags_and_workers = record { flags = (Some 122, Some 76, Some 108); numbered = Some (record { letter = 119; range = record { least = 1; most = 16 } }); operands = Nothing }
+flags_and_workers = record { flags = (Some 122, Some 76, Some 108); numbered = (Some (record { letter = 119; range = record { least = 1; most = 16 } }), None); operands = Nothing }
+
+-- A flag `-L`, an option `-C` with a number from 0 to 9, and an option `-N` with one from 1 to 2.
+abbrev pub two_options : Form
+two_options = record { flags = (Some 76, None, None); numbered = (Some (record { letter = 67; range = record { least = 0; most = 9 } }), Some (record { letter = 78; range = record { least = 1; most = 2 } })); operands = Nothing }
 
 -- A number of 64 bits, and one from 1 to 32768.
 abbrev pub two_numbers : Form
-two_numbers = record { flags = (None, None, None); numbered = None; operands = TwoNumbers (record { least = 0; most = 18446744073709551615 }) (record { least = 1; most = 32768 }) }
+two_numbers = record { flags = (None, None, None); numbered = (None, None); operands = TwoNumbers (record { least = 0; most = 18446744073709551615 }) (record { least = 1; most = 32768 }) }
+
+-- Any words.
+abbrev pub words : Form
+words = record { flags = (Some 97, None, None); numbered = (None, None); operands = Words }
+
+-- These options were given, by the numbers of those with one, and a file's name.
+abbrev pub given : Flags → Option ℕ → Option ℕ → List ℕ → Given
+given flags number further name = record { flags = flags; number = number; further = further; name = name; format = Blif; numbers = (0, 0); words = []; topic = None }
 
 -- So many conflicts a question, and whether no observed signal may get deeper.
 abbrev pub limits : ℕ → Bool → SearchLimits
 limits conflicts levels = record { conflicts = conflicts; levels = levels }
+
+-- The command that replaces nodes: by so many new ANDs and conflicts, and whether no observed signal may get deeper.
+abbrev pub replacing : ℕ → ℕ → Bool → Command
+replacing gates conflicts levels = Make (Replace (record { gates = gates; conflicts = conflicts; levels = levels }))
 
 pub record WorkedScripts : Type 0 where
   pub empty : IsScript [] []
@@ -41,9 +62,9 @@ pub record WorkedScripts : Type 0 where
   pub hyphen_is_a_name : IsScript (codes "read_blif -a") (Read (codes "-a") ∷ [])
   pub rewriting : IsScript (codes "rw; rewrite -w 4 -z; rwz") (Make (Rewrite (options false false None)) ∷ Make (Rewrite (options true false (Some 4))) ∷ Make (Rewrite (options true false None)) ∷ [])
   pub refactoring : IsScript (codes "rf; refactor -w 4 -z; rfz -w 2") (Make (Refactor (options false false None)) ∷ Make (Refactor (options true false (Some 4))) ∷ Make (Refactor (options true false (Some 2))) ∷ [])
-  pub mapping : IsScript (codes "if; if -K 2; if -K 008") (Make (Map false 6) ∷ Make (Map false 2) ∷ Make (Map false 8) ∷ [])
-  pub mapping_for_area : IsScript (codes "if -a; if -a -K 4; if -K 4 -a") (Make (Map true 6) ∷ Make (Map true 4) ∷ Make (Map true 4) ∷ [])
-  pub mapping_by_flow : IsScript (codes "flowmap; flowmap -K 2; flowmap -K 8") (Make (MapByFlow 6) ∷ Make (MapByFlow 2) ∷ Make (MapByFlow 8) ∷ [])
+  pub mapping : IsScript (codes "if; if -K 2; if -K 008") (Make (Map false None) ∷ Make (Map false (Some 2)) ∷ Make (Map false (Some 8)) ∷ [])
+  pub mapping_for_area : IsScript (codes "if -a; if -a -K 4; if -K 4 -a") (Make (Map true None) ∷ Make (Map true (Some 4)) ∷ Make (Map true (Some 4)) ∷ [])
+  pub mapping_by_flow : IsScript (codes "flowmap; flowmap -K 2; flowmap -K 8") (Make (MapByFlow None) ∷ Make (MapByFlow (Some 2)) ∷ Make (MapByFlow (Some 8)) ∷ [])
   pub ten_commands : IsScript (codes "resyn2")
       (Make Balance ∷ Make (Rewrite (options false false None)) ∷ Make (Refactor (options false false None)) ∷ Make Balance ∷ Make (Rewrite (options false false None)) ∷ Make (Rewrite (options true false None)) ∷ Make Balance ∷ Make (Refactor (options true false None)) ∷ Make (Rewrite (options true false None)) ∷ Make Balance ∷ [])
   pub ten_commands_keeping_levels : IsScript (codes "resyn2l")
@@ -59,10 +80,29 @@ pub record WorkedScripts : Type 0 where
   pub compressing : IsScript (codes "compress2")
       (Make Balance ∷ Make (Rewrite (options false false None)) ∷ Make (Refactor (options false false None)) ∷ Make Balance ∷ Make (Rewrite (options false false None)) ∷ Make (Rewrite (options true false None)) ∷ Make Balance ∷ Make (Refactor (options true false None)) ∷ Make (Rewrite (options true false None)) ∷ Make Balance ∷ [])
   pub merging : IsScript (codes "fraig; fraig -C 7; fraig -L -C 1000000; fraig -C 0 -L") (Make (Merge (limits 100 false)) ∷ Make (Merge (limits 7 false)) ∷ Make (Merge (limits 1000000 true)) ∷ Make (Merge (limits 0 true)) ∷ [])
+  pub replaced : IsScript (codes "sresub; srs -N 2; sresub -L -C 7 -N 1; srs -N 2 -C 0 -L; sresub -C 1000000 -N 02")
+      (replacing 1 100 false ∷ replacing 2 100 false ∷ replacing 1 7 true ∷ replacing 2 0 true ∷ replacing 2 1000000 false ∷ [])
+  pub echoing : IsScript (codes "echo + if -a  ; echo") (Print (codes "+ if -a" ++ 10 ∷ []) ∷ Print (10 ∷ []) ∷ [])
+  pub helping : IsScript (codes "help") (Print overview ∷ [])
+  pub helping_on_a_short_name : IsScript (codes "help st") (Print (codes "strash, st: turns a mapped network into a graph, by structural hashing" ++ 10 ∷ []) ∷ [])
+  pub helping_on_options : IsScript (codes "help flowmap") (Print (codes "flowmap [-K N]: maps to LUTs of at most N inputs, at the least depth" ++ 10 ∷ codes "  -K N  at most N inputs, 2 to 8, by default 6 or those of read_lut" ++ 10 ∷ []) ∷ [])
+  pub helping_on_replacing : IsScript (codes "help srs")
+      (Print (codes "sresub, srs [-N N] [-C N] [-L]: replaces nodes by others, or by new ANDs, that are proved to have their values" ++ 10 ∷ codes "  -N N  at most N new ANDs in place of a node, 1 or 2, by default 1" ++ 10 ∷ codes "  -C N  at most N conflicts a question, 0 to 1000000, by default 100" ++ 10 ∷ codes "  -L    keeps levels: no observed signal gets deeper" ++ 10 ∷ []) ∷ [])
+  pub leaving : IsScript (codes "q; quit; exit; ps") (Quit ∷ Quit ∷ Quit ∷ Stats ∷ [])
+  pub sourcing : IsScript (codes "source a.abc; dress b; ps") (Source (codes "a.abc") ∷ Stats ∷ [])
+  pub reading_luts : IsScript (codes "read_lut l; if -K 6") (ReadLuts (codes "l") ∷ Make (Map false (Some 6)) ∷ [])
   pub generated : IsScript (codes "gen 18446744073709551615 32768; ps") (Generate 18446744073709551615 32768 ∷ Stats ∷ [])
   pub sweeping : IsScript (codes "read_blif a; scl; ps") (Read (codes "a") ∷ Make Sweep ∷ Stats ∷ [])
   pub resubstitution : IsScript (codes "rs; resub -w 4 -z; rsz -w 2") (Make (Resubstitute (options false false None)) ∷ Make (Resubstitute (options true false (Some 4))) ∷ Make (Resubstitute (options true false (Some 2))) ∷ [])
-  pub aiger : IsScript (codes "read_aiger -a; write_aiger o; write_aiger -a o") (ReadAiger (codes "-a") ∷ WriteAiger false (codes "o") ∷ WriteAiger true (codes "o") ∷ [])
+  pub aiger : IsScript (codes "read_aiger -a; write_aiger o; write_aiger -a o") (ReadAiger (codes "-a") ∷ WriteAiger false false (codes "o") ∷ WriteAiger true false (codes "o") ∷ [])
+  pub untyped_aiger : IsScript (codes "write_aiger -t o; write_aiger -at o") (WriteAiger false true (codes "o") ∷ WriteAiger true true (codes "o") ∷ [])
+  pub read_by_ending : IsScript (codes "read a.blif; read a.aig; read .aag") (Read (codes "a.blif") ∷ ReadAiger (codes "a.aig") ∷ ReadAiger (codes ".aag") ∷ [])
+  pub written_by_ending : IsScript (codes "write a.aag.blif; write a.aig; write a.aag") (Write (codes "a.aag.blif") ∷ WriteAiger false false (codes "a.aig") ∷ WriteAiger true false (codes "a.aag") ∷ [])
+  pub unknown_ending : IsFirstFault (codes "write a.v; rewrit") (UnknownEnding 6)
+  pub upper_case_ending : IsFirstFault (codes "read a.BLIF b") (UnknownEnding 5)
+  pub no_ending : IsFirstFault (codes "read blif") (UnknownEnding 5)
+  pub name_behind_a_name : IsFirstFault (codes "read a.blif b") (ExtraWord 12)
+  pub nothing_to_write : IsFirstFault (codes "write") (MissingWord 5)
   pub zero_refactored_already : IsFirstFault (codes "rfz -z") (ExtraWord 4)
   pub zero_resubstituted_already : IsFirstFault (codes "rsz -z") (ExtraWord 4)
   pub levels_kept_twice : IsFirstFault (codes "rw -L -L") (ExtraWord 6)
@@ -76,6 +116,24 @@ pub record WorkedScripts : Type 0 where
   pub conflicts_no_number : IsFirstFault (codes "fraig -C -L") (BadNumber 9)
   pub workers_of_merging : IsFirstFault (codes "fraig -w 4") (ExtraWord 6)
   pub levels_of_merging : IsFirstFault (codes "fraig -l") (ExtraWord 6)
+  pub help_on_no_command : IsFirstFault (codes "help rewrit") (UnknownCommand 5)
+  pub help_on_two : IsFirstFault (codes "help b st") (ExtraWord 7)
+  pub nothing_to_dress : IsFirstFault (codes "dress; ps") (MissingWord 5)
+  pub two_to_source : IsFirstFault (codes "source a b") (ExtraWord 9)
+  pub extra_behind_quit : IsFirstFault (codes "quit now") (ExtraWord 5)
+  pub unknown_behind_quit : IsFirstFault (codes "quit; rewrit") (UnknownCommand 6)
+  pub no_new_gates : IsFirstFault (codes "sresub -N 0") (OutOfRange 10)
+  pub too_many_new_gates : IsFirstFault (codes "srs -L -N 3") (OutOfRange 10)
+  pub no_number_of_gates : IsFirstFault (codes "sresub -N; ps") (MissingWord 9)
+  pub gates_no_number : IsFirstFault (codes "sresub -N -C 7") (BadNumber 10)
+  pub gates_twice : IsFirstFault (codes "sresub -N 1 -C 7 -N 1") (ExtraWord 17)
+  pub conflicts_twice : IsFirstFault (codes "srs -C 1 -N 2 -C 1") (ExtraWord 14)
+  pub too_many_conflicts_of_replacing : IsFirstFault (codes "srs -N 1 -C 1000001") (OutOfRange 12)
+  pub levels_twice_of_replacing : IsFirstFault (codes "srs -L -N 1 -L") (ExtraWord 12)
+  pub joined_with_gates : IsFirstFault (codes "srs -LN 2") (ExtraWord 4)
+  pub workers_of_replacing : IsFirstFault (codes "sresub -w 4") (ExtraWord 7)
+  pub gates_of_merging : IsFirstFault (codes "fraig -N 1") (ExtraWord 6)
+  pub number_of_gates_alone : IsFirstFault (codes "sresub 2") (ExtraWord 7)
   pub option_of_resyn : IsFirstFault (codes "resyn -z") (ExtraWord 6)
   pub levels_kept_already : IsFirstFault (codes "resyn2l -L") (ExtraWord 8)
   pub levels_of_balancing : IsFirstFault (codes "b -l") (ExtraWord 2)
@@ -114,20 +172,20 @@ pub record WorkedScripts : Type 0 where
   pub byte_before_all : IsFirstFault (codes "rewrit; " ++ 127 ∷ []) (BadByte 8)
 
 pub record WorkedForms : Type 0 where
-  pub options : Gives flags_and_workers (codes "-z -w 4") (Ok (record { flags = (true, false, false); number = Some 4; name = []; numbers = (0, 0) }))
-  pub other_order : Gives flags_and_workers (codes "-w 4 -z") (Ok (record { flags = (true, false, false); number = Some 4; name = []; numbers = (0, 0) }))
-  pub levels : Gives flags_and_workers (codes "-L -w 4") (Ok (record { flags = (false, true, false); number = Some 4; name = []; numbers = (0, 0) }))
-  pub both_flags : Gives flags_and_workers (codes "-L -z") (Ok (record { flags = (true, true, false); number = None; name = []; numbers = (0, 0) }))
+  pub options : Gives flags_and_workers (codes "-z -w 4") (Ok (given (true, false, false) (Some 4) None []))
+  pub other_order : Gives flags_and_workers (codes "-w 4 -z") (Ok (given (true, false, false) (Some 4) None []))
+  pub levels : Gives flags_and_workers (codes "-L -w 4") (Ok (given (false, true, false) (Some 4) None []))
+  pub both_flags : Gives flags_and_workers (codes "-L -z") (Ok (given (true, true, false) None None []))
   pub levels_twice : Gives flags_and_workers (codes "-L -z -L") (Err (ExtraWord 6))
-  pub third_flag : Gives flags_and_workers (codes "-l") (Ok (record { flags = (false, false, true); number = None; name = []; numbers = (0, 0) }))
-  pub joined : Gives flags_and_workers (codes "-zL") (Ok (record { flags = (true, true, false); number = None; name = []; numbers = (0, 0) }))
-  pub joined_around_a_number : Gives flags_and_workers (codes "-lL -w 4 -z") (Ok (record { flags = (true, true, true); number = Some 4; name = []; numbers = (0, 0) }))
+  pub third_flag : Gives flags_and_workers (codes "-l") (Ok (given (false, false, true) None None []))
+  pub joined : Gives flags_and_workers (codes "-zL") (Ok (given (true, true, false) None None []))
+  pub joined_around_a_number : Gives flags_and_workers (codes "-lL -w 4 -z") (Ok (given (true, true, true) (Some 4) None []))
   pub joined_twice : Gives flags_and_workers (codes "-LlL") (Err (ExtraWord 0))
   pub given_and_joined : Gives flags_and_workers (codes "-l -zl") (Err (ExtraWord 3))
   pub joined_with_another : Gives flags_and_workers (codes "-zx") (Err (ExtraWord 0))
   pub hyphen_alone : Gives flags_and_workers (codes "-") (Err (ExtraWord 0))
-  pub no_option : Gives flags_and_workers [] (Ok (record { flags = (false, false, false); number = None; name = []; numbers = (0, 0) }))
-  pub leading_zeros : Gives flags_and_workers (codes "-w 0016") (Ok (record { flags = (false, false, false); number = Some 16; name = []; numbers = (0, 0) }))
+  pub no_option : Gives flags_and_workers [] (Ok (given (false, false, false) None None []))
+  pub leading_zeros : Gives flags_and_workers (codes "-w 0016") (Ok (given (false, false, false) (Some 16) None []))
   pub number_missing : Gives flags_and_workers (codes "-w") (Err (MissingWord 99))
   pub no_number : Gives flags_and_workers (codes "-w -z") (Err (BadNumber 3))
   pub signed : Gives flags_and_workers (codes "-w +4") (Err (BadNumber 3))
@@ -135,13 +193,20 @@ pub record WorkedForms : Type 0 where
   pub too_great : Gives flags_and_workers (codes "-w 17") (Err (OutOfRange 3))
   pub flag_twice : Gives flags_and_workers (codes "-z -z") (Err (ExtraWord 3))
   pub number_twice : Gives flags_and_workers (codes "-w 4 -w x") (Err (ExtraWord 5))
+  pub two_numbered : Gives two_options (codes "-C 7 -N 2") (Ok (given (false, false, false) (Some 7) (Some 2) []))
+  pub second_numbered_first : Gives two_options (codes "-N 2 -L -C 7") (Ok (given (true, false, false) (Some 7) (Some 2) []))
+  pub second_numbered_alone : Gives two_options (codes "-N 1") (Ok (given (false, false, false) None (Some 1) []))
+  pub second_number_missing : Gives two_options (codes "-C 1 -N") (Err (MissingWord 99))
+  pub second_number_too_great : Gives two_options (codes "-C 1 -N 7") (Err (OutOfRange 8))
+  pub second_number_twice : Gives two_options (codes "-N 1 -C 1 -N x") (Err (ExtraWord 10))
   pub stray_word : Gives flags_and_workers (codes "z") (Err (ExtraWord 0))
-  pub flag_before_a_name : Gives (flag_and_name 97) (codes "-a o") (Ok (record { flags = (true, false, false); number = None; name = codes "o"; numbers = (0, 0) }))
-  pub flag_behind_a_name : Gives (flag_and_name 97) (codes "o -a") (Err (ExtraWord 2))
-  pub flag_for_a_name : Gives (flag_and_name 97) (codes "-a -a") (Err (ExtraWord 3))
-  pub flags_for_a_name : Gives (flag_and_name 97) (codes "-ab") (Ok (record { flags = (false, false, false); number = None; name = codes "-ab"; numbers = (0, 0) }))
-  pub name_missing : Gives (flag_and_name 97) (codes "-a") (Err (MissingWord 99))
-  pub seed_and_size : Gives two_numbers (codes "18446744073709551615 1") (Ok (record { flags = (false, false, false); number = None; name = []; numbers = (18446744073709551615, 1) }))
+  pub flag_before_a_name : Gives (flags_and_name 97 116) (codes "-a o") (Ok (given (true, false, false) None None (codes "o")))
+  pub flag_behind_a_name : Gives (flags_and_name 97 116) (codes "o -a") (Err (ExtraWord 2))
+  pub flag_for_a_name : Gives (flags_and_name 97 116) (codes "-a -a") (Err (ExtraWord 3))
+  pub flags_for_a_name : Gives (flags_and_name 97 116) (codes "-ab") (Ok (given (false, false, false) None None (codes "-ab")))
+  pub name_missing : Gives (flags_and_name 97 116) (codes "-a") (Err (MissingWord 99))
+  pub words_as_they_are : Gives words (codes "-a  x") (Ok (record { flags = (false, false, false); number = None; further = None; name = []; format = Blif; numbers = (0, 0); words = words_at 0 (codes "-a  x"); topic = None }))
+  pub seed_and_size : Gives two_numbers (codes "18446744073709551615 1") (Ok (record { flags = (false, false, false); number = None; further = None; name = []; format = Blif; numbers = (18446744073709551615, 1); words = []; topic = None }))
   pub size_missing : Gives two_numbers (codes "1") (Err (MissingWord 99))
   pub size_no_number : Gives two_numbers (codes "1 x") (Err (BadNumber 2))
   pub size_too_great : Gives two_numbers (codes "1 32769") (Err (OutOfRange 2))

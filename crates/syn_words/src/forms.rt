@@ -20,8 +20,14 @@ pub enum Operands {
     Nothing,
     /// A file's name.
     Name,
+    /// A file's name with the ending of a format.
+    NameWithFormat,
     /// Two numbers, each in its range.
     TwoNumbers(NumberRange, NumberRange),
+    /// A command's name, or no word.
+    Command,
+    /// Any words, those that look like options among them.
+    Words,
 }
 
 /// What may stand behind a command's name: options in any order, each once at most, and then words.
@@ -29,7 +35,7 @@ pub enum Operands {
 pub struct Form {
     /// The letters of the options without a number. Those given may stand behind one hyphen.
     pub flags: (Option<u8>, Option<u8>, Option<u8>),
-    /// The option with a number.
-    pub numbered: Option<Numbered>,
+    /// The options with a number.
+    pub numbered: (Option<Numbered>, Option<Numbered>),
     pub operands: Operands,
 }

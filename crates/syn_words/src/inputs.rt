@@ -1,7 +1,7 @@
 //! Numbers of inputs of LUTs.
 
 ghost use Rattle.std.specs.Prelude.{◌≡◌, ◌≤◌};
-ghost use Rattle.syn_words.specs.Commands.{given_inputs, inputs_of};
+ghost use Rattle.syn_words.specs.Commands.{inputs_of};
 
 use std::marker::Model;
 
@@ -11,7 +11,7 @@ const FEWEST_INPUTS: u8 = 2;
 // So many inputs at most.
 const MAX_INPUTS: u8 = 8;
 
-// So many inputs where no number is given.
+// So many inputs where no number is given, and no file of LUTs was read.
 const USUAL_INPUTS: u8 = 6;
 
 /// How many inputs a LUT may have: a number from 2 to 8. Contracts see it.
@@ -44,15 +44,22 @@ fn inputs_of(number: u64) -> u8
 }
 
 impl LutInputs {
-    /// The number that was given, or 6. One out of range gives the nearest in it.
-    pub fn of(given: Option<u64>) -> LutInputs
-        ensures { result ≡ given_inputs given }
+    /// So many inputs as are usual, which are 6.
+    pub fn usual() -> LutInputs
+        ensures { result ≡ 6 }
     {
-        let number = match given {
-            None => USUAL_INPUTS,
-            Some(number) => inputs_of(number),
-        };
-        LutInputs { number }
+        LutInputs {
+            number: USUAL_INPUTS,
+        }
+    }
+
+    /// So many inputs. A number out of range gives the nearest in it.
+    pub fn of(number: u64) -> LutInputs
+        ensures { result ≡ inputs_of number }
+    {
+        LutInputs {
+            number: inputs_of(number),
+        }
     }
 
     /// The number.

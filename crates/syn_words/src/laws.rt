@@ -2,10 +2,16 @@
 
 ghost use Rattle.syn_words.specs.Laws.{EitherOr, NotBoth, OneFault, OneScript};
 ghost use Rattle.syn_words.specs.Worked.{WorkedForms, WorkedScripts};
+ghost use Rattle.syn_words.specs.WorkedFiles.{WorkedFiles};
 
 /// The definitions give the wanted commands and first faults of worked texts.
 pub fn worked_scripts()
     ensures { WorkedScripts }
+{}
+
+/// The definitions give the wanted commands and first faults of worked files of commands.
+pub fn worked_files()
+    ensures { WorkedFiles }
 {}
 
 /// Words give what is wanted by worked forms, or have the wanted first fault.

@@ -5,57 +5,80 @@
 //! words is skipped. The whole script is read before anything runs, and the first fault in text
 //! order is answered, alone.
 //!
-//! What may stand behind a name is data, a form: three options without a number, an option with
-//! a number in a range, and then a file's name or two numbers. One function reads words by a form,
-//! and one table has a row a name: the form, and the keyword, which says what the words spell
-//! (`specs/Commands.antt`, and in the code `table.rt` and `spelling.rt`). A command that makes the
-//! network anew is a recipe (`recipes.rt`). No memory is taken but for the list and the names of files.
+//! What may stand behind a name is data, a form: three options without a number, two with
+//! a number in a range, and then a file's name, a command's, or two numbers; or any words. One
+//! function reads words by a form, and one table has a row a name: the form, and the keyword, which
+//! says what the words spell (`specs/Table.antt`, `specs/Commands.antt`, and in the code `table.rt`
+//! and `spelling.rt`) and what `help` tells of it (`help.rt`). A command that makes the network anew
+//! is a recipe (`recipes.rt`). `dress` spells no command.
+//!
+//! A file of commands (`files.rt`) is read as a script of the same length, in which its comments are
+//! blanks. No memory is taken but for that script, the list, the names of files and texts.
 #![tactic(auto)]
 
 ghost use Rattle.std.specs.Prelude.{◌≡◌, ◌⊎◌, ◌<◌, ◌^◌, [], Err, List, length, Ok, Some, IfOk, IfErr, IsOkUnless};
-ghost use Rattle.syn_words.specs.Scripts.{IsFirstFault, IsScript, said_after};
+ghost use Rattle.syn_words.specs.Scripts.{IsFirstFault, IsScript, meaning_by, said_after};
 
+mod files;
 mod flags;
+mod formats;
 mod forms;
+mod help;
 mod inputs;
 mod laws;
 mod names;
 mod numbers;
+mod quotes;
 mod recipes;
 mod spelling;
 mod table;
+mod texts;
 mod word_reader;
 mod words;
 
+pub use files::{FileFault, parse_file};
 pub use forms::NumberRange;
 pub use inputs::LutInputs;
-pub use laws::{either_or, not_both, one_fault, one_script, worked_forms, worked_scripts};
+pub use laws::{
+    either_or, not_both, one_fault, one_script, worked_files, worked_forms, worked_scripts,
+};
 pub use names::FileName;
 pub use numbers::number_in;
-pub use recipes::{PassOptions, Recipe, SearchLimits};
+pub use recipes::{PassOptions, Recipe, ReplaceLimits, SearchLimits};
 use spelling::push_commands;
 use std::alloc::{AllocError, AllocFailed, Global};
+pub use texts::Text;
 use thiserror::Error;
 use words::{Phrases, bad_byte};
 
-/// A command of a script. Contracts see the names of files as bytes.
+/// A command of a script. Contracts see the names of files and texts as bytes.
 #[derive(Debug, Drop)]
 pub enum Command {
-    /// `read_blif F`: the graph of the netlist in the file of that name becomes the network.
+    /// `read_blif F`, `read F`: the graph of the netlist in the file of that name becomes the network.
     Read(FileName),
-    /// `write_blif F`: writes the network to the file of that name.
+    /// `write_blif F`, `write F`: writes the network to the file of that name.
     Write(FileName),
-    /// `read_aiger F`: the graph of the AIGER file of that name becomes the network.
+    /// `read_aiger F`, `read F`: the graph of the AIGER file of that name becomes the network.
     ReadAiger(FileName),
-    /// `write_aiger [-a] F`: writes the network's graph to the file of that name, as an AIGER file.
+    /// `write_aiger [-a] [-t] F`, `write F`: writes the network's graph to the file of that name, as an AIGER file.
     WriteAiger {
         /// Whether the file is in the ASCII format; else it is in the binary one.
         ascii: bool,
+        /// Whether the types of latches are left out; else a latch with a type is refused.
+        untyped: bool,
         /// The file's name.
         name: FileName,
     },
     /// `print_stats`, `ps`: prints the network's line.
     Stats,
+    /// `echo WORDS`, `help [COMMAND]`: prints a text.
+    Print(Text),
+    /// `quit`, `q`, `exit`: ends the run.
+    Quit,
+    /// `source F`: runs the commands of the file of that name.
+    Source(FileName),
+    /// `read_lut F`: the LUTs of the file of that name are those that mapping uses.
+    ReadLuts(FileName),
     /// `gen SEED SIZE`: the graph of the netlist that is generated from a seed becomes the network.
     Generate {
         /// The seed.
@@ -82,6 +105,9 @@ pub enum ScriptFault {
     /// A word that the command doesn't expect.
     #[error("script {0}: extra word")]
     ExtraWord(u32),
+    /// A file's name that ends like none of a format.
+    #[error("script {0}: unknown ending")]
+    UnknownEnding(u32),
     /// A word that should be a number isn't one.
     #[error("script {0}: bad number")]
     BadNumber(u32),
@@ -125,7 +151,20 @@ pub fn parse_script(alloc: Global, text: &[u8]) -> Result<Vec<Command>, ScriptFa
     ensures refused { IfErr result (λ fault. (fault ≡ ScriptFault.NoMemory) ⊎ IsFirstFault text.now fault) }
     ensures accepted { (commands : List Command) → IsScript text.now commands → IsOkUnless result ScriptFault.NoMemory }
 {
-    if let Some(at) = bad_byte(text) {
+    commands_in(alloc, false, text)
+}
+
+// The commands of a script in which bytes may be held in quotes or not.
+pub(crate) fn commands_in(
+    alloc: Global,
+    held: bool,
+    text: &[u8],
+) -> Result<Vec<Command>, ScriptFault>
+    requires { length text.now < 2 ^ 32 }
+    ensures script { IfOk result (λ commands. meaning_by held text.now ≡ Ok commands.items) }
+    ensures refused { IfErr result (λ fault. (fault ≡ ScriptFault.NoMemory) ⊎ (meaning_by held text.now ≡ Err fault)) }
+{
+    if let Some(at) = bad_byte(held, text) {
         return Err(ScriptFault::BadByte(at));
     }
     commands_of(alloc, Phrases::of(text))

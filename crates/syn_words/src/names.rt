@@ -1,9 +1,11 @@
 //! Names of files, as words of a script and as text.
 
-ghost use Rattle.std.specs.Prelude.{◌≡◌, [], true, IfOk};
+ghost use Rattle.std.specs.Prelude.{◌≡◌, [], true, IfOk, map};
 ghost use Rattle.std.specs.List.{list_all};
 ghost use Rattle.syn_words.specs.Bytes.{is_word_byte};
+ghost use Rattle.syn_words.specs.Quotes.{meant};
 
+use crate::quotes::meant;
 use std::alloc::{AllocError, Global};
 use std::marker::Model;
 
@@ -64,14 +66,14 @@ impl Model for FileName {
 }
 
 impl FileName {
-    /// A word as a file's name. Its bytes are below 128.
+    /// A word as a file's name.
     pub(crate) fn of(alloc: Global, name: WordText<'_>) -> Result<FileName, AllocError>
-        ensures { IfOk result (λ made. made ≡ name.entry) }
+        ensures { IfOk result (λ made. made ≡ map meant name.entry) }
     {
         let mut text = String::new(alloc);
         let bytes = name.as_slice();
         for byte in bytes {
-            text.push(char::from(*byte))?;
+            text.push(char::from(meant(*byte)))?;
         }
         Ok(FileName { text })
     }

@@ -23,6 +23,17 @@ pub struct SearchLimits {
     pub levels: bool,
 }
 
+/// How a command looks for others that can take a node's place.
+#[derive(Clone, Copy, Debug)]
+pub struct ReplaceLimits {
+    /// The most new ANDs that take the place of one node: 1 or 2.
+    pub gates: u32,
+    /// At most so many conflicts for each question.
+    pub conflicts: u32,
+    /// Whether no observed signal may get deeper.
+    pub levels: bool,
+}
+
 /// How a command makes the network anew. Contracts see numbers of inputs as numbers.
 #[derive(Debug, Drop)]
 pub enum Recipe {
@@ -38,15 +49,17 @@ pub enum Recipe {
     Resubstitute(PassOptions),
     /// `fraig [-C n] [-L]`: merges nodes that are shown to have one value, or opposite values, for all values of the sources.
     Merge(SearchLimits),
-    /// `if [-a] [-K n]`: maps the network to LUTs of so many inputs at most.
+    /// `sresub [-N n] [-C n] [-L]`, `srs`: replaces nodes by others, or by few new ANDs, that are shown to have their values.
+    Replace(ReplaceLimits),
+    /// `if [-a] [-K n]`: maps the network to LUTs of so many inputs at most; of as many as the session has, where none is named.
     Map {
         /// Whether few LUTs are looked for.
         area: bool,
         /// The most inputs of a LUT.
-        inputs: LutInputs,
+        inputs: Option<LutInputs>,
     },
-    /// `flowmap [-K n]`: maps the network to LUTs of so many inputs at most, at the least depth that there is.
-    MapByFlow(LutInputs),
+    /// `flowmap [-K n]`: maps the network to LUTs of so many inputs at most, likewise, at the least depth that there is.
+    MapByFlow(Option<LutInputs>),
     /// `scl`: drops latches that no output needs, and makes one of latches that always hold the same.
     Sweep,
 }

@@ -1,14 +1,19 @@
 //! What a command's name spells with what was given behind it.
 
 ghost use Rattle.std.specs.Prelude.{◌≡◌, ◌⊎◌, [], ◌∷◌, Err, Ok, IfOk, OnOk, IfErr, None, option_map};
-ghost use Rattle.syn_words.specs.Commands.{commands_of, given_conflicts, given_limits, given_options, options, resyn, resyn2, resyn2l, said, size_of, workers_of};
+ghost use Rattle.syn_words.specs.Help.{helped};
+ghost use Rattle.syn_words.specs.Texts.{echoed};
+ghost use Rattle.syn_words.specs.Commands.{commands_of, gates_of, given_conflicts, given_gates, given_limits, given_options, inputs_of, options, reading, replace_limits, resyn, resyn2, resyn2l, said, size_of, workers_of, writing};
 ghost use Rattle.syn_words.specs.Scripts.{said_onto};
 ghost use Rattle.syn_words.specs.declared.Command.TheVariants as commands;
 
+use crate::formats::Format;
+use crate::help::helped;
 use crate::inputs::LutInputs;
 use crate::names::FileName;
-use crate::recipes::{PassOptions, Recipe, SearchLimits};
-use crate::table::{Keyword, MAX_CONFLICTS, MAX_TABLES, entry_of};
+use crate::recipes::{PassOptions, Recipe, ReplaceLimits, SearchLimits};
+use crate::table::{Keyword, MAX_CONFLICTS, MAX_GATES, MAX_TABLES, entry_of};
+use crate::texts::echoed;
 use crate::word_reader::{Given, given_by};
 use crate::words::Phrase;
 use crate::{Command, ScriptFault};
@@ -17,6 +22,9 @@ use syn_workers::{MAX_WORKERS, Workers};
 
 // So many conflicts where no number is given.
 const USUAL_CONFLICTS: u32 = 100;
+
+// So many new ANDs in place of a node where no number is given.
+const USUAL_GATES: u32 = 1;
 
 // A number of workers, one at least and the most at most.
 fn workers_of(number: u64) -> Workers
@@ -67,11 +75,49 @@ fn given_conflicts(number: Option<u64>) -> u32
     }
 }
 
+// The number of inputs that was given, if any.
+fn given_inputs(number: Option<u64>) -> Option<LutInputs>
+    ensures { result ≡ option_map inputs_of number }
+{
+    match number {
+        Some(number) => Some(LutInputs::of(number)),
+        None => None,
+    }
+}
+
 // How a search goes by what was given.
 fn given_limits(given: &Given<'_>) -> SearchLimits
     ensures { result ≡ given_limits given.now }
 {
     SearchLimits {
+        conflicts: given_conflicts(given.number),
+        levels: given.flags.1,
+    }
+}
+
+// A number of new ANDs, one at least and the most at most.
+fn gates_of(number: u64) -> u32
+    ensures { result ≡ gates_of number }
+{
+    number.min(MAX_GATES as u64).max(1) as u32
+}
+
+// The number of new ANDs that was given, and the usual one where none was.
+fn given_gates(number: Option<u64>) -> u32
+    ensures { result ≡ given_gates number }
+{
+    match number {
+        None => USUAL_GATES,
+        Some(number) => gates_of(number),
+    }
+}
+
+// How nodes are replaced by what was given.
+fn replace_limits(given: &Given<'_>) -> ReplaceLimits
+    ensures { result ≡ replace_limits given.now }
+{
+    ReplaceLimits {
+        gates: given_gates(given.further),
         conflicts: given_conflicts(given.number),
         levels: given.flags.1,
     }
@@ -89,6 +135,38 @@ fn make(alloc: Global, recipe: Recipe) -> Result<Vec<Command>, AllocError>
     ensures { IfOk result (λ v. v.items ≡ commands.Make recipe ∷ []) }
 {
     one(alloc, Command::Make(recipe))
+}
+
+// The command that reads a file in this format.
+fn reading(format: Format, name: FileName) -> Command
+    ensures { result ≡ reading format name }
+{
+    match format {
+        Format::Blif => Command::Read(name),
+        Format::Aiger | Format::AsciiAiger => Command::ReadAiger(name),
+    }
+}
+
+// The command that writes an AIGER file.
+fn writing_aiger(ascii: bool, untyped: bool, name: FileName) -> Command
+    ensures { result ≡ commands.WriteAiger ascii untyped name }
+{
+    Command::WriteAiger {
+        ascii,
+        untyped,
+        name,
+    }
+}
+
+// The command that writes a file in this format.
+fn writing(format: Format, name: FileName) -> Command
+    ensures { result ≡ writing format name }
+{
+    match format {
+        Format::Blif => Command::Write(name),
+        Format::Aiger => writing_aiger(false, false, name),
+        Format::AsciiAiger => writing_aiger(true, false, name),
+    }
 }
 
 // How a pass goes by as many workers as the session has.
@@ -170,17 +248,24 @@ fn commands_of(
     let plain = given_options(flag, &given);
     let zero = given_options(true, &given);
     let limits = given_limits(&given);
-    let inputs = LutInputs::of(given.number);
+    let replacing = replace_limits(&given);
+    let inputs = given_inputs(given.number);
     let (seed, size) = (given.numbers.0, size_of(given.numbers.1));
+    let name = FileName::of(alloc, given.name)?;
     match keyword {
-        Keyword::ReadBlif => one(alloc, Command::Read(FileName::of(alloc, given.name)?)),
-        Keyword::WriteBlif => one(alloc, Command::Write(FileName::of(alloc, given.name)?)),
-        Keyword::ReadAiger => one(alloc, Command::ReadAiger(FileName::of(alloc, given.name)?)),
-        Keyword::WriteAiger => {
-            let name = FileName::of(alloc, given.name)?;
-            one(alloc, Command::WriteAiger { ascii: flag, name })
-        }
+        Keyword::ReadBlif => one(alloc, Command::Read(name)),
+        Keyword::WriteBlif => one(alloc, Command::Write(name)),
+        Keyword::ReadAiger => one(alloc, Command::ReadAiger(name)),
+        Keyword::WriteAiger => one(alloc, writing_aiger(flag, given.flags.1, name)),
+        Keyword::Read => one(alloc, reading(given.format, name)),
+        Keyword::Write => one(alloc, writing(given.format, name)),
         Keyword::PrintStats => one(alloc, Command::Stats),
+        Keyword::Echo => one(alloc, Command::Print(echoed(alloc, given.words)?)),
+        Keyword::Help => one(alloc, Command::Print(helped(alloc, given.topic)?)),
+        Keyword::Quit => one(alloc, Command::Quit),
+        Keyword::Source => one(alloc, Command::Source(name)),
+        Keyword::ReadLuts => one(alloc, Command::ReadLuts(name)),
+        Keyword::Dress => Ok(Vec::new(alloc)),
         Keyword::Generate => one(alloc, Command::Generate { seed, size }),
         Keyword::Resyn => resyn(alloc),
         Keyword::Resyn2 => resyn2(alloc),
@@ -194,6 +279,7 @@ fn commands_of(
         Keyword::Resubstitute => make(alloc, Recipe::Resubstitute(plain)),
         Keyword::ResubstituteZero => make(alloc, Recipe::Resubstitute(zero)),
         Keyword::Merge => make(alloc, Recipe::Merge(limits)),
+        Keyword::Replace => make(alloc, Recipe::Replace(replacing)),
         Keyword::Map => make(alloc, Recipe::Map { area: flag, inputs }),
         Keyword::MapByFlow => make(alloc, Recipe::MapByFlow(inputs)),
         Keyword::Sweep => make(alloc, Recipe::Sweep),

@@ -1,7 +1,7 @@
 //! The table of commands: a row a name, with what may stand behind it and its keyword.
 
 ghost use Rattle.std.specs.Prelude.{◌≡◌, map};
-ghost use Rattle.syn_words.specs.Commands.{entry_in, table};
+ghost use Rattle.syn_words.specs.Table.{entry_in, table};
 
 use crate::forms::{Form, NumberRange, Numbered, Operands};
 use syn_workers::MAX_WORKERS;
@@ -12,6 +12,12 @@ pub enum Keyword {
     ReadBlif,
     WriteBlif,
     PrintStats,
+    Echo,
+    Help,
+    Quit,
+    Source,
+    ReadLuts,
+    Dress,
     Strash,
     Balance,
     Rewrite,
@@ -27,13 +33,19 @@ pub enum Keyword {
     ResubstituteZero,
     MapByFlow,
     Merge,
+    Replace,
     Resyn,
     ReadAiger,
+    Read,
+    Write,
     WriteAiger,
 }
 
 // A row of the table: a name, what may stand behind it, and its keyword.
 type Row = (&'static [u8], Form, Keyword);
+
+/// So many new ANDs in place of a node at most.
+pub const MAX_GATES: u32 = 2;
 
 /// So many conflicts at most.
 pub const MAX_CONFLICTS: u32 = 1_000_000;
@@ -65,6 +77,15 @@ const CONFLICTS: Numbered = Numbered {
     },
 };
 
+// The option with a number of ANDs.
+const GATES: Numbered = Numbered {
+    letter: b'N',
+    range: NumberRange {
+        least: 1,
+        most: MAX_GATES as u64,
+    },
+};
+
 // A seed.
 const SEEDS: NumberRange = NumberRange {
     least: 0,
@@ -80,72 +101,108 @@ const SIZES: NumberRange = NumberRange {
 // No word.
 const NOTHING: Form = Form {
     flags: (None, None, None),
-    numbered: None,
+    numbered: (None, None),
     operands: Operands::Nothing,
+};
+
+// Any words.
+const WORDS: Form = Form {
+    flags: (None, None, None),
+    numbered: (None, None),
+    operands: Operands::Words,
+};
+
+// A command's name, or no word.
+const COMMAND: Form = Form {
+    flags: (None, None, None),
+    numbered: (None, None),
+    operands: Operands::Command,
 };
 
 // A file's name.
 const NAME: Form = Form {
     flags: (None, None, None),
-    numbered: None,
+    numbered: (None, None),
     operands: Operands::Name,
 };
 
-// `-a`, and then a file's name.
-const ASCII_AND_NAME: Form = Form {
-    flags: (Some(b'a'), None, None),
-    numbered: None,
+// A file's name with the ending of a format.
+const NAME_WITH_FORMAT: Form = Form {
+    flags: (None, None, None),
+    numbered: (None, None),
+    operands: Operands::NameWithFormat,
+};
+
+// `-a`, `-t`, and then a file's name.
+const AIGER_NAME: Form = Form {
+    flags: (Some(b'a'), Some(b't'), None),
+    numbered: (None, None),
     operands: Operands::Name,
 };
 
 // `-z`, `-L`, `-l`, which says what is so without it, and a number of workers.
 const PASS: Form = Form {
     flags: (Some(b'z'), Some(b'L'), Some(b'l')),
-    numbered: Some(WORKERS),
+    numbered: (Some(WORKERS), None),
     operands: Operands::Nothing,
 };
 
 // The same without `-z`, which is set already.
 const ZERO_PASS: Form = Form {
     flags: (None, Some(b'L'), Some(b'l')),
-    numbered: Some(WORKERS),
+    numbered: (Some(WORKERS), None),
     operands: Operands::Nothing,
 };
 
 // `-a`, and a number of inputs.
 const AREA_AND_INPUTS: Form = Form {
     flags: (Some(b'a'), None, None),
-    numbered: Some(INPUTS),
+    numbered: (Some(INPUTS), None),
     operands: Operands::Nothing,
 };
 
 // A number of inputs.
 const ONLY_INPUTS: Form = Form {
     flags: (None, None, None),
-    numbered: Some(INPUTS),
+    numbered: (Some(INPUTS), None),
     operands: Operands::Nothing,
 };
 
 // `-L`, and a number of conflicts.
 const SEARCH: Form = Form {
     flags: (None, Some(b'L'), None),
-    numbered: Some(CONFLICTS),
+    numbered: (Some(CONFLICTS), None),
+    operands: Operands::Nothing,
+};
+
+// `-L`, a number of conflicts, and a number of ANDs.
+const GATE_SEARCH: Form = Form {
+    flags: (None, Some(b'L'), None),
+    numbered: (Some(CONFLICTS), Some(GATES)),
     operands: Operands::Nothing,
 };
 
 // A seed, and a number of generated tables.
 const SEED_AND_SIZE: Form = Form {
     flags: (None, None, None),
-    numbered: None,
+    numbered: (None, None),
     operands: Operands::TwoNumbers(SEEDS, SIZES),
 };
 
 // The names, long and short.
-const TABLE: [Row; 28] = [
+const TABLE: [Row; 40] = [
     (b"read_blif", NAME, Keyword::ReadBlif),
     (b"write_blif", NAME, Keyword::WriteBlif),
     (b"print_stats", NOTHING, Keyword::PrintStats),
     (b"ps", NOTHING, Keyword::PrintStats),
+    (b"echo", WORDS, Keyword::Echo),
+    (b"help", COMMAND, Keyword::Help),
+    (b"quit", NOTHING, Keyword::Quit),
+    (b"q", NOTHING, Keyword::Quit),
+    (b"exit", NOTHING, Keyword::Quit),
+    (b"source", NAME, Keyword::Source),
+    (b"read_lut", NAME, Keyword::ReadLuts),
+    (b"dress", NAME, Keyword::Dress),
     (b"strash", NOTHING, Keyword::Strash),
     (b"st", NOTHING, Keyword::Strash),
     (b"balance", NOTHING, Keyword::Balance),
@@ -166,10 +223,14 @@ const TABLE: [Row; 28] = [
     (b"rsz", ZERO_PASS, Keyword::ResubstituteZero),
     (b"flowmap", ONLY_INPUTS, Keyword::MapByFlow),
     (b"fraig", SEARCH, Keyword::Merge),
+    (b"sresub", GATE_SEARCH, Keyword::Replace),
+    (b"srs", GATE_SEARCH, Keyword::Replace),
     (b"resyn", NOTHING, Keyword::Resyn),
     (b"compress2", NOTHING, Keyword::Resyn2),
     (b"read_aiger", NAME, Keyword::ReadAiger),
-    (b"write_aiger", ASCII_AND_NAME, Keyword::WriteAiger),
+    (b"write_aiger", AIGER_NAME, Keyword::WriteAiger),
+    (b"read", NAME_WITH_FORMAT, Keyword::Read),
+    (b"write", NAME_WITH_FORMAT, Keyword::Write),
 ];
 
 // What the first row of a name has, if there is one.

@@ -2,26 +2,36 @@
 
 ghost use Rattle.std.specs.Prelude.{◌≡◌};
 ghost use Rattle.syn_words.specs.Flags.{with_flags};
-ghost use Rattle.syn_words.specs.Forms.{after_word, at_end, given_by, is_option, nothing_given, number_behind, with_first, with_options};
+ghost use Rattle.syn_words.specs.Forms.{after_word, all_given, at_end, given_by, is_option, nothing_given, number_behind, takes_words, with_first, with_further, with_options};
 
 use crate::ScriptFault;
 use crate::flags::{Flags, are_flags, letters_of, with_flags};
+use crate::formats::{Format, format_of};
 use crate::forms::{Form, NumberRange, Numbered, Operands};
 use crate::names::WordText;
 use crate::numbers::number_at;
+use crate::table::{Keyword, entry_of};
 use crate::words::{CommandWords, Word, next_word};
 
 /// What was given behind a command's name.
-#[derive(Debug, Drop)]
+#[derive(Drop)]
 pub struct Given<'a> {
     /// Whether each option without a number was given.
     pub flags: Flags,
-    /// The number of the option with one, where it was given.
+    /// The number of the first option with one, where it was given.
     pub number: Option<u64>,
+    /// The number of the second such option, where it was given.
+    pub further: Option<u64>,
     /// The file's name, empty where none is expected.
     pub name: WordText<'a>,
+    /// The format that the name's end tells, BLIF where none is expected.
+    pub format: Format,
     /// The numbers, 0 where none are expected.
     pub numbers: (u64, u64),
+    /// The words, none where none are expected but those above.
+    pub words: CommandWords<'a>,
+    /// What the name of a command says, where one was given.
+    pub topic: Option<Keyword>,
 }
 
 /// What the next word may be.
@@ -29,8 +39,10 @@ pub struct Given<'a> {
 pub enum Awaits {
     /// An option, or the first word that is none.
     Options,
-    /// The number of an option.
+    /// The number of the first option with one.
     OptionNumber(NumberRange),
+    /// The number of the second such option.
+    FurtherNumber(NumberRange),
     /// The second of two numbers.
     SecondNumber(NumberRange),
     /// No word.
@@ -38,10 +50,17 @@ pub enum Awaits {
 }
 
 /// How far the words behind a name were read.
-#[derive(Debug, Drop)]
+#[derive(Drop)]
 pub struct Progress<'a> {
     pub given: Given<'a>,
     pub awaits: Awaits,
+}
+
+// Whether any words may stand.
+fn takes_words(operands: Operands) -> bool
+    ensures { result ≡ takes_words operands }
+{
+    matches!(operands, Operands::Words)
 }
 
 // Whether a word is an option: a hyphen and its letter.
@@ -51,7 +70,7 @@ fn is_option(letter: u8, text: &[u8]) -> bool
     [b'-', letter].as_slice() == text
 }
 
-// The range of the number behind a word, where it is the option with a number.
+// The range of the number behind a word, where it is this option with a number.
 fn number_behind(numbered: Option<Numbered>, text: &[u8]) -> Option<NumberRange>
     ensures { result ≡ number_behind numbered text.now }
 {
@@ -69,9 +88,22 @@ impl<'a> Given<'a> {
         Given {
             flags: (false, false, false),
             number: None,
+            further: None,
             name: WordText::empty(),
+            format: Format::Blif,
             numbers: (0, 0),
+            words: CommandWords::of(&[], 0),
+            topic: None,
         }
+    }
+
+    // All words, whatever they are.
+    fn all(words: CommandWords<'a>) -> Given<'a>
+        ensures { result ≡ all_given words.entry }
+    {
+        let mut given = Given::nothing();
+        given.words = words;
+        given
     }
 
     // Behind this the next word is awaited.
@@ -89,9 +121,24 @@ impl<'a> Given<'a> {
         ensures { result ≡ with_first operands self.entry word.entry }
     {
         match operands {
-            Operands::Nothing => Err(ScriptFault::ExtraWord(word.at)),
+            Operands::Nothing | Operands::Words => Err(ScriptFault::ExtraWord(word.at)),
             Operands::Name => {
                 self.name = word.text;
+                Ok(self.before(Awaits::Nothing))
+            }
+            Operands::NameWithFormat => {
+                let Some(format) = format_of(word.text.as_slice()) else {
+                    return Err(ScriptFault::UnknownEnding(word.at));
+                };
+                self.name = word.text;
+                self.format = format;
+                Ok(self.before(Awaits::Nothing))
+            }
+            Operands::Command => {
+                let Some((_, keyword)) = entry_of(word.text.as_slice()) else {
+                    return Err(ScriptFault::UnknownCommand(word.at));
+                };
+                self.topic = Some(keyword);
                 Ok(self.before(Awaits::Nothing))
             }
             Operands::TwoNumbers(first, second) => {
@@ -116,6 +163,17 @@ impl<'a> Given<'a> {
         Ok(self.before(Awaits::Options))
     }
 
+    // With the second option with a number, or with the first word that is no option.
+    fn with_further(self, form: Form, word: Word<'a>) -> Result<Progress<'a>, ScriptFault>
+        ensures { result ≡ with_further form self.entry word.entry }
+    {
+        match number_behind(form.numbered.1, word.text.as_slice()) {
+            None => self.with_first(form.operands, word),
+            Some(_) if self.further.is_some() => Err(ScriptFault::ExtraWord(word.at)),
+            Some(range) => Ok(self.before(Awaits::FurtherNumber(range))),
+        }
+    }
+
     // With an option, or with the first word that is none.
     fn with_option(self, form: Form, word: Word<'a>) -> Result<Progress<'a>, ScriptFault>
         ensures { result ≡ after_word form Awaits.Options self.entry word.entry }
@@ -125,8 +183,8 @@ impl<'a> Given<'a> {
             let flags = with_flags(&form, self.flags, letters);
             return self.with_options(flags, word);
         }
-        match number_behind(form.numbered, word.text.as_slice()) {
-            None => self.with_first(form.operands, word),
+        match number_behind(form.numbered.0, word.text.as_slice()) {
+            None => self.with_further(form, word),
             Some(_) if self.number.is_some() => Err(ScriptFault::ExtraWord(word.at)),
             Some(range) => Ok(self.before(Awaits::OptionNumber(range))),
         }
@@ -138,8 +196,8 @@ impl<'a> Given<'a> {
     {
         let complete = match awaits {
             Awaits::Nothing => true,
-            Awaits::Options => form.operands == Operands::Nothing,
-            Awaits::OptionNumber(_) | Awaits::SecondNumber(_) => false,
+            Awaits::Options => matches!(form.operands, Operands::Nothing | Operands::Command),
+            Awaits::OptionNumber(_) | Awaits::FurtherNumber(_) | Awaits::SecondNumber(_) => false,
         };
         if complete {
             Ok(self)
@@ -161,6 +219,10 @@ impl<'a> Progress<'a> {
                 given.number = Some(number_at(range, &word)?);
                 Ok(given.before(Awaits::Options))
             }
+            Awaits::FurtherNumber(range) => {
+                given.further = Some(number_at(range, &word)?);
+                Ok(given.before(Awaits::Options))
+            }
             Awaits::SecondNumber(range) => {
                 given.numbers = (given.numbers.0, number_at(range, &word)?);
                 Ok(given.before(Awaits::Nothing))
@@ -178,6 +240,9 @@ pub fn given_by<'a>(
 ) -> Result<Given<'a>, ScriptFault>
     ensures { result ≡ given_by form end further.entry }
 {
+    if takes_words(form.operands) {
+        return Ok(Given::all(further));
+    }
     let mut progress = Given::nothing().before(Awaits::Options);
     while let Some(word) = next_word(&mut further) {
         progress = progress.after_word(form, word)?;

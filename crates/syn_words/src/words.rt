@@ -1,7 +1,7 @@
 //! The words of a script, and its commands as words.
 
 ghost use Rattle.std.specs.Prelude.{◌≡◌, ◌+◌, ◌^◌, ◌<◌, [], ◌∷◌, length, IfSome, IfNone};
-ghost use Rattle.syn_words.specs.Bytes.{bad_byte, may_stand};
+ghost use Rattle.syn_words.specs.Bytes.{bad_byte, may_stand, may_stand_if};
 ghost use Rattle.syn_words.specs.Phrases.{phrases, phrases_at, pieces};
 
 use crate::names::WordText;
@@ -14,20 +14,27 @@ fn may_stand(byte: u8) -> bool
     byte == b'\t' || byte == b'\r' || (byte >= 32 && byte <= 126)
 }
 
-// The offset of the first byte that may not stand in a script.
-pub fn bad_byte(text: &[u8]) -> Option<u32>
+// Whether a byte may stand: also one above 127, where bytes may be held as such.
+fn may_stand_if(held: bool, byte: u8) -> bool
+    ensures { result ≡ may_stand_if held byte }
+{
+    may_stand(byte) || (held && byte > 127)
+}
+
+// The offset of the first byte that may not stand in a script, where bytes may be held in quotes or not.
+pub fn bad_byte(held: bool, text: &[u8]) -> Option<u32>
     requires { length text.now < 2 ^ 32 }
-    ensures { result ≡ bad_byte text.now }
+    ensures { result ≡ bad_byte held text.now }
 {
     for (i, byte) in text.iter().enumerate() {
-        if !may_stand(*byte) {
+        if !may_stand_if(held, *byte) {
             return Some(i as u32);
         }
     }
     None
 }
 
-/// The bytes of words in a script: 33 to 126.
+/// The bytes of words in a script: 33 to 126, and those above 127.
 pub struct ScriptBytes;
 
 impl WordBytes for ScriptBytes {
@@ -36,7 +43,7 @@ impl WordBytes for ScriptBytes {
     ghost holds = { is_word_byte };
 
     fn holds(byte: u8) -> bool {
-        byte > 32 && byte < 127
+        byte > 32 && byte != 127
     }
 }
 

@@ -1,7 +1,8 @@
-use Rattle.std.proofs.Common.{refl, sym, ap, subst, ◌∙◌}
+use Rattle.std.proofs.Common.{refl, sym, subst, ◌∙◌}
 use Rattle.syn_network.specs.declared.networks.Network.{Network}
 use Rattle.syn_words.specs.declared.recipes.Recipe.TheVariants as recipes
 use Rattle.syn_shell.specs.Makes.{IsSweptTo}
+use Rattle.syn_shell.proofs.MappedGraphs.{least_by}
 use Rattle.syn_shell.proofs.RemadeGraphs.{written}
 use Rattle.syn_shell.proofs.Recipes.{made_by}
 use Rattle.syn_shell.proofs.commands.remake_graph.Goals as goal
@@ -18,14 +19,20 @@ returns-in_ok-new-in-Merge-clause-made g c =
     made_by _ (recipes.Merge c.in-Merge.limits) _ _ c.in-Merge.is
     (c.remade-in-Merge.ensures.merged c.in-Merge.limits.levels (record { follows = h.follows; levels = λ kept. h.levels (c.limits_of.ensures.levels ∙ kept) }))
 
+pub returns-in_ok-new-in-Replace-clause-made : goal.returns-in_ok-new-in-Replace-clause-made
+returns-in_ok-new-in-Replace-clause-made g c =
+    let h = c.in_ok-new-in-Replace.ensures in
+    made_by _ (recipes.Replace c.in-Replace.limits) _ _ c.in-Replace.is
+    (c.remade-in-Replace.ensures.merged c.in-Replace.limits.levels (record { follows = h.follows; levels = λ kept. h.levels (c.reach_of.ensures.levels ∙ kept) }))
+
 pub returns-in_ok-made-in-Map-clause-made : goal.returns-in_ok-made-in-Map-clause-made
 returns-in_ok-made-in-Map-clause-made g c = made_by _ (recipes.Map c.in-Map.area c.in-Map.inputs) _ _ c.in-Map.is c.in_ok-made-in-Map.ensures
 
 pub returns-in_ok-mapped-in-MapByFlow-clause-made : goal.returns-in_ok-mapped-in-MapByFlow-clause-made
 returns-in_ok-mapped-in-MapByFlow-clause-made g c =
     let h = c.in_ok-net-in-MapByFlow.ensures in
-    made_by _ (recipes.MapByFlow c.number.result) _ _ (c.in-MapByFlow.is ∙ ap recipes.MapByFlow (sym c.number.ensures.number))
-    (c.in_ok-mapped-in-MapByFlow.ensures.least c.number.result (record { luts = record { inputs = h.inputs; count = h.count }; least = h.least }))
+    made_by _ (recipes.MapByFlow c.in-MapByFlow.inputs) _ _ c.in-MapByFlow.is
+    (least_by _ _ _ _ c.number_in.ensures.number (c.in_ok-mapped-in-MapByFlow.ensures.least c.number_in.result (record { luts = record { inputs = h.inputs; count = h.count }; least = h.least; settled = record { depend = h.depend; shown = h.shown } })))
 
 pub returns-in_ok-new-in-Sweep-clause-made : goal.returns-in_ok-new-in-Sweep-clause-made
 returns-in_ok-new-in-Sweep-clause-made g c =

@@ -1,13 +1,13 @@
 use Rattle.std.proofs.Common.{◌≡◌, arith, None}
 use Rattle.syn_io.specs.Outside.{Input}
-use Rattle.syn_shell.specs.Outside.{State, state}
+use Rattle.syn_shell.specs.Outside.{State, nothing_yet, state}
 use Rattle.syn_shell.specs.LineMode.{most_lines}
 use Rattle.syn_shell.proofs.Turning.{goes_on_from, ends_at, ends_last}
 use Rattle.syn_shell.proofs.line_mode.run_lines.Goals as goal
 
 pub loop-taken-preserved : goal.loop-taken-preserved
 loop-taken-preserved g c = λ lines more after i' rest.
-    let start : State = state None (g.F.Files.disk c.args.files.now) (g.O.Sink.screen c.args.out.now) in
+    let start : State = state nothing_yet (g.F.Files.disk c.args.files.now) (g.O.Sink.screen c.args.out.now) in
     let now : State = state c.loop-taken.session (g.F.Files.disk c.loop-taken.files) (g.O.Sink.screen c.loop-taken.out) in
     let told : State = state c.take_turn.new.session (g.F.Files.disk c.take_turn.new.files) (g.O.Sink.screen c.take_turn.new.out) in
     let i0 : Input = g.L.Lines.input c.args.lines.now in
@@ -18,7 +18,7 @@ loop-taken-preserved g c = λ lines more after i' rest.
 
 pub returns-in-Ends : goal.returns-in-Ends
 returns-in-Ends g c =
-    let start : State = state None (g.F.Files.disk c.args.files.now) (g.O.Sink.screen c.args.out.now) in
+    let start : State = state nothing_yet (g.F.Files.disk c.args.files.now) (g.O.Sink.screen c.args.out.now) in
     let now : State = state c.loop-taken.session (g.F.Files.disk c.loop-taken.files) (g.O.Sink.screen c.loop-taken.out) in
     let after : State = state c.take_turn.new.session (g.F.Files.disk c.take_turn.new.files) (g.O.Sink.screen c.take_turn.new.out) in
     let i0 : Input = g.L.Lines.input c.args.lines.now in
@@ -30,7 +30,7 @@ returns-in-Ends g c =
 
 pub returns : goal.returns
 returns g c =
-    let start : State = state None (g.F.Files.disk c.args.files.now) (g.O.Sink.screen c.args.out.now) in
+    let start : State = state nothing_yet (g.F.Files.disk c.args.files.now) (g.O.Sink.screen c.args.out.now) in
     let now : State = state c.loop-taken.session (g.F.Files.disk c.loop-taken.files) (g.O.Sink.screen c.loop-taken.out) in
     let after : State = state c.loop-taken.session (g.F.Files.disk c.loop-taken.files) (g.O.Sink.screen c.refuse_one_more_line.new.out) in
     let i0 : Input = g.L.Lines.input c.args.lines.now in

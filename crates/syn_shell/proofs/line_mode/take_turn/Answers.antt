@@ -1,9 +1,9 @@
-use Rattle.std.proofs.Common.{ℕ, List, ap, ◌∙◌, subst, Option, Some, Ok}
-use Rattle.syn_shell.specs.declared.refusal_lines.Reported.{Reported}
-use Rattle.syn_shell.specs.declared.refusal_lines.Reported.TheVariants.{Cut}
+use Rattle.std.proofs.Common.{ℕ, List, ap, sym, ◌∙◌, subst, Ok}
+use Rattle.syn_shell.specs.declared.line_mode.Turn.{Turn}
+use Rattle.syn_shell.specs.Scripts.{InText}
 use Rattle.syn_io.specs.Outside.{Input}
 use Rattle.syn_shell.specs.Outside.{State, state}
-use Rattle.syn_shell.specs.Stopping.{Leaves}
+use Rattle.syn_shell.specs.Stopping.{Leaves, Turned}
 use Rattle.syn_shell.proofs.Giving.{gave_line, gave_none}
 use Rattle.syn_shell.proofs.Turning.{turned_none, turned_refused, turned_by}
 use Rattle.syn_shell.proofs.line_mode.take_turn.Goals as goal
@@ -29,7 +29,7 @@ returns g c =
     let before : State = state c.args.session.now (g.F.Files.disk c.args.files.now) (g.O.Sink.screen c.args.out.now) in
     let after : State = state c.run_script.new.session (g.F.Files.disk c.run_script.new.files) (g.O.Sink.screen c.run_script.new.out) in
     let line : List ℕ = c.in-Ok-Some.line.items in
-    turned_by (Some (Cut c.in-Some-Cut.status)) line before after i j
+    subst (λ (t : Turn). Turned t before i after j) (sym c.behind.ensures)
+    (turned_by c.run_script.result line before after i j
     (gave_line c.next_line.result c.in-Ok-Some.line i j (c.in-Ok-Some.is ∙ ap (λ x. Ok x) c.in-Ok-Some.field-0-is) c.next_line.ensures)
-    (subst (λ (l : List ℕ). Leaves (Some (Cut c.in-Some-Cut.status)) l before after) c.as_slice.ensures.value
-    (subst (λ (r : Option Reported). Leaves r c.as_slice.result.now before after) (c.in-Some-Cut.is ∙ ap (λ x. Some x) c.in-Some-Cut.field-0-is) c.run_script.ensures))
+    (subst (λ (l : List ℕ). Leaves c.run_script.result (InText l) before after) c.as_slice.ensures.value c.run_script.ensures))

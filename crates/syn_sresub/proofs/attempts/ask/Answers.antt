@@ -3,7 +3,7 @@ use Rattle.syn_remaking.proofs.Results.{OnOk-of}
 use Rattle.syn_sresub.proofs.attempts.ask.Goals as goal
 
 pub returns-clause-same : goal.returns-clause-same
-returns-clause-same c = IfOk-weaker c.is_and.result _ _ (λ a p e v f. p e v (c.load_cones.ensures v f (c.in_ok-refresh.ensures c.requires.clauses v f))) c.is_and.ensures.same
+returns-clause-same c = IfOk-weaker c.is_and.result _ _ (λ a p e v f. p e v (c.load_nearest.ensures v f (c.in_ok-refresh.ensures c.requires.clauses v f))) c.is_and.ensures.same
 
 pub returns-clause-clauses : goal.returns-clause-clauses
-returns-clause-clauses c = OnOk-of c.is_and.result (λ v f. c.is_and.ensures.kept v (c.load_cones.ensures v f (c.in_ok-refresh.ensures c.requires.clauses v f)))
+returns-clause-clauses c = OnOk-of c.is_and.result (λ v f. c.is_and.ensures.kept v (c.load_nearest.ensures v f (c.in_ok-refresh.ensures c.requires.clauses v f)))

@@ -1,5 +1,5 @@
 use Rattle.std.proofs.Common.{◌≡◌, map, drop}
-use Rattle.syn_words.specs.Commands.{entry_in}
+use Rattle.syn_words.specs.Table.{entry_in}
 use Rattle.syn_words.proofs.table.entry_in.Given as goal
 
 abbrev pub invariant-loop-name : goal.invariant-loop-name

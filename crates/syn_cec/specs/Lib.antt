@@ -1,0 +1,3 @@
+pub mod Both
+pub mod Compared
+pub mod Verdicts

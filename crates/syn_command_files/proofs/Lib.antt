@@ -1,0 +1,6 @@
+pub mod Quitting
+pub mod Putting
+pub mod Refusing
+pub mod Deciding
+pub mod Concluding
+pub mod Working

@@ -1,0 +1,2 @@
+mod SimpleUsage
+mod UsageOfWords
