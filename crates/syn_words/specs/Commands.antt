@@ -2,6 +2,7 @@
 use Rattle.std.specs.Prelude.{ℕ, Bool, true, false, min, max, map, option_map, if◌then◌else◌, List, [], ◌∷◌, Option, Some, None, Result, Ok, Err, bytes_eq, codes}
 use Rattle.syn_words.specs.declared.words.Phrase.{Phrase}
 use Rattle.syn_words.specs.Forms.{and_then, given_by}
+use Rattle.syn_words.specs.Formats.{network_file}
 use Rattle.syn_words.specs.Texts.{echoed}
 use Rattle.syn_words.specs.Quotes.{meant}
 use Rattle.syn_words.specs.Help.{helped}
@@ -67,14 +68,19 @@ replace_limits given = record { gates = given_gates given.further; conflicts = g
 -- The command that reads a file in a format.
 abbrev pub reading : Format → List ℕ → Command
 reading formats.Blif name = commands.Read name
-reading formats.Aiger name = commands.ReadAiger name
-reading formats.AsciiAiger name = commands.ReadAiger name
+reading formats.Aiger name = commands.ReadAiger false name
+reading formats.AsciiAiger name = commands.ReadAiger false name
 
 -- The command that writes a file in a format; of AIGER it refuses a latch with a type.
 abbrev pub writing : Format → List ℕ → Command
 writing formats.Blif name = commands.Write name
 writing formats.Aiger name = commands.WriteAiger false false name
 writing formats.AsciiAiger name = commands.WriteAiger true false name
+
+-- The command that compares the network with a file, or a file with another, where one was given.
+abbrev pub comparing : ℕ → List ℕ → Option (List ℕ) → Command
+comparing conflicts name None = commands.Compare conflicts None (network_file name)
+comparing conflicts name (Some other) = commands.Compare conflicts (Some (network_file name)) (network_file other)
 
 -- The command that makes the network anew by a recipe.
 abbrev pub make : Recipe → Command
@@ -125,11 +131,14 @@ resyn2l =
 abbrev pub commands_of : Keyword → Given → List Command
 commands_of keywords.ReadBlif given = commands.Read (map meant given.name) ∷ []
 commands_of keywords.WriteBlif given = commands.Write (map meant given.name) ∷ []
-commands_of keywords.ReadAiger given = commands.ReadAiger (map meant given.name) ∷ []
+commands_of keywords.ReadAiger given = commands.ReadAiger given.flags.0 (map meant given.name) ∷ []
 commands_of keywords.WriteAiger given = commands.WriteAiger given.flags.0 given.flags.1 (map meant given.name) ∷ []
 commands_of keywords.Read given = reading given.format (map meant given.name) ∷ []
 commands_of keywords.Write given = writing given.format (map meant given.name) ∷ []
 commands_of keywords.PrintStats given = commands.Stats ∷ []
+commands_of keywords.PrintLevels given = commands.Levels ∷ []
+commands_of keywords.Compare given = comparing (given_conflicts given.number) (map meant given.name) (option_map (map meant) given.other) ∷ []
+commands_of keywords.Time given = commands.Time ∷ []
 commands_of keywords.Echo given = commands.Print (echoed given.words) ∷ []
 commands_of keywords.Help given = commands.Print (helped given.topic) ∷ []
 commands_of keywords.Quit given = commands.Quit ∷ []

@@ -1,16 +1,17 @@
 //! What a command's name spells with what was given behind it.
 
-ghost use Rattle.std.specs.Prelude.{◌≡◌, ◌⊎◌, [], ◌∷◌, Err, Ok, IfOk, OnOk, IfErr, None, option_map};
+ghost use Rattle.std.specs.Prelude.{◌≡◌, ◌⊎◌, [], ◌∷◌, Err, Ok, IfOk, OnOk, IfErr, None, map, option_map};
 ghost use Rattle.syn_words.specs.Help.{helped};
+ghost use Rattle.syn_words.specs.Quotes.{meant};
 ghost use Rattle.syn_words.specs.Texts.{echoed};
-ghost use Rattle.syn_words.specs.Commands.{commands_of, gates_of, given_conflicts, given_gates, given_limits, given_options, inputs_of, options, reading, replace_limits, resyn, resyn2, resyn2l, said, size_of, workers_of, writing};
+ghost use Rattle.syn_words.specs.Commands.{commands_of, comparing, gates_of, given_conflicts, given_gates, given_limits, given_options, inputs_of, options, reading, replace_limits, resyn, resyn2, resyn2l, said, size_of, workers_of, writing};
 ghost use Rattle.syn_words.specs.Scripts.{said_onto};
 ghost use Rattle.syn_words.specs.declared.Command.TheVariants as commands;
 
-use crate::formats::Format;
+use crate::formats::{Format, NetworkFile};
 use crate::help::helped;
 use crate::inputs::LutInputs;
-use crate::names::FileName;
+use crate::names::{FileName, WordText};
 use crate::recipes::{PassOptions, Recipe, ReplaceLimits, SearchLimits};
 use crate::table::{Keyword, MAX_CONFLICTS, MAX_GATES, MAX_TABLES, entry_of};
 use crate::texts::echoed;
@@ -137,13 +138,20 @@ fn make(alloc: Global, recipe: Recipe) -> Result<Vec<Command>, AllocError>
     one(alloc, Command::Make(recipe))
 }
 
+// The command that reads an AIGER file.
+fn reading_aiger(properties: bool, name: FileName) -> Command
+    ensures { result ≡ commands.ReadAiger properties name }
+{
+    Command::ReadAiger { properties, name }
+}
+
 // The command that reads a file in this format.
 fn reading(format: Format, name: FileName) -> Command
     ensures { result ≡ reading format name }
 {
     match format {
         Format::Blif => Command::Read(name),
-        Format::Aiger | Format::AsciiAiger => Command::ReadAiger(name),
+        Format::Aiger | Format::AsciiAiger => reading_aiger(false, name),
     }
 }
 
@@ -166,6 +174,32 @@ fn writing(format: Format, name: FileName) -> Command
         Format::Blif => Command::Write(name),
         Format::Aiger => writing_aiger(false, false, name),
         Format::AsciiAiger => writing_aiger(true, false, name),
+    }
+}
+
+// The command that compares the network with a file, or a file with another where one was given.
+fn comparing(
+    alloc: Global,
+    conflicts: u32,
+    name: FileName,
+    other: Option<WordText<'_>>,
+) -> Result<Command, AllocError>
+    ensures { IfOk result (λ c. c ≡ comparing conflicts name (option_map (map meant) other.entry)) }
+{
+    match other {
+        None => Ok(Command::Compare {
+            conflicts,
+            first: None,
+            second: NetworkFile::of(name),
+        }),
+        Some(other) => {
+            let second = FileName::of(alloc, other)?;
+            Ok(Command::Compare {
+                conflicts,
+                first: Some(NetworkFile::of(name)),
+                second: NetworkFile::of(second),
+            })
+        }
     }
 }
 
@@ -255,11 +289,17 @@ fn commands_of(
     match keyword {
         Keyword::ReadBlif => one(alloc, Command::Read(name)),
         Keyword::WriteBlif => one(alloc, Command::Write(name)),
-        Keyword::ReadAiger => one(alloc, Command::ReadAiger(name)),
+        Keyword::ReadAiger => one(alloc, reading_aiger(flag, name)),
         Keyword::WriteAiger => one(alloc, writing_aiger(flag, given.flags.1, name)),
         Keyword::Read => one(alloc, reading(given.format, name)),
         Keyword::Write => one(alloc, writing(given.format, name)),
         Keyword::PrintStats => one(alloc, Command::Stats),
+        Keyword::PrintLevels => one(alloc, Command::Levels),
+        Keyword::Compare => one(
+            alloc,
+            comparing(alloc, limits.conflicts, name, given.other)?,
+        ),
+        Keyword::Time => one(alloc, Command::Time),
         Keyword::Echo => one(alloc, Command::Print(echoed(alloc, given.words)?)),
         Keyword::Help => one(alloc, Command::Print(helped(alloc, given.topic)?)),
         Keyword::Quit => one(alloc, Command::Quit),
