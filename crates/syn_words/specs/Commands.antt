@@ -13,6 +13,7 @@ use Rattle.syn_words.specs.declared.formats.Format.TheVariants as formats
 use Rattle.syn_words.specs.declared.word_reader.Given.{Given}
 use Rattle.syn_words.specs.declared.table.Keyword.{Keyword}
 use Rattle.syn_words.specs.declared.table.Keyword.TheVariants as keywords
+use Rattle.syn_words.specs.declared.inputs.LutSizes.{LutSizes}
 use Rattle.syn_words.specs.declared.recipes.PassOptions.{PassOptions}
 use Rattle.syn_words.specs.declared.recipes.ReplaceLimits.{ReplaceLimits}
 use Rattle.syn_words.specs.declared.recipes.SearchLimits.{SearchLimits}
@@ -30,6 +31,14 @@ workers_of number = max 1 (min number 16)
 -- A number of inputs, 2 at least and 8 at most, likewise.
 abbrev pub inputs_of : ℕ → ℕ
 inputs_of number = max 2 (min number 8)
+
+-- LUTs of so many inputs at most that all cost the same: a thousand thousandths each.
+abbrev pub luts_alike : ℕ → LutSizes
+luts_alike most = record { most = most; areas = 1000 ∷ 1000 ∷ 1000 ∷ 1000 ∷ 1000 ∷ 1000 ∷ 1000 ∷ 1000 ∷ [] }
+
+-- The same by a number that was given.
+abbrev pub luts_of : ℕ → LutSizes
+luts_of number = luts_alike (inputs_of number)
 
 -- A number of tables, 32768 at most, likewise.
 abbrev pub size_of : ℕ → ℕ
@@ -159,7 +168,7 @@ commands_of keywords.Resubstitute given = make (recipes.Resubstitute (given_opti
 commands_of keywords.ResubstituteZero given = make (recipes.Resubstitute (given_options true given)) ∷ []
 commands_of keywords.Merge given = make (recipes.Merge (given_limits given)) ∷ []
 commands_of keywords.Replace given = make (recipes.Replace (replace_limits given)) ∷ []
-commands_of keywords.Map given = make (recipes.Map given.flags.0 (option_map inputs_of given.number)) ∷ []
+commands_of keywords.Map given = make (recipes.Map given.flags.0 (option_map luts_of given.number)) ∷ []
 commands_of keywords.MapByFlow given = make (recipes.MapByFlow (option_map inputs_of given.number)) ∷ []
 commands_of keywords.Sweep given = make recipes.Sweep ∷ []
 

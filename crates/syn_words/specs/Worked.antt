@@ -1,7 +1,7 @@
 -- Worked scripts with their commands, texts with their first faults, and words read by forms.
 use Rattle.std.specs.Prelude.{◌≡◌, true, false, ℕ, Bool, List, [], ◌∷◌, ◌++◌, Option, Some, None, Result, Ok, Err, codes}
 use Rattle.syn_words.specs.Words.{words_at}
-use Rattle.syn_words.specs.Commands.{options}
+use Rattle.syn_words.specs.Commands.{luts_alike, options}
 use Rattle.syn_words.specs.Help.{overview}
 use Rattle.syn_words.specs.Table.{conflicts_and_names, flags_and_name}
 use Rattle.syn_words.specs.Flags.{Flags}
@@ -63,8 +63,8 @@ pub record WorkedScripts : Type 0 where
   pub hyphen_is_a_name : IsScript (codes "read_blif -a") (Read (codes "-a") ∷ [])
   pub rewriting : IsScript (codes "rw; rewrite -w 4 -z; rwz") (Make (Rewrite (options false false None)) ∷ Make (Rewrite (options true false (Some 4))) ∷ Make (Rewrite (options true false None)) ∷ [])
   pub refactoring : IsScript (codes "rf; refactor -w 4 -z; rfz -w 2") (Make (Refactor (options false false None)) ∷ Make (Refactor (options true false (Some 4))) ∷ Make (Refactor (options true false (Some 2))) ∷ [])
-  pub mapping : IsScript (codes "if; if -K 2; if -K 008") (Make (Map false None) ∷ Make (Map false (Some 2)) ∷ Make (Map false (Some 8)) ∷ [])
-  pub mapping_for_area : IsScript (codes "if -a; if -a -K 4; if -K 4 -a") (Make (Map true None) ∷ Make (Map true (Some 4)) ∷ Make (Map true (Some 4)) ∷ [])
+  pub mapping : IsScript (codes "if; if -K 2; if -K 008") (Make (Map false None) ∷ Make (Map false (Some (luts_alike 2))) ∷ Make (Map false (Some (luts_alike 8))) ∷ [])
+  pub mapping_for_area : IsScript (codes "if -a; if -a -K 4; if -K 4 -a") (Make (Map true None) ∷ Make (Map true (Some (luts_alike 4))) ∷ Make (Map true (Some (luts_alike 4))) ∷ [])
   pub mapping_by_flow : IsScript (codes "flowmap; flowmap -K 2; flowmap -K 8") (Make (MapByFlow None) ∷ Make (MapByFlow (Some 2)) ∷ Make (MapByFlow (Some 8)) ∷ [])
   pub ten_commands : IsScript (codes "resyn2")
       (Make Balance ∷ Make (Rewrite (options false false None)) ∷ Make (Refactor (options false false None)) ∷ Make Balance ∷ Make (Rewrite (options false false None)) ∷ Make (Rewrite (options true false None)) ∷ Make Balance ∷ Make (Refactor (options true false None)) ∷ Make (Rewrite (options true false None)) ∷ Make Balance ∷ [])
@@ -91,7 +91,7 @@ pub record WorkedScripts : Type 0 where
       (Print (codes "sresub, srs [-N N] [-C N] [-L]: replaces nodes by others, or by new ANDs, that are proved to have their values" ++ 10 ∷ codes "  -N N  at most N new ANDs in place of a node, 1 or 2, by default 1" ++ 10 ∷ codes "  -C N  at most N conflicts a question, 0 to 1000000, by default 100" ++ 10 ∷ codes "  -L    keeps levels: no observed signal gets deeper" ++ 10 ∷ []) ∷ [])
   pub leaving : IsScript (codes "q; quit; exit; ps") (Quit ∷ Quit ∷ Quit ∷ Stats ∷ [])
   pub sourcing : IsScript (codes "source a.abc; dress b; ps") (Source (codes "a.abc") ∷ Stats ∷ [])
-  pub reading_luts : IsScript (codes "read_lut l; if -K 6") (ReadLuts (codes "l") ∷ Make (Map false (Some 6)) ∷ [])
+  pub reading_luts : IsScript (codes "read_lut l; if -K 6") (ReadLuts (codes "l") ∷ Make (Map false (Some (luts_alike 6))) ∷ [])
   pub generated : IsScript (codes "gen 18446744073709551615 32768; ps") (Generate 18446744073709551615 32768 ∷ Stats ∷ [])
   pub sweeping : IsScript (codes "read_blif a; scl; ps") (Read (codes "a") ∷ Make Sweep ∷ Stats ∷ [])
   pub resubstitution : IsScript (codes "rs; resub -w 4 -z; rsz -w 2") (Make (Resubstitute (options false false None)) ∷ Make (Resubstitute (options true false (Some 4))) ∷ Make (Resubstitute (options true false (Some 2))) ∷ [])

@@ -39,7 +39,7 @@ mod words;
 pub use files::{FileFault, parse_file};
 pub use formats::NetworkFile;
 pub use forms::NumberRange;
-pub use inputs::LutInputs;
+pub use inputs::{LutInputs, LutSizes};
 pub use laws::{
     either_or, not_both, one_fault, one_script, worked_files, worked_forms, worked_scripts,
 };

@@ -4,13 +4,13 @@ ghost use Rattle.std.specs.Prelude.{◌≡◌, ◌⊎◌, [], ◌∷◌, Err, Ok
 ghost use Rattle.syn_words.specs.Help.{helped};
 ghost use Rattle.syn_words.specs.Quotes.{meant};
 ghost use Rattle.syn_words.specs.Texts.{echoed};
-ghost use Rattle.syn_words.specs.Commands.{commands_of, comparing, gates_of, given_conflicts, given_gates, given_limits, given_options, inputs_of, options, reading, replace_limits, resyn, resyn2, resyn2l, said, size_of, workers_of, writing};
+ghost use Rattle.syn_words.specs.Commands.{commands_of, comparing, gates_of, given_conflicts, given_gates, given_limits, given_options, inputs_of, luts_of, options, reading, replace_limits, resyn, resyn2, resyn2l, said, size_of, workers_of, writing};
 ghost use Rattle.syn_words.specs.Scripts.{said_onto};
 ghost use Rattle.syn_words.specs.declared.Command.TheVariants as commands;
 
 use crate::formats::{Format, NetworkFile};
 use crate::help::helped;
-use crate::inputs::LutInputs;
+use crate::inputs::{LutInputs, LutSizes};
 use crate::names::{FileName, WordText};
 use crate::recipes::{PassOptions, Recipe, ReplaceLimits, SearchLimits};
 use crate::table::{Keyword, MAX_CONFLICTS, MAX_GATES, MAX_TABLES, entry_of};
@@ -82,6 +82,16 @@ fn given_inputs(number: Option<u64>) -> Option<LutInputs>
 {
     match number {
         Some(number) => Some(LutInputs::of(number)),
+        None => None,
+    }
+}
+
+// The LUTs of as many inputs as were given, if any.
+fn given_luts(number: Option<u64>) -> Option<LutSizes>
+    ensures { result ≡ option_map luts_of number }
+{
+    match number {
+        Some(number) => Some(LutSizes::alike(number)),
         None => None,
     }
 }
@@ -283,6 +293,7 @@ fn commands_of(
     let zero = given_options(true, &given);
     let limits = given_limits(&given);
     let replacing = replace_limits(&given);
+    let luts = given_luts(given.number);
     let inputs = given_inputs(given.number);
     let (seed, size) = (given.numbers.0, size_of(given.numbers.1));
     let name = FileName::of(alloc, given.name)?;
@@ -320,7 +331,7 @@ fn commands_of(
         Keyword::ResubstituteZero => make(alloc, Recipe::Resubstitute(zero)),
         Keyword::Merge => make(alloc, Recipe::Merge(limits)),
         Keyword::Replace => make(alloc, Recipe::Replace(replacing)),
-        Keyword::Map => make(alloc, Recipe::Map { area: flag, inputs }),
+        Keyword::Map => make(alloc, Recipe::Map { area: flag, luts }),
         Keyword::MapByFlow => make(alloc, Recipe::MapByFlow(inputs)),
         Keyword::Sweep => make(alloc, Recipe::Sweep),
     }
