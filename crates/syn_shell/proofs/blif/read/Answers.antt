@@ -2,7 +2,7 @@ use Rattle.std.proofs.Common.{◌≤◌, ◌<◌, ◌^◌, length, subst, arith}
 use Rattle.syn_netlist.specs.Lists.{Frame, sources}
 use Rattle.syn_netlist.specs.Views.{netlist_in}
 use Rattle.syn_reader.specs.Limits.{most_sources}
-use Rattle.syn_shell.proofs.session.read.Goals as goal
+use Rattle.syn_shell.proofs.blif.read.Goals as goal
 
 pub returns-clause-small : goal.returns-clause-small
 returns-clause-small g c =
