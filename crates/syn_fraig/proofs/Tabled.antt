@@ -10,7 +10,7 @@ use Rattle.syn_rows.specs.declared.Row.{Row}
 use Rattle.syn_rows.specs.declared.Row.TheVariants.{Free, Source, And, Alias}
 use Rattle.syn_rows.specs.Joining.{complement}
 use Rattle.syn_rows.specs.Rows.{node_of, row_at}
-use Rattle.syn_rows.specs.Values.{Fits, is_open, lit_value, row_value}
+use Rattle.syn_rows.specs.Values.{Fits, is_open, lit_value}
 use Rattle.syn_rows.proofs.JoinLaws.{complement_value, opposite_value, same_lit}
 use Rattle.syn_rows.proofs.Folds.{lit_value-same, one_valuation_is, values_step}
 use Rattle.syn_hashed.specs.Hashed.{IsHashed, is_gate, lit_at}
