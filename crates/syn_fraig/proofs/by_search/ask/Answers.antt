@@ -1,6 +1,6 @@
 use Rattle.std.proofs.Common.{sym, ◌∙◌, arith}
 use Rattle.syn_fraig.proofs.Asked.{plain, plain_of}
-use Rattle.syn_fraig.proofs.sweep.ask.Goals as goal
+use Rattle.syn_fraig.proofs.by_search.ask.Goals as goal
 
 pub merge_if-requires-clause-same : goal.merge_if-requires-clause-same
 merge_if-requires-clause-same c = λ e v f.
