@@ -82,7 +82,6 @@ fn count_levels(counts: &mut [u64], levels: &[u32])
     requires there { All (λ level. level < length counts.old) levels.now }
     requires none { (n : ℕ) → slice_index_or counts.old n 0 ≡ 0 }
     ensures { (n : ℕ) → slice_index_or counts.new n 0 ≡ how_many n levels.now }
-    ensures count { length counts.new ≡ length counts.old }
 {
     for level in levels {
         count_level(counts, *level);
