@@ -45,7 +45,7 @@ pub fn graph_levels(alloc: Global, graph: &Graph) -> Result<Vec<u32>, AllocError
 pub fn lut_levels(alloc: Global, net: &LutNet) -> Result<Vec<u32>, AllocError>
     ensures { IfOk result (λ v. v.items ≡ map (λ l. depth_in (signal_depths net.now.source_count (luts_data net.now.luts)) (node_of l)) net.now.observed) }
 {
-    let depths = syn_lutnet::depths(alloc, net.source_count, net.luts.as_slice())?;
+    let depths = syn_lutnet::signal_depths(alloc, net.source_count, net.luts.as_slice())?;
     levels_at(alloc, depths.as_slice(), net.observed.as_slice())
 }
 

@@ -2,6 +2,7 @@
 //! and the pieces of which lines are made.
 #![tactic(auto)]
 
+mod comparisons;
 mod levels;
 mod pieces;
 mod seconds;
