@@ -7,6 +7,7 @@ mod levels;
 mod pieces;
 mod seconds;
 
+pub use comparisons::comparison_text;
 pub use levels::{graph_levels, levels_text, lut_levels};
 pub use pieces::{push_counted, push_number, push_text};
 pub use seconds::seconds_text;
