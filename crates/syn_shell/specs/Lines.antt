@@ -1,5 +1,5 @@
 -- The lines that are printed: a network's numbers, and refusals.
-use Rattle.std.specs.Prelude.{◌≡◌, ℕ, Bool, true, false, max, ◌++◌, List, [], ◌∷◌, length, map, flat_map, codes, decimal, Option, Some, None}
+use Rattle.std.specs.Prelude.{◌≡◌, ℕ, Bool, true, false, ◌++◌, List, [], ◌∷◌, length, map, flat_map, codes, decimal, Option, Some, None}
 use Rattle.syn_rows.specs.Rows.{node_of}
 use Rattle.syn_rows.specs.Reach.{Ands}
 use Rattle.syn_rows.specs.Levels.{level_in, levels_of}
@@ -8,7 +8,7 @@ use Rattle.syn_network.specs.GraphShape.{rows_of, observed_of}
 use Rattle.syn_lutnet.specs.LutData.{depth_in, signal_depths}
 use Rattle.syn_network.specs.LutShape.{count_of, depth_of, luts_of}
 use Rattle.syn_network.specs.LutShape as shape
-use Rattle.syn_report.specs.Levels.{levels_text}
+use Rattle.syn_report.specs.Levels.{greatest, levels_text}
 use Rattle.syn_words.specs.declared.ScriptFault.{ScriptFault}
 use Rattle.syn_words.specs.declared.ScriptFault.TheVariants as script
 use Rattle.syn_reader.specs.declared.ReadFault.{ReadFault}
@@ -23,11 +23,6 @@ use Rattle.syn_shell.specs.declared.refusal.FileCause.{FileCause}
 use Rattle.syn_shell.specs.declared.refusal.FileCause.TheVariants as causes
 use Rattle.syn_shell.specs.declared.refusal.Refusal.{Refusal}
 use Rattle.syn_shell.specs.declared.refusal.Refusal.TheVariants.{Words, Script, CommandFile, Read, ReadAiger, ReadLuts, NotRead, Unmatched, FileTooLong, LineTooLong, CommandFileTooLong, TooDeep, TooManyLines, TooManyGates, LatchType, NoNetwork, GetFailed, PutFailed, LineFailed, SinkFailed, NoMemory}
-
--- the greatest number of a list, 0 where it is empty
-abbrev pub greatest : List ℕ → ℕ
-greatest [] = 0
-greatest (n ∷ ns) = max n (greatest ns)
 
 -- the greatest level of an observed node of the rows that a netlist spells
 abbrev pub greatest_level : Netlist → ℕ
