@@ -1,6 +1,6 @@
 use Rattle.std.proofs.Common.{◌≡◌, ◌∷◌, ◌++◌, [], List, ℕ, decimal, ap, ap₂, ◌∙◌, arith}
-use Rattle.syn_aiger.proofs.Called.{numbered_word}
-use Rattle.syn_aiger.proofs.first_names.numbered.Goals as goal
+use Rattle.syn_aiger_files.proofs.Called.{numbered_word}
+use Rattle.syn_aiger_files.proofs.first_names.numbered.Goals as goal
 
 pub returns-clause-word : goal.returns-clause-word
 returns-clause-word c =

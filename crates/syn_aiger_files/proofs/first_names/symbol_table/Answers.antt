@@ -2,9 +2,9 @@ use Rattle.std.proofs.Common.{◌≡◌, ◌+◌, ◌-◌, ◌<◌, List, ℕ, l
 use Rattle.std.specs.Vec.{with_items}
 use Rattle.std.proofs.lemmas.List.{with_items_is}
 use Rattle.syn_aiger_files.specs.Symbols.{is_at}
-use Rattle.syn_aiger.specs.Keeping.{symbol_by}
-use Rattle.syn_aiger.proofs.Called.{table_step}
-use Rattle.syn_aiger.proofs.first_names.symbol_table.Goals as goal
+use Rattle.syn_aiger_files.specs.FirstNames.{symbol_by}
+use Rattle.syn_aiger_files.proofs.Called.{table_step}
+use Rattle.syn_aiger_files.proofs.first_names.symbol_table.Goals as goal
 
 pub loop-k-preserved : goal.loop-k-preserved
 loop-k-preserved c =

@@ -1,15 +1,18 @@
-//! What sources and outputs are first called: by their symbols, else by a letter and a number.
+//! What inputs, latches and outputs are first called: by their symbols, else by a letter and a
+//! number; and the symbols that bad states and constraints have as outputs.
 
-ghost use Rattle.std.specs.Prelude.{◌≡◌, ◌+◌, ◌<◌, ◌^◌, ◌∷◌, ◌&&◌, if◌then◌else◌, ℕ, decimal, find, length, slice_index, true, IfOk, OnOk};
+ghost use Rattle.std.specs.Prelude.{◌≡◌, ◌+◌, ◌<◌, ◌^◌, ◌∷◌, ◌++◌, ◌&&◌, if◌then◌else◌, ℕ, decimal, find, length, slice_index, true, IfOk, OnOk};
 ghost use Rattle.std.specs.List.{list_all};
 ghost use Rattle.syn_netlist.specs.Words.{is_word, is_word_byte};
+ghost use Rattle.syn_aiger_files.specs.FirstNames.{as_outputs, first_name, symbol_by, with_properties};
+ghost use Rattle.syn_aiger_files.specs.Headers.{HeaderFits};
 ghost use Rattle.syn_aiger_files.specs.Symbols.{is_at, letter_of};
-ghost use Rattle.syn_aiger.specs.Keeping.{symbol_by};
-ghost use Rattle.syn_aiger.specs.Naming.{first_name};
 
+use crate::files::{Header, Place, Symbol};
+use crate::printer::letter_of;
 use itoa::Buffer;
 use std::alloc::{AllocError, Global};
-use syn_aiger_files::{Place, Symbol, letter_of};
+use syn_lists::Items;
 
 /// The letter and the digits of the number, as a word.
 pub fn numbered(alloc: Global, letter: u8, number: u32) -> Result<Vec<u8>, AllocError>
@@ -100,4 +103,64 @@ pub fn first_name(
         }
     }
     numbered(alloc, letter_of(place), index)
+}
+
+// Appends, for so many of a place, the symbols of outputs from an index on.
+fn push_as_outputs(
+    alloc: Global,
+    symbols: &[Symbol],
+    place: Place,
+    output: u32,
+    count: u32,
+    made: &mut Vec<Symbol>,
+) -> Result<(), AllocError>
+    requires { output + count < 2 ^ 32 }
+    ensures { OnOk result (made.new.items ≡ made.old.items ++ as_outputs symbols.now place 0 output count) }
+{
+    let table = symbol_table(alloc, symbols, place, count as usize)?;
+    let numbers = table.as_slice();
+    for k in 0..count {
+        let name = first_name(alloc, symbols, numbers[k as usize], place, k)?;
+        made.push(Symbol {
+            place: Place::Output,
+            index: output + k,
+            name: Items::of(name),
+        })?;
+    }
+    Ok(())
+}
+
+/// The symbols of a file, in front of which each bad state and each constraint has one as an output behind the file's own.
+pub fn with_properties(
+    alloc: Global,
+    h: &Header,
+    mut symbols: Vec<Symbol>,
+) -> Result<Vec<Symbol>, AllocError>
+    requires { HeaderFits h.now }
+    ensures { IfOk result (λ v. v.items ≡ with_properties h.now symbols.items) }
+{
+    let further = h.further;
+    if further.bad == 0 && further.constraints == 0 {
+        return Ok(symbols);
+    }
+    let mut made = Vec::new(alloc);
+    push_as_outputs(
+        alloc,
+        &symbols,
+        Place::Bad,
+        h.outputs,
+        further.bad,
+        &mut made,
+    )?;
+    let output = h.outputs + further.bad;
+    push_as_outputs(
+        alloc,
+        &symbols,
+        Place::Constraint,
+        output,
+        further.constraints,
+        &mut made,
+    )?;
+    made.append(&mut symbols)?;
+    Ok(made)
 }

@@ -1,10 +1,10 @@
 use Rattle.std.proofs.Common.{◌≡◌, ◌-◌, ◌∷◌, decimal, refl, sym, ap, inl, inr, arith, ◌∙◌}
 use Rattle.syn_netlist.specs.Words.{is_word}
 use Rattle.syn_aiger_files.specs.declared.files.Symbol.{Symbol}
-use Rattle.syn_aiger.specs.Naming.{first_name}
-use Rattle.syn_aiger.proofs.Called.{called_by_number, called_by_symbol, called_no_word, if_ok, none_by}
-use Rattle.syn_aiger.proofs.first_names.first_name.Goals as goal
-use Rattle.syn_aiger.proofs.first_names.first_name.Goals.{then-number-gt0+then-number-symbols+else-is_word, else-number-gt0, else-number-gt0-via-then-number-gt0+else-number-symbols, else-number-gt0-via-else-number-gt0}
+use Rattle.syn_aiger_files.specs.FirstNames.{first_name}
+use Rattle.syn_aiger_files.proofs.Called.{called_by_number, called_by_symbol, called_no_word, if_ok, none_by}
+use Rattle.syn_aiger_files.proofs.first_names.first_name.Goals as goal
+use Rattle.syn_aiger_files.proofs.first_names.first_name.Goals.{then-number-gt0+then-number-symbols+else-is_word, else-number-gt0, else-number-gt0-via-then-number-gt0+else-number-symbols, else-number-gt0-via-else-number-gt0}
 
 pub returns-then-is_word-clause-name : goal.returns-then-is_word-clause-name
 returns-then-is_word-clause-name c =

@@ -1,7 +1,7 @@
 use Rattle.std.proofs.Common.{◌≡◌, ◌<◌, ℕ, drop, find, length, slice_index}
 use Rattle.syn_aiger_files.specs.Symbols.{is_at}
-use Rattle.syn_aiger.specs.Keeping.{symbol_by}
-use Rattle.syn_aiger.proofs.first_names.symbol_table.Given as goal
+use Rattle.syn_aiger_files.specs.FirstNames.{symbol_by}
+use Rattle.syn_aiger_files.proofs.first_names.symbol_table.Given as goal
 
 abbrev pub invariant-loop-k : goal.invariant-loop-k
 invariant-loop-k l = record {

@@ -11,8 +11,7 @@ use Rattle.syn_netlist.specs.Words.{is_word, is_word_byte}
 use Rattle.syn_aiger_files.specs.declared.files.Place.{Place}
 use Rattle.syn_aiger_files.specs.declared.files.Symbol.{Symbol}
 use Rattle.syn_aiger_files.specs.Symbols.{is_at, letter_of}
-use Rattle.syn_aiger.specs.Keeping.{symbol_at, symbol_by}
-use Rattle.syn_aiger.specs.Naming.{first_name, word_or}
+use Rattle.syn_aiger_files.specs.FirstNames.{first_name, nth_symbol, symbol_by, word_or}
 
 pub decimal_word : (n : ℕ) → n < 2 ^ 64 → list_all is_word_byte (decimal n) ≡ true
 decimal_word zero lt = ap (list_all is_word_byte) (decimal_digit 0 (omega arith))
@@ -27,16 +26,16 @@ numbered_word w letter n e h l = ap is_word e ∙ and_from (is_word_byte letter)
 
 -- the table of symbols
 
-symbol_there : (ss : List Symbol) (j : ℕ) (s : Symbol) (rest : List Symbol) → drop j ss ≡ s ∷ rest → symbol_at ss j ≡ Some s
+symbol_there : (ss : List Symbol) (j : ℕ) (s : Symbol) (rest : List Symbol) → drop j ss ≡ s ∷ rest → nth_symbol ss j ≡ Some s
 symbol_there [] zero s rest e = absurd (cc)
 symbol_there [] (suc j) s rest e = absurd (cc)
 symbol_there (x ∷ ss) zero s rest e = let q : x ≡ s = cc in ap (λ (y : Symbol). Some y) q
 symbol_there (x ∷ ss) (suc j) s rest e = symbol_there ss j s rest e
 
-pub symbol_is : (ss : List Symbol) (j : ℕ) (s : Symbol) → j < length ss → s ≡ get_or ss j s → symbol_at ss j ≡ Some s
+pub symbol_is : (ss : List Symbol) (j : ℕ) (s : Symbol) → j < length ss → s ≡ get_or ss j s → nth_symbol ss j ≡ Some s
 symbol_is ss j s l is = symbol_there ss j s (drop (j + 1) ss) (drop_more ss j s l ∙ ap (λ (x : Symbol). x ∷ drop (j + 1) ss) (sym is))
 
-pub symbol_past : (ss : List Symbol) (j : ℕ) → length ss ≤ j → symbol_at ss j ≡ None
+pub symbol_past : (ss : List Symbol) (j : ℕ) → length ss ≤ j → nth_symbol ss j ≡ None
 symbol_past [] j l = refl
 symbol_past (x ∷ ss) zero l = absurd (omega arith)
 symbol_past (x ∷ ss) (suc j) l = symbol_past ss j (omega arith)
