@@ -1,5 +1,5 @@
 -- Files of LUTs: a row a line, a number of inputs, an area, and delays.
-use Rattle.std.specs.Prelude.{ℕ, suc, ◌-◌, ◌^◌, nat_lt, max, min, ◌&&◌, ◌||◌, ◌==◌, not, Bool, true, if◌then◌else◌, List, [], ◌∷◌, take, drop, slice_index_or, slice_set, Option, Some, None, Result, Ok, Err}
+use Rattle.std.specs.Prelude.{ℕ, suc, ◌-◌, ◌^◌, nat_lt, max, min, ◌&&◌, ◌||◌, ◌==◌, not, Bool, true, if◌then◌else◌, List, [], ◌∷◌, take, drop, slice_index_or, slice_set, replicate, Option, Some, None, Result, Ok, Err}
 use Rattle.syn_lex.specs.Pieces.{before, pieces}
 use Rattle.syn_lex.specs.Words.{Word, words_by}
 use Rattle.syn_words.specs.declared.forms.NumberRange.{NumberRange}
@@ -7,7 +7,6 @@ use Rattle.syn_command_files.specs.declared.luts.LutFileFault.{LutFileFault}
 use Rattle.syn_command_files.specs.declared.luts.LutFileFault.TheVariants.{Line}
 use Rattle.syn_command_files.specs.declared.luts.LutRow.{LutRow}
 use Rattle.syn_words.specs.declared.inputs.LutSizes.{LutSizes}
-use Rattle.syn_command_files.specs.declared.TheConstants.{NO_AREAS}
 use Rattle.syn_words.specs.Numbers.{is_number, number_after, number_in, number_of}
 
 -- A byte of a word: all but blanks, tabs and CRs.
@@ -53,6 +52,10 @@ three_digits digits = digit_at digits 0 ∷ digit_at digits 1 ∷ digit_at digit
 abbrev pub most_area : ℕ
 most_area = 2 ^ 32 - 1
 
+-- no area of a LUT of one to eight inputs is told
+abbrev pub no_areas : List ℕ
+no_areas = replicate 8 most_area
+
 -- How many thousandths a number is, of whose fraction three digits count; the greatest area where it is more.
 abbrev pub thousandths : List ℕ → ℕ
 thousandths text =
@@ -94,7 +97,7 @@ sizes_after line most areas (text ∷ texts) =
 
 -- What a file of LUTs says: the greatest number of inputs of its rows, which is 2 to 8, and the areas of LUTs of one to eight inputs, each by the last row of so many, the greatest area where there is none; or the number of the line of its first fault, from 1: the first line that is no row, and else the last line, 0 where there is none.
 abbrev pub sizes_in : List ℕ → Result LutSizes ℕ
-sizes_in text = sizes_after 0 0 NO_AREAS (pieces 10 text)
+sizes_in text = sizes_after 0 0 no_areas (pieces 10 text)
 
 -- The line that is told of a fault.
 abbrev pub line_of : LutFileFault → ℕ

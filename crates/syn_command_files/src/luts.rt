@@ -127,16 +127,23 @@ fn digit_at(digits: &[u8], place: usize) -> u8
     }
 }
 
+// A number with one more digit behind it, at most the greatest area.
+fn with_digit(number: u32, digit: u8) -> u32
+    ensures { result ≡ min most_area (number * 10 + (digit - 48)) }
+{
+    let digit = digit.saturating_sub(b'0') as u32;
+    number.saturating_mul(10).saturating_add(digit)
+}
+
 // The number that digits spell behind those of a number, at most the greatest area.
 fn number_after(number: u32, digits: &[u8]) -> u32
     ensures { result ≡ min most_area (number_after number digits.now) }
 {
-    let mut number = number;
+    let mut after = number;
     for digit in digits {
-        let digit = digit.saturating_sub(b'0');
-        number = number.saturating_mul(10).saturating_add(digit as u32);
+        after = with_digit(after, *digit);
     }
-    number
+    after
 }
 
 // How many thousandths a number with a fraction or none is, at most the greatest area.
