@@ -126,12 +126,12 @@ fn number_in(inputs: &Option<LutInputs>) -> u8
 }
 
 // The LUTs that are named: of six inputs at most, which all cost the same, where none are.
-fn luts_in(luts: &Option<LutSizes>) -> LutSizes
-    ensures { result ≡ luts_in luts.now }
+fn luts_in(sizes: &Option<LutSizes>) -> LutSizes
+    ensures { result ≡ luts_in sizes.now }
 {
-    match luts {
+    match sizes {
         None => LutSizes::usual(),
-        Some(luts) => *luts,
+        Some(sizes) => *sizes,
     }
 }
 
@@ -141,15 +141,15 @@ fn mapped_by<R: Threads + Sync>(
     alloc: Global,
     network: &Network,
     area: &bool,
-    luts: &Option<LutSizes>,
+    sizes: &Option<LutSizes>,
     workers: Workers,
 ) -> Result<LutNetwork, AllocError>
-    ensures { IfOk result (λ made. MakesOfGraph (recipes.Map area.now luts.now) (graph_network (graphs.network_of network.now)) (mapped_network (luts.network_of made))) }
+    ensures { IfOk result (λ made. MakesOfGraph (recipes.Map area.now sizes.now) (graph_network (graphs.network_of network.now)) (mapped_network (luts.network_of made))) }
 {
-    let luts = luts_in(luts);
-    let number = luts.most.number();
+    let sizes = luts_in(sizes);
+    let number = sizes.most.number();
     if *area {
-        let areas = luts.areas.as_slice();
+        let areas = sizes.areas.as_slice();
         let few = few_luts(rt, alloc, &network.body, number, areas, workers)?;
         mapped(alloc, network, few)
     } else {

@@ -1,6 +1,6 @@
 //! Texts that are put: how many observed signals have each level, seconds, and any other.
 
-ghost use Rattle.std.specs.Prelude.{◌≡◌, ℕ, List, Option, IfErr, IfOk, OnOk, Some};
+ghost use Rattle.std.specs.Prelude.{◌≡◌, ℕ, false, true, List, Option, IfErr, IfOk, OnOk, Some};
 ghost use Rattle.syn_report.specs.Seconds.{seconds_text};
 ghost use Rattle.syn_shell.specs.Lines.{IsLevelsText, levels_by};
 ghost use Rattle.syn_shell.specs.Networks.{network_of};
