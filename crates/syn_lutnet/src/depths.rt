@@ -57,7 +57,7 @@ fn lut_depth(depths: &[u32], inputs: &[u32]) -> u32
 
 /// The depths of all signals: of the constant and of so many sources 0, of a LUT one more than that of its deepest input.
 /// The only error is want of memory.
-pub fn depths(alloc: Global, source_count: u32, luts: &[Lut]) -> Result<Vec<u32>, AllocError>
+pub fn signal_depths(alloc: Global, source_count: u32, luts: &[Lut]) -> Result<Vec<u32>, AllocError>
     requires { source_count + 1 + length luts.now + 1 < 2 ^ 32 }
     ensures { IfOk result (λ v. v.items ≡ signal_depths source_count (luts_data luts.now)) }
 {

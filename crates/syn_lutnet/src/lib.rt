@@ -7,7 +7,7 @@ mod laws;
 mod luts;
 mod nets;
 
-pub use depths::{depths, greatest_depth};
+pub use depths::{greatest_depth, signal_depths};
 pub use laws::{deepest_is_observed, ones_give_table};
 pub use luts::{Lut, MAX_INPUTS};
 pub use nets::LutNet;

@@ -5,7 +5,7 @@ ghost use Rattle.syn_rows.specs.declared.TheConstants.{NODE_LIMIT};
 ghost use Rattle.syn_lutnet.specs.Data.{luts_data};
 ghost use Rattle.syn_lutnet.specs.LutData.{IsLutNet, net_depth, net_gates};
 
-use crate::depths::{deepest, depths};
+use crate::depths::{deepest, signal_depths};
 use crate::luts::Lut;
 use std::alloc::{AllocError, Global};
 use syn_lists::Items;
@@ -51,7 +51,7 @@ impl LutNet {
     pub fn depth(&self, alloc: Global) -> Result<u32, AllocError>
         ensures { IfOk result (λ d. d ≡ net_depth self.now.source_count (luts_data self.now.luts)) }
     {
-        let depths = depths(alloc, self.source_count, self.luts.as_slice())?;
+        let depths = signal_depths(alloc, self.source_count, self.luts.as_slice())?;
         Ok(deepest(depths.as_slice()))
     }
 

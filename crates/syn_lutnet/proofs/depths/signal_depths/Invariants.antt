@@ -1,7 +1,7 @@
 use Rattle.std.proofs.Common.{◌≡◌, ◌+◌, ◌≤◌, All, length, drop, vec_len}
 use Rattle.syn_lutnet.specs.LutData.{fold_luts, lut_depth, signal_depths}
 use Rattle.syn_lutnet.specs.Data.{luts_data}
-use Rattle.syn_lutnet.proofs.depths.depths.Given as goal
+use Rattle.syn_lutnet.proofs.depths.signal_depths.Given as goal
 
 abbrev pub invariant-loop-lut : goal.invariant-loop-lut
 invariant-loop-lut l = record {

@@ -3,7 +3,7 @@ use Rattle.std.proofs.lemmas.List.{length_push}
 use Rattle.syn_lutnet.specs.LutData.{depth_in, greatest, signal_depths}
 use Rattle.syn_lutnet.specs.Data.{lut_data, luts_data}
 use Rattle.syn_lutnet.proofs.LutDepths.{luts_next, depth_next, low_next}
-use Rattle.syn_lutnet.proofs.depths.depths.Goals as goal
+use Rattle.syn_lutnet.proofs.depths.signal_depths.Goals as goal
 
 pub loop-lut-preserved : goal.loop-lut-preserved
 loop-lut-preserved c =
