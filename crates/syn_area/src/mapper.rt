@@ -150,7 +150,8 @@ fn is_no_worse(
         return Ok(false);
     }
     let depth = net.depth(alloc)?;
-    Ok(depth <= plain.depth(alloc)?)
+    let most = plain.depth(alloc)?;
+    Ok(depth <= most)
 }
 
 // The first of two nets, where it is no dearer than the second and no deeper; else the second.

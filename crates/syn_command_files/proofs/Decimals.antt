@@ -21,10 +21,10 @@ clipped n digits = elim (cases_lt n most_area) [
 ]
 
 -- one digit more
-pub digit_more : (n next digit i : ℕ) (digits : List ℕ) → i < length digits → digit ≡ get_or digits i digit → next ≡ min most_area (n * 10 + (digit - 48))
+pub digit_more : (n next i : ℕ) (digits : List ℕ) → i < length digits → next ≡ min most_area (n * 10 + (get_or digits i 0 - 48))
     → min most_area (number_after next (drop (i + 1) digits)) ≡ min most_area (number_after n (drop i digits))
-digit_more n next digit i digits lt is e =
-    let split : drop i digits ≡ digit ∷ drop (i + 1) digits = drop_more digits i digit lt ∙ ap (λ d. d ∷ drop (i + 1) digits) (sym is) in
+digit_more n next i digits lt e =
+    let digit : ℕ = get_or digits i 0 in
     ap (λ m. min most_area (number_after m (drop (i + 1) digits))) e
     ∙ clipped (n * 10 + (digit - 48)) (drop (i + 1) digits)
-    ∙ ap (λ (ds : List ℕ). min most_area (number_after n ds)) (sym split)
+    ∙ ap (λ (ds : List ℕ). min most_area (number_after n ds)) (sym (drop_more digits i 0 lt))

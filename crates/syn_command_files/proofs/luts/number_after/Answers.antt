@@ -6,13 +6,15 @@ use Rattle.syn_command_files.proofs.Decimals.{digit_more}
 use Rattle.syn_command_files.proofs.luts.number_after.Goals as goal
 
 pub loop-digit-preserved : goal.loop-digit-preserved
-loop-digit-preserved c =
-    digit_more c.loop-digit.after c.with_digit.result c.digit-item.result c.loop-digit.digit-index c.args.digits.now c.loop-digit-test.true c.digit-item.is c.with_digit.ensures
-    ∙ c.loop-digit.invariant
+loop-digit-preserved c = record {
+  left =
+      digit_more c.loop-digit.after c.with_digit-after.result c.loop-digit.digit-index c.args.digits.now c.loop-digit-test.true c.with_digit-after.ensures
+      ∙ c.loop-digit.invariant.left;
+  few = omega (arith, c.with_digit-after.ensures);
+}
 
 pub returns : goal.returns
 returns c =
-    let low : c.loop-digit.after ≤ most_area = omega arith in
-    let own : c.loop-digit.after ≡ min most_area c.loop-digit.after = omega (arith, low) in
+    let own : c.loop-digit.after ≡ min most_area c.loop-digit.after = omega (arith, c.loop-digit.invariant.few) in
     let done = drop_all c.loop-digit.digit-index c.args.digits.now (omega (arith, c.loop-digit-test.false)) in
-    own ∙ ap (λ (ds : List ℕ). min most_area (number_after c.loop-digit.after ds)) (sym done) ∙ c.loop-digit.invariant
+    own ∙ ap (λ (ds : List ℕ). min most_area (number_after c.loop-digit.after ds)) (sym done) ∙ c.loop-digit.invariant.left
