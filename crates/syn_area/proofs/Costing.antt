@@ -1,7 +1,11 @@
 -- A LUT of more inputs costs no less.
-use Rattle.std.proofs.Common.{◌≡◌, ℕ, zero, suc, ◌+◌, ◌-◌, ◌≤◌, List, [], ◌∷◌, drop, ap, arith}
+use Rattle.std.proofs.Common.{◌≡◌, ℕ, zero, suc, ◌+◌, ◌-◌, ◌^◌, ◌≤◌, List, [], ◌∷◌, drop, ap, arith}
 use Rattle.std.proofs.lemmas.List.{drop-drop}
 use Rattle.syn_area.specs.Areas.{CostNeverFalls, least_area}
+
+pub low_area : (areas : List ℕ) → least_area areas ≤ 2 ^ 32 - 1
+low_area [] = omega arith
+low_area (area ∷ areas) = omega (arith, low_area areas)
 
 fewer_areas : (k : ℕ) (areas : List ℕ) → least_area areas ≤ least_area (drop k areas)
 fewer_areas zero areas = omega arith

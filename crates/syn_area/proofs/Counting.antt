@@ -5,6 +5,7 @@ use Rattle.std.proofs.lemmas.Bool.{cases_lt, or_cases, and_parts, both_ways, leb
 use Rattle.std.proofs.lemmas.List.{length-map}
 use Rattle.std.proofs.lemmas.List.Sums.{AllPass-from_list_all, sum_by-cons}
 use Rattle.std.proofs.lemmas.Nat.{mul-le}
+use Rattle.std.proofs.Math.Nat.{add-mul, one-mul}
 use Rattle.syn_rows.specs.Nodes.{has_node}
 use Rattle.syn_rows.proofs.Nodes.{has_here, has_there}
 use Rattle.syn_graph.specs.declared.Graph.{Graph}
@@ -96,8 +97,8 @@ plain_cheap k areas graph net nodes (own, is) all =
 
 -- LUTs that all cost the same
 each_costs : (c : ℕ) (f : Lut → ℕ) (luts : List Lut) → ((j : ℕ) → j < length luts → f (lut_at luts j) ≡ c) → sum_by f luts ≡ length luts * c
-each_costs c f [] each = refl
-each_costs c f (l ∷ ls) each = omega (arith, sum_by-cons f l ls, each 0 (omega arith), each_costs c f ls (λ j lt. each (suc j) (omega (arith, lt))))
+each_costs c f [] each = omega arith
+each_costs c f (l ∷ ls) each = omega (arith, add-mul (length ls) 1 c, one-mul c, sum_by-cons f l ls, each 0 (omega arith), each_costs c f ls (λ j lt. each (suc j) (omega (arith, lt))))
 
 alike_cost : (k : ℕ) (areas : List ℕ) (net : LutNet) → CostAlike k areas → none_exceeds k (luts_data net.luts) ≡ true → luts_cost areas (luts_data net.luts) ≡ length net.luts * cost_of areas 2
 alike_cost k areas net alike few =

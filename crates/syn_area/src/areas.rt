@@ -42,6 +42,13 @@ pub(crate) fn cost_of(areas: &[u32], inputs: usize) -> u32
     least_area(rest)
 }
 
+// What a LUT costs.
+fn cost_of_lut(areas: &[u32], lut: &Lut) -> u32
+    ensures { result ≡ cost_of areas.now (length lut.now.inputs.items) }
+{
+    cost_of(areas, lut.inputs.len())
+}
+
 /// What LUTs cost together.
 pub(crate) fn luts_cost(areas: &[u32], luts: &[Lut]) -> u64
     requires { length luts.now < NODE_LIMIT }
@@ -49,7 +56,7 @@ pub(crate) fn luts_cost(areas: &[u32], luts: &[Lut]) -> u64
 {
     let mut cost = 0;
     for lut in luts {
-        let more = cost_of(areas, lut.inputs.len());
+        let more = cost_of_lut(areas, lut);
         cost += u64::from(more);
     }
     cost

@@ -16,8 +16,8 @@ const PRICES: usize = 16;
 const MOST: u64 = 65_536;
 
 // The cost of the cheapest LUT of 2 to k inputs that costs anything, 0 where none does.
-fn base_of(areas: &[u32], k: usize) -> u32 {
-    for inputs in 2..k + 1 {
+fn base_of(areas: &[u32], k: u8) -> u32 {
+    for inputs in 2..k as usize + 1 {
         let cost = cost_of(areas, inputs);
         if cost > 0 {
             return cost;
@@ -46,7 +46,7 @@ impl Prices {
     /// By these areas, of LUTs of at most k inputs.
     pub(crate) fn of(areas: &[u32], k: u8) -> Prices {
         let most = k as usize;
-        let base = base_of(areas, most);
+        let base = base_of(areas, k);
         let mut prices = [UNIT; PRICES];
         for (inputs, price) in prices.iter_mut().enumerate() {
             let cost = cost_of(areas, inputs.max(2).min(most));

@@ -14,6 +14,6 @@ loop-lut-preserved c =
     let next = ap (luts_cost c.args.areas.now) (luts_next luts i lut c.loop-lut-test.true c.lut-item.is)
     ∙ sum_by-cons (λ (l : Lut). cost_of c.args.areas.now (length l.inputs)) (lut_data lut) (luts_data (drop (i + 1) luts)) in
     record {
-      left = omega (arith, next, c.loop-lut.invariant.left, c.cost_of-more.ensures);
+      left = omega (arith, next, c.loop-lut.invariant.left, c.cost_of_lut-more.ensures);
       few = omega (arith, c.loop-lut.invariant.few);
     }
