@@ -1,5 +1,5 @@
 -- Nets that are no worse than others.
-use Rattle.std.proofs.Common.{◌≡◌, ℕ, ◌≤◌, List, ◌∙◌, sym, subst, arith}
+use Rattle.std.proofs.Common.{ℕ, ◌≤◌, List, subst, arith}
 use Rattle.std.specs.Prelude.{Result, Ok, Err, IfOk}
 use Rattle.syn_graph.specs.declared.Graph.{Graph}
 use Rattle.syn_lutnet.specs.LutData.{net_depth}

@@ -1,4 +1,4 @@
-use Rattle.std.proofs.Common.{List, ℕ, min, ap, arith}
+use Rattle.std.proofs.Common.{ap, arith}
 use Rattle.std.proofs.lemmas.List.{drop_all}
 use Rattle.syn_area.specs.Areas.{least_area}
 use Rattle.syn_area.proofs.Costing.{low_area}

@@ -1,11 +1,11 @@
-use Rattle.std.proofs.Common.{◌≡◌, ℕ, ◌+◌, ◌≤◌, true, List, length, map, ap, ◌∙◌, arith}
+use Rattle.std.proofs.Common.{◌≡◌, ℕ, ◌+◌, ◌≤◌, true, List, length, map, arith}
 use Rattle.std.proofs.lemmas.Result.{IfOk-weaker}
 use Rattle.syn_rows.specs.Rows.{node_of}
 use Rattle.syn_lutnet.specs.LutData.{greatest, net_depth, none_exceeds}
 use Rattle.syn_lutnet.specs.Data.{luts_data}
 use Rattle.syn_lutnet.specs.Nets.{HasFunctionOf}
 use Rattle.syn_map.specs.Labels.{label_of}
-use Rattle.syn_area.specs.Areas.{CostAlike, luts_cost, nodes_cost}
+use Rattle.syn_area.specs.Areas.{luts_cost, nodes_cost}
 use Rattle.syn_area.specs.Plain.{AreLutsOf, AreNeeded, IsNoWorse}
 use Rattle.syn_area.proofs.Bettering.{if_both, no_deeper}
 use Rattle.syn_area.proofs.Counting.{plain_cheap, plain_fewest}
