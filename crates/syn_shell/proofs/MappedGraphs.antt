@@ -1,5 +1,5 @@
 -- LUTs that were made of a graph, under its names, are as they are written what the recipes for mapping make of it.
-use Rattle.std.proofs.Common.{◌≡◌, ℕ, suc, ◌+◌, ◌≤◌, true, List, map, length, refl, sym, ap, ap₂, ◌∙◌, subst, arith, IfOk, Result, Ok, Err}
+use Rattle.std.proofs.Common.{◌≡◌, ℕ, zero, suc, ◌+◌, ◌≤◌, true, List, map, length, refl, sym, ap, ap₂, ◌∙◌, subst, subst₂, arith, IfOk, Result, Ok, Err}
 use Rattle.std.proofs.lemmas.List.{length-drop, length-map}
 use Rattle.syn_rows.specs.declared.Lit.{Lit}
 use Rattle.syn_rows.specs.declared.Row.{Row}
@@ -158,6 +158,10 @@ least_mapped_to laws k was net made h are =
       settled = settled_there laws was net made h are.settled;
     }
 
+-- by other names of the most inputs and of the areas
+pub few_by : (k : ℕ) (areas : List ℕ) (sizes : LutSizes) (graph : Graph) (net : LutNet) → k ≡ sizes.most → areas ≡ sizes.areas → AreFewLuts (record { most = k; areas = areas }) graph net → AreFewLuts sizes graph net
+few_by k areas sizes graph net e f are = subst₂ (λ (m : ℕ) (as : List ℕ). AreFewLuts (record { most = m; areas = as }) graph net) e f are
+
 -- by another name of the number of inputs
 pub least_by : (j k : ℕ) (old new : Written) → j ≡ k → IsLeastMappedTo j old new → IsLeastMappedTo k old new
 least_by j k old new is made = subst (λ (n : ℕ). IsLeastMappedTo n old new) is made
@@ -170,15 +174,15 @@ of_made was net (Err error) holds names body function each = tt
 
 -- LUTs that all cost the same
 alike : (n : ℕ) → 2 ≤ n → n ≤ 8 → cost_of (luts_alike 8).areas n ≡ cost_of (luts_alike 8).areas 2
-alike 0 many few = absurd (omega (arith, many))
-alike 1 many few = absurd (omega (arith, many))
-alike 2 many few = refl
-alike 3 many few = refl
-alike 4 many few = refl
-alike 5 many few = refl
-alike 6 many few = refl
-alike 7 many few = refl
-alike 8 many few = refl
+alike zero many few = absurd (omega (arith, many))
+alike (suc zero) many few = absurd (omega (arith, many))
+alike (suc (suc zero)) many few = refl
+alike (suc (suc (suc zero))) many few = refl
+alike (suc (suc (suc (suc zero)))) many few = refl
+alike (suc (suc (suc (suc (suc zero))))) many few = refl
+alike (suc (suc (suc (suc (suc (suc zero)))))) many few = refl
+alike (suc (suc (suc (suc (suc (suc (suc zero))))))) many few = refl
+alike (suc (suc (suc (suc (suc (suc (suc (suc zero)))))))) many few = refl
 alike (suc (suc (suc (suc (suc (suc (suc (suc (suc n))))))))) many few = absurd (omega (arith, few))
 
 all_alike : (inputs : ℕ) → inputs ≤ 8 → CostAlike inputs (luts_alike inputs).areas

@@ -313,19 +313,35 @@ fn put_aiger_fault<O: Sink>(out: &mut O, fault: &AigFault) -> Result<(), SinkFai
     }
 }
 
+// Puts a file's name and what a fault of it says.
+fn put_fault_in<O: Sink>(out: &mut O, name: &[u8], fault: &ReadFault) -> Result<(), SinkFailed>
+    ensures { Puts result (name.now ++ (codes ": " ++ read_text fault.now)) (O.screen out.old) (O.screen out.new) }
+{
+    put(out, name)?;
+    put(out, b": ")?;
+    put_read_fault(out, fault)
+}
+
+// Puts an AIGER file's name and what a fault of it says.
+fn put_aiger_fault_in<O: Sink>(
+    out: &mut O,
+    name: &[u8],
+    fault: &AigFault,
+) -> Result<(), SinkFailed>
+    ensures { Puts result (name.now ++ (codes ": " ++ aiger_text fault.now)) (O.screen out.old) (O.screen out.new) }
+{
+    put(out, name)?;
+    put(out, b": ")?;
+    put_aiger_fault(out, fault)
+}
+
 // Puts why a file that is compared holds no network.
 fn put_not_read<O: Sink>(out: &mut O, name: &[u8], cause: &FileCause) -> Result<(), SinkFailed>
     ensures { Puts result (not_read_text name.now cause.now) (O.screen out.old) (O.screen out.new) }
 {
     match cause {
-        FileCause::Read(fault) => {
-            put_all(out, &[name, b": "])?;
-            put_read_fault(out, fault)
-        }
-        FileCause::ReadAiger(fault) => {
-            put_all(out, &[name, b": "])?;
-            put_aiger_fault(out, fault)
-        }
+        FileCause::Read(fault) => put_fault_in(out, name, fault),
+        FileCause::ReadAiger(fault) => put_aiger_fault_in(out, name, fault),
         FileCause::TooLong => put_all(out, &[name, b": file longer than 16777216 bytes"]),
         FileCause::GetFailed => put_all(out, &[b"cannot read ", name]),
     }

@@ -79,10 +79,11 @@ pub(crate) fn clock_now<R: Clock>(rt: &R) -> Option<Instant> {
 
 /// The hundredths of a second between two readings of a clock, where there are both.
 pub(crate) fn hundredths_between(before: Option<Instant>, now: Option<Instant>) -> Option<u64> {
-    match (before, now) {
-        (Some(before), Some(now)) => Some(now.duration_since(before).as_millis() as u64 / 10),
-        _ => None,
-    }
+    let (Some(before), Some(now)) = (before, now) else {
+        return None;
+    };
+    let hundredths = now.duration_since(before).as_millis() / 10;
+    Some(hundredths.min(u64::MAX as u128) as u64)
 }
 
 /// Puts seconds.
