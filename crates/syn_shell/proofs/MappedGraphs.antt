@@ -160,7 +160,7 @@ least_mapped_to laws k was net made h are =
 
 -- by other names of the most inputs and of the areas
 pub few_by : (k : ℕ) (areas : List ℕ) (sizes : LutSizes) (graph : Graph) (net : LutNet) → k ≡ sizes.most → areas ≡ sizes.areas → AreFewLuts (record { most = k; areas = areas }) graph net → AreFewLuts sizes graph net
-few_by k areas sizes graph net e f are = subst₂ (λ (m : ℕ) (as : List ℕ). AreFewLuts (record { most = m; areas = as }) graph net) e f are
+few_by k areas sizes graph net e f are = subst₂ (λ (m : ℕ) (costs : List ℕ). AreFewLuts (record { most = m; areas = costs }) graph net) e f are
 
 -- by another name of the number of inputs
 pub least_by : (j k : ℕ) (old new : Written) → j ≡ k → IsLeastMappedTo j old new → IsLeastMappedTo k old new

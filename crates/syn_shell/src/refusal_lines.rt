@@ -323,11 +323,7 @@ fn put_fault_in<O: Sink>(out: &mut O, name: &[u8], fault: &ReadFault) -> Result<
 }
 
 // Puts an AIGER file's name and what a fault of it says.
-fn put_aiger_fault_in<O: Sink>(
-    out: &mut O,
-    name: &[u8],
-    fault: &AigFault,
-) -> Result<(), SinkFailed>
+fn put_aiger_fault_in<O: Sink>(out: &mut O, name: &[u8], fault: &AigFault) -> Result<(), SinkFailed>
     ensures { Puts result (name.now ++ (codes ": " ++ aiger_text fault.now)) (O.screen out.old) (O.screen out.new) }
 {
     put(out, name)?;
