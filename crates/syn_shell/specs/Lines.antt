@@ -167,8 +167,8 @@ aiger_text aiger.NoMemory = codes "out of memory"
 
 -- what is told of a file that is compared and holds no network
 abbrev pub not_read_text : List ℕ → FileCause → List ℕ
-not_read_text name (causes.Read fault) = name ++ (codes ": " ++ read_text fault)
-not_read_text name (causes.ReadAiger fault) = name ++ (codes ": " ++ aiger_text fault)
+not_read_text name (causes.Read fault) = joined (name ∷ codes ": " ∷ []) ++ read_text fault
+not_read_text name (causes.ReadAiger fault) = joined (name ∷ codes ": " ∷ []) ++ aiger_text fault
 not_read_text name causes.TooLong = joined (name ∷ codes ": file longer than 16777216 bytes" ∷ [])
 not_read_text name causes.GetFailed = joined (codes "cannot read " ∷ name ∷ [])
 

@@ -114,7 +114,10 @@ fn compare_with<F: Files, O: Sink>(
     ensures unchanged { FilesUnchanged (F.disk files.old) (F.disk files.new) }
 {
     let other = read_file(alloc, second, files)?;
-    let comparison = compared(alloc, conflicts, first, &other)?;
+    let comparison = match compared(alloc, conflicts, first, &other) {
+        Ok(comparison) => comparison,
+        Err(cause) => return Err(cause),
+    };
     let text = comparison_text(alloc, &first.frame, &comparison)?;
     put_text(text.as_slice(), out)
 }

@@ -313,21 +313,26 @@ fn put_aiger_fault<O: Sink>(out: &mut O, fault: &AigFault) -> Result<(), SinkFai
     }
 }
 
+// Puts a file's name before what is told of it.
+fn put_name<O: Sink>(out: &mut O, name: &[u8]) -> Result<(), SinkFailed>
+    ensures { Puts result (joined (name.now ∷ codes ": " ∷ [])) (O.screen out.old) (O.screen out.new) }
+{
+    put_all(out, &[name, b": "])
+}
+
 // Puts a file's name and what a fault of it says.
 fn put_fault_in<O: Sink>(out: &mut O, name: &[u8], fault: &ReadFault) -> Result<(), SinkFailed>
-    ensures { Puts result (name.now ++ (codes ": " ++ read_text fault.now)) (O.screen out.old) (O.screen out.new) }
+    ensures { Puts result (joined (name.now ∷ codes ": " ∷ []) ++ read_text fault.now) (O.screen out.old) (O.screen out.new) }
 {
-    put(out, name)?;
-    put(out, b": ")?;
+    put_name(out, name)?;
     put_read_fault(out, fault)
 }
 
 // Puts an AIGER file's name and what a fault of it says.
 fn put_aiger_fault_in<O: Sink>(out: &mut O, name: &[u8], fault: &AigFault) -> Result<(), SinkFailed>
-    ensures { Puts result (name.now ++ (codes ": " ++ aiger_text fault.now)) (O.screen out.old) (O.screen out.new) }
+    ensures { Puts result (joined (name.now ∷ codes ": " ∷ []) ++ aiger_text fault.now) (O.screen out.old) (O.screen out.new) }
 {
-    put(out, name)?;
-    put(out, b": ")?;
+    put_name(out, name)?;
     put_aiger_fault(out, fault)
 }
 

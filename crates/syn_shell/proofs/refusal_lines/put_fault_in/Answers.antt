@@ -1,11 +1,11 @@
-use Rattle.std.proofs.Common.{◌++◌, codes}
+use Rattle.std.proofs.Common.{[], ◌∷◌, codes}
 use Rattle.std.proofs.lemmas.Result.{err_from_is_err_and}
-use Rattle.syn_shell.specs.Lines.{read_text}
+use Rattle.syn_shell.specs.Lines.{joined, read_text}
 use Rattle.syn_shell.proofs.Putting.{puts_first}
 use Rattle.syn_shell.proofs.refusal_lines.put_fault_in.Goals as goal
 
-pub returns-in_err-put : goal.returns-in_err-put
-returns-in_err-put g c =
+pub returns-in_err-put_name : goal.returns-in_err-put_name
+returns-in_err-put_name g c =
     let p = err_from_is_err_and c.from_residual.result c.from_residual.ensures.1 in
-    puts_first c.from_residual.result p.0 c.args.name.now (codes ": " ++ read_text c.args.fault.now)
-    (g.O.Sink.screen c.args.out.now) (g.O.Sink.screen c.put.new.out) p.1 c.in_err-put.ensures
+    puts_first c.from_residual.result p.0 (joined (c.args.name.now ∷ codes ": " ∷ [])) (read_text c.args.fault.now)
+    (g.O.Sink.screen c.args.out.now) (g.O.Sink.screen c.put_name.new.out) p.1 c.in_err-put_name.ensures
