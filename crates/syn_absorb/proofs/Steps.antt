@@ -1,10 +1,10 @@
 -- LUT by LUT, a net made anew keeps the values and depths of the signals that became literals.
-use Rattle.std.proofs.Common.{◌≡◌, ℕ, suc, ◌+◌, ◌-◌, ◌^◌, ◌<◌, ◌≤◌, ◌&&◌, nat_le, nat_lt, Bool, true, false, All, List, [], ◌∷◌, ◌++◌, map, length, get_or, refl, sym, ap, ap₂, ◌∙◌, subst, inl, inr, arith}
+use Rattle.std.proofs.Common.{◌≡◌, ℕ, suc, ◌+◌, ◌-◌, ◌^◌, ◌<◌, ◌≤◌, ◌&&◌, nat_le, nat_lt, Bool, true, false, All, List, [], ◌∷◌, ◌++◌, map, length, get_or, take, refl, sym, ap, ap₂, ◌∙◌, subst, inl, inr, arith}
 use Rattle.std.specs.List.{list_all}
 use Rattle.std.proofs.lemmas.Bool.{cases_lt, both_ways, and_from, leb-true, le-leb, lt-ltb}
 use Rattle.std.proofs.lemmas.List.{length-map, length_push, get_or-map, get_or_append_left, get_or_push, get_or_past}
 use Rattle.std.proofs.lemmas.List.Elements.{All-contains}
-use Rattle.std.proofs.lemmas.List.Sums.{AllPass-from_list_all, list_all-from_AllPass}
+use Rattle.std.proofs.lemmas.List.Sums.{AllPass-from_list_all, list_all-from_AllPass, sum_by_more, sum_by_push}
 use Rattle.std.proofs.lemmas.List.Folds.{list_all-append}
 use Rattle.syn_rows.specs.declared.Lit.{Lit}
 use Rattle.syn_rows.specs.Rows.{node_of}
@@ -14,6 +14,7 @@ use Rattle.syn_lists.specs.Numbers.{distinct_numbers}
 use Rattle.syn_lutnet.specs.LutData.{Lut, greatest, is_input, is_lut, lut_at, lut_value, no_lut, none_exceeds, rising}
 use Rattle.syn_lutnet.proofs.Deepest.{greatest_at, greatest_le}
 use Rattle.syn_lutnet.proofs.LutParts.{input_high, lut_parts}
+use Rattle.syn_absorb.specs.Costs.{NeverFalls, cost_by}
 use Rattle.syn_absorb.specs.Needed.{DependsOn}
 use Rattle.syn_absorb.specs.Rebuilding.{FitsLuts, FitsDepths, IsCopy, IsNext, IsPlaced, IsRebuilt, IsResolved, signed_lit}
 use Rattle.syn_absorb.proofs.Literals.{signed_node, signed_value}
@@ -39,6 +40,7 @@ rebuilt_start count luts set lits long own = record {
   ];
   sources = own;
   inputs = λ k h. refl;
+  cheaper = λ cost rises. omega arith;
   values = λ v w fits_v fits_w same n lt on. ap (lit_value w) (own n (omega (arith, lt, long))) ∙ signed_value w n false ∙ same n (omega (arith, lt, long));
   depths = λ d e fits_d fits_e n lt on.
       let low : n < count + 1 = omega (arith, lt, long) in
@@ -99,6 +101,19 @@ module _ (count : ℕ) (luts : List Lut) (set : ℕ → Bool) (lits : List Lit) 
           let is : get_or nodes j y ≡ node_of (lit_at lits m) = get_or-map (λ m. node_of (lit_at lits m)) old.inputs j 0 y at in
           omega (arith, ap e is, so_far.depths d e fits_d fits_e m (omega (arith, low j 0 at, long)) (closed on j 0 at), fits_d.each i there, greatest_at d old.inputs j 0 at)
 
+  -- one LUT more of those before costs what the new ones may
+  cost_more : (cost : ℕ → ℕ) → NeverFalls cost → (lit : Lit) → cost_by cost new + cost (length old.inputs) ≤ cost_by cost (take (length (lits ++ lit ∷ []) - first) luts)
+  cost_more cost rises lit =
+      let before : length lits - first ≡ i = omega (arith, long) in
+      let after : length (lits ++ lit ∷ []) - first ≡ i + 1 = omega (arith, long, length_push lits lit) in
+      omega (
+        arith,
+        so_far.cheaper cost rises,
+        ap (λ n. cost_by cost (take n luts)) before,
+        ap (λ n. cost_by cost (take n luts)) after,
+        sum_by_more (λ (x : Lut). cost (length x.inputs)) luts i no_lut there,
+      )
+
   -- a literal for which no LUT is put
   pub more_same : (lit : Lit) → node_of lit < first + length new
       → ((v w : ℕ → Bool) → FitsLuts first luts v → FitsLuts first new w → ((n : ℕ) → n < first → w n ≡ v n) → set (first + i) ≡ true → lit_value w lit ≡ v (first + i))
@@ -115,6 +130,7 @@ module _ (count : ℕ) (luts : List Lut) (set : ℕ → Bool) (lits : List Lit) 
     ];
     sources = λ n lt. lit_kept lits lit n (omega (arith, lt, so_far.front)) ∙ so_far.sources n lt;
     inputs = so_far.inputs;
+    cheaper = λ cost rises. omega (arith, cost_more cost rises lit);
     values = λ v w fits_v fits_w same n lt on. elim (cases_lt n (length lits)) [
       | inl less ↦ ap (lit_value w) (lit_kept lits lit n less) ∙ so_far.values v w fits_v fits_w same n less on
       | inr ge ↦
@@ -206,6 +222,7 @@ module _ (count : ℕ) (luts : List Lut) (set : ℕ → Bool) (lits : List Lit) 
           let few : length old.inputs ≤ k = leb-true (length old.inputs) k (AllPass-from_list_all (λ x. nat_le (length x.inputs) k) luts h i no_lut there) in
           list_all-append (λ x. nat_le (length x.inputs) k) new (l ∷ [])
           ∙ and_from (none_exceeds k new) (nat_le (length l.inputs) k && true) (so_far.inputs k h) (and_from (nat_le (length l.inputs) k) true (le-leb (length l.inputs) k (omega (arith, resolved.fewer, few))) refl);
+      cheaper = λ cost rises. omega (arith, cost_more cost rises lit, sum_by_push (λ (x : Lut). cost (length x.inputs)) new l, rises (length l.inputs) (length old.inputs) resolved.fewer);
       values = λ v w fits_v fits_w same n lt wanted. elim (cases_lt n (length lits)) [
         | inl less ↦ ap (lit_value w) (lit_kept lits lit n less) ∙ so_far.values v w fits_v (fits_before first new l w fits_w) same n less wanted
         | inr ge ↦

@@ -15,6 +15,8 @@ use Rattle.syn_lutnet.specs.LutData.{Lut, IsLutNet, depth_in, is_lut, lut_at, lu
 use Rattle.syn_lutnet.proofs.Deepest.{all_zero_at, depth_local, greatest_any, greatest_le, length-all_zero}
 use Rattle.syn_lutnet.proofs.Folding.{In, length-luts, luts_kept, lut_step}
 use Rattle.syn_lutnet.proofs.LutParts.{lut_parts}
+use Rattle.std.proofs.lemmas.List.Sums.{sum_by-take-le}
+use Rattle.syn_absorb.specs.Costs.{NeverFalls, cost_by}
 use Rattle.syn_absorb.specs.Needed.{AllDepend}
 use Rattle.syn_absorb.specs.Reaching.{IsOpenNet, IsSwept}
 use Rattle.syn_absorb.specs.Rebuilding.{FitsLuts, FitsDepths, IsRebuilt, IsRebuiltNet, IsTrimming, read_lit}
@@ -56,6 +58,7 @@ net_rebuilt count luts new set lits observed outs net seen done long outs_are = 
     fewer = omega (arith, done.few, long);
     depth = depth;
     inputs = done.inputs;
+    cheaper = λ cost rises. omega (arith, done.cheaper cost rises, sum_by-take-le (λ (l : Lut). cost (length l.inputs)) luts (length lits - (count + 1)));
   };
   net = record {
     luts_fit = done.fits;
@@ -114,6 +117,7 @@ trimming_itself count luts lits = record {
   fewer = omega arith;
   depth = omega arith;
   inputs = λ k h. h;
+  cheaper = λ cost rises. omega arith;
 }
 
 pub trimming_more : (count : ℕ) (a b c : List Lut) (xs ys zs : List Lit) → IsTrimming count a xs b ys → IsTrimming count b ys c zs → IsTrimming count a xs c zs
@@ -124,6 +128,7 @@ trimming_more count a b c xs ys zs first second = record {
   fewer = omega (arith, first.fewer, second.fewer);
   depth = omega (arith, first.depth, second.depth);
   inputs = λ k h. second.inputs k (first.inputs k h);
+  cheaper = λ cost rises. omega (arith, first.cheaper cost rises, second.cheaper cost rises);
 }
 
 pub rebuilt_more : (count : ℕ) (a b c : List Lut) (xs ys zs : List Lit) → IsTrimming count a xs b ys → IsRebuiltNet count b ys c zs → IsRebuiltNet count a xs c zs

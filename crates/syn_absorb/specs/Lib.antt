@@ -1,3 +1,4 @@
+pub mod Costs
 pub mod Flips
 pub mod Needed
 pub mod Nets

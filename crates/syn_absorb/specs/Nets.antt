@@ -5,6 +5,7 @@ use Rattle.syn_graph.specs.Graphs.{SourcesStay}
 use Rattle.syn_lutnet.specs.LutData.{luts_function, net_depth, none_exceeds}
 use Rattle.syn_lutnet.specs.declared.nets.LutNet.{LutNet}
 use Rattle.syn_lutnet.specs.Data.{luts_data}
+use Rattle.syn_absorb.specs.Costs.{NeverFalls, cost_by}
 use Rattle.syn_absorb.specs.Flips.{AreFlipped, AllShown, is_flipped}
 use Rattle.syn_absorb.specs.Needed.{AllDepend}
 
@@ -25,10 +26,11 @@ pub record IsAbsorbed (was now : LutNet) : Type 0 where
   pub shown : AllShown (was.source_count + 1) now.observed
   pub depend : AllDepend (luts_data was.luts) → AllDepend (luts_data now.luts)
 
--- The same function of the sources, no more LUTs, no deeper, of no more inputs, and each LUT depends on all that it reads.
+-- The same function of the sources, no more LUTs, no deeper, of no more inputs, no dearer where LUTs of more inputs cost no less, and each LUT depends on all that it reads.
 pub record IsTrimmed (was now : LutNet) : Type 0 where
   pub same : KeepsFunction was now
   pub fewer : length now.luts ≤ length was.luts
   pub depth : net_depth now.source_count (luts_data now.luts) ≤ net_depth was.source_count (luts_data was.luts)
   pub inputs : (k : ℕ) → none_exceeds k (luts_data was.luts) ≡ true → none_exceeds k (luts_data now.luts) ≡ true
+  pub cheaper : (cost : ℕ → ℕ) → NeverFalls cost → cost_by cost (luts_data now.luts) ≤ cost_by cost (luts_data was.luts)
   pub depend : AllDepend (luts_data now.luts)

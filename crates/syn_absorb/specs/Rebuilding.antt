@@ -1,5 +1,5 @@
 -- LUT nets that are made anew LUT by LUT: each signal becomes a literal of a new signal.
-use Rattle.std.specs.Prelude.{◌≡◌, ◌⊎◌, ℕ, ◌+◌, ◌*◌, ◌%◌, ◌^◌, ◌<◌, ◌≤◌, ◌==◌, nat_lt, if◌then◌else◌, Bool, true, false, All, Contains, List, [], ◌∷◌, ◌++◌, length, map}
+use Rattle.std.specs.Prelude.{◌≡◌, ◌⊎◌, ℕ, ◌+◌, ◌-◌, ◌*◌, ◌%◌, ◌^◌, ◌<◌, ◌≤◌, ◌==◌, nat_lt, if◌then◌else◌, Bool, true, false, All, Contains, List, [], ◌∷◌, ◌++◌, length, map, take}
 use Rattle.std.specs.List.{list_all}
 use Rattle.syn_rows.specs.declared.Lit.{Lit}
 use Rattle.syn_rows.specs.Rows.{node_of}
@@ -7,6 +7,7 @@ use Rattle.syn_rows.specs.Values.{lit_value}
 use Rattle.syn_hashed.specs.Hashed.{lit_at}
 use Rattle.syn_graph.specs.Graphs.{SourcesStay}
 use Rattle.syn_lutnet.specs.LutData.{Lut, greatest, is_lut, lut_at, lut_value, luts_function, net_depth, none_exceeds, rising}
+use Rattle.syn_absorb.specs.Costs.{NeverFalls, cost_by}
 use Rattle.syn_absorb.specs.Flips.{xor}
 use Rattle.syn_absorb.specs.Needed.{AllDepend, ReadsNeeded}
 use Rattle.syn_absorb.specs.Reaching.{IsOpenNet}
@@ -77,11 +78,12 @@ pub record IsRebuilt (count : ℕ) (luts : List Lut) (set : ℕ → Bool) (lits 
   pub within : (n : ℕ) → node_of (lit_at lits n) < count + 1 + length new
   pub sources : (n : ℕ) → n < count + 1 → lit_at lits n ≡ signed_lit n false
   pub inputs : (k : ℕ) → none_exceeds k luts ≡ true → none_exceeds k new ≡ true
+  pub cheaper : (cost : ℕ → ℕ) → NeverFalls cost → cost_by cost new ≤ cost_by cost (take (length lits - (count + 1)) luts)
   pub values : (v w : ℕ → Bool) → FitsLuts (count + 1) luts v → FitsLuts (count + 1) new w → ((n : ℕ) → n < count + 1 → w n ≡ v n) → (n : ℕ) → n < length lits → set n ≡ true → lit_value w (lit_at lits n) ≡ v n
   pub depths : (d e : ℕ → ℕ) → FitsDepths (count + 1) luts d → FitsDepths (count + 1) new e → (n : ℕ) → n < length lits → set n ≡ true → e (node_of (lit_at lits n)) ≤ d n
   pub lows : (d e : ℕ → ℕ) (bound : ℕ) → FitsDepths (count + 1) luts d → FitsDepths (count + 1) new e → ((n : ℕ) → d n ≤ bound) → (j : ℕ) → j < length new → e (count + 1 + j) ≤ bound
 
--- Other LUTs and literals of the same function over so many sources, no more of them, no deeper, and of no more inputs.
+-- Other LUTs and literals of the same function over so many sources, no more of them, no deeper, of no more inputs, and no dearer where LUTs of more inputs cost no less.
 pub record IsTrimming (count : ℕ) (luts : List Lut) (lits : List Lit) (new : List Lut) (outs : List Lit) : Type 0 where
   pub long : length outs ≡ length lits
   pub stay : SourcesStay count lits outs
@@ -89,6 +91,7 @@ pub record IsTrimming (count : ℕ) (luts : List Lut) (lits : List Lit) (new : L
   pub fewer : length new ≤ length luts
   pub depth : net_depth count new ≤ net_depth count luts
   pub inputs : (k : ℕ) → none_exceeds k luts ≡ true → none_exceeds k new ≡ true
+  pub cheaper : (cost : ℕ → ℕ) → NeverFalls cost → cost_by cost new ≤ cost_by cost luts
 
 -- Such LUTs and literals, each LUT of which depends on all that it reads.
 pub record IsRebuiltNet (count : ℕ) (luts : List Lut) (lits : List Lit) (new : List Lut) (outs : List Lit) : Type 0 where

@@ -17,7 +17,8 @@ use Rattle.syn_aiger_files.specs.declared.files.Symbol.{Symbol}
 use Rattle.syn_aiger_files.specs.Files.{latch_literal, next_of}
 use Rattle.syn_aiger.specs.Laws.{GraphHasLists, WrittenReadsBack}
 use Rattle.syn_aiger.specs.Faults.{Spells}
-use Rattle.syn_aiger.specs.Naming.{Named, feeds_named, feeds_of, first_name, free_name, inputs_of, is_given, is_given_otherwise, latches_of, literal_in, literal_named, name_of, named_of, outputs_named, outputs_of, source_or, sources_named, sources_of}
+use Rattle.syn_aiger_files.specs.FirstNames.{first_name}
+use Rattle.syn_aiger.specs.Naming.{Named, feeds_named, feeds_of, free_name, inputs_of, is_given, is_given_otherwise, latches_of, literal_in, literal_named, name_of, named_of, outputs_named, outputs_of, source_or, sources_named, sources_of}
 use Rattle.syn_aiger.specs.Networks.{IsGraphOfAig, frame_of, latches_from}
 use Rattle.syn_aiger.specs.Values.{FitsAig, source_literals, source_variables, value_of}
 use Rattle.syn_aiger.specs.Writing.{IsWrittenAs, feed_of, first_typed, has_type, init_in}
@@ -280,7 +281,7 @@ no_type (l ∷ ls) [] fs = refl
 no_type (l ∷ ls) (x ∷ os) [] = refl
 no_type (l ∷ ls) (x ∷ os) (y ∷ fs) = no_type ls os fs
 
-module _ (bytes : List ℕ) (m n : Netlist) (g : Aig) (spells : Spells bytes g) (written : IsWrittenAs m g) (is : IsGraphOfAig g n) where
+module _ (properties : Bool) (bytes : List ℕ) (m n : Netlist) (g : Aig) (spells : Spells properties bytes g) (written : IsWrittenAs m g) (is : IsGraphOfAig g n) where
   same_sources : sources m.frame ≡ sources n.frame
   same_sources =
       sym (append_assoc m.frame.inputs (without m.frame.inputs m.frame.clocks) (map latch_output m.frame.latches))
@@ -288,7 +289,7 @@ module _ (bytes : List ℕ) (m n : Netlist) (g : Aig) (spells : Spells bytes g) 
       ∙ ap sources (sym is.frame)
 
   once : distinct_numbers (source_variables g) ≡ true
-  once = distinct_front (source_variables g) _ (and_parts _ _ (sound_of bytes g spells.says).once).1
+  once = distinct_front (source_variables g) _ (and_parts _ _ (sound_of properties bytes g spells.says).once).1
 
   as_many : (p : List ℕ → Bool) → length (map p (sources m.frame)) ≡ length (source_variables g)
   as_many p =
@@ -311,13 +312,13 @@ module _ (bytes : List ℕ) (m n : Netlist) (g : Aig) (spells : Spells bytes g) 
     next_again = written.next between.0 p between.1 c between.2 ∙ sym (next_by_place g n is between.0 q between.1 d (sym same ∙ between.2))
 
 pub written_reads_back : WrittenReadsBack
-written_reads_back bytes m n g spells written is = record {
+written_reads_back properties bytes m n g spells written is = record {
   untyped = ap (λ (f : Frame). first_typed f) is.frame ∙ ap (option_map latch_output) (no_type g.latches (latches_of g) (feeds_of g));
   inputs = ap (λ (f : Frame). f.inputs) is.frame ∙ written.inputs;
   clocks = ap (λ (f : Frame). f.clocks) is.frame;
   outputs = ap (λ (f : Frame). f.outputs) is.frame ∙ written.outputs;
   latches = ap (λ (f : Frame). map latch_output f.latches) is.frame ∙ written.latches;
   inits = ap (λ (f : Frame). map init_in f.latches) is.frame ∙ written.inits;
-  values = outputs_again bytes m n g spells written is;
-  next = next_again bytes m n g spells written is;
+  values = outputs_again properties bytes m n g spells written is;
+  next = next_again properties bytes m n g spells written is;
 }

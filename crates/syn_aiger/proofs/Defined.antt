@@ -22,8 +22,8 @@ defined_are g =
     ∙ ap (map variable_of) (append_assoc g.inputs (map latch_literal g.latches) (map and_literal g.ands)))
 
 pub spelled_defines_once : SpelledDefinesOnce
-spelled_defines_once bytes g e =
-    let s = (spelled_sound bytes g e).1 in
+spelled_defines_once properties bytes g e =
+    let s = (spelled_sound properties bytes g e).1 in
     let most : ℕ = 2 * g.variables + 1 in
     let ls : List ℕ = g.inputs ++ (map latch_literal g.latches ++ map and_literal g.ands) in
     ap distinct_numbers (defined_are g)
@@ -62,12 +62,12 @@ few_from most (a ∷ ands) small h k =
     ((omega arith, (omega arith, omega arith)), few_from most ands small h.1 k.1)
 
 pub order_has_no_circle : OrderHasNoCircle
-order_has_no_circle bytes g e above =
-    let f = spelled_sound bytes g e in
+order_has_no_circle properties bytes g e above =
+    let f = spelled_sound properties bytes g e in
     let small : g.variables ≤ most_variables = f.0 in
     let most : ℕ = 2 * g.variables + 1 in
     let latches : List ℕ = map latch_literal g.latches in
     let ands : List ℕ = map and_literal g.ands in
     in_order_no_circle (0 ∷ source_variables g) g above
-    (defines_from_distinct (0 ∷ source_variables g) g.ands (spelled_defines_once bytes g e))
+    (defines_from_distinct (0 ∷ source_variables g) g.ands (spelled_defines_once properties bytes g e))
     (few_from most g.ands (omega arith) (all_right (λ l. l ≤ most) latches ands (all_right (λ l. l ≤ most) g.inputs (latches ++ ands) (all_at_most most [] (g.inputs ++ (latches ++ ands)) f.1.new))) f.1.sides)

@@ -8,7 +8,7 @@ use Rattle.syn_netlist.specs.Words.{distinct}
 use Rattle.syn_models.proofs.Circles.{circle_or_none, one_circle}
 use Rattle.syn_reader.specs.Limits.{most_sources}
 use Rattle.syn_aiger_files.specs.declared.fault.AigFault.{AigFault}
-use Rattle.syn_aiger_files.specs.declared.fault.AigFault.TheVariants.{Header, Line, Pair, Symbol, Undefined, Cycle, TooManySources, TooManyGates, NoMemory}
+use Rattle.syn_aiger_files.specs.declared.fault.AigFault.TheVariants.{Header, Line, Justice, Pair, Symbol, Undefined, Cycle, TooManySources, TooManyGates, NoMemory}
 use Rattle.syn_aiger_files.specs.declared.files.Aig.{Aig}
 use Rattle.syn_aiger_files.specs.Files.{and_literal, latch_literal, variable_of}
 use Rattle.syn_aiger_files.specs.Spelling.{most_variables, spelled}
@@ -30,19 +30,19 @@ new_small most ds (l ∷ ls) h v t = elim (or_cases (nat_eq (variable_of l) v) (
   | inr r ↦ new_small most (l ∷ ds) ls h.1 v r
 ]
 
-pub defined_small : (bytes : List ℕ) (g : Aig) → spelled bytes ≡ Ok g → (v : ℕ) → has_number (defined_variables g) v ≡ true → v ≤ g.variables
-defined_small bytes g e v t =
-    let s = spelled_sound bytes g e in
+pub defined_small : (properties : Bool) (bytes : List ℕ) (g : Aig) → spelled properties bytes ≡ Ok g → (v : ℕ) → has_number (defined_variables g) v ≡ true → v ≤ g.variables
+defined_small properties bytes g e v t =
+    let s = spelled_sound properties bytes g e in
     let ls : List ℕ = g.inputs ++ (map latch_literal g.latches ++ map and_literal g.ands) in
     elim (or_cases (nat_eq 0 v) (has_number (map variable_of ls) v) (ap (λ (ns : List ℕ). has_number ns v) (sym (defined_are g)) ∙ t)) [
       | inl z ↦ let q : 0 ≡ v = eqb-true 0 v z in omega arith
       | inr r ↦ let le = new_small (2 * g.variables + 1) [] ls s.1.new v r in omega arith
     ]
 
-pub and_small : (bytes : List ℕ) (g : Aig) → spelled bytes ≡ Ok g → AllSmall (map and_variable g.ands)
-and_small bytes g e v t =
-    let le = defined_small bytes g e v (has_right (0 ∷ source_variables g) (map and_variable g.ands) v t) in
-    let few : g.variables ≤ most_variables = (spelled_sound bytes g e).0 in
+pub and_small : (properties : Bool) (bytes : List ℕ) (g : Aig) → spelled properties bytes ≡ Ok g → AllSmall (map and_variable g.ands)
+and_small properties bytes g e v t =
+    let le = defined_small properties bytes g e v (has_right (0 ∷ source_variables g) (map and_variable g.ands) v t) in
+    let few : g.variables ≤ most_variables = (spelled_sound properties bytes g e).0 in
     omega arith
 
 distinct_right_numbers : (xs ys : List ℕ) → distinct_numbers (xs ++ ys) ≡ true → distinct_numbers ys ≡ true
@@ -50,67 +50,69 @@ distinct_right_numbers [] ys d = d
 distinct_right_numbers (x ∷ xs) ys d = distinct_right_numbers xs ys (and_parts (not (has_number (xs ++ ys) x)) (distinct_numbers (xs ++ ys)) d).1
 
 -- the ANDs' tables define no name twice
-pub tables_distinct : (bytes : List ℕ) (g : Aig) → spelled bytes ≡ Ok g → distinct (map output_of (and_tables g)) ≡ true
-tables_distinct bytes g e =
+pub tables_distinct : (properties : Bool) (bytes : List ℕ) (g : Aig) → spelled properties bytes ≡ Ok g → distinct (map output_of (and_tables g)) ≡ true
+tables_distinct properties bytes g e =
     ap distinct (outputs_are g.ands)
-    ∙ words_distinct (map and_variable g.ands) (and_small bytes g e) (distinct_right_numbers (0 ∷ source_variables g) (map and_variable g.ands) (spelled_defines_once bytes g e))
+    ∙ words_distinct (map and_variable g.ands) (and_small properties bytes g e) (distinct_right_numbers (0 ∷ source_variables g) (map and_variable g.ands) (spelled_defines_once properties bytes g e))
 
 -- a fault of the text
-pub text_fault : (bytes : List ℕ) (f : AigFault) → spelled bytes ≡ Err f → IsFirstFault bytes f
-text_fault bytes Header e = e
-text_fault bytes (Line at) e = e
-text_fault bytes (Pair at) e = e
-text_fault bytes (Symbol at) e = e
-text_fault bytes (Undefined v) e = absurd (spelled_fault bytes (Undefined v) e)
-text_fault bytes (Cycle vs) e = absurd (spelled_fault bytes (Cycle vs) e)
-text_fault bytes (TooManySources n) e = absurd (spelled_fault bytes (TooManySources n) e)
-text_fault bytes (TooManyGates n) e = absurd (spelled_fault bytes (TooManyGates n) e)
-text_fault bytes NoMemory e = absurd (spelled_fault bytes NoMemory e)
+pub text_fault : (properties : Bool) (bytes : List ℕ) (f : AigFault) → spelled properties bytes ≡ Err f → IsFirstFault properties bytes f
+text_fault properties bytes Header e = e
+text_fault properties bytes Justice e = e
+text_fault properties bytes (Line at) e = e
+text_fault properties bytes (Pair at) e = e
+text_fault properties bytes (Symbol at) e = e
+text_fault properties bytes (Undefined v) e = absurd (spelled_fault properties bytes (Undefined v) e)
+text_fault properties bytes (Cycle vs) e = absurd (spelled_fault properties bytes (Cycle vs) e)
+text_fault properties bytes (TooManySources n) e = absurd (spelled_fault properties bytes (TooManySources n) e)
+text_fault properties bytes (TooManyGates n) e = absurd (spelled_fault properties bytes (TooManyGates n) e)
+text_fault properties bytes NoMemory e = absurd (spelled_fault properties bytes NoMemory e)
 
-abbrev Verdict : List ℕ → Type 0
-Verdict bytes = ((g : Aig) × Spells bytes g × Within g) ⊎ ((fault : AigFault) × IsFirstFault bytes fault)
+abbrev Verdict : Bool → List ℕ → Type 0
+Verdict properties bytes = ((g : Aig) × Spells properties bytes g × Within g) ⊎ ((fault : AigFault) × IsFirstFault properties bytes fault)
 
 pub either_or : EitherOr
-either_or bytes = go (spelled bytes) refl
+either_or properties bytes = go (spelled properties bytes) refl
   where
-    limits : (g : Aig) → spelled bytes ≡ Ok g → first_undefined g ≡ None → NoCircle g
-        → (most_sources < length (source_literals g)) ⊎ (length (source_literals g) ≤ most_sources) → (most_ands < length g.ands) ⊎ (length g.ands ≤ most_ands) → Verdict bytes
+    limits : (g : Aig) → spelled properties bytes ≡ Ok g → first_undefined g ≡ None → NoCircle g
+        → (most_sources < length (source_literals g)) ⊎ (length (source_literals g) ≤ most_sources) → (most_ands < length g.ands) ⊎ (length g.ands ≤ most_ands) → Verdict properties bytes
     limits g e u c (inl a) b = inr (TooManySources (length (source_literals g)), (g, e, (u, c, refl, a)))
     limits g e u c (inr a) (inl b) = inr (TooManyGates (length g.ands), (g, e, (u, c, a, refl, b)))
     limits g e u c (inr a) (inr b) = inl (g, record { says = e; defined = u; acyclic = c }, record { sources = a; gates = b })
 
-    circle : (g : Aig) → spelled bytes ≡ Ok g → first_undefined g ≡ None
-        → (((w : List ℕ) → ReachesCircle (and_tables g) w → ⊥) ⊎ ((names : List (List ℕ)) × (first : List ℕ) × (before : List (List ℕ)) × (set : List ℕ → Bool) × IsAnsweredCircle (and_tables g) first before names set)) → Verdict bytes
+    circle : (g : Aig) → spelled properties bytes ≡ Ok g → first_undefined g ≡ None
+        → (((w : List ℕ) → ReachesCircle (and_tables g) w → ⊥) ⊎ ((names : List (List ℕ)) × (first : List ℕ) × (before : List (List ℕ)) × (set : List ℕ → Bool) × IsAnsweredCircle (and_tables g) first before names set)) → Verdict properties bytes
     circle g e u (inl c) = limits g e u c (cases_lt most_sources (length (source_literals g))) (cases_lt most_ands (length g.ands))
     circle g e u (inr c) =
         let a : AnswersCircle (and_tables g) c.0 = (c.1, c.2, c.3, c.4) in
         let v = circle_variables g c.0 a in
         inr (Cycle v.0, (g, e, (u, v.1, subst (AnswersCircle (and_tables g)) (sym v.2) a)))
 
-    defined : (g : Aig) → spelled bytes ≡ Ok g → (o : Option ℕ) → first_undefined g ≡ o → Verdict bytes
+    defined : (g : Aig) → spelled properties bytes ≡ Ok g → (o : Option ℕ) → first_undefined g ≡ o → Verdict properties bytes
     defined g e (Some v) u = inr (Undefined v, (g, e, u))
-    defined g e None u = circle g e u (circle_or_none (and_tables g) (tables_distinct bytes g e))
+    defined g e None u = circle g e u (circle_or_none (and_tables g) (tables_distinct properties bytes g e))
 
-    go : (r : Result Aig AigFault) → spelled bytes ≡ r → Verdict bytes
-    go (Err f) e = inr (f, text_fault bytes f e)
+    go : (r : Result Aig AigFault) → spelled properties bytes ≡ r → Verdict properties bytes
+    go (Err f) e = inr (f, text_fault properties bytes f e)
     go (Ok g) e = defined g e (first_undefined g) refl
 
 -- a first fault is one of the text, or one of what it says
-abbrev Kind : List ℕ → AigFault → Type 0
-Kind bytes f = (spelled bytes ≡ Err f) ⊎ ((g : Aig) × (spelled bytes ≡ Ok g) × IsAigFault g f)
+abbrev Kind : Bool → List ℕ → AigFault → Type 0
+Kind properties bytes f = (spelled properties bytes ≡ Err f) ⊎ ((g : Aig) × (spelled properties bytes ≡ Ok g) × IsAigFault g f)
 
-kind_of : (bytes : List ℕ) (f : AigFault) → IsFirstFault bytes f → Kind bytes f
-kind_of bytes Header h = inl h
-kind_of bytes (Line at) h = inl h
-kind_of bytes (Pair at) h = inl h
-kind_of bytes (Symbol at) h = inl h
-kind_of bytes (Undefined v) h = inr h
-kind_of bytes (Cycle vs) h = inr h
-kind_of bytes (TooManySources n) h = inr h
-kind_of bytes (TooManyGates n) h = inr h
-kind_of bytes NoMemory h = absurd h
+kind_of : (properties : Bool) (bytes : List ℕ) (f : AigFault) → IsFirstFault properties bytes f → Kind properties bytes f
+kind_of properties bytes Header h = inl h
+kind_of properties bytes Justice h = inl h
+kind_of properties bytes (Line at) h = inl h
+kind_of properties bytes (Pair at) h = inl h
+kind_of properties bytes (Symbol at) h = inl h
+kind_of properties bytes (Undefined v) h = inr h
+kind_of properties bytes (Cycle vs) h = inr h
+kind_of properties bytes (TooManySources n) h = inr h
+kind_of properties bytes (TooManyGates n) h = inr h
+kind_of properties bytes NoMemory h = absurd h
 
-module _ (bytes : List ℕ) (g : Aig) (e : spelled bytes ≡ Ok g) where
+module _ (properties : Bool) (bytes : List ℕ) (g : Aig) (e : spelled properties bytes ≡ Ok g) where
   not_undefined : (v : ℕ) → first_undefined g ≡ Some v → first_undefined g ≡ None → ⊥
   not_undefined v h k = let q : Path (Option ℕ) (Some v) None = sym h ∙ k in cc
 
@@ -119,7 +121,7 @@ module _ (bytes : List ℕ) (g : Aig) (e : spelled bytes ≡ Ok g) where
 
   same_circle : (vs us : List ℕ) → IsAigFault g (Cycle vs) → IsAigFault g (Cycle us) → vs ≡ us
   same_circle vs us (u, h, (f, b, s, x)) (t, k, (d, c, r, y)) =
-      same_variables (map and_variable g.ands) vs us (and_small bytes g e) h k (one_circle (and_tables g) f d b c (map variable_word vs) (map variable_word us) s r x y)
+      same_variables (map and_variable g.ands) vs us (and_small properties bytes g e) h k (one_circle (and_tables g) f d b c (map variable_word vs) (map variable_word us) s r x y)
 
   one_aig_fault : (f h : AigFault) → IsAigFault g f → IsAigFault g h → f ≡ h
   one_aig_fault (Undefined v) (Undefined w) x y = let q : Path (Option ℕ) (Some v) (Some w) = sym x ∙ y in ap Undefined (let r : v ≡ w = cc in r)
@@ -145,13 +147,13 @@ module _ (bytes : List ℕ) (g : Aig) (e : spelled bytes ≡ Ok g) where
   one_aig_fault other h x y = absurd x
 
 pub one_fault : OneFault
-one_fault bytes f h x y = both (kind_of bytes f x) (kind_of bytes h y)
+one_fault properties bytes f h x y = both (kind_of properties bytes f x) (kind_of properties bytes h y)
   where
-    both : Kind bytes f → Kind bytes h → f ≡ h
+    both : Kind properties bytes f → Kind properties bytes h → f ≡ h
     both (inl a) (inl b) = let q : Path (Result Aig AigFault) (Err f) (Err h) = sym a ∙ b in cc
     both (inl a) (inr b) = absurd (let q : Path (Result Aig AigFault) (Err f) (Ok b.0) = sym a ∙ b.1 in cc)
     both (inr a) (inl b) = absurd (let q : Path (Result Aig AigFault) (Ok a.0) (Err h) = sym a.1 ∙ b in cc)
     both (inr a) (inr b) =
         let q : Path (Result Aig AigFault) (Ok a.0) (Ok b.0) = sym a.1 ∙ b.1 in
         let same : a.0 ≡ b.0 = cc in
-        one_aig_fault bytes b.0 b.1 f h (subst (λ (g : Aig). IsAigFault g f) same a.2) b.2
+        one_aig_fault properties bytes b.0 b.1 f h (subst (λ (g : Aig). IsAigFault g f) same a.2) b.2

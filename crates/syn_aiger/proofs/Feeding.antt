@@ -9,7 +9,8 @@ use Rattle.syn_aiger_files.specs.declared.files.Place.TheVariants.{Input as OfIn
 use Rattle.syn_aiger_files.specs.declared.files.Symbol.{Symbol}
 use Rattle.syn_aiger_files.specs.Files.{latch_literal}
 use Rattle.syn_aiger.specs.Keeping.{Keeps, feed_next, named_next, places_named}
-use Rattle.syn_aiger.specs.Naming.{Named, feeds_named, feeds_of, first_name, inputs_of, name_of, named_of, outputs_of, sources_of}
+use Rattle.syn_aiger_files.specs.FirstNames.{first_name}
+use Rattle.syn_aiger.specs.Naming.{Named, feeds_named, feeds_of, inputs_of, name_of, named_of, outputs_of, sources_of}
 use Rattle.syn_aiger.specs.Values.{source_literals}
 use Rattle.syn_aiger.specs.declared.given.Given.{Given}
 use Rattle.syn_aiger.proofs.Giving.{feeds_next, literal_of, outputs_are, places_next, sources_are}

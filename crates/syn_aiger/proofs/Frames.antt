@@ -19,7 +19,8 @@ use Rattle.syn_aiger_files.specs.declared.files.Place.TheVariants.{Input as OfIn
 use Rattle.syn_aiger_files.specs.Files.{latch_literal}
 use Rattle.syn_aiger_files.specs.Literals.{literals_from}
 use Rattle.syn_aiger_files.specs.Symbols.{is_at, letter_of}
-use Rattle.syn_aiger.specs.Naming.{Named, feeds_named, feeds_of, first_name, free_name, inputs_of, is_given, is_given_otherwise, latches_of, longest, name_of, outputs_named, outputs_of, sources_named, sources_of, underscored, word_or}
+use Rattle.syn_aiger_files.specs.FirstNames.{first_name, word_or}
+use Rattle.syn_aiger.specs.Naming.{Named, feeds_named, feeds_of, free_name, inputs_of, is_given, is_given_otherwise, latches_of, longest, name_of, outputs_named, outputs_of, sources_named, sources_of, underscored}
 use Rattle.syn_aiger.specs.Networks.{frame_of, init_of, latches_from}
 use Rattle.syn_aiger.specs.Writing.{aig_of, feed_of, free_signals, has_type, init_again, init_in, latches_by, literal_in, reset_by, symbols_by, symbols_in, untyped_latch, without_types}
 use Rattle.syn_aiger.specs.Laws.{AigOfKeeps, AigOfLeavesTypes, written_names}

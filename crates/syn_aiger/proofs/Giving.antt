@@ -13,7 +13,8 @@ use Rattle.syn_aiger_files.specs.declared.files.Place.{Place}
 use Rattle.syn_aiger_files.specs.declared.files.Place.TheVariants.{Output as OfOutput}
 use Rattle.syn_aiger_files.specs.declared.files.Symbol.{Symbol}
 use Rattle.syn_aiger.specs.Keeping.{HasLiteral, Keeps, feed_next, named_next, places_named}
-use Rattle.syn_aiger.specs.Naming.{Named, feeds_named, first_name, is_given, is_given_otherwise, name_of, outputs_named, sources_named}
+use Rattle.syn_aiger_files.specs.FirstNames.{first_name}
+use Rattle.syn_aiger.specs.Naming.{Named, feeds_named, is_given, is_given_otherwise, name_of, outputs_named, sources_named}
 use Rattle.syn_aiger.specs.declared.given.Given.{Given}
 use Rattle.syn_aiger.proofs.Taking.{has_at, otherwise_is}
 

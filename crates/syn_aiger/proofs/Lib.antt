@@ -22,7 +22,6 @@ pub mod Soundness
 pub mod Graphed
 pub mod Counting
 pub mod Seeking
-pub mod Called
 pub mod Feeding
 pub mod Ordering
 pub mod Netting

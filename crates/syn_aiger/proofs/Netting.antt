@@ -26,7 +26,7 @@ use Rattle.syn_aiger_files.proofs.PrintedNumbers.{number_of_decimal}
 use Rattle.syn_aiger.specs.Placing.{IsSound, ReadsDefined, has_sides, node_in}
 use Rattle.syn_aiger.specs.Ranks.{HasRank, table_netlist}
 use Rattle.syn_aiger.specs.Values.{and_table, and_tables, and_variable, defined_variables, lit, source_literals, source_variables, variable_word}
-use Rattle.syn_aiger.proofs.Called.{decimal_word}
+use Rattle.syn_aiger_files.proofs.Called.{decimal_word}
 use Rattle.syn_aiger.proofs.Circling.{circle_words, number_behind, outputs_are}
 use Rattle.syn_aiger.proofs.Frames.{distinct_before, distinct_left}
 use Rattle.syn_aiger.proofs.Rowed.{many_defined}

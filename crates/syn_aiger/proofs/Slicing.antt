@@ -24,7 +24,8 @@ use Rattle.syn_aiger_files.specs.declared.files.Symbol.{Symbol}
 use Rattle.syn_aiger_files.specs.Files.{latch_literal, next_of, variable_of}
 use Rattle.syn_aiger.specs.Framing.{AllDefined, AreLiterals}
 use Rattle.syn_aiger.specs.Keeping.{HasLiteral, Keeps}
-use Rattle.syn_aiger.specs.Naming.{Named, feeds_named, feeds_of, first_name, free_name, inputs_of, is_given, latches_of, literal_in, literal_named, name_of, named_of, outputs_named, outputs_of, source_or, sources_named, sources_of}
+use Rattle.syn_aiger_files.specs.FirstNames.{first_name}
+use Rattle.syn_aiger.specs.Naming.{Named, feeds_named, feeds_of, free_name, inputs_of, is_given, latches_of, literal_in, literal_named, name_of, named_of, outputs_named, outputs_of, source_or, sources_named, sources_of}
 use Rattle.syn_aiger.specs.Networks.{frame_of, init_of, latches_from}
 use Rattle.syn_aiger.specs.Placing.{IsSound, ReadsDefined, is_defined, is_plain, lit_in, node_in, or_zero}
 use Rattle.syn_aiger.specs.Values.{and_variable, defined_variables, source_literals, source_variables}

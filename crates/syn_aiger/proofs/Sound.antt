@@ -119,4 +119,4 @@ normal_no_circle g n =
     ranked_no_circle (λ n. n) g s.0 s.1
 
 pub printed_spells : PrintedSpells
-printed_spells g n ascii = record { says = written_says g n ascii; defined = normal_defined g n; acyclic = normal_no_circle g n }
+printed_spells properties g n ascii = record { says = written_says properties g n ascii; defined = normal_defined g n; acyclic = normal_no_circle g n }

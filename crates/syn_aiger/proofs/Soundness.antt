@@ -1,6 +1,6 @@
 -- What is so of each file that is said.
 use Rattle.std.specs.List.{AllByRecursion, list_all}
-use Rattle.std.proofs.Common.{◌≡◌, ℕ, ◌+◌, ◌*◌, ◌^◌, ◌<◌, ◌≤◌, ◌%◌, nat_eq, nat_lt, true, List, [], ◌∷◌, ◌++◌, map, Ok, refl, sym, subst, append_assoc, arith, eq-eqb, lt-ltb, length-append}
+use Rattle.std.proofs.Common.{◌≡◌, ℕ, ◌+◌, ◌*◌, ◌^◌, ◌<◌, ◌≤◌, ◌%◌, nat_eq, nat_lt, true, Bool, List, [], ◌∷◌, ◌++◌, map, Ok, refl, sym, subst, append_assoc, arith, eq-eqb, lt-ltb, length-append}
 use Rattle.std.proofs.lemmas.Bool.{and_from, or_left, or_right}
 use Rattle.std.proofs.lemmas.List.{length-map}
 use Rattle.syn_lists.specs.Numbers.{has_number}
@@ -29,14 +29,14 @@ resets_fit : (ls : List AigLatch) → AllByRecursion ResetFits ls → list_all h
 resets_fit [] h = refl
 resets_fit (l ∷ ls) h = and_from (has_reset l) (list_all has_reset ls) h.0 (resets_fit ls h.1)
 
-pub sound_of : (bytes : List ℕ) (g : Aig) → spelled bytes ≡ Ok g → IsSound g
-sound_of bytes g e =
-    let s = spelled_sound bytes g e in
+pub sound_of : (properties : Bool) (bytes : List ℕ) (g : Aig) → spelled properties bytes ≡ Ok g → IsSound g
+sound_of properties bytes g e =
+    let s = spelled_sound properties bytes g e in
     let most : g.variables ≤ most_variables = s.0 in
     let few = s.2.defined in
     record {
-      once = spelled_defines_once bytes g e;
-      small = below_each (2 ^ 28) (defined_variables g) (λ v t. let le = defined_small bytes g e v t in omega arith);
+      once = spelled_defines_once properties bytes g e;
+      small = below_each (2 ^ 28) (defined_variables g) (λ v t. let le = defined_small properties bytes g e v t in omega arith);
       few = omega (arith, many_defined g, length-append g.inputs (map latch_literal g.latches), length-map g.latches latch_literal);
       plain = plain_front (2 * g.variables + 1) [] (source_literals g) (map and_literal g.ands) (subst (NewOnes (2 * g.variables + 1) []) (sym (append_assoc g.inputs (map latch_literal g.latches) (map and_literal g.ands))) s.1.new);
       resets = resets_fit g.latches s.1.resets;

@@ -1,5 +1,5 @@
 -- Files that spell something, their limits, and their first fault. Which faults there are, and their order, is this project's choice.
-use Rattle.std.specs.Prelude.{ℕ, ◌≡◌, ◌<◌, ◌≤◌, List, true, length, map, None, Some, Ok, Err, ⊤}
+use Rattle.std.specs.Prelude.{ℕ, ◌≡◌, ◌<◌, ◌≤◌, Bool, List, true, length, map, None, Some, Ok, Err, ⊤}
 use Rattle.std.specs.List.{list_all}
 use Rattle.syn_netlist.specs.Faults.{AnswersCircle}
 use Rattle.syn_lists.specs.Numbers.{has_number}
@@ -14,9 +14,9 @@ use Rattle.syn_aiger.specs.Values.{NoCircle, and_tables, and_variable, first_und
 abbrev pub most_ands : ℕ
 most_ands = 4194304
 
--- The bytes spell the file: they say it, each variable that it reads is defined, and no ANDs read each other in a circle. There are no limits in this.
-pub record Spells (bytes : List ℕ) (g : Aig) : Type 0 where
-  pub says : spelled bytes ≡ Ok g
+-- The bytes spell the file: they say it, each variable that it reads is defined, and no ANDs read each other in a circle. There are no limits in this. By the mark bad states and constraints are outputs behind the file's own; else they are refused.
+pub record Spells (properties : Bool) (bytes : List ℕ) (g : Aig) : Type 0 where
+  pub says : spelled properties bytes ≡ Ok g
   pub defined : first_undefined g ≡ None
   pub acyclic : NoCircle g
 
@@ -34,15 +34,15 @@ IsAigFault g (faults.TooManyGates n) = (first_undefined g ≡ None) × NoCircle 
 IsAigFault g other = ⊥
 
 -- The first fault of a file: one of its first line, a line, a pair or a symbol; where there is none, one of what it says.
-abbrev pub IsFirstFault : List ℕ → AigFault → Type 0
-IsFirstFault bytes faults.NoMemory = ⊥
-IsFirstFault bytes (faults.Undefined v) = (g : Aig) × (spelled bytes ≡ Ok g) × IsAigFault g (faults.Undefined v)
-IsFirstFault bytes (faults.Cycle vs) = (g : Aig) × (spelled bytes ≡ Ok g) × IsAigFault g (faults.Cycle vs)
-IsFirstFault bytes (faults.TooManySources n) = (g : Aig) × (spelled bytes ≡ Ok g) × IsAigFault g (faults.TooManySources n)
-IsFirstFault bytes (faults.TooManyGates n) = (g : Aig) × (spelled bytes ≡ Ok g) × IsAigFault g (faults.TooManyGates n)
-IsFirstFault bytes fault = spelled bytes ≡ Err fault
+abbrev pub IsFirstFault : Bool → List ℕ → AigFault → Type 0
+IsFirstFault properties bytes faults.NoMemory = ⊥
+IsFirstFault properties bytes (faults.Undefined v) = (g : Aig) × (spelled properties bytes ≡ Ok g) × IsAigFault g (faults.Undefined v)
+IsFirstFault properties bytes (faults.Cycle vs) = (g : Aig) × (spelled properties bytes ≡ Ok g) × IsAigFault g (faults.Cycle vs)
+IsFirstFault properties bytes (faults.TooManySources n) = (g : Aig) × (spelled properties bytes ≡ Ok g) × IsAigFault g (faults.TooManySources n)
+IsFirstFault properties bytes (faults.TooManyGates n) = (g : Aig) × (spelled properties bytes ≡ Ok g) × IsAigFault g (faults.TooManyGates n)
+IsFirstFault properties bytes fault = spelled properties bytes ≡ Err fault
 
 -- An answer names the first fault, or it is want of memory.
-abbrev pub NamesFirstFault : List ℕ → AigFault → Type 0
-NamesFirstFault bytes faults.NoMemory = ⊤
-NamesFirstFault bytes fault = IsFirstFault bytes fault
+abbrev pub NamesFirstFault : Bool → List ℕ → AigFault → Type 0
+NamesFirstFault properties bytes faults.NoMemory = ⊤
+NamesFirstFault properties bytes fault = IsFirstFault properties bytes fault

@@ -1,23 +1,13 @@
 -- What the code has of names while they are given.
-use Rattle.std.specs.Prelude.{ℕ, zero, suc, ◌≡◌, ◌<◌, ◌==◌, max, Bool, true, false, List, [], ◌∷◌, ◌++◌, length, map, find, decimal, slice_index, Option, Some, None}
+use Rattle.std.specs.Prelude.{ℕ, suc, ◌≡◌, ◌<◌, ◌==◌, max, Bool, true, false, List, [], ◌∷◌, ◌++◌, length, map, find, decimal, slice_index}
 use Rattle.std.specs.List.{AllByRecursion}
 use Rattle.syn_netlist.specs.Numbers.{all_below, word_at, words_at}
 use Rattle.syn_netlist.specs.Words.{has_word}
 use Rattle.syn_aiger_files.specs.declared.files.Place.{Place}
 use Rattle.syn_aiger_files.specs.declared.files.Symbol.{Symbol}
 use Rattle.syn_aiger.specs.declared.given.Given.{Given}
-use Rattle.syn_aiger.specs.Naming.{Named, first_name, free_name, is_given, is_given_otherwise, name_of, source_or}
-
--- the symbol at a place of the list, from 0
-abbrev pub symbol_at : List Symbol → ℕ → Option Symbol
-symbol_at [] k = None
-symbol_at (s ∷ ss) zero = Some s
-symbol_at (s ∷ ss) (suc k) = symbol_at ss k
-
--- the symbol that a number stands for: 0 for none, else its place from 1
-abbrev pub symbol_by : List Symbol → ℕ → Option Symbol
-symbol_by symbols zero = None
-symbol_by symbols (suc k) = symbol_at symbols k
+use Rattle.syn_aiger_files.specs.FirstNames.{first_name}
+use Rattle.syn_aiger.specs.Naming.{Named, free_name, is_given, is_given_otherwise, name_of, source_or}
 
 -- a name is taken: it is given, or, where an equal literal may keep it, given for another literal
 abbrev pub taken_by : Bool → ℕ → List Named → List ℕ → Bool

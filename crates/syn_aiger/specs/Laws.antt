@@ -19,31 +19,31 @@ use Rattle.syn_aiger.specs.Writing.{IsWrittenAs, aig_of, first_typed, free_signa
 
 -- The bytes spell one file at most.
 abbrev pub OneAig : Type 0
-OneAig = (bytes : List ℕ) (g h : Aig) → Spells bytes g → Spells bytes h → g ≡ h
+OneAig = (properties : Bool) (bytes : List ℕ) (g h : Aig) → Spells properties bytes g → Spells properties bytes h → g ≡ h
 
 -- Bytes spell a file within the limits, or have a first fault.
 abbrev pub EitherOr : Type 0
-EitherOr = (bytes : List ℕ) → ((g : Aig) × Spells bytes g × Within g) ⊎ ((fault : AigFault) × IsFirstFault bytes fault)
+EitherOr = (properties : Bool) (bytes : List ℕ) → ((g : Aig) × Spells properties bytes g × Within g) ⊎ ((fault : AigFault) × IsFirstFault properties bytes fault)
 
 -- What spells a file within the limits has no first fault.
 abbrev pub NotBoth : Type 0
-NotBoth = (bytes : List ℕ) (g : Aig) (fault : AigFault) → Spells bytes g → Within g → IsFirstFault bytes fault → ⊥
+NotBoth = (properties : Bool) (bytes : List ℕ) (g : Aig) (fault : AigFault) → Spells properties bytes g → Within g → IsFirstFault properties bytes fault → ⊥
 
 -- Bytes have one first fault at most.
 abbrev pub OneFault : Type 0
-OneFault = (bytes : List ℕ) (f g : AigFault) → IsFirstFault bytes f → IsFirstFault bytes g → f ≡ g
+OneFault = (properties : Bool) (bytes : List ℕ) (f g : AigFault) → IsFirstFault properties bytes f → IsFirstFault properties bytes g → f ≡ g
 
 -- A spelled file defines no variable twice.
 abbrev pub SpelledDefinesOnce : Type 0
-SpelledDefinesOnce = (bytes : List ℕ) (g : Aig) → spelled bytes ≡ Ok g → distinct_numbers (defined_variables g) ≡ true
+SpelledDefinesOnce = (properties : Bool) (bytes : List ℕ) (g : Aig) → spelled properties bytes ≡ Ok g → distinct_numbers (defined_variables g) ≡ true
 
 -- Where each AND of a spelled file reads only variables of sources and of ANDs above it, no ANDs read each other in a circle.
 abbrev pub OrderHasNoCircle : Type 0
-OrderHasNoCircle = (bytes : List ℕ) (g : Aig) → spelled bytes ≡ Ok g → reads_above (0 ∷ source_variables g) g.ands ≡ true → NoCircle g
+OrderHasNoCircle = (properties : Bool) (bytes : List ℕ) (g : Aig) → spelled properties bytes ≡ Ok g → reads_above (0 ∷ source_variables g) g.ands ≡ true → NoCircle g
 
 -- What is printed of a file that can be written spells it, in both formats.
 abbrev pub PrintedSpells : Type 0
-PrintedSpells = (g : Aig) → IsNormal g → (ascii : Bool) → Spells (printed ascii g) g
+PrintedSpells = (properties : Bool) (g : Aig) → IsNormal g → (ascii : Bool) → Spells properties (printed ascii g) g
 
 -- the names that are written of a frame: those of the sources and of the outputs
 abbrev pub written_names : Frame → List (List ℕ)
@@ -72,4 +72,4 @@ GraphHasLists = (g : Aig) (n : Netlist) → IsGraphOfAig g n → HasListsOf g n
 
 -- A graph of what is written is the network read again.
 abbrev pub WrittenReadsBack : Type 0
-WrittenReadsBack = (bytes : List ℕ) (m n : Netlist) (g : Aig) → Spells bytes g → IsWrittenAs m g → IsGraphOfAig g n → IsReadBack m n
+WrittenReadsBack = (properties : Bool) (bytes : List ℕ) (m n : Netlist) (g : Aig) → Spells properties bytes g → IsWrittenAs m g → IsGraphOfAig g n → IsReadBack m n

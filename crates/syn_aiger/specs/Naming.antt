@@ -1,14 +1,13 @@
 -- What the sources, outputs and data signals of a file are called: by their symbols, else by letter and number (the rules are this project's choice).
 use Rattle.std.specs.Prelude.{ℕ, zero, suc, ◌+◌, ◌==◌, ◌&&◌, not, max, Bool, if◌then◌else◌, List, [], ◌∷◌, ◌++◌, length, map, find, decimal, bytes_eq, Option, Some, None}
 use Rattle.std.specs.List.{list_any}
-use Rattle.syn_netlist.specs.Words.{is_word}
 use Rattle.syn_aiger_files.specs.declared.files.Aig.{Aig}
 use Rattle.syn_aiger_files.specs.declared.files.AigLatch.{AigLatch}
 use Rattle.syn_aiger_files.specs.declared.files.Place.{Place}
 use Rattle.syn_aiger_files.specs.declared.files.Symbol.{Symbol}
 use Rattle.syn_aiger_files.specs.declared.files.Place.TheVariants.{Input as OfInput, Latch as OfLatch, Output as OfOutput}
 use Rattle.syn_aiger_files.specs.Files.{latch_literal}
-use Rattle.syn_aiger_files.specs.Symbols.{is_at, letter_of}
+use Rattle.syn_aiger_files.specs.FirstNames.{first_name}
 
 -- A name that is given, and the literal for which it stands.
 pub record Named : Type 0 where
@@ -39,15 +38,6 @@ underscored (suc more) taken name = if taken name then underscored more taken (n
 -- The name with the fewest `_` behind it with which it isn't taken, where given names alone are taken: one that is longer than all of them isn't.
 abbrev pub free_name : List Named → (List ℕ → Bool) → List ℕ → List ℕ
 free_name given taken name = underscored (longest given + 1) taken name
-
--- a symbol's name where it is a word, else the other
-abbrev pub word_or : List ℕ → Option Symbol → List ℕ
-word_or other None = other
-word_or other (Some symbol) = if is_word symbol.name then symbol.name else other
-
--- what stands at a place is first called: its symbol where that is a word, else its letter and its number
-abbrev pub first_name : List Symbol → Place → ℕ → List ℕ
-first_name symbols place index = word_or (letter_of place ∷ decimal index) (find (is_at place index) symbols)
 
 -- the names of these sources, numbered from an index on, behind given names: each gets a new name
 abbrev pub sources_named : List Symbol → Place → ℕ → List ℕ → List Named → List Named

@@ -1,14 +1,13 @@
 //! AIGER files as networks, both ways.
 //!
-//! `read_aig` takes the bytes of a file and gives its network, or the first fault; `write_aig` takes
-//! a network and gives the bytes of its file, or names the first latch with a type, which
-//! `write_untyped_aig` leaves out.
+//! `read_aig` takes the bytes of a file and gives its network, in which bad states and constraints
+//! may become outputs, or the first fault; `write_aig` takes a network and gives the bytes of its
+//! file, or names the first latch with a type, which `write_untyped_aig` leaves out.
 //! What bytes say, and the bytes of what is to be said, are those of `syn_aiger_files`.
 #![tactic(auto)]
 
 mod circles;
 mod file_numbers;
-mod first_names;
 mod frame;
 mod given;
 mod laws;

@@ -9,10 +9,9 @@ ghost use Rattle.syn_aiger.specs.Naming.{Named, feeds_named, named_of, sources_o
 ghost use Rattle.syn_aiger.specs.Values.{source_literals};
 
 use crate::file_numbers::Numbered;
-use crate::first_names::{first_name, numbered, symbol_table};
 use crate::given::Given;
 use std::alloc::{AllocError, Global};
-use syn_aiger_files::{AigLatch, Inputs, Place, Symbol};
+use syn_aiger_files::{AigLatch, Inputs, Place, Symbol, first_name, numbered, symbol_table};
 
 // Names what stands at a place: these literals, in order.
 fn name_places(

@@ -108,14 +108,20 @@ fn graph_of(alloc: Global, file: &Numbered) -> Result<Network, AllocError>
 }
 
 // The network of the file that the bytes spell, within the limits; or their first fault.
-fn graph_within(alloc: Global, bytes: &[u8], file: &Numbered) -> Result<Network, AigFault>
-    requires { spelled bytes.now ≡ Ok file.now.aig }
-    ensures graph { IfOk result (λ graph. (g : Aig) × Spells bytes.now g × Within g × IsGraphOfAig g (network_of graph)) }
+fn graph_within(
+    alloc: Global,
+    bytes: &[u8],
+    properties: bool,
+    file: &Numbered,
+) -> Result<Network, AigFault>
+    requires { spelled properties bytes.now ≡ Ok file.now.aig }
+    ensures graph { IfOk result (λ graph. (g : Aig) × Spells properties bytes.now g × Within g × IsGraphOfAig g (network_of graph)) }
     ensures few { IfOk result (λ graph. length graph.body.rows ≤ graph.body.source_count + 1 + most_ands) }
     ensures outputs { IfOk result (λ graph. length graph.frame.outputs ≤ most_variables) }
-    ensures fault { IfErr result (NamesFirstFault bytes.now) }
+    ensures fault { IfErr result (NamesFirstFault properties bytes.now) }
 {
     let _ = bytes;
+    let _ = properties;
     if let Some(v) = first_undefined(file) {
         return Err(AigFault::Undefined(v));
     }
@@ -134,14 +140,14 @@ fn graph_within(alloc: Global, bytes: &[u8], file: &Numbered) -> Result<Network,
     Ok(graph)
 }
 
-/// The graph of the file that the bytes spell, within the limits; or their first fault. `NoMemory` may come for any bytes.
-pub fn read_aig(alloc: Global, bytes: &[u8]) -> Result<Network, AigFault>
+/// The network of the file that the bytes spell, within the limits; or their first fault. By the mark `properties` bad states and constraints are outputs; else they are a fault. `NoMemory` may come for any bytes.
+pub fn read_aig(alloc: Global, bytes: &[u8], properties: bool) -> Result<Network, AigFault>
     requires { length bytes.now < 2 ^ 32 }
-    ensures graph { IfOk result (λ graph. (g : Aig) × Spells bytes.now g × Within g × IsGraphOfAig g (network_of graph)) }
+    ensures graph { IfOk result (λ graph. (g : Aig) × Spells properties bytes.now g × Within g × IsGraphOfAig g (network_of graph)) }
     ensures few { IfOk result (λ graph. length graph.body.rows ≤ graph.body.source_count + 1 + most_ands) }
     ensures outputs { IfOk result (λ graph. length graph.frame.outputs ≤ most_variables) }
-    ensures fault { IfErr result (NamesFirstFault bytes.now) }
+    ensures fault { IfErr result (NamesFirstFault properties bytes.now) }
 {
-    let file = Numbered::of(alloc, parse(alloc, bytes)?)?;
-    graph_within(alloc, bytes, &file)
+    let file = Numbered::of(alloc, parse(alloc, bytes, properties)?)?;
+    graph_within(alloc, bytes, properties, &file)
 }

@@ -3,7 +3,7 @@
 //! A latch with a type is refused. Else the lists of the file are made of the graph's own, each in one pass: literals are
 //! those of the graph's nodes, and an observed name has the literal that the graph observes, by the name's number.
 
-ghost use Rattle.std.specs.Prelude.{◌≡◌, ◌+◌, ◌<◌, ◌≤◌, ◌^◌, ◌++◌, [], length, map, true, IfErr, IfOk, OnOk, None};
+ghost use Rattle.std.specs.Prelude.{◌≡◌, ◌+◌, ◌<◌, ◌≤◌, ◌^◌, ◌++◌, [], false, length, map, true, IfErr, IfOk, OnOk, None};
 ghost use Rattle.std.specs.List.{list_all};
 ghost use Rattle.syn_network.specs.Written.{network_of};
 ghost use Rattle.syn_netlist.specs.Frames.{frame_in};
@@ -49,7 +49,7 @@ pub fn write_aig(alloc: Global, graph: &Network, ascii: bool) -> Result<Vec<u8>,
     requires rows { length graph.now.body.rows ≤ 2 ^ 28 }
     requires outputs { length graph.now.frame.outputs < 2 ^ 28 }
     ensures bytes { IfOk result (λ bytes. bytes.items ≡ printed ascii (aig_of (network_of graph.now))) }
-    ensures spells { IfOk result (λ bytes. Spells bytes.items (aig_of (network_of graph.now))) }
+    ensures spells { IfOk result (λ bytes. Spells false bytes.items (aig_of (network_of graph.now))) }
     ensures written { IfOk result (λ bytes. IsWrittenAs (network_of graph.now) (aig_of (network_of graph.now))) }
     ensures untyped { IfOk result (λ bytes. first_typed (network_of graph.now).frame ≡ None) }
     ensures fault { IfErr result (NamesTyped (network_of graph.now).frame) }
@@ -64,7 +64,7 @@ pub fn write_untyped_aig(alloc: Global, graph: &Network, ascii: bool) -> Result<
     requires rows { length graph.now.body.rows ≤ 2 ^ 28 }
     requires outputs { length graph.now.frame.outputs < 2 ^ 28 }
     ensures bytes { IfOk result (λ bytes. bytes.items ≡ printed ascii (aig_of (network_of graph.now))) }
-    ensures spells { IfOk result (λ bytes. Spells bytes.items (aig_of (network_of graph.now))) }
+    ensures spells { IfOk result (λ bytes. Spells false bytes.items (aig_of (network_of graph.now))) }
     ensures written { IfOk result (λ bytes. IsWrittenAs (without_types (network_of graph.now)) (aig_of (network_of graph.now))) }
 {
     are_words(&graph.frame);

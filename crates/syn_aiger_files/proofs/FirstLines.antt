@@ -1,10 +1,8 @@
 -- First lines, told number after number.
-use Rattle.std.proofs.Common.{◌≡◌, ℕ, ◌&&◌, ◌==◌, length, arith, Bool, true, false, cond, List, [], ◌∷◌, option_map, Option, Some, None, refl, sym, ap, ap₂, ◌∙◌, Bor}
-use Rattle.std.proofs.lemmas.Bool.{lt-leb}
-use Rattle.std.specs.List.{list_all}
+use Rattle.std.proofs.Common.{◌≡◌, ℕ, Bool, List, [], ◌∷◌, option_map, Option, Some, None, true, is_some, refl, sym, ap, ◌∙◌, inl, inr, Bor}
 use Rattle.syn_aiger_files.specs.Cuts.{words_left}
-use Rattle.syn_aiger_files.specs.Files.{Header}
-use Rattle.syn_aiger_files.specs.Headers.{are_few_zeros, fits_numbers}
+use Rattle.syn_aiger_files.specs.Files.{Further, Header}
+use Rattle.syn_aiger_files.specs.Headers.{TakesNext, further_left}
 use Rattle.syn_aiger_files.specs.Spelling.{format_of, header_by, header_in}
 use Rattle.syn_aiger_files.specs.Texts.{and_number, numbers_of, or_none, words_of}
 use Rattle.syn_aiger_files.proofs.OnLines.{has_number_or_none}
@@ -44,43 +42,55 @@ module _ (line word : List ℕ) (r0 : Option (List ℕ)) (a : Bool) (w : words_o
           miss4 e = sym (head ∙ ap (λ (o : Option (List ℕ)). header_by (Some a) (or_none o)) (e0 ∙ ap (and_number (Some m)) (e1 ∙ ap (and_number (Some i)) (e2 ∙ ap (and_number (Some l)) e3))) ∙ lacks4 a m i l o (left r4) e)
 
           module _ (n : ℕ) (r5 : Option (List ℕ)) (e4 : left r4 ≡ and_number (Some n) (left r5)) where
-            pub whole : header_in (words_of line) ≡ cond (are_few_zeros 4 (left r5) && fits_numbers (record { ascii = a; variables = m; inputs = i; latches = l; outputs = o; ands = n })) (Some (record { ascii = a; variables = m; inputs = i; latches = l; outputs = o; ands = n })) None
+            -- the counts with those that may follow
+            abbrev with_further : Further → Header
+            with_further f = record { ascii = a; variables = m; inputs = i; latches = l; outputs = o; ands = n; further = f }
+
+            whole : header_in (words_of line) ≡ option_map with_further (further_left (left r5))
             whole =
                 head
                 ∙ ap (λ (o : Option (List ℕ)). header_by (Some a) (or_none o)) (e0 ∙ ap (and_number (Some m)) (e1 ∙ ap (and_number (Some i)) (e2 ∙ ap (and_number (Some l)) (e3 ∙ ap (and_number (Some o)) e4))))
-                ∙ whole_line (record { ascii = a; variables = m; inputs = i; latches = l; outputs = o; ands = n }) (left r5)
+                ∙ whole_line a m i l o n (left r5)
 
-            both : (x y : Bool) (h : Header) → x ≡ true → y ≡ true → Path (Option Header) (Some h) (cond (x && y) (Some h) None)
-            both true true h e g = refl
-            both true false h e g = absurd (cc)
-            both false y h e g = absurd (cc)
+            pub miss5 : Path (Option Further) None (further_left (left r5)) → Path (Option Header) None (header_in (words_of line))
+            miss5 e = ap (option_map with_further) e ∙ sym whole
 
-            first_fails : (x y : Bool) (h : Header) → x ≡ false → Path (Option Header) None (cond (x && y) (Some h) None)
-            first_fails false y h e = refl
-            first_fails true y h e = absurd (cc)
+            pub good : (f : Further) → Path (Option Further) (Some f) (further_left (left r5)) → Path (Option Header) (Some (with_further f)) (header_in (words_of line))
+            good f e = ap (option_map with_further) e ∙ sym whole
 
-            second_fails : (x y : Bool) (h : Header) → y ≡ false → Path (Option Header) None (cond (x && y) (Some h) None)
-            second_fails true false h e = refl
-            second_fails false y h e = refl
-            second_fails true true h e = absurd (cc)
+-- the counts that may follow, number after number
 
-            pub good : are_few_zeros 4 (left r5) ≡ true → fits_numbers (record { ascii = a; variables = m; inputs = i; latches = l; outputs = o; ands = n }) ≡ true → Path (Option Header) (Some (record { ascii = a; variables = m; inputs = i; latches = l; outputs = o; ands = n })) (header_in (words_of line))
-            good z k = both (are_few_zeros 4 (left r5)) (fits_numbers (record { ascii = a; variables = m; inputs = i; latches = l; outputs = o; ands = n })) (record { ascii = a; variables = m; inputs = i; latches = l; outputs = o; ands = n }) z k ∙ sym whole
+no_nil : (n : ℕ) (rest : Option (List ℕ)) → Path (Option (List ℕ)) (and_number (Some n) rest) (Some []) → ⊥
+no_nil n None e = cc
+no_nil n (Some ns) e = cc
 
-            pub not_zeros : are_few_zeros 4 (left r5) ≡ false → Path (Option Header) None (header_in (words_of line))
-            not_zeros z = first_fails (are_few_zeros 4 (left r5)) (fits_numbers (record { ascii = a; variables = m; inputs = i; latches = l; outputs = o; ands = n })) (record { ascii = a; variables = m; inputs = i; latches = l; outputs = o; ands = n }) z ∙ sym whole
+-- where none is left, 0 is taken and none is left
+none_left : (l r : Option (List ℕ)) (n : ℕ) → l ≡ Some [] → TakesNext l n r → (n ≡ 0) × (r ≡ Some [])
+none_left l r n e (inl q) = absurd (no_nil n r (sym q ∙ e))
+none_left l r n e (inr q) = (q.1, q.2)
 
-            pub not_fitting : fits_numbers (record { ascii = a; variables = m; inputs = i; latches = l; outputs = o; ands = n }) ≡ false → Path (Option Header) None (header_in (words_of line))
-            not_fitting k = second_fails (are_few_zeros 4 (left r5)) (fits_numbers (record { ascii = a; variables = m; inputs = i; latches = l; outputs = o; ands = n })) (record { ascii = a; variables = m; inputs = i; latches = l; outputs = o; ands = n }) k ∙ sym whole
+module _ (l0 l1 l2 l3 l4 : Option (List ℕ)) (b c j f : ℕ) (t0 : TakesNext l0 b l1) (t1 : TakesNext l1 c l2) (t2 : TakesNext l2 j l3) (t3 : TakesNext l3 f l4) where
+  over : (l : Option (List ℕ)) → (l ≡ Some [] → ⊥) → further_left (and_number (Some b) (and_number (Some c) (and_number (Some j) (and_number (Some f) l)))) ≡ None
+  over None h = refl
+  over (Some []) h = absurd (h refl)
+  over (Some (n ∷ ns)) h = refl
 
--- no zeros may follow, and there is a word
+  pub too_many : (l4 ≡ Some [] → ⊥) → Path (Option Further) None (further_left l0)
+  too_many h = elim t0 [
+    | inr q ↦ absurd (h (none_left l3 l4 f (none_left l2 l3 j (none_left l1 l2 c q.2 t1).1 t2).1 t3).1)
+    | inl q0 ↦ elim t1 [
+      | inr q ↦ absurd (h (none_left l3 l4 f (none_left l2 l3 j q.2 t2).1 t3).1)
+      | inl q1 ↦ elim t2 [
+        | inr q ↦ absurd (h (none_left l3 l4 f q.2 t3).1)
+        | inl q2 ↦ elim t3 [
+          | inr q ↦ absurd (h q.2)
+          | inl q3 ↦ sym (ap further_left (q0 ∙ ap (and_number (Some b)) (q1 ∙ ap (and_number (Some c)) (q2 ∙ ap (and_number (Some j)) q3))) ∙ over l4 h)
+        ]
+      ]
+    ]
+  ]
 
-over_by : (o : Option (List ℕ)) → (o ≡ Some [] → ⊥) → false ≡ are_few_zeros 0 o
-over_by None h = refl
-over_by (Some []) h = absurd (h refl)
-over_by (Some (n ∷ ns)) h = sym (ap (λ (q : Bool). q && list_all (λ k. k == 0) (n ∷ ns)) (lt-leb (length (n ∷ ns)) 0 (omega arith)))
-
-pub zeros_over : (count : ℕ) (text : Option (Bor (List ℕ))) (words : Bor (List ℕ)) → text ≡ Some words → count ≡ 0 → false ≡ are_few_zeros count (numbers_of (words_left (option_map (λ (t : Bor (List ℕ)). t.now) text)))
-zeros_over count text words e z =
-    over_by (numbers_of (words_of words.now)) (has_number_or_none words.now)
-    ∙ sym (ap₂ (λ (k : ℕ) (o : Option (Bor (List ℕ))). are_few_zeros k (numbers_of (words_left (option_map (λ (t : Bor (List ℕ)). t.now) o)))) z e)
+-- where a text is left, numbers are, or none are numbers
+pub some_left : (text : Option (Bor (List ℕ))) → is_some text ≡ true → left (option_map (λ (t : Bor (List ℕ)). t.now) text) ≡ Some [] → ⊥
+some_left None s e = cc
+some_left (Some words) s e = has_number_or_none words.now e

@@ -3,7 +3,7 @@ use Rattle.std.proofs.Common.{◌≡◌, ℕ, zero, suc, ◌+◌, ◌-◌, ◌*�
 use Rattle.std.proofs.lemmas.List.{drop_all, length-append, length-map, length-replicate}
 use Rattle.syn_aiger_files.specs.declared.fault.AigFault.{AigFault}
 use Rattle.syn_aiger_files.specs.declared.fault.AigFault.TheVariants as faults
-use Rattle.syn_aiger_files.specs.Files.{AigAnd, AigLatch, Header}
+use Rattle.syn_aiger_files.specs.Files.{AigAnd, AigLatch, Header, all_outputs}
 use Rattle.syn_aiger_files.specs.Gathered.{Lists, gathered, is_text, with_parts}
 use Rattle.syn_aiger_files.specs.Literals.{literals_from}
 use Rattle.syn_aiger_files.specs.Parts.{AndLine, Gate, Input, InputLine, LatchLine, Latched, NextLine, Output, OutputLine, PairOf, Part, Wanted, ands_in, and_then, defined_by, if_some, inputs_in, latches_in, missed, outputs_in, parts_of, taken, wanted_by}
@@ -99,44 +99,44 @@ module _ (h : Header) (k : ℕ) where
       at_right (replicate h.inputs InputLine) _ (k - h.inputs) k LatchLine (omega arith)
       (at_left (replicate h.latches LatchLine) _ (k - h.inputs) LatchLine (omega arith) (at_same h.latches LatchLine (k - h.inputs) (omega arith)))
 
-  pub ascii_output : h.inputs + h.latches ≤ k → k < h.inputs + h.latches + h.outputs → HasAt (wanted_by true h) k OutputLine
+  pub ascii_output : h.inputs + h.latches ≤ k → k < h.inputs + h.latches + all_outputs h → HasAt (wanted_by true h) k OutputLine
   ascii_output g l =
       let n = many h.inputs InputLine in
       let m = many h.latches LatchLine in
-      let o = many h.outputs OutputLine in
+      let o = many (all_outputs h) OutputLine in
       at_right (replicate h.inputs InputLine) _ (k - h.inputs) k OutputLine (omega arith)
       (at_right (replicate h.latches LatchLine) _ (k - h.inputs - h.latches) (k - h.inputs) OutputLine (omega arith)
-      (at_left (replicate h.outputs OutputLine) _ (k - h.inputs - h.latches) OutputLine (omega arith) (at_same h.outputs OutputLine (k - h.inputs - h.latches) (omega arith))))
+      (at_left (replicate (all_outputs h) OutputLine) _ (k - h.inputs - h.latches) OutputLine (omega arith) (at_same (all_outputs h) OutputLine (k - h.inputs - h.latches) (omega arith))))
 
-  pub ascii_and : h.inputs + h.latches + h.outputs ≤ k → k < h.inputs + h.latches + h.outputs + h.ands → HasAt (wanted_by true h) k AndLine
+  pub ascii_and : h.inputs + h.latches + all_outputs h ≤ k → k < h.inputs + h.latches + all_outputs h + h.ands → HasAt (wanted_by true h) k AndLine
   ascii_and g l =
       let n = many h.inputs InputLine in
       let m = many h.latches LatchLine in
-      let o = many h.outputs OutputLine in
+      let o = many (all_outputs h) OutputLine in
       at_right (replicate h.inputs InputLine) _ (k - h.inputs) k AndLine (omega arith)
       (at_right (replicate h.latches LatchLine) _ (k - h.inputs - h.latches) (k - h.inputs) AndLine (omega arith)
-      (at_right (replicate h.outputs OutputLine) _ (k - h.inputs - h.latches - h.outputs) (k - h.inputs - h.latches) AndLine (omega arith)
-      (at_same h.ands AndLine (k - h.inputs - h.latches - h.outputs) (omega arith))))
+      (at_right (replicate (all_outputs h) OutputLine) _ (k - h.inputs - h.latches - all_outputs h) (k - h.inputs - h.latches) AndLine (omega arith)
+      (at_same h.ands AndLine (k - h.inputs - h.latches - all_outputs h) (omega arith))))
 
   pub binary_next : k < h.latches → HasAt (wanted_by false h) k (NextLine (2 * (h.inputs + 1 + k)))
   binary_next l =
       let n = literal_count NextLine (h.inputs + 1) h.latches in
       at_left (map NextLine (literals_from (h.inputs + 1) h.latches)) _ k (NextLine (2 * (h.inputs + 1 + k))) (omega arith) (at_literal NextLine (h.inputs + 1) h.latches k (2 * (h.inputs + 1 + k)) l refl)
 
-  pub binary_output : h.latches ≤ k → k < h.latches + h.outputs → HasAt (wanted_by false h) k OutputLine
+  pub binary_output : h.latches ≤ k → k < h.latches + all_outputs h → HasAt (wanted_by false h) k OutputLine
   binary_output g l =
       let n = literal_count NextLine (h.inputs + 1) h.latches in
-      let o = many h.outputs OutputLine in
+      let o = many (all_outputs h) OutputLine in
       at_right (map NextLine (literals_from (h.inputs + 1) h.latches)) _ (k - h.latches) k OutputLine (omega arith)
-      (at_left (replicate h.outputs OutputLine) _ (k - h.latches) OutputLine (omega arith) (at_same h.outputs OutputLine (k - h.latches) (omega arith)))
+      (at_left (replicate (all_outputs h) OutputLine) _ (k - h.latches) OutputLine (omega arith) (at_same (all_outputs h) OutputLine (k - h.latches) (omega arith)))
 
-  pub binary_pair : (m : ℕ) → h.latches + h.outputs ≤ k → k < h.latches + h.outputs + h.ands → m ≡ 2 * (h.inputs + h.latches + 1 + (k - h.latches - h.outputs)) → HasAt (wanted_by false h) k (PairOf m)
+  pub binary_pair : (m : ℕ) → h.latches + all_outputs h ≤ k → k < h.latches + all_outputs h + h.ands → m ≡ 2 * (h.inputs + h.latches + 1 + (k - h.latches - all_outputs h)) → HasAt (wanted_by false h) k (PairOf m)
   binary_pair m g l e =
       let n = literal_count NextLine (h.inputs + 1) h.latches in
-      let o = many h.outputs OutputLine in
+      let o = many (all_outputs h) OutputLine in
       at_right (map NextLine (literals_from (h.inputs + 1) h.latches)) _ (k - h.latches) k (PairOf m) (omega arith)
-      (at_right (replicate h.outputs OutputLine) _ (k - h.latches - h.outputs) (k - h.latches) (PairOf m) (omega arith)
-      (at_literal PairOf (h.inputs + h.latches + 1) h.ands (k - h.latches - h.outputs) m (omega arith) e))
+      (at_right (replicate (all_outputs h) OutputLine) _ (k - h.latches - all_outputs h) (k - h.latches) (PairOf m) (omega arith)
+      (at_literal PairOf (h.inputs + h.latches + 1) h.ands (k - h.latches - all_outputs h) m (omega arith) e))
 
 -- a step of the loop over what is wanted, a fault in it, and its end
 
@@ -155,22 +155,22 @@ module _ (total most : ℕ) (ls : List ℕ) (ws : List Wanted) (k : ℕ) (bytes 
   pub ends_there : length ws ≤ k → target ≡ Ok (b, bytes)
   ends_there few = sym left ∙ ap (λ (vs : List Wanted). gathered b (parts_of total most ls vs bytes)) (drop_all k ws few) ∙ gathered_end total most ls bytes b
 
-pub ascii_count : (h : Header) → length (wanted_by true h) ≡ h.inputs + h.latches + h.outputs + h.ands
+pub ascii_count : (h : Header) → length (wanted_by true h) ≡ h.inputs + h.latches + all_outputs h + h.ands
 ascii_count h =
-    let e = length-append (replicate h.inputs InputLine) (replicate h.latches LatchLine ++ (replicate h.outputs OutputLine ++ replicate h.ands AndLine)) in
-    let f = length-append (replicate h.latches LatchLine) (replicate h.outputs OutputLine ++ replicate h.ands AndLine) in
-    let g = length-append (replicate h.outputs OutputLine) (replicate h.ands AndLine) in
+    let e = length-append (replicate h.inputs InputLine) (replicate h.latches LatchLine ++ (replicate (all_outputs h) OutputLine ++ replicate h.ands AndLine)) in
+    let f = length-append (replicate h.latches LatchLine) (replicate (all_outputs h) OutputLine ++ replicate h.ands AndLine) in
+    let g = length-append (replicate (all_outputs h) OutputLine) (replicate h.ands AndLine) in
     let i = many h.inputs InputLine in
     let j = many h.latches LatchLine in
-    let k = many h.outputs OutputLine in
+    let k = many (all_outputs h) OutputLine in
     let l = many h.ands AndLine in
     omega arith
 
-pub binary_count : (h : Header) → length (wanted_by false h) ≡ h.latches + h.outputs + h.ands
+pub binary_count : (h : Header) → length (wanted_by false h) ≡ h.latches + all_outputs h + h.ands
 binary_count h =
-    let e = length-append (map NextLine (literals_from (h.inputs + 1) h.latches)) (replicate h.outputs OutputLine ++ map PairOf (literals_from (h.inputs + h.latches + 1) h.ands)) in
-    let f = length-append (replicate h.outputs OutputLine) (map PairOf (literals_from (h.inputs + h.latches + 1) h.ands)) in
+    let e = length-append (map NextLine (literals_from (h.inputs + 1) h.latches)) (replicate (all_outputs h) OutputLine ++ map PairOf (literals_from (h.inputs + h.latches + 1) h.ands)) in
+    let f = length-append (replicate (all_outputs h) OutputLine) (map PairOf (literals_from (h.inputs + h.latches + 1) h.ands)) in
     let i = literal_count NextLine (h.inputs + 1) h.latches in
-    let j = many h.outputs OutputLine in
+    let j = many (all_outputs h) OutputLine in
     let k = literal_count PairOf (h.inputs + h.latches + 1) h.ands in
     omega arith

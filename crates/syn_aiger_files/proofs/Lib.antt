@@ -13,3 +13,6 @@ pub mod Naming
 pub mod Pushing
 pub mod Pairing
 pub mod Spelled
+pub mod Called
+pub mod AsOutputs
+pub mod Marks

@@ -6,7 +6,7 @@ use Rattle.syn_aiger_files.specs.declared.fault.AigFault.TheVariants as faults
 use Rattle.syn_aiger_files.specs.Files.{Header, Symbol}
 use Rattle.syn_aiger_files.specs.Gathered.{Lists, aig_with, behind_symbols, body_by, gathered, no_lists, with_parts}
 use Rattle.syn_aiger_files.specs.Parts.{Part, and_then, if_some, parts_of, wanted_by}
-use Rattle.syn_aiger_files.specs.Spelling.{aig_by, header_in, spelled, spelled_by}
+use Rattle.syn_aiger_files.specs.Spelling.{aig_by, header_in, header_of, judged, spelled_by, spelled}
 use Rattle.syn_aiger_files.specs.Symbols.{begins_comments, symbol_of, symbols_of}
 use Rattle.syn_aiger_files.specs.Texts.{Line, begins_with_lf, begun, behind, first_line, lines_at, words_of}
 use Rattle.syn_aiger_files.proofs.Cutting.{behind_less}
@@ -103,28 +103,31 @@ gathered_err : (r : Result (List Part × List ℕ) AigFault) (f : AigFault) → 
 gathered_err (Err g) f e = let q : g ≡ f = cc in ap (λ (k : AigFault). Err k) q
 gathered_err (Ok got) f e = absurd (cc)
 
-module _ (bytes below : List ℕ) (is : below ≡ behind 10 bytes) where
-  pub says_none : (line : List ℕ) → line ≡ first_line bytes → Path (Option Header) None (header_in (words_of line)) → spelled bytes ≡ Err faults.Header
-  says_none line l e = ap (λ (o : Option Header). if_some faults.Header o (spelled_by (length bytes) (behind 10 bytes))) (sym (e ∙ ap (λ (t : List ℕ). header_in (words_of t)) l))
+module _ (properties : Bool) (bytes below : List ℕ) (is : below ≡ behind 10 bytes) where
+  header_is : (line : List ℕ) (r : Result Header AigFault) → line ≡ first_line bytes → judged properties (header_in (words_of line)) ≡ r → header_of properties bytes ≡ r
+  header_is line r l e = ap (λ (t : List ℕ). judged properties (header_in (words_of t))) (sym l) ∙ e
 
-  module _ (line : List ℕ) (h : Header) (l : line ≡ first_line bytes) (e : Path (Option Header) (Some h) (header_in (words_of line))) where
-    pub by_header : spelled bytes ≡ and_then (parts_of (length bytes) (2 * h.variables + 1) [] (wanted_by h.ascii h) below) (λ (got : List Part × List ℕ). and_then (symbols_of h [] (lines_at (length bytes - length got.1) got.1)) (λ (ss : List Symbol). Ok (aig_by h got.0 ss)))
+  pub says_header_fault : (line : List ℕ) → line ≡ first_line bytes → (f : AigFault) → Path (Result Header AigFault) (judged properties (header_in (words_of line))) (Err f) → spelled properties bytes ≡ Err f
+  says_header_fault line l f e = ap (λ (r : Result Header AigFault). and_then r (spelled_by (length bytes) (behind 10 bytes))) (header_is line (Err f) l e)
+
+  module _ (line : List ℕ) (h : Header) (l : line ≡ first_line bytes) (e : Path (Result Header AigFault) (judged properties (header_in (words_of line))) (Ok h)) where
+    pub by_header : spelled properties bytes ≡ and_then (parts_of (length bytes) (2 * h.variables + 1) [] (wanted_by h.ascii h) below) (λ (got : List Part × List ℕ). and_then (symbols_of h [] (lines_at (length bytes - length got.1) got.1)) (λ (ss : List Symbol). Ok (aig_by h got.0 ss)))
     by_header =
-        ap (λ (o : Option Header). if_some faults.Header o (spelled_by (length bytes) (behind 10 bytes))) (sym (e ∙ ap (λ (t : List ℕ). header_in (words_of t)) l))
+        ap (λ (r : Result Header AigFault). and_then r (spelled_by (length bytes) (behind 10 bytes))) (header_is line (Ok h) l e)
         ∙ ap (λ (bs : List ℕ). spelled_by (length bytes) bs h) (sym is)
 
-    pub says_body_fault : (f : AigFault) → Path (Result (Lists × List ℕ) AigFault) (body_by h.ascii h (length bytes) below) (Err f) → spelled bytes ≡ Err f
+    pub says_body_fault : (f : AigFault) → Path (Result (Lists × List ℕ) AigFault) (body_by h.ascii h (length bytes) below) (Err f) → spelled properties bytes ≡ Err f
     says_body_fault f e = by_header ∙ ap (λ (r : Result (List Part × List ℕ) AigFault). and_then r (λ (got : List Part × List ℕ). and_then (symbols_of h [] (lines_at (length bytes - length got.1) got.1)) (λ (ss : List Symbol). Ok (aig_by h got.0 ss)))) (gathered_err _ f e)
 
     module _ (b : Lists) (rest : List ℕ) (said : Path (Result (Lists × List ℕ) AigFault) (body_by h.ascii h (length bytes) below) (Ok (b, rest))) where
-      pub says_symbol_fault : (f : AigFault) → Path (Result (List Symbol) AigFault) (symbols_of h [] (lines_at (length bytes - length rest) rest)) (Err f) → spelled bytes ≡ Err f
+      pub says_symbol_fault : (f : AigFault) → Path (Result (List Symbol) AigFault) (symbols_of h [] (lines_at (length bytes - length rest) rest)) (Err f) → spelled properties bytes ≡ Err f
       says_symbol_fault f k =
           let q = gathered_ok (parts_of (length bytes) (2 * h.variables + 1) [] (wanted_by h.ascii h) below) b rest said in
           by_header
           ∙ ap (λ (r : Result (List Part × List ℕ) AigFault). and_then r (λ (got : List Part × List ℕ). and_then (symbols_of h [] (lines_at (length bytes - length got.1) got.1)) (λ (ss : List Symbol). Ok (aig_by h got.0 ss)))) q.1.0
           ∙ ap (λ (r : Result (List Symbol) AigFault). and_then r (λ (ss : List Symbol). Ok (aig_by h q.0 ss))) k
 
-      pub says_all : (ss : List Symbol) → Path (Result (List Symbol) AigFault) (symbols_of h [] (lines_at (length bytes - length rest) rest)) (Ok ss) → spelled bytes ≡ Ok (aig_with h b ss)
+      pub says_all : (ss : List Symbol) → Path (Result (List Symbol) AigFault) (symbols_of h [] (lines_at (length bytes - length rest) rest)) (Ok ss) → spelled properties bytes ≡ Ok (aig_with h b ss)
       says_all ss k =
           let q = gathered_ok (parts_of (length bytes) (2 * h.variables + 1) [] (wanted_by h.ascii h) below) b rest said in
           by_header

@@ -6,7 +6,7 @@ use Rattle.std.proofs.lemmas.Bool.{cases_Bool, cond-true, cond-false, and_from, 
 use Rattle.syn_lists.specs.Numbers.{has_number}
 use Rattle.syn_aiger_files.specs.declared.fault.AigFault.{AigFault}
 use Rattle.syn_aiger_files.specs.Texts.{behind, delta, numbers_on}
-use Rattle.syn_aiger_files.specs.Files.{Aig, AigAnd, AigLatch, Header, and_literal, latch_literal}
+use Rattle.syn_aiger_files.specs.Files.{Aig, AigAnd, AigLatch, Header, all_outputs, and_literal, latch_literal}
 use Rattle.syn_aiger_files.specs.Literals.{literals_from}
 use Rattle.syn_aiger_files.specs.Parts.{AndLine, Gate, Input, InputLine, LatchLine, Latched, NextLine, Output, OutputLine, PairOf, Part, Wanted, ands_in, and_then, defined_by, if_some, inputs_in, is_reset, latch_by, latches_in, may_define, may_read, missed, outputs_in, pair_behind, pair_by, parts_of, said_by, taken, wanted_by}
 use Rattle.syn_aiger_files.specs.Printed.{ascii_and, ascii_latch, binary_and, binary_latch, body_of, grouped, number_line, reset_of, single}
@@ -95,7 +95,11 @@ module _ {X : Type 0} (f : X → Entry) where
 
 -- the first line of a file
 abbrev pub header_for : Bool → Aig → Header
-header_for ascii g = record { ascii = ascii; variables = g.variables; inputs = length g.inputs; latches = length g.latches; outputs = length g.outputs; ands = length g.ands }
+header_for ascii g = record { ascii = ascii; variables = g.variables; inputs = length g.inputs; latches = length g.latches; outputs = length g.outputs; ands = length g.ands; further = record { bad = 0; constraints = 0; justice = 0; fairness = 0 } }
+
+-- it has no outputs but its own
+pub outputs_for : (ascii : Bool) (g : Aig) → length g.outputs ≡ all_outputs (header_for ascii g)
+outputs_for ascii g = omega arith
 
 pub wanted_entries : (ascii : Bool) (g : Aig) → IsNormal g → map entry_wanted (entries ascii g) ≡ wanted_by ascii (header_for ascii g)
 wanted_entries true g n =
@@ -105,11 +109,13 @@ wanted_entries true g n =
     ∙ ap (λ (l : List Wanted). replicate (length g.latches) LatchLine ++ l) (
     same_wanted output_entry OutputLine (λ x. refl) g.outputs (map and_entry g.ands ++ [])
     ∙ ap (λ (l : List Wanted). replicate (length g.outputs) OutputLine ++ l) (same_wanted and_entry AndLine (λ x. refl) g.ands [] ∙ append-nil (replicate (length g.ands) AndLine))))
+    ∙ ap (λ (n : ℕ). replicate (length g.inputs) InputLine ++ (replicate (length g.latches) LatchLine ++ (replicate n OutputLine ++ replicate (length g.ands) AndLine))) (outputs_for true g)
 wanted_entries false g n =
     wanted_by_literal next_entry NextLine latch_literal (λ x. refl) g.latches (map output_entry g.outputs ++ (map pair_entry g.ands ++ []))
     ∙ ap₂ (λ (k l : List Wanted). k ++ l) (ap (map NextLine) n.latches) (
     same_wanted output_entry OutputLine (λ x. refl) g.outputs (map pair_entry g.ands ++ [])
     ∙ ap (λ (l : List Wanted). replicate (length g.outputs) OutputLine ++ l) (wanted_by_literal pair_entry PairOf and_literal (λ x. refl) g.ands [] ∙ append-nil (map PairOf (map and_literal g.ands)) ∙ ap (map PairOf) n.ands))
+    ∙ ap (λ (k : ℕ). map NextLine (literals_from (length g.inputs + 1) (length g.latches)) ++ (replicate k OutputLine ++ map PairOf (literals_from (length g.inputs + length g.latches + 1) (length g.ands)))) (outputs_for false g)
 
 pub text_entries : (ascii : Bool) (g : Aig) → flat_map entry_text (entries ascii g) ≡ body_of ascii g
 text_entries true g =

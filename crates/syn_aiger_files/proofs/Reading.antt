@@ -1,13 +1,12 @@
 -- Numbers that are read from words.
 use Rattle.std.specs.List.{list_all}
-use Rattle.std.proofs.Common.{◌≡◌, ℕ, zero, suc, ◌+◌, ◌*◌, ◌-◌, ◌<◌, ◌≤◌, ◌^◌, ◌&&◌, nat_le, Bool, true, false, cond, List, [], ◌∷◌, length, drop, get_or, Option, Some, None, refl, sym, ap, ◌∙◌, subst, arith}
+use Rattle.std.proofs.Common.{◌≡◌, ℕ, zero, suc, ◌+◌, ◌*◌, ◌-◌, ◌<◌, ◌≤◌, ◌^◌, ◌&&◌, nat_le, Bool, List, [], ◌∷◌, length, drop, get_or, option_map, Option, Some, None, refl, sym, ap, ◌∙◌, subst, arith}
 use Rattle.std.proofs.Math.Nat.{pow-le-pow_right}
 use Rattle.std.proofs.lemmas.Bool.{and_right, cond-false, lt-leb}
 use Rattle.std.proofs.lemmas.List.{drop_more}
-use Rattle.syn_aiger_files.specs.Files.{Header}
-use Rattle.syn_aiger_files.specs.Headers.{are_few_zeros, fits_numbers}
+use Rattle.syn_aiger_files.specs.Headers.{further_left}
 use Rattle.syn_aiger_files.specs.Shown.{digits_in}
-use Rattle.syn_aiger_files.specs.Spelling.{are_enough, are_further, header_by, most_variables}
+use Rattle.syn_aiger_files.specs.Spelling.{header_by}
 use Rattle.syn_aiger_files.specs.Texts.{and_number, is_digit, most_literal, number_of, or_none, value_from}
 
 pub empty_number : (w : List ℕ) → length w ≡ 0 → number_of w ≡ None
@@ -64,17 +63,9 @@ lacks4 a m i l p (Some (n ∷ ns)) e = absurd (cc)
 abbrev pub five : ℕ → ℕ → ℕ → ℕ → ℕ → Option (List ℕ) → Option (List ℕ)
 five m i l p n o = and_number (Some m) (and_number (Some i) (and_number (Some l) (and_number (Some p) (and_number (Some n) o))))
 
-swap : (x y z : Bool) → (x && (y && z)) ≡ (y && (x && z))
-swap true true z = refl
-swap true false z = refl
-swap false true z = refl
-swap false false z = refl
-
-pub whole_line : (h : Header) (o : Option (List ℕ)) → header_by (Some h.ascii) (or_none (five h.variables h.inputs h.latches h.outputs h.ands o)) ≡ cond (are_few_zeros 4 o && fits_numbers h) (Some h) None
-whole_line h None = refl
-whole_line h (Some ns) =
-    ap (λ (q : Bool). cond q (Some h) None)
-    (swap (list_all (λ n. nat_le n most_variables) (h.variables ∷ h.inputs ∷ h.latches ∷ h.outputs ∷ h.ands ∷ [])) (are_further ns) (are_enough h.ascii h.variables (h.inputs + h.latches + h.ands)))
+pub whole_line : (a : Bool) (m i l p n : ℕ) (o : Option (List ℕ)) → header_by (Some a) (or_none (five m i l p n o)) ≡ option_map (λ further. record { ascii = a; variables = m; inputs = i; latches = l; outputs = p; ands = n; further = further }) (further_left o)
+whole_line a m i l p n None = refl
+whole_line a m i l p n (Some ns) = refl
 
 -- numbers in groups of seven bits, by how many groups
 

@@ -6,15 +6,15 @@ use Rattle.std.proofs.lemmas.Bool.{and_from, and_parts, or_from, or_left, or_rig
 use Rattle.syn_lists.specs.Numbers.{distinct_numbers, has_number}
 use Rattle.syn_aiger_files.specs.declared.fault.AigFault.{AigFault}
 use Rattle.syn_aiger_files.specs.declared.fault.AigFault.TheVariants as faults
-use Rattle.syn_aiger_files.specs.declared.fault.AigFault.TheVariants.{Cycle, Header, Line, NoMemory, Pair, Symbol, TooManyGates, TooManySources, Undefined}
+use Rattle.syn_aiger_files.specs.declared.fault.AigFault.TheVariants.{Cycle, Header, Line, Justice, NoMemory, Pair, Symbol, TooManyGates, TooManySources, Undefined}
 use Rattle.syn_aiger_files.specs.Texts as texts
 use Rattle.syn_aiger_files.specs.Texts.{behind, delta, first_line, lines_at, numbers_of, numbers_on, or_none, words_of}
 use Rattle.syn_aiger_files.specs.Files as files
-use Rattle.syn_aiger_files.specs.Files.{Aig, AigAnd, AigLatch, and_literal, latch_literal, variable_of}
+use Rattle.syn_aiger_files.specs.Files.{Aig, AigAnd, AigLatch, all_outputs, and_literal, latch_literal, variable_of}
 use Rattle.syn_aiger_files.specs.Literals.{literals_from}
 use Rattle.syn_aiger_files.specs.Parts.{AndLine, Gate, Input, InputLine, LatchLine, Latched, NextLine, Output, OutputLine, PairOf, Part, Wanted, ands_in, and_then, defined_by, if_some, inputs_in, is_reset, latch_by, latches_in, may_define, may_read, missed, outputs_in, pair_behind, pair_by, parts_of, said_by, taken, wanted_by}
 use Rattle.syn_aiger_files.specs.Symbols.{begins_comments, symbol_of, symbols_of}
-use Rattle.syn_aiger_files.specs.Spelling.{aig_by, are_enough, are_further, format_of, header_by, header_in, header_of, most_variables, spelled, spelled_by}
+use Rattle.syn_aiger_files.specs.Spelling.{aig_by, are_enough, are_none, fits_numbers, header_in, header_of, judged, most_variables, spelled_by, spelled, taken_by}
 use Rattle.syn_aiger_files.proofs.Counts.{literals_count}
 use Rattle.syn_aiger_files.proofs.PrintedBodies.{AllBelow, below_less, may_define_next}
 
@@ -366,35 +366,47 @@ binary_sound most i l o a ps few h =
 -- a whole file
 
 abbrev HeaderFits : files.Header → Type 0
-HeaderFits h = (h.variables ≤ most_variables) × (h.inputs + h.latches + h.ands ≤ h.variables) × (h.outputs ≤ most_variables)
+HeaderFits h = (h.variables ≤ most_variables) × (h.inputs + h.latches + h.ands ≤ h.variables) × ((all_outputs h) ≤ most_variables)
 
 enough_for : (ascii : Bool) (variables defined : ℕ) → are_enough ascii variables defined ≡ true → defined ≤ variables
 enough_for true variables defined e = leb-true defined variables e
 enough_for false variables defined e = let q = eqb-true defined variables e in omega arith
 
-header_by_fits : (f : Option Bool) (ns : List ℕ) (h : files.Header) → header_by f ns ≡ Some h → HeaderFits h
-header_by_fits (Some ascii) (m ∷ i ∷ l ∷ o ∷ a ∷ further) h e =
-    let rest : Bool = list_all (λ n. nat_le n most_variables) (i ∷ l ∷ o ∷ a ∷ []) in
-    let r = some_if (list_all (λ n. nat_le n most_variables) (m ∷ i ∷ l ∷ o ∷ a ∷ []) && (are_further further && are_enough ascii m (i + l + a))) (record { ascii = ascii; variables = m; inputs = i; latches = l; outputs = o; ands = a }) h e in
-    let p = and_parts (list_all (λ n. nat_le n most_variables) (m ∷ i ∷ l ∷ o ∷ a ∷ [])) (are_further further && are_enough ascii m (i + l + a)) r.0 in
-    let q = and_parts (nat_le m most_variables) rest p.0 in
-    let x = and_parts (nat_le i most_variables) (list_all (λ n. nat_le n most_variables) (l ∷ o ∷ a ∷ [])) q.1 in
-    let y = and_parts (nat_le l most_variables) (list_all (λ n. nat_le n most_variables) (o ∷ a ∷ [])) x.1 in
-    let z = and_parts (nat_le o most_variables) (list_all (λ n. nat_le n most_variables) (a ∷ [])) y.1 in
-    let s = and_parts (are_further further) (are_enough ascii m (i + l + a)) p.1 in
-    subst HeaderFits r.1 (leb-true m most_variables q.0, enough_for ascii m (i + l + a) s.1, leb-true o most_variables z.0)
-header_by_fits f ns h e = absurd (none_some h e)
-  where
-    none_some : (k : files.Header) → Path (Option files.Header) None (Some k) → ⊥
-    none_some k q = cc
+fits_header : (h : files.Header) → fits_numbers h ≡ true → HeaderFits h
+fits_header h e =
+    let p = and_parts (list_all (λ n. nat_le n most_variables) (h.variables ∷ h.inputs ∷ h.latches ∷ all_outputs h ∷ h.ands ∷ [])) (are_enough h.ascii h.variables (h.inputs + h.latches + h.ands)) e in
+    let q = and_parts (nat_le h.variables most_variables) (list_all (λ n. nat_le n most_variables) (h.inputs ∷ h.latches ∷ all_outputs h ∷ h.ands ∷ [])) p.0 in
+    let x = and_parts (nat_le h.inputs most_variables) (list_all (λ n. nat_le n most_variables) (h.latches ∷ all_outputs h ∷ h.ands ∷ [])) q.1 in
+    let y = and_parts (nat_le h.latches most_variables) (list_all (λ n. nat_le n most_variables) (all_outputs h ∷ h.ands ∷ [])) x.1 in
+    let z = and_parts (nat_le (all_outputs h) most_variables) (list_all (λ n. nat_le n most_variables) (h.ands ∷ [])) y.1 in
+    (leb-true h.variables most_variables q.0, enough_for h.ascii h.variables (h.inputs + h.latches + h.ands) p.1, leb-true (all_outputs h) most_variables z.0)
 
-header_in_fits : (ws : List (List ℕ)) (h : files.Header) → header_in ws ≡ Some h → HeaderFits h
-header_in_fits [] h e = absurd (cc)
-header_in_fits (w ∷ ws) h e = header_by_fits (format_of w) (or_none (numbers_of ws)) h e
+ok_if : (b : Bool) (h k : files.Header) (f : AigFault) → Path (Result files.Header AigFault) (cond b (Ok h) (Err f)) (Ok k) → h ≡ k
+ok_if true h k f e = cc
+ok_if false h k f e = absurd (cc)
+
+err_if : (b : Bool) (h : files.Header) (f g : AigFault) → Path (Result files.Header AigFault) (cond b (Ok h) (Err f)) (Err g) → f ≡ g
+err_if true h f g e = absurd (cc)
+err_if false h f g e = cc
+
+-- what is taken is the first line that is judged
+taken_is : (properties : Bool) (h k : files.Header) → taken_by properties h ≡ Ok k → h ≡ k
+taken_is false h k e = ok_if (are_none h.further) h k faults.Header e
+taken_is true h k e = ok_if (h.further.justice == 0 && h.further.fairness == 0) h k faults.Justice e
+
+judged_fits : (properties : Bool) (o : Option files.Header) (h : files.Header) → judged properties o ≡ Ok h → HeaderFits h
+judged_fits properties None h e = absurd (cc)
+judged_fits properties (Some k) h e = elim (cases_Bool (fits_numbers k)) [
+  | inl t ↦ subst HeaderFits (taken_is properties k h (sym (cond-true (fits_numbers k) (taken_by properties k) (Err faults.Header) t) ∙ e)) (fits_header k t)
+  | inr f ↦ absurd (no_header faults.Header h (sym (cond-false (fits_numbers k) (taken_by properties k) (Err faults.Header) f) ∙ e))
+]
+  where
+    no_header : (f : AigFault) (x : files.Header) → Path (Result files.Header AigFault) (Err f) (Ok x) → ⊥
+    no_header f x q = cc
 
 sound_by : (ascii : Bool) (h : files.Header) (ps : List Part) → HeaderFits h → AllFit (2 * h.variables + 1) [] (wanted_by ascii h) ps → IsSound (2 * h.variables + 1) (if ascii then inputs_in ps else literals_from 1 h.inputs) (latches_in ps) (ands_in ps)
-sound_by true h ps fits all = ascii_sound (2 * h.variables + 1) h.inputs h.latches h.outputs h.ands ps all
-sound_by false h ps fits all = let e : h.inputs + h.latches + h.ands ≤ h.variables = fits.1 in binary_sound (2 * h.variables + 1) h.inputs h.latches h.outputs h.ands ps (omega arith) all
+sound_by true h ps fits all = ascii_sound (2 * h.variables + 1) h.inputs h.latches (all_outputs h) h.ands ps all
+sound_by false h ps fits all = let e : h.inputs + h.latches + h.ands ≤ h.variables = fits.1 in binary_sound (2 * h.variables + 1) h.inputs h.latches (all_outputs h) h.ands ps (omega arith) all
 
 -- how many there are of a kind: 0 for inputs, 1 for latches, 2 for outputs, 3 for ANDs
 
@@ -483,22 +495,22 @@ count_pairs : (k v n : ℕ) → count k (map kind_of (map PairOf (literals_from 
 count_pairs k v zero = none_either (3 == k)
 count_pairs k v (suc n) = one_more (3 == k) n (count k (map kind_of (map PairOf (literals_from (v + 1) n)))) (count_pairs k (v + 1) n)
 
-count_ascii : (k : ℕ) (h : files.Header) → count k (map kind_of (wanted_by true h)) ≡ (if 0 == k then h.inputs else 0) + ((if 1 == k then h.latches else 0) + ((if 2 == k then h.outputs else 0) + (if 3 == k then h.ands else 0)))
+count_ascii : (k : ℕ) (h : files.Header) → count k (map kind_of (wanted_by true h)) ≡ (if 0 == k then h.inputs else 0) + ((if 1 == k then h.latches else 0) + ((if 2 == k then (all_outputs h) else 0) + (if 3 == k then h.ands else 0)))
 count_ascii k h =
-    let a = count-append k (replicate h.inputs InputLine) (replicate h.latches LatchLine ++ (replicate h.outputs OutputLine ++ replicate h.ands AndLine)) in
-    let b = count-append k (replicate h.latches LatchLine) (replicate h.outputs OutputLine ++ replicate h.ands AndLine) in
-    let c = count-append k (replicate h.outputs OutputLine) (replicate h.ands AndLine) in
+    let a = count-append k (replicate h.inputs InputLine) (replicate h.latches LatchLine ++ (replicate (all_outputs h) OutputLine ++ replicate h.ands AndLine)) in
+    let b = count-append k (replicate h.latches LatchLine) (replicate (all_outputs h) OutputLine ++ replicate h.ands AndLine) in
+    let c = count-append k (replicate (all_outputs h) OutputLine) (replicate h.ands AndLine) in
     let p = count_same k h.inputs InputLine in
     let q = count_same k h.latches LatchLine in
-    let r = count_same k h.outputs OutputLine in
+    let r = count_same k (all_outputs h) OutputLine in
     let s = count_same k h.ands AndLine in
     a ∙ ap₂ (λ (x y : ℕ). x + y) p (b ∙ ap₂ (λ (x y : ℕ). x + y) q (c ∙ ap₂ (λ (x y : ℕ). x + y) r s))
 
-count_binary : (k : ℕ) (h : files.Header) → count k (map kind_of (wanted_by false h)) ≡ (if 1 == k then h.latches else 0) + ((if 2 == k then h.outputs else 0) + (if 3 == k then h.ands else 0))
+count_binary : (k : ℕ) (h : files.Header) → count k (map kind_of (wanted_by false h)) ≡ (if 1 == k then h.latches else 0) + ((if 2 == k then (all_outputs h) else 0) + (if 3 == k then h.ands else 0))
 count_binary k h =
-    let b = count-append k (map NextLine (literals_from (h.inputs + 1) h.latches)) (replicate h.outputs OutputLine ++ map PairOf (literals_from (h.inputs + h.latches + 1) h.ands)) in
-    let c = count-append k (replicate h.outputs OutputLine) (map PairOf (literals_from (h.inputs + h.latches + 1) h.ands)) in
-    b ∙ ap₂ (λ (x y : ℕ). x + y) (count_nexts k (h.inputs + 1) h.latches) (c ∙ ap₂ (λ (x y : ℕ). x + y) (count_same k h.outputs OutputLine) (count_pairs k (h.inputs + h.latches + 1) h.ands))
+    let b = count-append k (map NextLine (literals_from (h.inputs + 1) h.latches)) (replicate (all_outputs h) OutputLine ++ map PairOf (literals_from (h.inputs + h.latches + 1) h.ands)) in
+    let c = count-append k (replicate (all_outputs h) OutputLine) (map PairOf (literals_from (h.inputs + h.latches + 1) h.ands)) in
+    b ∙ ap₂ (λ (x y : ℕ). x + y) (count_nexts k (h.inputs + 1) h.latches) (c ∙ ap₂ (λ (x y : ℕ). x + y) (count_same k (all_outputs h) OutputLine) (count_pairs k (h.inputs + h.latches + 1) h.ands))
 
 -- There are as many of each as the first line says, which are few.
 pub record IsFew (variables : ℕ) (inputs : List ℕ) (latches : List AigLatch) (outputs : List ℕ) (ands : List AigAnd) : Type 0 where
@@ -510,36 +522,36 @@ few_by true h ps fits all =
     let kinds = same_kinds (2 * h.variables + 1) [] (wanted_by true h) ps all in
     let i : length (inputs_in ps) ≡ h.inputs = many_inputs ps ∙ ap (count 0) kinds ∙ count_ascii 0 h ∙ (let e : h.inputs + (0 + (0 + 0)) ≡ h.inputs = omega arith in e) in
     let l : length (latches_in ps) ≡ h.latches = many_latches ps ∙ ap (count 1) kinds ∙ count_ascii 1 h ∙ (let e : 0 + (h.latches + (0 + 0)) ≡ h.latches = omega arith in e) in
-    let o : length (outputs_in ps) ≡ h.outputs = many_outputs ps ∙ ap (count 2) kinds ∙ count_ascii 2 h ∙ (let e : 0 + (0 + (h.outputs + 0)) ≡ h.outputs = omega arith in e) in
+    let o : length (outputs_in ps) ≡ (all_outputs h) = many_outputs ps ∙ ap (count 2) kinds ∙ count_ascii 2 h ∙ (let e : 0 + (0 + ((all_outputs h) + 0)) ≡ (all_outputs h) = omega arith in e) in
     let a : length (ands_in ps) ≡ h.ands = many_ands ps ∙ ap (count 3) kinds ∙ count_ascii 3 h ∙ (let e : 0 + (0 + (0 + h.ands)) ≡ h.ands = omega arith in e) in
     let d : h.inputs + h.latches + h.ands ≤ h.variables = fits.1 in
-    let u : h.outputs ≤ most_variables = fits.2 in
+    let u : (all_outputs h) ≤ most_variables = fits.2 in
     record { defined = omega arith; outputs_few = omega arith }
 few_by false h ps fits all =
     let kinds = same_kinds (2 * h.variables + 1) [] (wanted_by false h) ps all in
     let i : length (literals_from 1 h.inputs) ≡ h.inputs = literals_count 1 h.inputs in
     let l : length (latches_in ps) ≡ h.latches = many_latches ps ∙ ap (count 1) kinds ∙ count_binary 1 h ∙ (let e : h.latches + (0 + 0) ≡ h.latches = omega arith in e) in
-    let o : length (outputs_in ps) ≡ h.outputs = many_outputs ps ∙ ap (count 2) kinds ∙ count_binary 2 h ∙ (let e : 0 + (h.outputs + 0) ≡ h.outputs = omega arith in e) in
+    let o : length (outputs_in ps) ≡ (all_outputs h) = many_outputs ps ∙ ap (count 2) kinds ∙ count_binary 2 h ∙ (let e : 0 + ((all_outputs h) + 0) ≡ (all_outputs h) = omega arith in e) in
     let a : length (ands_in ps) ≡ h.ands = many_ands ps ∙ ap (count 3) kinds ∙ count_binary 3 h ∙ (let e : 0 + (0 + h.ands) ≡ h.ands = omega arith in e) in
     let d : h.inputs + h.latches + h.ands ≤ h.variables = fits.1 in
-    let u : h.outputs ≤ most_variables = fits.2 in
+    let u : (all_outputs h) ≤ most_variables = fits.2 in
     record { defined = omega arith; outputs_few = omega arith }
 
 -- What is so of each file that is said.
 abbrev pub SoundFile : Aig → Type 0
 SoundFile g = (g.variables ≤ most_variables) × IsSound (2 * g.variables + 1) g.inputs g.latches g.ands × IsFew g.variables g.inputs g.latches g.outputs g.ands
 
-pub spelled_sound : (bytes : List ℕ) (g : Aig) → spelled bytes ≡ Ok g → SoundFile g
-spelled_sound bytes g e =
+pub spelled_sound : (properties : Bool) (bytes : List ℕ) (g : Aig) → spelled properties bytes ≡ Ok g → SoundFile g
+spelled_sound properties bytes g e =
     let total : ℕ = length bytes in
     let rest : List ℕ = behind 10 bytes in
-    let a = some_of faults.Header (header_of bytes) (spelled_by total rest) g e in
+    let a = ok_of (header_of properties bytes) (spelled_by total rest) g e in
     let h : files.Header = a.0 in
     let b = ok_of (parts_of total (2 * h.variables + 1) [] (wanted_by h.ascii h) rest) (λ (got : List Part × List ℕ). and_then (symbols_of h [] (lines_at (total - length got.1) got.1)) (λ (ss : List files.Symbol). Ok (aig_by h got.0 ss))) g a.2 in
     let c = ok_of (symbols_of h [] (lines_at (total - length b.0.1) b.0.1)) (λ (ss : List files.Symbol). Ok (aig_by h b.0.0 ss)) g b.2 in
     let d : Path (Result Aig AigFault) (Ok (aig_by h b.0.0 c.0)) (Ok g) = c.2 in
     let is : aig_by h b.0.0 c.0 ≡ g = cc in
-    let fits : HeaderFits h = header_in_fits (words_of (first_line bytes)) h a.1 in
+    let fits : HeaderFits h = judged_fits properties (header_in (words_of (first_line bytes))) h a.1 in
     let all = parts_fit total (2 * h.variables + 1) [] (wanted_by h.ascii h) rest b.0 b.1 in
     subst SoundFile is (fits.0, sound_by h.ascii h b.0.0 fits all, few_by h.ascii h b.0.0 fits all)
 
@@ -548,6 +560,7 @@ spelled_sound bytes g e =
 -- the fault is one of a first line, a line, a pair or a symbol
 abbrev pub IsTextFault : AigFault → Type 0
 IsTextFault Header = ⊤
+IsTextFault Justice = ⊤
 IsTextFault (Line at) = ⊤
 IsTextFault (Pair at) = ⊤
 IsTextFault (Symbol at) = ⊤
@@ -605,13 +618,27 @@ symbols_fault h given (line ∷ lines) f e =
       ]
     ]
 
+taken_fault : (properties : Bool) (h : files.Header) (f : AigFault) → taken_by properties h ≡ Err f → IsTextFault f
+taken_fault false h f e = subst IsTextFault (err_if (are_none h.further) h faults.Header f e) tt
+taken_fault true h f e = subst IsTextFault (err_if (h.further.justice == 0 && h.further.fairness == 0) h faults.Justice f e) tt
+
+judged_fault : (properties : Bool) (o : Option files.Header) (f : AigFault) → judged properties o ≡ Err f → IsTextFault f
+judged_fault properties None f e = let q : faults.Header ≡ f = cc in subst IsTextFault q tt
+judged_fault properties (Some h) f e = elim (cases_Bool (fits_numbers h)) [
+  | inl t ↦ taken_fault properties h f (sym (cond-true (fits_numbers h) (taken_by properties h) (Err faults.Header) t) ∙ e)
+  | inr t ↦ subst IsTextFault (same_fault faults.Header f (sym (cond-false (fits_numbers h) (taken_by properties h) (Err faults.Header) t) ∙ e)) tt
+]
+  where
+    same_fault : (x y : AigFault) → Path (Result files.Header AigFault) (Err x) (Err y) → x ≡ y
+    same_fault x y q = cc
+
 -- A fault of what bytes say is one of their text.
-pub spelled_fault : (bytes : List ℕ) (f : AigFault) → spelled bytes ≡ Err f → IsTextFault f
-spelled_fault bytes f e =
+pub spelled_fault : (properties : Bool) (bytes : List ℕ) (f : AigFault) → spelled properties bytes ≡ Err f → IsTextFault f
+spelled_fault properties bytes f e =
     let total : ℕ = length bytes in
     let rest : List ℕ = behind 10 bytes in
-    elim (fault_some faults.Header (header_of bytes) (spelled_by total rest) f e) [
-      | inl q ↦ subst IsTextFault q tt
+    elim (fault_then (header_of properties bytes) (spelled_by total rest) f e) [
+      | inl q ↦ judged_fault properties (header_in (words_of (first_line bytes))) f q
       | inr a ↦
           let h : files.Header = a.0 in
           elim (fault_then (parts_of total (2 * h.variables + 1) [] (wanted_by h.ascii h) rest) (λ (got : List Part × List ℕ). and_then (symbols_of h [] (lines_at (total - length got.1) got.1)) (λ (ss : List files.Symbol). Ok (aig_by h got.0 ss))) f a.1) [

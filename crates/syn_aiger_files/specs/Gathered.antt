@@ -4,6 +4,7 @@ use Rattle.syn_aiger_files.specs.declared.bodies.Body.{Body}
 use Rattle.syn_aiger_files.specs.declared.fault.AigFault.{AigFault}
 use Rattle.syn_aiger_files.specs.declared.sets.NumberSet.{NumberSet}
 use Rattle.syn_aiger_files.specs.Files.{Aig, AigAnd, AigLatch, Header, Symbol}
+use Rattle.syn_aiger_files.specs.FirstNames.{with_properties}
 use Rattle.syn_aiger_files.specs.Literals.{literals_from}
 use Rattle.syn_aiger_files.specs.Parts.{AndLine, InputLine, LatchLine, NextLine, OutputLine, PairOf, Part, Wanted, ands_in, defined_by, inputs_in, latches_in, outputs_in, parts_of, said_by, wanted_by}
 use Rattle.syn_aiger_files.specs.Seen.{AreSeen}
@@ -59,7 +60,7 @@ aig_with h ls symbols = record {
   latches = ls.1.0;
   outputs = ls.1.1.0;
   ands = ls.1.1.1;
-  symbols = symbols;
+  symbols = with_properties h symbols;
 }
 
 -- symbols in front of others, where these are no fault

@@ -1,8 +1,8 @@
 -- Laws of files.
-use Rattle.std.specs.Prelude.{ℕ, ◌≡◌, ◌+◌, ◌*◌, ◌≤◌, ◌&&◌, not, nat_lt, nat_le, Bool, true, List, [], ◌∷◌, length, map, Ok}
+use Rattle.std.specs.Prelude.{ℕ, ◌≡◌, ◌+◌, ◌*◌, ◌≤◌, ◌&&◌, not, nat_lt, nat_le, Bool, true, false, List, [], ◌∷◌, length, map, Ok}
 use Rattle.std.specs.List.{list_all, list_any}
 use Rattle.syn_netlist.specs.Words.{is_word}
-use Rattle.syn_aiger_files.specs.Files.{Aig, AigAnd, AigLatch, OfInput, OfLatch, OfOutput, Place, Symbol, and_literal, latch_literal}
+use Rattle.syn_aiger_files.specs.Files.{Aig, AigAnd, AigLatch, OfInput, OfLatch, OfOutput, OfBad, OfConstraint, Place, Symbol, and_literal, latch_literal}
 use Rattle.syn_aiger_files.specs.Literals.{literals_from}
 use Rattle.syn_aiger_files.specs.Parts.{is_reset, may_read}
 use Rattle.syn_aiger_files.specs.Printed.{printed}
@@ -21,6 +21,8 @@ abbrev pub count_in : Aig → Place → ℕ
 count_in g OfInput = length g.inputs
 count_in g OfLatch = length g.latches
 count_in g OfOutput = length g.outputs
+count_in g OfBad = 0
+count_in g OfConstraint = 0
 
 -- Symbols that can be written behind these: each is of an input, a latch or an output that has none yet, and its name is a word.
 abbrev pub are_symbols : Aig → List Symbol → List Symbol → Bool
@@ -40,6 +42,10 @@ pub record IsNormal (g : Aig) : Type 0 where
   pub normal_ands : list_all and_is_normal g.ands ≡ true
   pub symbols : are_symbols g [] g.symbols ≡ true
 
--- What is printed of such a file says it, in both formats.
+-- What is printed of such a file says it, in both formats, also where bad states and constraints may be outputs.
 abbrev pub PrintedSays : Type 0
-PrintedSays = (g : Aig) → IsNormal g → (ascii : Bool) → spelled (printed ascii g) ≡ Ok g
+PrintedSays = (properties : Bool) (g : Aig) → IsNormal g → (ascii : Bool) → spelled properties (printed ascii g) ≡ Ok g
+
+-- What a file says where bad states and constraints are refused, it says where they are outputs.
+abbrev pub SaysWithMark : Type 0
+SaysWithMark = (bytes : List ℕ) (g : Aig) → spelled false bytes ≡ Ok g → spelled true bytes ≡ Ok g

@@ -2,6 +2,7 @@ pub mod Texts
 pub mod Files
 pub mod Parts
 pub mod Symbols
+pub mod FirstNames
 pub mod Spelling
 pub mod Printed
 pub mod Laws

@@ -4,7 +4,7 @@ use Rattle.syn_lists.specs.Numbers.{has_number}
 use Rattle.syn_aiger_files.specs.declared.fault.AigFault.{AigFault}
 use Rattle.syn_aiger_files.specs.declared.fault.AigFault.TheVariants as faults
 use Rattle.syn_aiger_files.specs.Texts.{behind, delta, numbers_on}
-use Rattle.syn_aiger_files.specs.Files.{AigLatch, AigAnd, Header}
+use Rattle.syn_aiger_files.specs.Files.{AigLatch, AigAnd, Header, all_outputs}
 pub use Rattle.syn_aiger_files.specs.declared.files.Part.{Part}
 pub use Rattle.syn_aiger_files.specs.declared.files.Part.TheVariants.{Input, Latched, Output, Gate}
 pub use Rattle.syn_aiger_files.specs.declared.files.Wanted.{Wanted}
@@ -13,8 +13,8 @@ use Rattle.syn_aiger_files.specs.Literals.{literals_from}
 
 -- what the body has, by the format
 abbrev pub wanted_by : Bool → Header → List Wanted
-wanted_by true h = replicate h.inputs InputLine ++ (replicate h.latches LatchLine ++ (replicate h.outputs OutputLine ++ replicate h.ands AndLine))
-wanted_by false h = map NextLine (literals_from (h.inputs + 1) h.latches) ++ (replicate h.outputs OutputLine ++ map PairOf (literals_from (h.inputs + h.latches + 1) h.ands))
+wanted_by true h = replicate h.inputs InputLine ++ (replicate h.latches LatchLine ++ (replicate (all_outputs h) OutputLine ++ replicate h.ands AndLine))
+wanted_by false h = map NextLine (literals_from (h.inputs + 1) h.latches) ++ (replicate (all_outputs h) OutputLine ++ map PairOf (literals_from (h.inputs + h.latches + 1) h.ands))
 
 -- A literal may be read: it is at most the greatest.
 abbrev pub may_read : ℕ → ℕ → Bool

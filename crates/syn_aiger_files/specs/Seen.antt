@@ -5,7 +5,7 @@ use Rattle.std.specs.HashSet.{contains}
 use Rattle.syn_lists.specs.Numbers.{has_number}
 use Rattle.syn_aiger_files.specs.declared.sets.NumberSet.{NumberSet}
 use Rattle.syn_aiger_files.specs.declared.symbols.Given.{Given}
-use Rattle.syn_aiger_files.specs.Files.{OfInput, OfLatch, OfOutput, Place, Symbol}
+use Rattle.syn_aiger_files.specs.Files.{OfInput, OfLatch, OfOutput, OfBad, OfConstraint, Place, Symbol}
 use Rattle.syn_aiger_files.specs.Symbols.{is_at}
 
 -- a number is in the set
@@ -21,6 +21,8 @@ abbrev pub set_of : Given → Place → NumberSet
 set_of g OfInput = g.inputs
 set_of g OfLatch = g.latches
 set_of g OfOutput = g.outputs
+set_of g OfBad = g.bad
+set_of g OfConstraint = g.constraints
 
 -- The sets have exactly the places and indices of the symbols.
 abbrev pub AreGiven : Given → List Symbol → Type 0

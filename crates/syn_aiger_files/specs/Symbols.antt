@@ -5,24 +5,28 @@ use Rattle.syn_lex.specs.Lines.{is_nil}
 use Rattle.syn_aiger_files.specs.declared.fault.AigFault.{AigFault}
 use Rattle.syn_aiger_files.specs.declared.fault.AigFault.TheVariants as faults
 use Rattle.syn_aiger_files.specs.Texts.{Line, behind, front, number_of}
-use Rattle.syn_aiger_files.specs.Files.{Header, Place, OfInput, OfLatch, OfOutput, Symbol}
+use Rattle.syn_aiger_files.specs.Files.{Header, Place, OfInput, OfLatch, OfOutput, OfBad, OfConstraint, Symbol}
 use Rattle.syn_aiger_files.specs.Parts.{and_then, if_some}
 
--- `i`, `l` and `o` begin a symbol
+-- `i`, `l`, `o`, `b` and `c` begin a symbol
 abbrev pub place_of : ℕ → Option Place
-place_of b = if b == 105 then Some OfInput else if b == 108 then Some OfLatch else if b == 111 then Some OfOutput else None
+place_of b = if b == 105 then Some OfInput else if b == 108 then Some OfLatch else if b == 111 then Some OfOutput else if b == 98 then Some OfBad else if b == 99 then Some OfConstraint else None
 
 -- the letter of a place
 abbrev pub letter_of : Place → ℕ
 letter_of OfInput = 105
 letter_of OfLatch = 108
 letter_of OfOutput = 111
+letter_of OfBad = 98
+letter_of OfConstraint = 99
 
 -- how many there are
 abbrev pub count_of : Header → Place → ℕ
 count_of h OfInput = h.inputs
 count_of h OfLatch = h.latches
 count_of h OfOutput = h.outputs
+count_of h OfBad = h.further.bad
+count_of h OfConstraint = h.further.constraints
 
 -- a symbol is of this place and index
 abbrev pub is_at : Place → ℕ → Symbol → Bool

@@ -2,6 +2,7 @@
 
 ghost use Rattle.std.specs.Prelude.{◌≡◌, ◌⊎◌, ◌+◌, ◌*◌, ◌-◌, ◌<◌, ◌≤◌, ◌^◌, ℕ, List, [], ◌∷◌, true, false, drop, length, option_map, IfErr, IfOk, IfSome, OnOk, Ok, Err};
 ghost use Rattle.syn_aiger_files.specs.declared.fault.AigFault.TheVariants.{NoMemory};
+ghost use Rattle.syn_aiger_files.specs.Files.{all_outputs};
 ghost use Rattle.syn_aiger_files.specs.Gathered.{SaysPart, body_by, is_binary, is_text, lists_of, no_lists, with_parts};
 ghost use Rattle.syn_aiger_files.specs.Headers.{HeaderFits};
 ghost use Rattle.syn_aiger_files.specs.Parts.{AndLine, Gate, InputLine, LatchLine, NextLine, OutputLine, defined_by, latch_by, may_define, missed, pair_by, said_by, taken, wanted_by};
@@ -299,7 +300,7 @@ impl Body {
 // What the body of an ASCII file has at a place.
 fn wanted_in_ascii(h: &Header, k: u32) -> Wanted
     requires fits { HeaderFits h.now }
-    requires within { k < h.now.inputs + h.now.latches + h.now.outputs + h.now.ands }
+    requires within { k < h.now.inputs + h.now.latches + all_outputs h.now + h.now.ands }
     ensures next { drop k (wanted_by true h.now) ≡ result ∷ drop (k + 1) (wanted_by true h.now) }
     ensures text { is_text result ≡ true }
 {
@@ -309,7 +310,7 @@ fn wanted_in_ascii(h: &Header, k: u32) -> Wanted
     if k < h.inputs + h.latches {
         return Wanted::LatchLine;
     }
-    if k < h.inputs + h.latches + h.outputs {
+    if k < h.inputs + h.latches + h.all_outputs() {
         return Wanted::OutputLine;
     }
     Wanted::AndLine
@@ -318,17 +319,18 @@ fn wanted_in_ascii(h: &Header, k: u32) -> Wanted
 // What the body of a binary file has at a place.
 fn wanted_in_binary(h: &Header, k: u32) -> Wanted
     requires fits { HeaderFits h.now }
-    requires within { k < h.now.latches + h.now.outputs + h.now.ands }
+    requires within { k < h.now.latches + all_outputs h.now + h.now.ands }
     ensures next { drop k (wanted_by false h.now) ≡ result ∷ drop (k + 1) (wanted_by false h.now) }
     ensures binary { is_binary result ≡ true }
 {
     if k < h.latches {
         return Wanted::NextLine(2 * (h.inputs + 1 + k));
     }
-    if k < h.latches + h.outputs {
+    let outputs = h.all_outputs();
+    if k < h.latches + outputs {
         return Wanted::OutputLine;
     }
-    Wanted::PairOf(2 * (h.inputs + h.latches + 1 + (k - h.latches - h.outputs)))
+    Wanted::PairOf(2 * (h.inputs + h.latches + 1 + (k - h.latches - outputs)))
 }
 
 // The body of an ASCII file and what stands behind it.
@@ -349,7 +351,7 @@ fn read_ascii<'a>(
     let mut defined = NumberSet::new(alloc);
     let mut body = Body::new(alloc);
     let mut rest = bytes;
-    for k in 0..h.inputs + h.latches + h.outputs + h.ands {
+    for k in 0..h.inputs + h.latches + h.all_outputs() + h.ands {
         let wanted = wanted_in_ascii(h, k);
         let Some((part, behind)) = take_line(&mut defined, most, wanted, rest)? else {
             return Err(AigFault::Line(place(total, rest)));
@@ -377,7 +379,7 @@ fn read_binary<'a>(
     let most = 2 * h.variables + 1;
     let mut body = Body::new(alloc);
     let mut rest = bytes;
-    for k in 0..h.latches + h.outputs + h.ands {
+    for k in 0..h.latches + h.all_outputs() + h.ands {
         let wanted = wanted_in_binary(h, k);
         let Some((part, behind)) = take_item(most, wanted, rest) else {
             return Err(missed(wanted, place(total, rest)));

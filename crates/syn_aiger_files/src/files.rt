@@ -22,12 +22,14 @@ pub struct AigAnd {
     pub second: u32,
 }
 
-/// What has a symbol: an input, a latch or an output.
+/// What has a symbol: an input, a latch, an output, a bad state or a constraint.
 #[derive(Debug, Clone, Copy, PartialEq, Eq)]
 pub enum Place {
     Input,
     Latch,
     Output,
+    Bad,
+    Constraint,
 }
 
 /// A symbol: of what it is the name, its number from 0, and the name, which may have any bytes.
@@ -38,7 +40,16 @@ pub struct Symbol {
     pub name: Items<u8>,
 }
 
-/// The first line: the format, the greatest variable, and how many inputs, latches, outputs and ANDs there are.
+/// How many bad states, constraints, justice properties and fairness constraints there are.
+#[derive(Debug, Clone, Copy)]
+pub struct Further {
+    pub bad: u32,
+    pub constraints: u32,
+    pub justice: u32,
+    pub fairness: u32,
+}
+
+/// The first line: the format, the greatest variable, how many inputs, latches, outputs and ANDs there are, and the counts that may follow these.
 #[derive(Debug, Clone, Copy)]
 pub struct Header {
     pub ascii: bool,
@@ -47,6 +58,21 @@ pub struct Header {
     pub latches: u32,
     pub outputs: u32,
     pub ands: u32,
+    pub further: Further,
+}
+
+impl Header {
+    ghost use Rattle.std.specs.Prelude.{◌≡◌};
+    ghost use Rattle.syn_aiger_files.specs.Files.{all_outputs};
+    ghost use Rattle.syn_aiger_files.specs.Headers.{HeaderFits};
+
+    /// How many outputs a body has, with bad states and constraints.
+    pub fn all_outputs(&self) -> u32
+        requires { HeaderFits self.now }
+        ensures { result ≡ all_outputs self.now }
+    {
+        self.further.bad + self.further.constraints + self.outputs
+    }
 }
 
 /// What comes next in a body: lines of an ASCII file; lines of a binary one, whose latches have literals that follow from their number; and pairs of numbers for its ANDs, whose literals do too.

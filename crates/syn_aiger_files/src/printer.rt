@@ -202,6 +202,8 @@ pub fn letter_of(place: Place) -> u8
         Place::Input => b'i',
         Place::Latch => b'l',
         Place::Output => b'o',
+        Place::Bad => b'b',
+        Place::Constraint => b'c',
     }
 }
 

@@ -23,6 +23,8 @@ pub struct Given {
     inputs: NumberSet,
     latches: NumberSet,
     outputs: NumberSet,
+    bad: NumberSet,
+    constraints: NumberSet,
 }
 
 impl Given {
@@ -33,6 +35,8 @@ impl Given {
             inputs: NumberSet::new(alloc),
             latches: NumberSet::new(alloc),
             outputs: NumberSet::new(alloc),
+            bad: NumberSet::new(alloc),
+            constraints: NumberSet::new(alloc),
         }
     }
 
@@ -45,6 +49,8 @@ impl Given {
             Place::Input => self.inputs.insert(index),
             Place::Latch => self.latches.insert(index),
             Place::Output => self.outputs.insert(index),
+            Place::Bad => self.bad.insert(index),
+            Place::Constraint => self.constraints.insert(index),
         }
     }
 }
@@ -56,6 +62,8 @@ fn place_of(letter: u8) -> Option<Place>
         b'i' => Some(Place::Input),
         b'l' => Some(Place::Latch),
         b'o' => Some(Place::Output),
+        b'b' => Some(Place::Bad),
+        b'c' => Some(Place::Constraint),
         _ => None,
     }
 }
@@ -67,6 +75,8 @@ fn count_of(h: &Header, place: Place) -> u32
         Place::Input => h.inputs,
         Place::Latch => h.latches,
         Place::Output => h.outputs,
+        Place::Bad => h.further.bad,
+        Place::Constraint => h.further.constraints,
     }
 }
 

@@ -1,3 +1,5 @@
 mod Joining
 mod Visiting
+mod Bettering
 mod Counting
+pub mod Costing

@@ -3,13 +3,14 @@
 ghost use Rattle.std.specs.Prelude.{◌<◌, ◌^◌, length};
 
 use crate::chosen::Chosen;
-use crate::covers::{Cover, MAX_FOLLOWED};
+use crate::covers::Cover;
 use crate::figures::{
-    Cost, Figures, at_least, cost_over, depth_of, expect_again, expect_first, set_figures,
+    Cost, Figures, at_least, cost_over, depth_of, expect_again, expect_first, greater, set_figures,
 };
 use crate::lists::Listed;
 use crate::near::{Near, Part};
 use crate::picks::{Origin, Pick, Picks};
+use crate::prices::Prices;
 use std::alloc::{AllocError, Global};
 use syn_graph::Graph;
 use syn_rows::Lit;
@@ -23,7 +24,7 @@ pub(crate) enum Aim {
     DepthThenFlow,
     /// Area flow, of cuts that arrive in time.
     Flow,
-    /// The LUTs that the cut adds to the cover, of cuts that arrive in time.
+    /// The prices of the LUTs that the cut adds to the cover, of cuts that arrive in time.
     Area,
 }
 
@@ -51,6 +52,9 @@ fn rank_of(first: u32, second: u32, third: u32, fourth: u32) -> Rank {
 /// What is estimated of nodes, the cover, and the aim of the round.
 #[derive(Drop)]
 pub(crate) struct Costs {
+    prices: Prices,
+    /// The depth up to which there is room even where the cuts allow less.
+    room: u32,
     aim: Aim,
     figures: Vec<Figures>,
     cover: Cover,
@@ -70,13 +74,20 @@ fn no_figures(alloc: Global, count: usize) -> Result<Vec<Figures>, AllocError> {
 }
 
 impl Costs {
-    /// Before the first round: each node is expected to have as many readers as in the graph.
-    pub(crate) fn of(alloc: Global, graph: &Graph) -> Result<Costs, AllocError> {
+    /// Before the first round: each node is expected to have as many readers as in the graph. There is room up to this depth.
+    pub(crate) fn of(
+        alloc: Global,
+        graph: &Graph,
+        prices: &Prices,
+        room: u32,
+    ) -> Result<Costs, AllocError> {
         let count = graph.rows.as_slice().len();
         let refs = graph.refs(alloc)?;
         let mut figures = no_figures(alloc, count)?;
         expect_first(figures.as_mut_slice(), refs.as_slice());
         Ok(Costs {
+            prices: *prices,
+            room,
             aim: Aim::Depth,
             figures,
             cover: Cover::empty(alloc, count, graph.source_count)?,
@@ -93,13 +104,14 @@ impl Costs {
         self.aim = aim;
     }
 
-    /// Ends a round: makes the cover of the chosen cuts. The depth of a round that aims at depth is kept from then on. What
+    /// Ends a round: makes the cover of the chosen cuts. The depth of a round that aims at depth is kept from then on, or that
+    /// up to which there is room. What
     /// the first round's cover reads tells little yet, so it changes what is expected less than the others do.
     pub(crate) fn end(&mut self, chosen: &Chosen, observed: &[Lit])
         requires { length chosen.now < 2 ^ 32 }
     {
         if self.aim == Aim::Depth || self.aim == Aim::DepthThenFlow {
-            self.depth = depth_of(self.figures.as_slice(), observed);
+            self.depth = greater(depth_of(self.figures.as_slice(), observed), self.room);
         }
         self.cover.cover(chosen, observed, self.depth);
         expect_again(
@@ -129,12 +141,14 @@ impl Costs {
     /// Sets what is estimated of a node over its chosen cut, and puts its LUT into the cover in place of that over the cut
     /// before. What both need stays in the cover meanwhile.
     pub(crate) fn settle(&mut self, chosen: &Chosen, node: u32, before: &[u32]) {
-        let cost = cost_over(self.figures.as_slice(), chosen.of(node));
-        set_figures(self.figures.as_mut_slice(), node, cost);
+        let now = chosen.of(node);
+        let cost = cost_over(self.figures.as_slice(), now);
+        let price = self.prices.at(now.len() as u32);
+        set_figures(self.figures.as_mut_slice(), node, cost, price);
         if self.is_lifted(node) {
             self.cover.undo_remove();
-            if before != chosen.of(node) {
-                self.cover.add(chosen, chosen.of(node), MAX_FOLLOWED);
+            if before != now {
+                self.cover.add(chosen, now, &self.prices, u32::MAX);
                 self.cover.remove(chosen, before);
             }
         }
@@ -153,38 +167,48 @@ impl Costs {
         unread
     }
 
-    // How many LUTs a LUT over these leaves adds to the cover beside itself; more than so many are so many.
+    // The prices of the LUTs that a LUT over these leaves adds to the cover beside itself, together; where they reach this,
+    // as much or more.
     fn added(&mut self, chosen: &Chosen, leaves: u64, most: u32) -> u32 {
         let unread = leaves & self.unread;
         if unread == 0 {
             return 0;
         }
         let nodes = self.near.nodes(unread);
-        let luts = self.cover.add(chosen, nodes.as_slice(), most);
+        let price = self.cover.add(chosen, nodes.as_slice(), &self.prices, most);
         self.cover.undo_add();
-        luts
+        price
     }
 
-    // The rank of a cut of so many leaves that adds so many LUTs.
+    // The rank of a cut of so many leaves that adds no LUT but its own.
     #[inline(always)]
-    fn rank(&self, cost: &Cost, len: u32, luts: u32) -> Rank {
+    fn rank(&self, cost: &Cost, len: u32) -> Rank {
+        let price = self.prices.at(len);
+        let flow = cost.flow.saturating_add(price);
         match self.aim {
-            Aim::Depth => rank_of(cost.arrival, len, cost.flow, 0),
-            Aim::DepthThenFlow => rank_of(cost.arrival, cost.flow, cost.edges, len),
+            Aim::Depth => rank_of(cost.arrival, len, flow, 0),
+            Aim::DepthThenFlow => rank_of(cost.arrival, flow, cost.edges, len),
             Aim::Flow | Aim::Area if cost.arrival > self.required => LATE,
-            Aim::Flow => rank_of(cost.flow, cost.edges, cost.arrival, len),
-            Aim::Area => rank_of(luts, cost.edges, cost.arrival, len),
+            Aim::Flow => rank_of(flow, cost.edges, cost.arrival, len),
+            Aim::Area => rank_of(price, cost.edges, cost.arrival, len),
         }
+    }
+
+    // By how much the first number of this rank may rise before it is above that of the picks' bound.
+    fn room_above(&self, rank: Rank) -> u32 {
+        let bound = (self.picks.bound() / FIRST) as u32;
+        let first = (rank / FIRST) as u32;
+        bound.saturating_sub(first)
     }
 
     // Picks a cut that costs so much, where it arrives in time, contains no picked one and is one of the best.
     fn consider(&mut self, chosen: &Chosen, leaves: u64, cost: &Cost, origin: Origin) {
-        let mut rank = self.rank(cost, leaves.count_ones(), 0);
+        let mut rank = self.rank(cost, leaves.count_ones());
         if rank >= self.picks.bound() || self.picks.are_in(leaves) {
             return;
         }
         if self.aim == Aim::Area {
-            let most = ((self.picks.bound() / FIRST) as u32).saturating_add(1);
+            let most = self.room_above(rank).saturating_add(1);
             rank = rank.saturating_add(self.added(chosen, leaves, most) as u128 * FIRST);
             if rank >= self.picks.bound() {
                 return;
@@ -201,7 +225,7 @@ impl Costs {
     #[inline(always)]
     fn is_bad(&self, leaves: u64, cost: &Cost, k: u8) -> bool {
         let len = leaves.count_ones();
-        len > k as u32 || self.rank(cost, len, 0) >= self.picks.bound()
+        len > k as u32 || self.rank(cost, len) >= self.picks.bound()
     }
 
     // Considers the union of a cut of each fan-in, where it has at most k leaves and may be one of the best.

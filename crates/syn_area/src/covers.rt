@@ -3,6 +3,7 @@
 ghost use Rattle.std.specs.Prelude.{◌<◌, ◌^◌, length};
 
 use crate::chosen::Chosen;
+use crate::prices::Prices;
 use arrayvec::ArrayVec;
 use std::alloc::{AllocError, Global};
 use syn_rows::Lit;
@@ -23,8 +24,8 @@ pub(crate) struct Cover {
     removed: ArrayVec<u32, MAX_TOUCHED>,
 }
 
-/// So many LUTs are followed at most below a cut that is added or taken out, so that each node takes so much time at most.
-pub(crate) const MAX_FOLLOWED: u32 = 32;
+// So many LUTs are followed at most below a cut that is added or taken out, so that each node takes so much time at most.
+const MAX_FOLLOWED: u32 = 32;
 
 // So many leaves are those of a cut and of the LUTs that are followed below it, each of at most eight.
 const MAX_TOUCHED: usize = 264;
@@ -140,24 +141,31 @@ impl Cover {
         }
     }
 
-    /// Adds a LUT over these leaves to the cover, and those that it needs: how many they are, as far as they are followed,
-    /// at most so many.
-    pub(crate) fn add(&mut self, chosen: &Chosen, leaves: &[u32], most: u32) -> u32 {
-        let most = if most < MAX_FOLLOWED {
-            most
-        } else {
-            MAX_FOLLOWED
-        };
+    /// Adds a LUT over these leaves to the cover, and those that it needs: the sum of their prices, as far as they are
+    /// followed, which they are until it is at least this.
+    pub(crate) fn add(
+        &mut self,
+        chosen: &Chosen,
+        leaves: &[u32],
+        prices: &Prices,
+        most: u32,
+    ) -> u32 {
         self.added.clear();
         self.waiting.clear();
         self.read_leaves(leaves);
-        for luts in 0..most {
+        let mut price: u32 = 0;
+        for _ in 0..MAX_FOLLOWED {
+            if price >= most {
+                return price;
+            }
             let Some(node) = self.waiting.pop() else {
-                return luts;
+                return price;
             };
-            self.read_leaves(chosen.of(node));
+            let leaves = chosen.of(node);
+            price = price.saturating_add(prices.at(leaves.len() as u32));
+            self.read_leaves(leaves);
         }
-        most
+        price
     }
 
     /// Takes what was added last out again.

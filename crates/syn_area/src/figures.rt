@@ -2,7 +2,7 @@
 
 use syn_rows::Lit;
 
-/// One LUT, one input of one, or one reader, in the units of the estimates.
+/// The price of the cheapest LUT, one input of a LUT, or one reader, in the units of the estimates.
 pub(crate) const UNIT: u32 = 256;
 
 /// What is estimated of a node over the chosen cuts.
@@ -10,9 +10,9 @@ pub(crate) const UNIT: u32 = 256;
 pub(crate) struct Figures {
     /// How many LUTs lie on a longest path to it.
     pub(crate) arrival: u32,
-    /// The share of one reader in its LUT and those below it, in units of 1/256 of a LUT.
+    /// The share of one reader in the prices of its LUT and those below it.
     pub(crate) flow: u32,
-    /// The same of their inputs.
+    /// The same of their inputs, in units of 1/256.
     pub(crate) edges: u32,
     /// How many readers it is expected to have, in units of 1/256.
     pub(crate) readers: u32,
@@ -28,7 +28,7 @@ pub(crate) fn figures_at(figures: &[Figures], node: u32) -> Figures {
     }
 }
 
-/// What a LUT over a cut costs: when it arrives, and its flows before they are shared among its readers.
+/// What a LUT over a cut costs beside its price: when it arrives, and its flows before they are shared among its readers.
 #[derive(Clone, Copy, Debug, Default, PartialEq, Eq)]
 pub(crate) struct Cost {
     pub(crate) arrival: u32,
@@ -39,11 +39,11 @@ pub(crate) struct Cost {
 // What a LUT costs to which no leaf is added yet.
 const NO_LEAF: Cost = Cost {
     arrival: 1,
-    flow: UNIT,
+    flow: 0,
     edges: 0,
 };
 
-/// What a LUT costs with one leaf more.
+/// What a LUT costs with one leaf more, beside its price.
 #[inline(always)]
 pub(crate) fn with_leaf(cost: Cost, leaf: Figures) -> Cost {
     Cost {
@@ -53,7 +53,7 @@ pub(crate) fn with_leaf(cost: Cost, leaf: Figures) -> Cost {
     }
 }
 
-/// What a LUT over these leaves costs.
+/// What a LUT over these leaves costs, beside its price.
 pub(crate) fn cost_over(figures: &[Figures], leaves: &[u32]) -> Cost {
     let mut cost = NO_LEAF;
     for leaf in leaves {
@@ -62,7 +62,7 @@ pub(crate) fn cost_over(figures: &[Figures], leaves: &[u32]) -> Cost {
     cost
 }
 
-/// What a LUT costs at least that reads the leaves of two others.
+/// What a LUT costs at least that reads the leaves of two others, beside its price.
 #[inline(always)]
 pub(crate) fn at_least(a: Cost, b: Cost) -> Cost {
     Cost {
@@ -72,9 +72,9 @@ pub(crate) fn at_least(a: Cost, b: Cost) -> Cost {
     }
 }
 
-// The greater of two numbers.
+/// The greater of two numbers.
 #[inline(always)]
-fn greater(a: u32, b: u32) -> u32 {
+pub(crate) fn greater(a: u32, b: u32) -> u32 {
     if a < b { b } else { a }
 }
 
@@ -95,13 +95,13 @@ fn share(amount: u32, readers: u32) -> u32 {
     clipped(amount as u64 * UNIT as u64 / readers as u64)
 }
 
-/// Sets what is estimated of a node from what its LUT costs.
-pub(crate) fn set_figures(figures: &mut [Figures], node: u32, cost: Cost) {
+/// Sets what is estimated of a node from what its LUT costs, and its price.
+pub(crate) fn set_figures(figures: &mut [Figures], node: u32, cost: Cost, price: u32) {
     if (node as usize) < figures.len() {
         let readers = figures[node as usize].readers;
         figures[node as usize] = Figures {
             arrival: cost.arrival,
-            flow: share(cost.flow, readers),
+            flow: share(cost.flow.saturating_add(price), readers),
             edges: share(cost.edges, readers),
             readers,
         };

@@ -11,7 +11,7 @@ use crate::figures::{Cost, Figures, cost_over};
 use std::alloc::{AllocError, Global};
 use syn_cuts::Cut;
 
-/// A cut with the node of which it is kept, and what a LUT over it costs.
+/// A cut with the node of which it is kept, and what a LUT over it costs beside its price.
 #[derive(Debug, Default, Drop)]
 pub(crate) struct Listed {
     pub(crate) node: u32,

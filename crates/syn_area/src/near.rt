@@ -12,7 +12,8 @@ pub(crate) const MAX_NEAR: usize = 64;
 /// So many cuts of a fan-in are looked at.
 pub(crate) const MAX_PARTS: usize = 9;
 
-/// A cut of a fan-in: its leaves, all bits where one has none, what a LUT over them costs, and its place in its list.
+/// A cut of a fan-in: its leaves, all bits where one has none, what a LUT over them costs beside its price, and its place in
+/// its list.
 #[derive(Clone, Copy, Debug, Default)]
 pub(crate) struct Part {
     pub(crate) leaves: u64,
@@ -124,7 +125,7 @@ impl Near {
         }
     }
 
-    /// What a LUT costs that reads these leaves too.
+    /// What a LUT costs that reads these leaves too, beside its price.
     #[inline]
     pub(crate) fn with_leaves(&self, figures: &[Figures], cost: Cost, leaves: u64) -> Cost {
         let mut cost = cost;

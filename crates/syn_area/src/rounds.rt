@@ -12,6 +12,7 @@ use crate::chosen::{Chosen, copied};
 use crate::costs::{Aim, Costs};
 use crate::lists::{Listed, Lists};
 use crate::picks::{Origin, PICKED, Pick};
+use crate::prices::Prices;
 use arrayvec::ArrayVec;
 use std::alloc::{AllocError, Global};
 use syn_cuts::{Cut, union};
@@ -243,15 +244,21 @@ const AIMS: [Aim; 7] = [
     Aim::Area,
 ];
 
-/// A cut of at most `k` leaves for each AND of a graph.
-pub(crate) fn choose(alloc: Global, graph: &Graph, k: u8) -> Result<Chosen, AllocError>
+/// A cut of at most `k` leaves for each AND of a graph, for LUTs of these prices; with room up to a depth.
+pub(crate) fn choose(
+    alloc: Global,
+    graph: &Graph,
+    k: u8,
+    prices: &Prices,
+    room: u32,
+) -> Result<Chosen, AllocError>
     requires many { 2 ≤ k }
     requires few { k ≤ MAX_VARS }
     ensures count { IfOk result (λ chosen. length chosen ≡ length graph.now.rows) }
     ensures fit { IfOk result (λ chosen. AreLutCuts k graph.now.rows (cut_in chosen)) }
 {
     let mut chosen = Chosen::fan_ins(alloc, graph.rows.as_slice())?;
-    let mut costs = Costs::of(alloc, graph)?;
+    let mut costs = Costs::of(alloc, graph, prices, room)?;
     let mut lists = Lists::none(alloc, graph.rows.as_slice().len())?;
     for aim in AIMS {
         costs.begin(aim);

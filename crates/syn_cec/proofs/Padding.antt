@@ -4,14 +4,14 @@ use Rattle.std.proofs.lemmas.Bool.{cases_lt}
 use Rattle.std.proofs.lemmas.List.Elements.{All-head, All-tail}
 use Rattle.syn_rows.specs.declared.Lit.{Lit}
 use Rattle.syn_rows.specs.declared.Row.{Row}
-use Rattle.syn_rows.specs.declared.Row.TheVariants.{Free, Source, And, Alias}
-use Rattle.syn_rows.specs.Rows.{node_of, row_at}
-use Rattle.syn_rows.specs.Values.{OneValuation, given_by, is_open, rows_function, value_in, values_of}
+use Rattle.syn_rows.specs.Rows.{node_of}
+use Rattle.syn_rows.specs.Values.{OneValuation, given_by, rows_function, value_in, values_of}
 use Rattle.syn_rows.proofs.Folds.{lit_value-same, one_valuation_is}
 use Rattle.syn_truth.specs.Truth.{AtEach, minterm_of}
-use Rattle.syn_hashed.specs.Hashed.{IsHashed, is_gate}
+use Rattle.syn_hashed.specs.Hashed.{IsHashed}
 use Rattle.syn_hashed.proofs.Orders.{hashed_in_order}
 use Rattle.syn_graph.specs.declared.Graph.{Graph}
+use Rattle.syn_fraig.proofs.Tabled.{open_low}
 use Rattle.syn_cec.specs.Compared.{SameAt}
 
 -- lists of as many values with one minterm are one list
@@ -55,18 +55,6 @@ padded_at (suc count) (b ∷ bits) (suc i) lt = padded_at count bits i (omega ar
 given_padded : (count : ℕ) (bits : List Bool) (n : ℕ) → n < count + 1 → given_by (padded count bits) n ≡ given_by bits n
 given_padded count bits zero lt = refl
 given_padded count bits (suc i) lt = padded_at count bits i (omega arith)
-
-gate_closed : (n : ℕ) (row : Row) → is_gate n row ≡ true → is_open row ≡ true → ⊥
-gate_closed n Free h e = absurd (cc)
-gate_closed n Source h e = absurd (cc)
-gate_closed n (And a b) h e = absurd (cc)
-gate_closed n (Alias a) h e = absurd (cc)
-
-open_low : (count : ℕ) (rows : List Row) (n : ℕ) → IsHashed count rows → n < length rows → is_open (row_at rows n) ≡ true → n < count + 1
-open_low count rows n h lt is = elim (cases_lt n (count + 1)) [
-  | inl low ↦ low
-  | inr ge ↦ absurd (gate_closed n (row_at rows n) (h.gates n (omega arith) lt) is)
-]
 
 value_padded : (count : ℕ) (rows : List Row) → IsHashed count rows → (bits : List Bool) (n : ℕ) → n < length rows
     → value_in (values_of (given_by (padded count bits)) rows) n ≡ value_in (values_of (given_by bits) rows) n

@@ -3,4 +3,5 @@ pub mod Putting
 pub mod Refusing
 pub mod Deciding
 pub mod Concluding
+pub mod Decimals
 pub mod Working

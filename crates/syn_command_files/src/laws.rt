@@ -7,7 +7,7 @@ pub fn worked_loads()
     ensures { WorkedLoads }
 {}
 
-/// The definitions give the wanted numbers of inputs and faults of worked files of LUTs.
+/// The definitions give the wanted numbers of inputs, areas and faults of worked files of LUTs.
 pub fn worked_luts()
     ensures { WorkedLuts }
 {}

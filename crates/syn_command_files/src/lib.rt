@@ -17,7 +17,7 @@ mod quits;
 mod sources;
 
 pub use laws::{worked_loads, worked_luts};
-pub use luts::{LutFileFault, lut_inputs_of};
+pub use luts::{LutFileFault, luts_of};
 use quits::cut_at_quit;
 pub use quits::is_quit;
 use sources::{push_commands, said_by_file};

@@ -1,16 +1,16 @@
 //! Files of LUTs.
 //!
 //! A line is a row: a number of inputs, an area, and perhaps delays, which are numbers with a
-//! fraction or none. `#` begins a comment, and a line without words is nothing. Areas and delays are
-//! read and not used.
+//! fraction or none. `#` begins a comment, and a line without words is nothing. Delays are read and
+//! not used.
 
-ghost use Rattle.std.specs.Prelude.{◌≡◌, ◌<◌, ◌≤◌, ◌^◌, Err, IfErr, IfOk, IfSome, length, Ok};
+ghost use Rattle.std.specs.Prelude.{◌≡◌, ◌+◌, ◌*◌, ◌-◌, ◌<◌, ◌≤◌, ◌^◌, min, Err, IfErr, IfOk, IfSome, length, Ok, slice_index_or};
 ghost use Rattle.std.specs.List.{list_all};
-ghost use Rattle.syn_words.specs.Numbers.{is_digit, is_number};
-ghost use Rattle.syn_command_files.specs.Luts.{are_decimals, inputs_in, is_decimal, is_fraction, line_of, most_inputs, row_words};
+ghost use Rattle.syn_words.specs.Numbers.{is_digit, is_number, number_after};
+ghost use Rattle.syn_command_files.specs.Luts.{are_decimals, digit_at, fraction_digits, is_decimal, is_fraction, line_of, most_area, row_in, row_words, sizes_in, thousandths, three_digits, with_area};
 
 use syn_lex::{WordBytes, Words, bytes_before, cut_piece};
-use syn_words::{LutInputs, NumberRange, number_in};
+use syn_words::{LutInputs, LutSizes, NumberRange, number_in};
 use thiserror::Error;
 
 // A row has at least so many inputs, and at most so many.
@@ -18,6 +18,9 @@ const ROW_INPUTS: NumberRange = NumberRange { least: 1, most: 8 };
 
 // The greatest row of a file has at least so many.
 const LEAST_MOST: u64 = 2;
+
+// The areas where no row tells one.
+const NO_AREAS: [u32; 8] = [u32::MAX; 8];
 
 /// Why a text is no file of LUTs.
 #[derive(Clone, Copy, Debug, PartialEq, Eq, Error)]
@@ -103,44 +106,122 @@ fn row_words(line: &[u8]) -> RowWords<'_>
     Words::of(row, 0)
 }
 
-// How many inputs the LUT of a row has; 0 where there is no word.
-fn inputs_in(mut words: RowWords<'_>) -> Option<u64>
-    ensures value { result ≡ inputs_in words.entry }
-    ensures few { IfSome result (λ inputs. inputs ≤ 8) }
+// The digits behind the point of a fraction, if any.
+fn fraction_digits(fraction: &[u8]) -> &[u8]
+    ensures { result.now ≡ fraction_digits fraction.now }
+{
+    match fraction.split_first() {
+        None => &[],
+        Some((_, digits)) => digits,
+    }
+}
+
+// The digit at a place, a zero past the end.
+fn digit_at(digits: &[u8], place: usize) -> u8
+    ensures { result ≡ digit_at digits.now place }
+{
+    if place < digits.len() {
+        digits[place]
+    } else {
+        b'0'
+    }
+}
+
+// A number with one more digit behind it, at most the greatest area.
+fn with_digit(number: u32, digit: u8) -> u32
+    ensures { result ≡ min most_area (number * 10 + (digit - 48)) }
+{
+    let digit = digit.saturating_sub(b'0') as u32;
+    number.saturating_mul(10).saturating_add(digit)
+}
+
+// The number that digits spell behind those of a number, at most the greatest area.
+fn number_after(number: u32, digits: &[u8]) -> u32
+    ensures { result ≡ min most_area (number_after number digits.now) }
+{
+    let mut after = number;
+    for digit in digits {
+        after = with_digit(after, *digit);
+    }
+    after
+}
+
+// How many thousandths a number with a fraction or none is, at most the greatest area.
+fn thousandths(text: &[u8]) -> u32
+    ensures { result ≡ thousandths text.now }
+{
+    let (whole, fraction) = text.split_at(bytes_before(text, b'.'));
+    let digits = fraction_digits(fraction);
+    let three = [
+        digit_at(digits, 0),
+        digit_at(digits, 1),
+        digit_at(digits, 2),
+    ];
+    number_after(number_after(0, whole), &three)
+}
+
+// A row: how many inputs the LUT has, and its area in thousandths.
+#[derive(Clone, Copy, Debug, PartialEq, Eq)]
+pub(crate) struct LutRow {
+    pub(crate) inputs: u64,
+    pub(crate) area: u32,
+}
+
+// The row that words are; of 0 inputs where there is no word.
+fn row_in(mut words: RowWords<'_>) -> Option<LutRow>
+    ensures value { result ≡ row_in words.entry }
+    ensures few { IfSome result (λ row. row.inputs ≤ 8) }
 {
     let Some((_, inputs)) = words.take_word() else {
-        return Some(0);
+        return Some(LutRow { inputs: 0, area: 0 });
     };
     let (_, area) = words.take_word()?;
     if !is_decimal(area) || !are_decimals(words) {
         return None;
     }
-    number_in(ROW_INPUTS, inputs)
+    let inputs = number_in(ROW_INPUTS, inputs)?;
+    let area = thousandths(area);
+    Some(LutRow { inputs, area })
 }
 
-/// The greatest number of inputs of the rows of a file of LUTs.
+// Puts the area of a row, where it has an input.
+fn put_area(areas: &mut [u32; 8], row: LutRow)
+    requires { row.inputs ≤ 8 }
+    ensures { areas.new ≡ with_area areas.old row }
+{
+    if row.inputs > 0 {
+        areas[row.inputs as usize - 1] = row.area;
+    }
+}
+
+/// The greatest number of inputs of the rows of a file of LUTs, and their areas.
 ///
 /// Refuses with the number of the first line that isn't a row of 1 to 8 inputs; with that of the last
 /// line where each is one and none has 2 or more.
-pub fn lut_inputs_of(text: &[u8]) -> Result<LutInputs, LutFileFault>
+pub fn luts_of(text: &[u8]) -> Result<LutSizes, LutFileFault>
     requires { length text.now < 2 ^ 32 }
-    ensures inputs { IfOk result (λ inputs. most_inputs text.now ≡ Ok inputs) }
-    ensures refused { IfErr result (λ fault. most_inputs text.now ≡ Err (line_of fault)) }
+    ensures sizes { IfOk result (λ sizes. sizes_in text.now ≡ Ok sizes) }
+    ensures refused { IfErr result (λ fault. sizes_in text.now ≡ Err (line_of fault)) }
 {
     let mut rest = text;
     let mut line: u32 = 0;
     let mut most = 0;
+    let mut areas = NO_AREAS;
     while !rest.is_empty() {
-        let (row, below) = cut_piece(rest, b'\n');
+        let (text, below) = cut_piece(rest, b'\n');
         line += 1;
-        let Some(inputs) = inputs_in(row_words(row)) else {
+        let Some(row) = row_in(row_words(text)) else {
             return Err(LutFileFault::Line(line));
         };
-        most = most.max(inputs);
+        most = most.max(row.inputs);
+        put_area(&mut areas, row);
         rest = below;
     }
     if most < LEAST_MOST {
         return Err(LutFileFault::Line(line));
     }
-    Ok(LutInputs::of(most))
+    Ok(LutSizes {
+        most: LutInputs::of(most),
+        areas,
+    })
 }

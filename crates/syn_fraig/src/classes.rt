@@ -4,13 +4,11 @@
 ghost use Rattle.std.specs.Prelude.{◌<◌, length};
 ghost use Rattle.syn_rows.specs.declared.TheConstants.{NODE_LIMIT};
 
+use crate::hashes::{FirstNodes, NONE, mixed};
 use crate::simulation::Simulation;
 use std::alloc::{AllocError, Global};
 use syn_rows::{Lit, Row};
 use syn_sat::{Solver, at, put};
-
-// No node.
-const NONE: u32 = u32::MAX;
 
 // So many words of random patterns.
 const ROUNDS: u32 = 32;
@@ -28,27 +26,7 @@ pub(crate) struct Classes {
     lasts: Vec<u32>,
     // The nodes of classes that have another node still to come, in order.
     members: Vec<u32>,
-    // The first node of each hash, in open addressing; a power of two.
-    table: Vec<u32>,
-}
-
-// A hash with one more word.
-#[inline]
-fn mixed(hash: u64, word: u64) -> u64 {
-    let product = (hash ^ word).wrapping_mul(0x9E37_79B9_7F4A_7C15);
-    product ^ (product >> 29)
-}
-
-// A power of two, at least twice as many.
-fn table_size(count: usize) -> usize {
-    let mut size: usize = 2;
-    for _ in 0..40 {
-        if size / 2 >= count {
-            break;
-        }
-        size = size.saturating_mul(2);
-    }
-    size
+    first_nodes: FirstNodes,
 }
 
 impl Classes {
@@ -69,7 +47,7 @@ impl Classes {
             nexts: vec![in alloc; NONE; count]?,
             lasts: vec![in alloc; 0; count]?,
             members,
-            table: vec![in alloc; NONE; table_size(count)]?,
+            first_nodes: FirstNodes::new(alloc, count)?,
         };
         for round in 0..ROUNDS {
             classes.simulation.run_random(rows);
@@ -102,24 +80,6 @@ impl Classes {
         }
     }
 
-    // The first node of a member's hash, by a table of this mask: the member itself where there is none yet.
-    fn find(&mut self, node: u32, mask: usize) -> u32 {
-        let hash = at(self.hashes.as_slice(), node as usize, 0);
-        let mut place = hash as usize & mask;
-        for _ in 0..=mask {
-            let other = at(self.table.as_slice(), place, NONE);
-            if other == NONE {
-                put(self.table.as_mut_slice(), place, node);
-                return node;
-            }
-            if at(self.hashes.as_slice(), other as usize, 0) == hash {
-                return other;
-            }
-            place = place.wrapping_add(1) & mask;
-        }
-        node
-    }
-
     // Whether a member's class has another node from this one on.
     fn is_open(&self, member: u32, node: u32) -> bool {
         let first = at(self.firsts.as_slice(), member as usize, member);
@@ -141,14 +101,10 @@ impl Classes {
 
     // Groups the members by their hashes, and keeps those of classes that have another node from this one on.
     fn group(&mut self, node: u32) {
-        let size = table_size(self.members.len());
-        for i in 0..size {
-            put(self.table.as_mut_slice(), i, NONE);
-        }
-        let mask = size.saturating_sub(1);
+        self.first_nodes.clear(self.members.len());
         for i in 0..self.members.len() {
             let member = at(self.members.as_slice(), i, 0);
-            let first = self.find(member, mask);
+            let first = self.first_nodes.find(self.hashes.as_slice(), member);
             self.join(member, first);
         }
         let mut kept: usize = 0;

@@ -1,11 +1,9 @@
 //! A table of ANDs by their pairs of literals. Nothing is promised of it.
 
+use crate::hashes::{NONE, table_size};
 use std::alloc::{AllocError, Global};
 use syn_rows::{Lit, Row};
 use syn_sat::{at, put};
-
-/// No node.
-pub(crate) const NONE: u32 = u32::MAX;
 
 /// Nodes in open addressing, by their pairs; a power of two.
 #[derive(Debug, Drop)]
@@ -24,15 +22,8 @@ fn hash(a: Lit, b: Lit) -> usize {
 impl Pairs {
     /// A table with a power of two of places, at least twice as many as nodes. The only error is want of memory.
     pub(crate) fn new(alloc: Global, count: usize) -> Result<Pairs, AllocError> {
-        let mut size: usize = 2;
-        for _ in 0..40 {
-            if size / 2 >= count {
-                break;
-            }
-            size = size.saturating_mul(2);
-        }
         Ok(Pairs {
-            nodes: vec![in alloc; NONE; size]?,
+            nodes: vec![in alloc; NONE; table_size(count)]?,
         })
     }
 

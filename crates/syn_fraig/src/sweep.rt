@@ -1,26 +1,19 @@
-//! The sweep: nodes in order, each merged into an earlier one that has its values, where that is shown.
+//! The sweep of a graph, and the graph that it gives.
 
-ghost use Rattle.std.specs.Prelude.{◌≡◌, ◌<◌, ◌+◌, ℕ, List, length, true, IfOk, OnOk};
-ghost use Rattle.syn_rows.specs.declared.Row.{Row};
+ghost use Rattle.std.specs.Prelude.{◌≡◌, ◌<◌, length, true, IfOk, OnOk};
 ghost use Rattle.syn_rows.specs.declared.TheConstants.{NODE_LIMIT};
-ghost use Rattle.syn_rows.specs.Joining.{lit_of};
-ghost use Rattle.syn_rows.specs.Rows.{node_of};
 ghost use Rattle.syn_hashed.specs.Hashed.{IsHashed};
 ghost use Rattle.syn_graph.specs.Relations.{Follows};
 ghost use Rattle.syn_levels.specs.Levels.{IsNoDeeper};
-ghost use Rattle.syn_fraig.specs.Merging.{FitsAlso, IsMerged, SameBy};
-ghost use Rattle.syn_fraig.specs.Sweeping.{AreTrueBy};
+ghost use Rattle.syn_fraig.specs.Merging.{IsMerged};
 
-use crate::classes::Classes;
+use crate::by_search::sweep_by_search;
+use crate::by_values::{FEW, sweep_by_values};
 use crate::finished::finish;
-use crate::merging::{copy_gate, merge, merge_same, reduce, standing};
-use crate::pairs::Pairs;
-use crate::questions::{equal, load_cones};
 use std::alloc::{AllocError, Global};
 use syn_graph::Graph;
 use syn_levels::is_no_deeper;
-use syn_rows::{Lit, Row};
-use syn_sat::{Answer, Solver, at, put};
+use syn_rows::Row;
 
 /// How far a sweep goes.
 #[derive(Clone, Copy, Debug)]
@@ -31,235 +24,24 @@ pub struct Limits {
     pub levels: bool,
 }
 
-// What a sweep works with, of which nothing is promised.
-#[derive(Debug, Drop)]
-struct Work {
-    stack: Vec<u32>,
-    classes: Classes,
-    pairs: Pairs,
-    // By node: whether it, or one below it, was given up.
-    given_up: Vec<bool>,
-    // By node: its level in the graph, and by the merged rows.
-    old_levels: Vec<u32>,
-    levels: Vec<u32>,
-    limits: Limits,
-}
-
-impl Work {
-    fn new(alloc: Global, rows: &[Row], count: u32, limits: &Limits) -> Result<Work, AllocError>
-        requires { length rows.now < NODE_LIMIT }
-    {
-        Ok(Work {
-            stack: Vec::new(alloc),
-            classes: Classes::new(alloc, rows, count)?,
-            pairs: Pairs::new(alloc, rows.len())?,
-            given_up: vec![in alloc; false; rows.len()]?,
-            old_levels: syn_rows::levels(alloc, rows)?,
-            levels: vec![in alloc; 0; rows.len()]?,
-            limits: *limits,
-        })
-    }
-
-    fn is_given_up(&self, lit: Lit) -> bool {
-        at(self.given_up.as_slice(), lit.node() as usize, false)
-    }
-
-    fn level(&self, lit: Lit) -> u32 {
-        at(self.levels.as_slice(), lit.node() as usize, 0)
-    }
-
-    // Takes a node's row over: its level, and whether a node below it was given up.
-    fn enter(&mut self, now: &[Row], node: u32) {
-        let (level, given_up) = match at(now, node as usize, Row::Free) {
-            Row::And(a, b) => (
-                self.level(a).max(self.level(b)).saturating_add(1),
-                self.is_given_up(a) || self.is_given_up(b),
-            ),
-            Row::Alias(a) => (self.level(a), self.is_given_up(a)),
-            _ => (0, false),
-        };
-        put(self.levels.as_mut_slice(), node as usize, level);
-        put(self.given_up.as_mut_slice(), node as usize, given_up);
-    }
-
-    // The conflicts for a question: a quarter where a node was given up.
-    fn conflicts(&self, node: u32, lit: Lit) -> u32 {
-        if self.is_given_up(lit) || at(self.given_up.as_slice(), node as usize, false) {
-            self.limits.conflicts / 4
-        } else {
-            self.limits.conflicts
-        }
-    }
-
-    // Whether a literal may take a node's place.
-    fn is_low(&self, node: u32, lit: Lit) -> bool {
-        !self.limits.levels || self.level(lit) <= at(self.old_levels.as_slice(), node as usize, 0)
-    }
-}
-
-// Merges a node where the answer says so.
-fn merge_if(answer: Answer, rows: &[Row], now: &mut [Row], node: u32, lit: Lit)
-    requires there { node < length now.old }
-    requires below { node_of lit < node }
-    requires same { answer ≡ Answer.Refuted → SameBy rows.now (lit_of node) lit }
-    ensures { (count : ℕ) → count < node → IsMerged count rows.now now.old → IsMerged count rows.now now.new }
-{
-    match answer {
-        Answer::Refuted => merge(rows, now, node, lit),
-        Answer::Model | Answer::Undecided => {}
-    }
-}
-
-// Empties a solver that has grown large.
-fn refresh(solver: &mut Solver) -> Result<(), AllocError>
-    ensures { (rows : List Row) → AreTrueBy rows solver.old.clauses → AreTrueBy rows solver.new.clauses }
-{
-    if solver.is_large() {
-        solver.clear()
-    } else {
-        Ok(())
-    }
-}
-
-// Asks whether a node has the value of an earlier literal, and merges it if so.
-fn ask(
+// Sweeps the rows of a graph: by all values of few sources, else by a search.
+fn sweep(
+    alloc: Global,
     count: u32,
     rows: &[Row],
     now: &mut [Row],
-    gates: &[Row],
-    solver: &mut Solver,
-    work: &mut Work,
-    node: u32,
-    lit: Lit,
-) -> Result<Answer, AllocError>
-    requires merged { IsMerged count rows.now now.old }
-    requires fits { FitsAlso rows.now gates.now }
-    requires clauses { AreTrueBy rows.now solver.old.clauses }
-    requires few { length gates.now < NODE_LIMIT }
-    requires gate { count < node }
-    requires there { node < length now.old }
-    requires low { node < NODE_LIMIT }
-    requires below { node_of lit < node }
-    ensures merged { OnOk result (IsMerged count rows.now now.new) }
-    ensures clauses { OnOk result (AreTrueBy rows.now solver.new.clauses) }
-{
-    let _ = count;
-    refresh(solver)?;
-    work.stack.push(node)?;
-    work.stack.push(lit.node())?;
-    load_cones(gates, &mut work.stack, solver)?;
-    let conflicts = work.conflicts(node, lit);
-    let answer = equal(solver, Lit::of(node, false), lit, conflicts)?;
-    merge_if(answer, rows, now, node, lit);
-    Ok(answer)
-}
-
-// Asks about the node's next candidate: whether there may be another.
-fn turn(
-    count: u32,
-    rows: &[Row],
-    now: &mut [Row],
-    gates: &[Row],
-    solver: &mut Solver,
-    work: &mut Work,
-    node: u32,
-) -> Result<bool, AllocError>
-    requires merged { IsMerged count rows.now now.old }
-    requires fits { FitsAlso rows.now gates.now }
-    requires clauses { AreTrueBy rows.now solver.old.clauses }
-    requires few { length gates.now < NODE_LIMIT }
-    requires gate { count < node }
-    requires there { node < length now.old }
-    requires low { node < NODE_LIMIT }
-    ensures merged { OnOk result (IsMerged count rows.now now.new) }
-    ensures clauses { OnOk result (AreTrueBy rows.now solver.new.clauses) }
-{
-    let Some(first) = work.classes.candidate(node) else {
-        return Ok(false);
-    };
-    if !matches!(at(now, node as usize, Row::Free), Row::And(_, _)) {
-        return Ok(false);
-    }
-    if first.node() as usize >= now.len() {
-        return Ok(false);
-    }
-    let lit = standing(now, first);
-    if lit.node() >= node {
-        return Ok(false);
-    }
-    if !work.is_low(node, lit) {
-        work.classes.lead(node);
-        return Ok(false);
-    }
-    match ask(count, rows, now, gates, solver, work, node, lit)? {
-        Answer::Model => {
-            work.classes.refine(rows, solver, node);
-            Ok(true)
-        }
-        Answer::Undecided => {
-            put(work.given_up.as_mut_slice(), node as usize, true);
-            Ok(false)
-        }
-        Answer::Refuted => Ok(false),
-    }
-}
-
-// One node.
-fn step(
-    count: u32,
-    rows: &[Row],
-    now: &mut [Row],
-    gates: &mut [Row],
-    solver: &mut Solver,
-    work: &mut Work,
-    node: u32,
+    limits: &Limits,
 ) -> Result<(), AllocError>
-    requires merged { IsMerged count rows.now now.old }
-    requires fits { FitsAlso rows.now gates.old }
-    requires clauses { AreTrueBy rows.now solver.old.clauses }
-    requires few { length gates.old < NODE_LIMIT }
-    requires gate { count < node }
-    requires there { node < length now.old }
-    requires low { node < NODE_LIMIT }
-    ensures merged { OnOk result (IsMerged count rows.now now.new) }
-    ensures fits { OnOk result (FitsAlso rows.now gates.new) }
-    ensures clauses { OnOk result (AreTrueBy rows.now solver.new.clauses) }
-{
-    reduce(count, rows, now, node);
-    copy_gate(rows, now, gates, node);
-    let other = work.pairs.same(now, node);
-    merge_same(count, rows, now, node, other);
-    work.enter(now, node);
-    for _ in 0..1000 {
-        let more = turn(count, rows, now, gates, solver, work, node)?;
-        if !more {
-            break;
-        }
-    }
-    Ok(())
-}
-
-// All nodes in order.
-fn sweep_all(
-    count: u32,
-    rows: &[Row],
-    now: &mut [Row],
-    gates: &mut [Row],
-    solver: &mut Solver,
-    work: &mut Work,
-) -> Result<(), AllocError>
-    requires merged { IsMerged count rows.now now.old }
-    requires fits { FitsAlso rows.now gates.old }
-    requires clauses { AreTrueBy rows.now solver.old.clauses }
-    requires long { length gates.old ≡ length rows.now }
+    requires hashed { IsHashed count rows.now }
     requires few { length rows.now < NODE_LIMIT }
-    requires sources { count < length rows.now }
+    requires merged { IsMerged count rows.now now.old }
     ensures { OnOk result (IsMerged count rows.now now.new) }
 {
-    for node in count + 1..rows.len() as u32 {
-        step(count, rows, now, gates, solver, work, node)?;
+    if count <= FEW {
+        sweep_by_values(alloc, count, rows, now, limits.levels)
+    } else {
+        sweep_by_search(alloc, count, rows, now, limits)
     }
-    Ok(())
 }
 
 // The rows of a graph after the sweep.
@@ -269,23 +51,13 @@ fn swept(alloc: Global, graph: &Graph, limits: &Limits) -> Result<Vec<Row>, Allo
     let rows = graph.rows.as_slice();
     let count = graph.source_count;
     let mut now = Vec::from_slice(alloc, rows)?;
-    let mut gates = Vec::from_slice(alloc, rows)?;
-    let mut solver = Solver::new(alloc, rows.len() as u32)?;
-    let mut work = Work::new(alloc, rows, count, limits)?;
-    sweep_all(
-        count,
-        rows,
-        now.as_mut_slice(),
-        gates.as_mut_slice(),
-        &mut solver,
-        &mut work,
-    )?;
+    sweep(alloc, count, rows, now.as_mut_slice(), limits)?;
     Ok(now)
 }
 
-/// The graph with nodes merged that are equal, complements or constant for all values of the sources, where a search within
-/// the limits shows it: the same function, and no more ANDs; no observed signal is deeper where that is asked. The only error
-/// is want of memory.
+/// The graph with nodes merged that are equal, complements or constant for all values of the sources: all of them where the
+/// sources are few, else those for which a search within the limits shows it. It has the same function, and no more ANDs; no
+/// observed signal is deeper where that is asked. The only error is want of memory.
 pub fn fraig(alloc: Global, graph: &Graph, limits: &Limits) -> Result<Graph, AllocError>
     ensures follows { IfOk result (Follows graph.now 0) }
     ensures levels { limits.now.levels ≡ true → IfOk result (IsNoDeeper graph.now) }

@@ -1,12 +1,14 @@
 -- What holds of a net holds of it when it is settled.
-use Rattle.std.proofs.Common.{◌≡◌, ℕ, ◌+◌, ◌≤◌, Bool, true, List, length, sym, ap, ◌∙◌, subst, arith}
+use Rattle.std.proofs.Common.{◌≡◌, ℕ, suc, ◌+◌, ◌<◌, ◌≤◌, Bool, true, List, [], ◌∷◌, length, refl, sym, ap, ◌∙◌, subst, arith}
 use Rattle.std.proofs.lemmas.List.{length-map}
+use Rattle.std.proofs.lemmas.List.Sums.{sum_by-cons}
 use Rattle.syn_rows.specs.declared.Lit.{Lit}
 use Rattle.syn_graph.specs.declared.Graph.{Graph}
-use Rattle.syn_lutnet.specs.LutData.{net_depth}
+use Rattle.syn_lutnet.specs.LutData.{Lut, lut_at, net_depth}
 use Rattle.syn_lutnet.specs.declared.nets.LutNet.{LutNet}
 use Rattle.syn_lutnet.specs.Data.{lut_data, luts_data}
 use Rattle.syn_lutnet.specs.Nets.{HasFunctionOf}
+use Rattle.syn_absorb.specs.Costs.{cost_by}
 use Rattle.syn_absorb.specs.Flips.{AllShown}
 use Rattle.syn_absorb.specs.Nets.{IsAbsorbed, IsTrimmed, KeepsFunction}
 use Rattle.syn_settled.specs.Settled.{IsSettled}
@@ -19,12 +21,27 @@ keeps_both a b c first second = record {
   values = λ bits long. second.values bits (long ∙ sym first.sources) ∙ first.values bits long;
 }
 
+-- LUTs of the same inputs, one by one, cost the same
+same_cost : (cost : ℕ → ℕ) (old new : List Lut) → length new ≡ length old → ((j : ℕ) → j < length old → (lut_at new j).inputs ≡ (lut_at old j).inputs) → cost_by cost new ≡ cost_by cost old
+same_cost cost [] [] long each = refl
+same_cost cost [] (n ∷ ns) long each = absurd (omega (arith, long))
+same_cost cost (l ∷ ls) [] long each = absurd (omega (arith, long))
+same_cost cost (l ∷ ls) (n ∷ ns) long each =
+    omega (
+      arith,
+      sum_by-cons (λ (x : Lut). cost (length x.inputs)) l ls,
+      sum_by-cons (λ (x : Lut). cost (length x.inputs)) n ns,
+      ap (λ (inputs : List ℕ). cost (length inputs)) (each 0 (omega arith)),
+      same_cost cost ls ns (omega (arith, long)) (λ j lt. each (suc j) (omega (arith, lt))),
+    )
+
 pub settled : (was trimmed now : LutNet) → IsTrimmed was trimmed → IsAbsorbed trimmed now → IsSettled was now
 settled was trimmed now trim absorb = record {
   same = keeps_both was trimmed now trim.same absorb.same;
   fewer = omega (arith, trim.fewer, absorb.luts.long, length-map now.luts lut_data, length-map trimmed.luts lut_data);
   depth = omega (arith, trim.depth, absorb.depth);
   inputs = λ k few. absorb.inputs k ∙ trim.inputs k few;
+  cheaper = λ cost rises. omega (arith, trim.cheaper cost rises, same_cost cost (luts_data trimmed.luts) (luts_data now.luts) absorb.luts.long (λ j lt. (absorb.luts.each j lt).inputs));
   depend = absorb.depend trim.depend;
   shown = subst (λ n. AllShown (n + 1) now.observed) (sym absorb.same.sources) absorb.shown;
 }

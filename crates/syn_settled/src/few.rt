@@ -7,6 +7,7 @@ ghost use Rattle.syn_lutnet.specs.LutData.{greatest, net_depth, none_exceeds};
 ghost use Rattle.syn_lutnet.specs.Data.{luts_data};
 ghost use Rattle.syn_lutnet.specs.Nets.{HasFunctionOf};
 ghost use Rattle.syn_map.specs.Labels.{label_of};
+ghost use Rattle.syn_area.specs.Areas.{CostAlike, luts_cost, nodes_cost};
 ghost use Rattle.syn_area.specs.Plain.{AreNeeded};
 ghost use Rattle.syn_absorb.specs.Flips.{AllShown};
 ghost use Rattle.syn_absorb.specs.Needed.{AllDepend};
@@ -19,13 +20,15 @@ use syn_graph::Graph;
 use syn_lutnet::LutNet;
 use syn_workers::Workers;
 
-/// A graph mapped to few LUTs, each of which reads only what it depends on, and none of which is observed only complemented.
-/// The only error is want of memory.
+/// A graph mapped to LUTs that cost little, each of which reads only what it depends on, and none of which is observed only
+/// complemented. A LUT costs the least of the areas of those of as many inputs or more; the areas are those of LUTs of one
+/// input, of two, and so on. The only error is want of memory.
 pub fn few_luts<R: Threads + Sync>(
     rt: &R,
     alloc: Global,
     graph: &Graph,
     k: u8,
+    areas: &[u32],
     workers: Workers,
 ) -> Result<LutNet, AllocError>
     requires many { 2 ≤ k }
@@ -33,11 +36,12 @@ pub fn few_luts<R: Threads + Sync>(
     ensures function { IfOk result (HasFunctionOf graph.now) }
     ensures inputs { IfOk result (λ net. none_exceeds k (luts_data net.luts) ≡ true) }
     ensures depth { IfOk result (λ net. net_depth graph.now.source_count (luts_data net.luts) ≤ greatest (label_of k graph.now.rows) (map node_of graph.now.observed)) }
-    ensures fewer { IfOk result (λ net. (nodes : List ℕ) → AreNeeded k graph.now.rows graph.now.observed nodes → length net.luts ≤ length nodes) }
+    ensures cost { IfOk result (λ net. (nodes : List ℕ) → AreNeeded k graph.now.rows graph.now.observed nodes → luts_cost areas.now (luts_data net.luts) ≤ nodes_cost k graph.now.rows areas.now nodes) }
+    ensures fewer { CostAlike k areas.now → IfOk result (λ net. (nodes : List ℕ) → AreNeeded k graph.now.rows graph.now.observed nodes → length net.luts ≤ length nodes) }
     ensures count { IfOk result (λ net. length net.luts + (graph.now.source_count + 1) ≤ length graph.now.rows) }
     ensures depend { IfOk result (λ net. AllDepend (luts_data net.luts)) }
     ensures shown { IfOk result (λ net. AllShown (graph.now.source_count + 1) net.observed) }
 {
-    let mapped = map_for_area(rt, alloc, graph, k, workers)?;
+    let mapped = map_for_area(rt, alloc, graph, k, areas, workers)?;
     settle(alloc, &mapped)
 }

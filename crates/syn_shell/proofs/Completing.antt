@@ -1,8 +1,7 @@
 -- A run that was ready is refused for want of memory alone, or where a call failed.
-use Rattle.std.proofs.Common.{◌≡◌, ◌⊎◌, ℕ, ◌+◌, ◌<◌, ◌≤◌, Bool, false, List, [], ◌∷◌, ◌++◌, length, refl, sym, ◌∙◌, subst, arith, inl, inr, Option, None, Some, IfSome, IsSome, Result, Ok, Err}
+use Rattle.std.proofs.Common.{◌≡◌, ◌≢◌, ◌⊎◌, ℕ, ◌+◌, ◌<◌, ◌≤◌, Bool, false, List, [], ◌∷◌, ◌++◌, length, refl, sym, ◌∙◌, subst, arith, inl, inr, Option, None, Some, IfSome, IsSome, Result, Ok, Err}
 use Rattle.std.specs.Option.{IsSomeAnd}
 use Rattle.syn_io.specs.Outside.{Disk, Input, Screen, file_at, next_line}
-use Rattle.syn_netlist.specs.Lists.{Netlist}
 use Rattle.syn_reader.specs.Causes.{fault_in}
 use Rattle.syn_reader.specs.Faults.{Fault}
 use Rattle.syn_reader.specs.Laws.{NotBoth}
@@ -18,21 +17,32 @@ use Rattle.syn_words.specs.declared.Command.TheVariants as commands
 use Rattle.syn_command_files.specs.declared.LoadFault.{LoadFault}
 use Rattle.syn_command_files.specs.declared.LoadFault.TheVariants as faults
 use Rattle.syn_command_files.specs.Loading.{IsOutside}
-use Rattle.syn_command_files.specs.Luts.{line_of, most_inputs}
+use Rattle.syn_command_files.specs.Luts.{line_of, sizes_in}
 use Rattle.syn_command_files.specs.Sources as sources
 use Rattle.syn_command_files.proofs.Deciding.{file_accepted, script_accepted, script_alone}
+use Rattle.syn_netlist.specs.Lists.{Frame, Netlist}
+use Rattle.syn_compare.specs.Matching.{AreMatched, IsFault}
+use Rattle.syn_compare.specs.declared.answers.CompareFault.{CompareFault}
+use Rattle.syn_compare.specs.declared.answers.CompareFault.TheVariants as compare
+use Rattle.syn_words.specs.declared.formats.NetworkFile.{NetworkFile}
+use Rattle.syn_words.specs.declared.formats.NetworkFile.TheVariants as files
+use Rattle.syn_words.specs.declared.inputs.LutSizes.{LutSizes}
+use Rattle.syn_shell.specs.declared.refusal.FileCause.{FileCause}
+use Rattle.syn_shell.specs.declared.refusal.FileCause.TheVariants as causes
 use Rattle.syn_shell.specs.declared.refusal.Refusal.{Refusal}
-use Rattle.syn_shell.specs.declared.refusal.Refusal.TheVariants.{Read, ReadAiger, ReadLuts, FileTooLong, LineTooLong, TooManyGates, LatchType, NoNetwork, GetFailed, PutFailed, LineFailed, SinkFailed, NoMemory}
+use Rattle.syn_shell.specs.declared.refusal.Refusal.TheVariants.{Read, ReadAiger, ReadLuts, NotRead, Unmatched, FileTooLong, LineTooLong, TooManyGates, LatchType, NoNetwork, GetFailed, PutFailed, LineFailed, SinkFailed, NoMemory}
 use Rattle.syn_build.specs.BuildFaults.{most_gates}
 use Rattle.syn_shell.specs.Networks.{Written, gates_in}
 use Rattle.syn_shell.specs.Outside.{State, script_limit}
-use Rattle.syn_shell.specs.Lines.{refusal_status}
-use Rattle.syn_shell.specs.Steps.{Denied, file_limit, AigerReadRefused, AigerRefused, AigerWriteRefused, GeneratingRefused, GetRefused, LutsRefused, MakingRefused, PrintRefused, ReadRefused, TextRefused, WriteRefused}
+use Rattle.syn_shell.specs.Comparing.{CompareRefused, IsNotRead, cause_in}
+use Rattle.syn_shell.specs.Lines.{IsLevelsText, IsStatsLine, refusal_status}
+use Rattle.syn_shell.specs.Reads.{file_limit, AigerReadRefused, GetRefused, LutsRefused, ReadRefused}
+use Rattle.syn_shell.specs.Steps.{Denied, AigerRefused, AigerWriteRefused, GeneratingRefused, MakingRefused, PrintRefused, TextRefused, TimeRefused, WriteRefused}
 use Rattle.syn_shell.specs.Scripts.{Refused, InFile, InText, LoadFails, RunsCommands, RunsScript, Source, cause_of, nameless}
 use Rattle.syn_shell.specs.LineMode.{LineRefused, NoFurther, RunsLines, listed, most_lines}
 use Rattle.syn_usage.specs.Usage.{Usage, OneScript, OneFile, EachLine, Faulty, usage_of}
 use Rattle.syn_shell.specs.Runs.{RunsUsage, RunsWords, status_of}
-use Rattle.syn_shell.specs.Readiness.{CommandsReady, HasLuts, IsComplete, IsLoadable, IsReadable, IsReadableAiger, LineReady, LinesReady, Needs, ScriptReady, UsageReady, WordsReady}
+use Rattle.syn_shell.specs.Readiness.{CommandsReady, HasFirst, HasLuts, HoldsNetwork, IsComparable, IsComplete, IsLoadable, IsReadable, IsReadableAiger, LineReady, LinesReady, Needs, ScriptReady, UsageReady, WordsReady}
 use Rattle.syn_shell.proofs.Concluding.{ran_seven}
 
 -- statuses that a ready run may end with, if a call may have failed
@@ -82,12 +92,12 @@ not_too_long needed short name (Some list) needs long = short_at needed short (f
 abbrev ReadsWithin : List ℕ → Type 0
 ReadsWithin bytes = (length bytes ≤ file_limit) × (net : Netlist) × Reads bytes net × Within bytes net
 
-abbrev SpellsWithin : List ℕ → Type 0
-SpellsWithin bytes = (length bytes ≤ file_limit) × (g : Aig) × Spells bytes g × aiger.Within g
+abbrev SpellsWithin : Bool → List ℕ → Type 0
+SpellsWithin properties bytes = (length bytes ≤ file_limit) × (g : Aig) × Spells properties bytes g × aiger.Within g
 
--- the bytes are short enough, and say the most inputs of a LUT
-abbrev HasMost : List ℕ → Type 0
-HasMost bytes = (length bytes ≤ file_limit) × (most : ℕ) × (most_inputs bytes ≡ Ok most)
+-- the bytes are short enough, and say what LUTs there are
+abbrev HasSizes : List ℕ → Type 0
+HasSizes bytes = (length bytes ≤ file_limit) × (sizes : LutSizes) × (sizes_in bytes ≡ Ok sizes)
 
 no_fault_here : NotBoth → (bytes : List ℕ) (fault : Option Fault) → ReadsWithin bytes → IsSomeAnd fault (IsFirstFault bytes) → ⊥
 no_fault_here not_both bytes None needs first = first
@@ -110,24 +120,24 @@ read_fine : NothingIsBoth → (name : List ℕ) (before after : Disk) (cause : R
 read_fine not_both name before after (Read fault) needs why = absurd (no_fault_here not_both.blif why.bytes (fault_in fault) (there_in ReadsWithin name before.told why.bytes needs why.file) why.first)
 read_fine not_both name before after other needs why = get_fine ReadsWithin (λ b h. h.0) name before after other needs why
 
-aiger_read_fine : NothingIsBoth → (name : List ℕ) (before after : Disk) (cause : Refusal) → IsReadableAiger name before → AigerReadRefused name before after cause → IsFine (refusal_status cause)
-aiger_read_fine not_both name before after (ReadAiger fault) needs why =
-    let (short, g, spells, within) = there_in SpellsWithin name before.told why.bytes needs why.file in
-    absurd (not_both.aiger why.bytes g fault spells within why.first)
-aiger_read_fine not_both name before after other needs why = get_fine SpellsWithin (λ b h. h.0) name before after other needs why
+aiger_read_fine : NothingIsBoth → (properties : Bool) (name : List ℕ) (before after : Disk) (cause : Refusal) → IsReadableAiger properties name before → AigerReadRefused properties name before after cause → IsFine (refusal_status cause)
+aiger_read_fine not_both properties name before after (ReadAiger fault) needs why =
+    let (short, g, spells, within) = there_in (SpellsWithin properties) name before.told why.bytes needs why.file in
+    absurd (not_both.aiger properties why.bytes g fault spells within why.first)
+aiger_read_fine not_both properties name before after other needs why = get_fine (SpellsWithin properties) (λ b h. h.0) name before after other needs why
 
 luts_fine : (name : List ℕ) (before after : Disk) (cause : Refusal) → HasLuts name before → LutsRefused name before after cause → IsFine (refusal_status cause)
-luts_fine name before after (ReadLuts fault) needs why = let (short, most, says) = there_in HasMost name before.told why.bytes needs why.file in absurd (no_fault why.bytes most (line_of fault) says why.first)
+luts_fine name before after (ReadLuts fault) needs why = let (short, sizes, says) = there_in HasSizes name before.told why.bytes needs why.file in absurd (no_fault why.bytes sizes (line_of fault) says why.first)
   where
-    no_fault : (bytes : List ℕ) (most line : ℕ) → most_inputs bytes ≡ Ok most → most_inputs bytes ≡ Err line → ⊥
-    no_fault bytes most line is first = let both : ◌≡◌ {A = Result ℕ ℕ} (Ok most) (Err line) = sym is ∙ first in cc
-luts_fine name before after other needs why = get_fine HasMost (λ b h. h.0) name before after other needs why
+    no_fault : (bytes : List ℕ) (sizes : LutSizes) (line : ℕ) → sizes_in bytes ≡ Ok sizes → sizes_in bytes ≡ Err line → ⊥
+    no_fault bytes sizes line is first = let both : ◌≡◌ {A = Result LutSizes ℕ} (Ok sizes) (Err line) = sym is ∙ first in cc
+luts_fine name before after other needs why = get_fine HasSizes (λ b h. h.0) name before after other needs why
 
-print_fine : (m : Option Written) (before after : Screen) (cause : Refusal) → IsSome m → PrintRefused m before after cause → IsFine (refusal_status cause)
-print_fine m before after NoNetwork needs why = absurd (there_is_one m needs why.0)
-print_fine m before after SinkFailed needs why = failed
-print_fine m before after NoMemory needs why = no_memory
-print_fine m before after other needs why = absurd why
+print_fine : (tells : Written → List ℕ → Type 0) (m : Option Written) (before after : Screen) (cause : Refusal) → IsSome m → PrintRefused tells m before after cause → IsFine (refusal_status cause)
+print_fine tells m before after NoNetwork needs why = absurd (there_is_one m needs why.0)
+print_fine tells m before after SinkFailed needs why = failed
+print_fine tells m before after NoMemory needs why = no_memory
+print_fine tells m before after other needs why = absurd why
 
 write_fine : (m : Option Written) (name : List ℕ) (before after : Disk) (cause : Refusal) → IsSome m → WriteRefused m name before after cause → IsFine (refusal_status cause)
 write_fine m name before after NoNetwork needs why = absurd (there_is_one m needs why.0)
@@ -187,12 +197,61 @@ generating_fine : (cause : Refusal) → GeneratingRefused cause → IsFine (refu
 generating_fine NoMemory why = no_memory
 generating_fine other why = absurd why
 
+time_fine : (before after : Screen) (cause : Refusal) → TimeRefused before after cause → IsFine (refusal_status cause)
+time_fine before after SinkFailed why = failed
+time_fine before after NoMemory why = no_memory
+time_fine before after other why = absurd why
+
+-- comparisons
+
+as_alone : (name : List ℕ) (cause : FileCause) → refusal_status (NotRead name cause) ≡ refusal_status (cause_in cause)
+as_alone name (causes.Read fault) = refl
+as_alone name (causes.ReadAiger fault) = refl
+as_alone name causes.TooLong = refl
+as_alone name causes.GetFailed = refl
+
+file_fine : NothingIsBoth → (file : NetworkFile) (d d' : Disk) (name : List ℕ) (cause : FileCause) → HoldsNetwork file d → IsNotRead file d d' (NotRead name cause) → IsFine (refusal_status (NotRead name cause))
+file_fine not_both (files.Blif f) d d' name cause needs why = subst IsFine (sym (as_alone name cause)) (read_fine not_both f d d' (cause_in cause) needs why.1)
+file_fine not_both (files.Aiger f) d d' name cause needs why = subst IsFine (sym (as_alone name cause)) (aiger_read_fine not_both false f d d' (cause_in cause) needs why.1)
+
+one_of_both : NothingIsBoth → (first : Option NetworkFile) (second : NetworkFile) (before : State) (d' : Disk) (name : List ℕ) (cause : FileCause) → HasFirst first before → HoldsNetwork second before.files
+    → IsSomeAnd first (λ file. IsNotRead file before.files d' (NotRead name cause)) ⊎ IsNotRead second before.files d' (NotRead name cause) → IsFine (refusal_status (NotRead name cause))
+one_of_both not_both None second before d' name cause one other (inl why) = absurd why
+one_of_both not_both (Some file) second before d' name cause one other (inl why) = file_fine not_both file before.files d' name cause one why
+one_of_both not_both first second before d' name cause one other (inr why) = file_fine not_both second before.files d' name cause other why
+
+no_none : (first : Option NetworkFile) (before : State) → HasFirst first before → first ≡ None → IsSomeAnd before.network (λ net. gates_in net ≤ most_gates)
+no_none None before one none = one
+no_none (Some file) before one none = absurd (cc)
+
+name_in_both : (a : Option (List ℕ)) (word : List ℕ) → a ≡ None → a ≡ Some word → ⊥
+name_in_both a word none some = let z : ◌≡◌ {A = Option (List ℕ)} None (Some word) = sym none ∙ some in cc
+
+never_unmatched : (f g : Frame) (fault : CompareFault) → AreMatched f g → IsFault f g fault → fault ≢ compare.NoMemory → ⊥
+never_unmatched f g (compare.Input word) are is other = name_in_both _ word are.givens_are is
+never_unmatched f g (compare.Output word) are is other = name_in_both _ word are.outputs_are is.1
+never_unmatched f g (compare.Latch word) are is other = name_in_both _ word are.latches_are is.2
+never_unmatched f g compare.NoMemory are is other = other refl
+
+compare_fine : NothingIsBoth → (first : Option NetworkFile) (second : NetworkFile) (before : State) (d' : Disk) (s s' : Screen) (cause : Refusal) → IsComparable first second before
+    → CompareRefused first second before.network before.files d' s s' cause → IsFine (refusal_status cause)
+compare_fine not_both first second before d' s s' NoNetwork needs (none, gone, same) = absurd (there_is_a_graph before.network (no_none first before needs.first_is none) gone)
+compare_fine not_both first second before d' s s' (TooManyGates gates) needs (none, many, same) = absurd (not_too_many before.network gates (no_none first before needs.first_is none) many)
+compare_fine not_both first second before d' s s' (NotRead name cause) needs (why, same) = one_of_both not_both first second before d' name cause needs.first_is needs.second_is why
+compare_fine not_both first second before d' s s' (Unmatched fault) needs (why, same) = absurd (never_unmatched why.n.frame why.m.frame fault (needs.match why.n why.m why.first_is why.second_is) why.fault_is why.name)
+compare_fine not_both first second before d' s s' SinkFailed needs why = failed
+compare_fine not_both first second before d' s s' NoMemory needs why = no_memory
+compare_fine not_both first second before d' s s' other needs why = absurd why
+
 denied_fine : NothingIsBoth → (c : Command) (before after : State) (cause : Refusal) → Needs c before → Denied c before cause after → IsFine (refusal_status cause)
 denied_fine not_both (commands.Read name) before after cause needs (stays, why, stand, same) = read_fine not_both name before.files after.files cause needs why
-denied_fine not_both (commands.ReadAiger name) before after cause needs (stays, why, stand, same) = aiger_read_fine not_both name before.files after.files cause needs why
+denied_fine not_both (commands.ReadAiger properties name) before after cause needs (stays, why, stand, same) = aiger_read_fine not_both properties name before.files after.files cause needs why
 denied_fine not_both (commands.ReadLuts name) before after cause needs (stays, why, stand, same) = luts_fine name before.files after.files cause needs why
 denied_fine not_both (commands.Generate seed size) before after cause needs (stays, why, stand, same) = generating_fine cause why
-denied_fine not_both commands.Stats before after cause needs (stays, why, same) = print_fine before.network before.sink after.sink cause needs why
+denied_fine not_both commands.Stats before after cause needs (stays, why, same) = print_fine IsStatsLine before.network before.sink after.sink cause needs why
+denied_fine not_both commands.Levels before after cause needs (stays, why, same) = print_fine IsLevelsText before.network before.sink after.sink cause needs why
+denied_fine not_both commands.Time before after cause needs (stays, why, same) = time_fine before.sink after.sink cause why
+denied_fine not_both (commands.Compare conflicts first second) before after cause needs (stays, why, stand) = compare_fine not_both first second before after.files before.sink after.sink cause needs why
 denied_fine not_both (commands.Write name) before after cause needs (stays, why, same) = write_fine before.network name before.files after.files cause needs why
 denied_fine not_both (commands.WriteAiger ascii bare name) before after cause needs (stays, why, same) = aiger_write_fine bare before.network name before.files after.files cause needs why
 denied_fine not_both (commands.Print text) before after cause needs (stays, why, same) = text_fine text before.sink after.sink cause why

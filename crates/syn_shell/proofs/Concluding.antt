@@ -6,8 +6,9 @@ use Rattle.syn_reader.specs.declared.ReadFault.{ReadFault}
 use Rattle.syn_reader.specs.declared.ReadFault.TheVariants as file
 use Rattle.syn_aiger_files.specs.declared.fault.AigFault.{AigFault}
 use Rattle.syn_aiger_files.specs.declared.fault.AigFault.TheVariants as aiger
+use Rattle.syn_shell.specs.declared.refusal.FileCause.TheVariants as causes
 use Rattle.syn_shell.specs.declared.refusal.Refusal.{Refusal}
-use Rattle.syn_shell.specs.declared.refusal.Refusal.TheVariants.{Read, ReadAiger, GetFailed, PutFailed, LineFailed, SinkFailed}
+use Rattle.syn_shell.specs.declared.refusal.Refusal.TheVariants.{Read, ReadAiger, NotRead, GetFailed, PutFailed, LineFailed, SinkFailed}
 use Rattle.syn_shell.specs.Outside.{State}
 use Rattle.syn_shell.specs.Lines.{aiger_status, read_status, refusal_status}
 use Rattle.syn_shell.specs.Scripts.{Refused}
@@ -47,6 +48,10 @@ seven_by SinkFailed name more d d' s s' i i' e f = inr (inl (rose_by s.faults s'
 seven_by LineFailed name more d d' s s' i i' e f = inr (inr (rose_by i.faults i'.faults _ f.lines))
 seven_by (Read fault) name more d d' s s' i i' e f = absurd (read_not_seven fault e)
 seven_by (ReadAiger fault) name more d d' s s' i i' e f = absurd (aiger_not_seven fault e)
+seven_by (NotRead file (causes.Read fault)) name more d d' s s' i i' e f = absurd (read_not_seven fault e)
+seven_by (NotRead file (causes.ReadAiger fault)) name more d d' s s' i i' e f = absurd (aiger_not_seven fault e)
+seven_by (NotRead file causes.TooLong) name more d d' s s' i i' e f = absurd (omega (arith, e))
+seven_by (NotRead file causes.GetFailed) name more d d' s s' i i' e f = inl (rose_by d.faults d'.faults _ f.files)
 seven_by other name more d d' s s' i i' e f = absurd (omega (arith, e))
 
 seven_of : (refusals : List Refused) (d d' : Disk) (s s' : Screen) (i i' : Input) → status_of refusals ≡ 7 → FaultsCover refusals d s i d' s' i' → SomeFault d s i d' s' i'

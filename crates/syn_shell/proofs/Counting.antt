@@ -1,13 +1,19 @@
 -- Refusals of the files, of the lines and of the sink, and their counts of faults.
-use Rattle.std.proofs.Common.{◌≡◌, ◌⊎◌, ℕ, ◌+◌, ◌-◌, ◌^◌, ◌<◌, ◌≤◌, Bool, List, [], ◌∷◌, ◌++◌, refl, sym, ap, subst, arith, inl, inr, Option, None, Some}
+use Rattle.std.proofs.Common.{◌≡◌, ◌⊎◌, ℕ, ◌+◌, ◌-◌, ◌^◌, ◌<◌, ◌≤◌, Bool, List, [], ◌∷◌, ◌++◌, refl, sym, ap, subst, arith, inl, inr, Option, None, Some, IsSomeAnd}
 use Rattle.syn_io.specs.Outside.{Rose, Disk, Screen, Input}
 use Rattle.syn_shell.specs.Networks.{Written}
 use Rattle.syn_words.specs.declared.Command.{Command}
 use Rattle.syn_words.specs.declared.Command.TheVariants as commands
+use Rattle.syn_words.specs.declared.formats.NetworkFile.{NetworkFile}
+use Rattle.syn_words.specs.declared.formats.NetworkFile.TheVariants as files
+use Rattle.syn_shell.specs.declared.refusal.FileCause.TheVariants as causes
 use Rattle.syn_shell.specs.declared.refusal.Refusal.{Refusal}
-use Rattle.syn_shell.specs.declared.refusal.Refusal.TheVariants.{Words, Script, Read, ReadAiger, ReadLuts, FileTooLong, LineTooLong, TooManyGates, LatchType, NoNetwork, GetFailed, PutFailed, LineFailed, SinkFailed, NoMemory}
+use Rattle.syn_shell.specs.declared.refusal.Refusal.TheVariants.{Words, Script, Read, ReadAiger, ReadLuts, NotRead, Unmatched, FileTooLong, LineTooLong, TooManyGates, LatchType, NoNetwork, GetFailed, PutFailed, LineFailed, SinkFailed, NoMemory}
 use Rattle.syn_shell.specs.Outside.{State}
-use Rattle.syn_shell.specs.Steps.{Accepted, Denied, GetRefused, ReadRefused, AigerReadRefused, GeneratingRefused, LutsRefused, MakingRefused, PrintRefused, TextRefused, WriteRefused, AigerWriteRefused}
+use Rattle.syn_shell.specs.Reads.{GetRefused, ReadRefused, AigerReadRefused, LutsRefused}
+use Rattle.syn_shell.specs.Steps.{Accepted, Denied, GeneratingRefused, MakingRefused, PrintRefused, TextRefused, TimeRefused, WriteRefused, AigerWriteRefused}
+use Rattle.syn_shell.specs.Comparing.{CompareRefused, IsNotRead}
+use Rattle.syn_shell.specs.Lines.{IsLevelsText, IsStatsLine}
 use Rattle.syn_shell.specs.Scripts.{Refused, InFile, InText, OnlyCounts, RunsCommands, RunsScript, SinkGaveUp, Announced, Source, cause_of, nameless}
 use Rattle.syn_shell.specs.LineMode.{EndsBySink, EndsLines, GoesOn, LineRefused, NoFurther, RunsLines, listed}
 use Rattle.syn_usage.specs.Usage.{Usage, OneScript, OneFile, EachLine, Faulty, usage_of}
@@ -62,15 +68,15 @@ read_counted : (file name : List ℕ) (cause : Refusal) (d d' : Disk) (s s' : Sc
 read_counted file name (Read fault) d d' s s' why le e = record { files = covers_none d.faults d'.faults le; sink = sink_same s s' e; lines = refl }
 read_counted file name other d d' s s' why le e = get_counted file name other d d' s s' why le e
 
-aiger_read_counted : (file name : List ℕ) (cause : Refusal) (d d' : Disk) (s s' : Screen) → AigerReadRefused file d d' cause → d.faults ≤ d'.faults → s' ≡ s → Counted (record { cause = cause; name = name } ∷ []) d s d' s'
-aiger_read_counted file name (ReadAiger fault) d d' s s' why le e = record { files = covers_none d.faults d'.faults le; sink = sink_same s s' e; lines = refl }
-aiger_read_counted file name other d d' s s' why le e = get_counted file name other d d' s s' why le e
+aiger_read_counted : (properties : Bool) (file name : List ℕ) (cause : Refusal) (d d' : Disk) (s s' : Screen) → AigerReadRefused properties file d d' cause → d.faults ≤ d'.faults → s' ≡ s → Counted (record { cause = cause; name = name } ∷ []) d s d' s'
+aiger_read_counted properties file name (ReadAiger fault) d d' s s' why le e = record { files = covers_none d.faults d'.faults le; sink = sink_same s s' e; lines = refl }
+aiger_read_counted properties file name other d d' s s' why le e = get_counted file name other d d' s s' why le e
 
-print_counted : (m : Option Written) (name : List ℕ) (cause : Refusal) (d d' : Disk) (s s' : Screen) → PrintRefused m s s' cause → d' ≡ d → Counted (record { cause = cause; name = name } ∷ []) d s d' s'
-print_counted m name NoNetwork d d' s s' (none, same) e = record { files = disk_same d d' e; sink = sink_same s s' same; lines = refl }
-print_counted m name SinkFailed d d' s s' (net, line, is, text, part) e = record { files = disk_same d d' e; sink = covers_one s.faults s'.faults part.later part.failed; lines = refl }
-print_counted m name NoMemory d d' s s' same e = record { files = disk_same d d' e; sink = sink_same s s' same; lines = refl }
-print_counted m name other d d' s s' why e = absurd why
+print_counted : (tells : Written → List ℕ → Type 0) (m : Option Written) (name : List ℕ) (cause : Refusal) (d d' : Disk) (s s' : Screen) → PrintRefused tells m s s' cause → d' ≡ d → Counted (record { cause = cause; name = name } ∷ []) d s d' s'
+print_counted tells m name NoNetwork d d' s s' (none, same) e = record { files = disk_same d d' e; sink = sink_same s s' same; lines = refl }
+print_counted tells m name SinkFailed d d' s s' (net, line, is, text, part) e = record { files = disk_same d d' e; sink = covers_one s.faults s'.faults part.later part.failed; lines = refl }
+print_counted tells m name NoMemory d d' s s' same e = record { files = disk_same d d' e; sink = sink_same s s' same; lines = refl }
+print_counted tells m name other d d' s s' why e = absurd why
 
 write_counted : (m : Option Written) (file name : List ℕ) (cause : Refusal) (d d' : Disk) (s s' : Screen) → WriteRefused m file d d' cause → s' ≡ s → Counted (record { cause = cause; name = name } ∷ []) d s d' s'
 write_counted m file name NoNetwork d d' s s' (none, same) e = record { files = disk_same d d' same; sink = sink_same s s' e; lines = refl }
@@ -101,14 +107,47 @@ generating_counted : (name : List ℕ) (cause : Refusal) (d d' : Disk) (s s' : S
 generating_counted name NoMemory d d' s s' why e f = record { files = disk_same d d' e; sink = sink_same s s' f; lines = refl }
 generating_counted name other d d' s s' why e f = absurd why
 
+time_counted : (name : List ℕ) (cause : Refusal) (d d' : Disk) (s s' : Screen) → TimeRefused s s' cause → d' ≡ d → Counted (record { cause = cause; name = name } ∷ []) d s d' s'
+time_counted name SinkFailed d d' s s' (hundredths, part) e = record { files = disk_same d d' e; sink = covers_one s.faults s'.faults part.later part.failed; lines = refl }
+time_counted name NoMemory d d' s s' same e = record { files = disk_same d d' e; sink = sink_same s s' same; lines = refl }
+time_counted name other d d' s s' why e = absurd why
+
+-- a file that isn't read to be compared: it could not be read, or nothing failed
+
+rose_when_read : (file : NetworkFile) (d d' : Disk) (told : List ℕ) → IsNotRead file d d' (NotRead told causes.GetFailed) → Rose d.faults d'.faults
+rose_when_read (files.Blif f) d d' told why = why.1
+rose_when_read (files.Aiger f) d d' told why = why.1
+
+rose_by_either : (first : Option NetworkFile) (second : NetworkFile) (d d' : Disk) (told : List ℕ)
+    → IsSomeAnd first (λ file. IsNotRead file d d' (NotRead told causes.GetFailed)) ⊎ IsNotRead second d d' (NotRead told causes.GetFailed) → Rose d.faults d'.faults
+rose_by_either None second d d' told (inl why) = absurd why
+rose_by_either (Some file) second d d' told (inl why) = rose_when_read file d d' told why
+rose_by_either first second d d' told (inr why) = rose_when_read second d d' told why
+
+compare_counted : (first : Option NetworkFile) (second : NetworkFile) (m : Option Written) (name : List ℕ) (cause : Refusal) (d d' : Disk) (s s' : Screen) → CompareRefused first second m d d' s s' cause → d.faults ≤ d'.faults
+    → Counted (record { cause = cause; name = name } ∷ []) d s d' s'
+compare_counted first second m name NoNetwork d d' s s' (none, gone, same) le = record { files = covers_none d.faults d'.faults le; sink = sink_same s s' same; lines = refl }
+compare_counted first second m name (TooManyGates gates) d d' s s' (none, many, same) le = record { files = covers_none d.faults d'.faults le; sink = sink_same s s' same; lines = refl }
+compare_counted first second m name (NotRead told causes.GetFailed) d d' s s' (why, same) le = record { files = covers_one d.faults d'.faults le (rose_by_either first second d d' told why); sink = sink_same s s' same; lines = refl }
+compare_counted first second m name (NotRead told (causes.Read fault)) d d' s s' (why, same) le = record { files = covers_none d.faults d'.faults le; sink = sink_same s s' same; lines = refl }
+compare_counted first second m name (NotRead told (causes.ReadAiger fault)) d d' s s' (why, same) le = record { files = covers_none d.faults d'.faults le; sink = sink_same s s' same; lines = refl }
+compare_counted first second m name (NotRead told causes.TooLong) d d' s s' (why, same) le = record { files = covers_none d.faults d'.faults le; sink = sink_same s s' same; lines = refl }
+compare_counted first second m name (Unmatched fault) d d' s s' (why, same) le = record { files = covers_none d.faults d'.faults le; sink = sink_same s s' same; lines = refl }
+compare_counted first second m name SinkFailed d d' s s' why le = record { files = covers_none d.faults d'.faults le; sink = covers_one s.faults s'.faults why.took.later why.took.failed; lines = refl }
+compare_counted first second m name NoMemory d d' s s' same le = record { files = covers_none d.faults d'.faults le; sink = sink_same s s' same; lines = refl }
+compare_counted first second m name other d d' s s' why le = absurd why
+
 -- a command that is refused, and one that is accepted
 
 refused_counted : (c : Command) (name : List ℕ) (cause : Refusal) (before after : State) → Denied c before cause after → Counted (record { cause = cause; name = name } ∷ []) before.files before.sink after.files after.sink
 refused_counted (commands.Read file) name cause before after (stays, why, stand, e) = read_counted file name cause before.files after.files before.sink after.sink why stand.later e
-refused_counted (commands.ReadAiger file) name cause before after (stays, why, stand, e) = aiger_read_counted file name cause before.files after.files before.sink after.sink why stand.later e
+refused_counted (commands.ReadAiger properties file) name cause before after (stays, why, stand, e) = aiger_read_counted properties file name cause before.files after.files before.sink after.sink why stand.later e
 refused_counted (commands.ReadLuts file) name cause before after (stays, why, stand, e) = luts_counted file name cause before.files after.files before.sink after.sink why stand.later e
 refused_counted (commands.Generate seed size) name cause before after (stays, why, e, f) = generating_counted name cause before.files after.files before.sink after.sink why e f
-refused_counted commands.Stats name cause before after (stays, why, e) = print_counted before.network name cause before.files after.files before.sink after.sink why e
+refused_counted commands.Stats name cause before after (stays, why, e) = print_counted IsStatsLine before.network name cause before.files after.files before.sink after.sink why e
+refused_counted commands.Levels name cause before after (stays, why, e) = print_counted IsLevelsText before.network name cause before.files after.files before.sink after.sink why e
+refused_counted commands.Time name cause before after (stays, why, e) = time_counted name cause before.files after.files before.sink after.sink why e
+refused_counted (commands.Compare conflicts first second) name cause before after (stays, why, stand) = compare_counted first second before.network name cause before.files after.files before.sink after.sink why stand.later
 refused_counted (commands.Write file) name cause before after (stays, why, e) = write_counted before.network file name cause before.files after.files before.sink after.sink why e
 refused_counted (commands.WriteAiger ascii bare file) name cause before after (stays, why, e) = aiger_write_counted bare before.network file name cause before.files after.files before.sink after.sink why e
 refused_counted (commands.Print text) name cause before after (stays, why, e) = text_counted text name cause before.files after.files before.sink after.sink why e
@@ -121,10 +160,13 @@ stands_counted before after e = record { files = disk_same before.files after.fi
 
 accepted_counted : (c : Command) (before after : State) → Accepted c before after → Counted [] before.files before.sink after.files after.sink
 accepted_counted (commands.Read file) before after (net, is, read, stand, e) = record { files = covers_none before.files.faults after.files.faults stand.later; sink = sink_same before.sink after.sink e; lines = refl }
-accepted_counted (commands.ReadAiger file) before after (net, is, read, stand, e) = record { files = covers_none before.files.faults after.files.faults stand.later; sink = sink_same before.sink after.sink e; lines = refl }
+accepted_counted (commands.ReadAiger properties file) before after (net, is, read, stand, e) = record { files = covers_none before.files.faults after.files.faults stand.later; sink = sink_same before.sink after.sink e; lines = refl }
 accepted_counted (commands.ReadLuts file) before after (same, luts, stand, e) = record { files = covers_none before.files.faults after.files.faults stand.later; sink = sink_same before.sink after.sink e; lines = refl }
 accepted_counted (commands.Generate seed size) before after (net, is, graph, e, f) = record { files = disk_same before.files after.files e; sink = sink_same before.sink after.sink f; lines = refl }
 accepted_counted commands.Stats before after (net, line, some, stays, e, text, took) = record { files = disk_same before.files after.files e; sink = covers_none before.sink.faults after.sink.faults took.later; lines = refl }
+accepted_counted commands.Levels before after (net, text, some, stays, e, tells, took) = record { files = disk_same before.files after.files e; sink = covers_none before.sink.faults after.sink.faults took.later; lines = refl }
+accepted_counted commands.Time before after (hundredths, stays, e, took) = record { files = disk_same before.files after.files e; sink = covers_none before.sink.faults after.sink.faults took.later; lines = refl }
+accepted_counted (commands.Compare conflicts first second) before after (stays, stand, put) = record { files = covers_none before.files.faults after.files.faults stand.later; sink = covers_none before.sink.faults after.sink.faults put.took.later; lines = refl }
 accepted_counted (commands.Write file) before after (net, some, stays, bytes, reads, others, e) = record { files = covers_none before.files.faults after.files.faults others.later; sink = sink_same before.sink after.sink e; lines = refl }
 accepted_counted (commands.WriteAiger ascii bare file) before after (net, bytes, some, stays, there, are, others, e) = record { files = covers_none before.files.faults after.files.faults others.later; sink = sink_same before.sink after.sink e; lines = refl }
 accepted_counted (commands.Print text) before after (stays, e, took) = record { files = disk_same before.files after.files e; sink = covers_none before.sink.faults after.sink.faults took.later; lines = refl }

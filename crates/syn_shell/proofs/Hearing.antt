@@ -17,8 +17,8 @@ use Rattle.syn_shell.specs.Runs.{RunsNothing}
 use Rattle.syn_shell.specs.Stopping.{status_in, IsAnnounced, Leaves, AnnouncesAs}
 
 pub is_announced : (t : Reported) (refused : Refused) (m : Kept) (d : Disk) (s s' : Screen) → AnnouncesAs t refused s s' → IsAnnounced t refused (state m d s) (state m d s')
-is_announced (Whole status) refused m d s s' h = (h.0, record { only = record { network = refl; inputs = refl; files = refl }; line = h.2; sink = h.1 })
-is_announced (Cut status) refused m d s s' h = (h.0, record { only = record { network = refl; inputs = refl; files = refl }; failed = h.1 })
+is_announced (Whole status) refused m d s s' h = (h.0, record { only = record { network = refl; luts = refl; files = refl }; line = h.2; sink = h.1 })
+is_announced (Cut status) refused m d s s' h = (h.0, record { only = record { network = refl; luts = refl; files = refl }; failed = h.1 })
 
 pub nothing_run : (t : Reported) (cause : Refusal) (m : Kept) (d : Disk) (s s' : Screen) → AnnouncesAs t (nameless cause) s s' → RunsNothing cause (state m d s) (nameless cause ∷ []) (state m d s')
 nothing_run (Whole status) cause m d s s' h = (refl, inl (is_announced (Whole status) (nameless cause) m d s s' h).1)
@@ -38,7 +38,7 @@ pub script_refused : (t : Reported) (source : Source) (refusal : sources.Refused
 script_refused t source refusal m d d' s s' fails counted unchanged tells = (
   refused_by refusal,
   state m d' s,
-  inl (refusal, fails, record { told = refl; only = record { network = refl; inputs = refl; files = unchanged; sink = refl }; counted = counted }),
+  inl (refusal, fails, record { told = refl; only = record { network = refl; luts = refl; files = unchanged; sink = refl }; counted = counted }),
   is_announced t (refused_by refusal) m d' s s' tells,
 )
 
@@ -49,7 +49,7 @@ script_runs source commands cs outcome m d d' s after loads unchanged is runs = 
   commands.items,
   state m d' s,
   loads,
-  record { network = refl; inputs = refl; files = unchanged; sink = refl },
+  record { network = refl; luts = refl; files = unchanged; sink = refl },
   subst (λ (x : List Command). RunsCommands x (state m d' s) outcome after) is runs,
 )
 

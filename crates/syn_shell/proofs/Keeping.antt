@@ -9,13 +9,14 @@ use Rattle.syn_seq.specs.Laws.{SameMeaningIsSequential, SequentialIsTransitive}
 use Rattle.syn_aiger.specs.Writing.{aig_of}
 use Rattle.syn_words.specs.declared.Command.{Command}
 use Rattle.syn_words.specs.declared.Command.TheVariants as commands
+use Rattle.syn_words.specs.declared.inputs.LutSizes.{LutSizes}
 use Rattle.syn_words.specs.declared.recipes.Recipe.{Recipe}
 use Rattle.syn_words.specs.declared.recipes.Recipe.TheVariants as recipes
 use Rattle.syn_shell.specs.declared.refusal.Refusal.{Refusal}
 use Rattle.syn_shell.specs.Networks.{Written, graph_network}
 use Rattle.syn_shell.specs.Outside.{State}
 use Rattle.syn_shell.specs.Makes.{Makes, MakesOfGraph, OnGraph}
-use Rattle.syn_shell.specs.Steps.{Denied, Remakes, SessionStep, with_inputs}
+use Rattle.syn_shell.specs.Steps.{Denied, Remakes, SessionStep, with_luts}
 use Rattle.syn_shell.specs.Scripts.{Refused, InFile, InText, RunsCommands, RunsScript, Source}
 use Rattle.syn_shell.specs.LineMode.{EndsBySink, EndsLines, GoesOn, RunsLines}
 use Rattle.syn_usage.specs.Usage.{Usage, OneScript, OneFile, EachLine, Faulty, usage_of}
@@ -81,12 +82,12 @@ made_origin : (r : Recipe) (origin : Option Origin) → (if sweeps r then swept_
 made_origin recipes.Sweep origin = refl
 made_origin other origin = refl
 
--- a number of inputs changes nothing of where it comes from
-filled_origin : (most : ℕ) (r : Recipe) (origin : Option Origin) → origin_made (with_inputs most r) origin ≡ origin_made r origin
-filled_origin most (recipes.Map area named) origin = refl
-filled_origin most (recipes.MapByFlow named) origin = refl
-filled_origin most recipes.Sweep origin = refl
-filled_origin most other origin = refl
+-- LUTs change nothing of where it comes from
+filled_origin : (sizes : LutSizes) (r : Recipe) (origin : Option Origin) → origin_made (with_luts sizes r) origin ≡ origin_made r origin
+filled_origin sizes (recipes.Map area named) origin = refl
+filled_origin sizes (recipes.MapByFlow named) origin = refl
+filled_origin sizes recipes.Sweep origin = refl
+filled_origin sizes other origin = refl
 
 kept_by : AreLaws → (swept : Bool) (origin : Origin) (old new : Written) → IsKeptIn swept old new → Keeps origin old.netlist → IsKept (if swept then swept_since (Some origin) else Some origin) (Some new)
 kept_by laws true origin old new (same, ordered) (n, from, first, above) = (new, refl, (n, from, both_same laws origin.swept true n old.netlist new.netlist above first same, ordered))
@@ -100,10 +101,13 @@ remade_kept laws r (Some origin) m m' (old, new, was, is, gates, made) (net, the
 
 denied_stays : (c : Command) (before : State) (cause : Refusal) (after : State) → Denied c before cause after → after.network ≡ before.network
 denied_stays (commands.Read name) before cause after h = h.0.network
-denied_stays (commands.ReadAiger name) before cause after h = h.0.network
+denied_stays (commands.ReadAiger properties name) before cause after h = h.0.network
 denied_stays (commands.ReadLuts name) before cause after h = h.0.network
 denied_stays (commands.Generate seed size) before cause after h = h.0.network
 denied_stays commands.Stats before cause after h = h.0.network
+denied_stays commands.Levels before cause after h = h.0.network
+denied_stays commands.Time before cause after h = h.0.network
+denied_stays (commands.Compare conflicts first second) before cause after h = h.0.network
 denied_stays (commands.Write name) before cause after h = h.0.network
 denied_stays (commands.WriteAiger ascii bare name) before cause after h = h.0.network
 denied_stays (commands.Print text) before cause after h = h.0.network
@@ -113,18 +117,21 @@ denied_stays (commands.Make recipe) before cause after h = h.0.network
 
 accepted_kept : AreLaws → (c : Command) (before after : State) (origin : Option Origin) → SessionStep c before (Ok tt) after → IsKept origin before.network → IsKept (origin_behind c before.files (Ok tt) origin) after.network
 accepted_kept laws (commands.Read name) before after origin (net, is, read, stand, same) kept = (graph_network net, is.network, (read.netlist, (read.bytes, read.file, read.reads), read.graph.same, read.graph.ordered))
-accepted_kept laws (commands.ReadAiger name) before after origin (net, is, read, stand, same) kept =
+accepted_kept laws (commands.ReadAiger properties name) before after origin (net, is, read, stand, same) kept =
     (graph_network net, is.network, (net, (read.bytes, read.aig, read.file, read.spells, read.graph), means_itself laws net read.graph.ordered read.graph.shape, read.graph.ordered))
 accepted_kept laws (commands.ReadLuts name) before after origin (same, luts, stand, sink) kept = stays_kept origin before after same kept
 accepted_kept laws (commands.Generate seed size) before after origin (net, is, graph, stand, same) kept = (graph_network net, is.network, (_, refl, graph.same, graph.ordered))
 accepted_kept laws commands.Stats before after origin (net, line, is, stays, files, text, took) kept = stays_kept origin before after stays.network kept
+accepted_kept laws commands.Levels before after origin (net, text, is, stays, files, tells, took) kept = stays_kept origin before after stays.network kept
+accepted_kept laws commands.Time before after origin (hundredths, stays, files, took) kept = stays_kept origin before after stays.network kept
+accepted_kept laws (commands.Compare conflicts first second) before after origin (stays, stand, compared) kept = stays_kept origin before after stays.network kept
 accepted_kept laws (commands.Write name) before after origin (net, is, stays, file, reads, others, sink) kept = stays_kept origin before after stays.network kept
 accepted_kept laws (commands.WriteAiger ascii bare name) before after origin (net, bytes, is, stays, file, are, others, sink) kept = stays_kept origin before after stays.network kept
 accepted_kept laws (commands.Print text) before after origin (stays, files, took) kept = stays_kept origin before after stays.network kept
 accepted_kept laws (commands.Source name) before after origin same kept = stays_kept origin before after (ap (λ (s : State). s.network) same) kept
 accepted_kept laws commands.Quit before after origin same kept = stays_kept origin before after (ap (λ (s : State). s.network) same) kept
 accepted_kept laws (commands.Make recipe) before after origin (made, stays, files, sink) kept =
-    subst (λ (o : Option Origin). IsKept o after.network) (filled_origin before.inputs recipe origin) (remade_kept laws (with_inputs before.inputs recipe) origin before.network after.network made kept)
+    subst (λ (o : Option Origin). IsKept o after.network) (filled_origin before.luts recipe origin) (remade_kept laws (with_luts before.luts recipe) origin before.network after.network made kept)
 
 step_kept : AreLaws → (c : Command) (before : State) (answer : Result (Unit {0}) Refusal) (after : State) (origin : Option Origin) → SessionStep c before answer after → IsKept origin before.network
     → IsKept (origin_behind c before.files answer origin) after.network

@@ -12,5 +12,6 @@ mod Turning
 mod Wording
 mod Counting
 pub mod Concluding
+mod Matched
 mod Completing
 mod Keeping

@@ -1,5 +1,5 @@
 -- LUTs that were made of a graph, under its names, are as they are written what the recipes for mapping make of it.
-use Rattle.std.proofs.Common.{◌≡◌, ℕ, ◌+◌, ◌≤◌, true, List, map, length, refl, sym, ap, ap₂, ◌∙◌, subst, arith, IfOk, Result, Ok, Err}
+use Rattle.std.proofs.Common.{◌≡◌, ℕ, zero, suc, ◌+◌, ◌≤◌, true, List, map, length, refl, sym, ap, ap₂, ◌∙◌, subst, subst₂, arith, IfOk, Result, Ok, Err}
 use Rattle.std.proofs.lemmas.List.{length-drop, length-map}
 use Rattle.syn_rows.specs.declared.Lit.{Lit}
 use Rattle.syn_rows.specs.declared.Row.{Row}
@@ -13,7 +13,7 @@ use Rattle.syn_network.specs.declared.networks.Network.{Network}
 use Rattle.syn_network.specs.declared.lut_networks.LutNetwork.{LutNetwork}
 use Rattle.syn_network.specs.GraphShape.{observed_of, rows_of}
 use Rattle.syn_network.specs.Laws.{MappedKeepsMeaning}
-use Rattle.syn_network.specs.LutShape.{count_of, depth_of}
+use Rattle.syn_network.specs.LutShape.{count_of, depth_of, luts_of}
 use Rattle.syn_network.specs.LutSpelling.{NetworkOfLuts, NetworkSpellsLuts, lut_network}
 use Rattle.syn_network.specs.Spelling.{NetworkOfGraph}
 use Rattle.syn_network.specs.Written as graphs
@@ -28,7 +28,10 @@ use Rattle.syn_flow.specs.Coverings.{IsLeastDepth}
 use Rattle.syn_covering.specs.Making.{IsMappedBy}
 use Rattle.syn_map.specs.Labels.{label_of}
 use Rattle.syn_map.specs.Mappings.{IsMapped}
+use Rattle.syn_area.specs.Areas.{CostAlike, cost_of, luts_cost, nodes_cost}
 use Rattle.syn_area.specs.Plain.{AreNeeded}
+use Rattle.syn_words.specs.Commands.{luts_alike}
+use Rattle.syn_words.specs.declared.inputs.LutSizes.{LutSizes}
 use Rattle.syn_shell.specs.Networks.{Written, graph_network, mapped_network}
 use Rattle.syn_shell.specs.Bodies.{AreFewLuts, AreLeastLuts, AreLuts, ArePlainLuts, AreSettledIn, depth_over, greatest_label}
 use Rattle.syn_shell.specs.Makes.{AreSettled, AreaIsNoWorse, IsInLuts, IsLeastMappedTo, IsMappedForArea, IsMappedTo}
@@ -121,13 +124,24 @@ settled_there laws was net made h are =
     }
 
 -- no deeper than the greatest label, and no more of them than nodes need one
-pub mapped_for_area : LutLaws → (k : ℕ) (was : Network) (net : LutNet) (made : LutNetwork) → AreOf was net made → AreFewLuts k was.body net → IsMappedForArea k (written was) (written_luts made)
-mapped_for_area laws k was net made h are = record {
-  luts = in_luts laws k was net made h are.luts;
-  depth = omega (arith, deep_luts laws was net made h, are.depth, same_greatest laws.graphs k was);
-  fewest = λ nodes there. omega (arith, many_luts laws.luts made net h.body, are.fewer nodes (needed_here laws.graphs k was nodes there));
-  settled = settled_there laws was net made h are.settled;
-}
+pub mapped_for_area : LutLaws → (sizes : LutSizes) (was : Network) (net : LutNet) (made : LutNetwork) → AreOf was net made → AreFewLuts sizes was.body net → IsMappedForArea sizes (written was) (written_luts made)
+mapped_for_area laws sizes was net made h are =
+    let k : ℕ = sizes.most in
+    let rows : rows_of (graphs.network_of was) ≡ was.body.rows = (spelled laws.graphs was).same_rows in
+    let luts : luts_of (luts.network_of made) ≡ luts_data net.luts = (spelled_luts laws.luts made).same_luts ∙ ap (λ (n : LutNet). luts_data n.luts) h.body in
+    record {
+      luts = in_luts laws k was net made h are.luts;
+      depth = omega (arith, deep_luts laws was net made h, are.depth, same_greatest laws.graphs k was);
+      cost = λ nodes there.
+          omega (
+            arith,
+            ap (luts_cost sizes.areas) luts,
+            ap (λ (rs : List Row). nodes_cost k rs sizes.areas nodes) rows,
+            are.cost nodes (needed_here laws.graphs k was nodes there),
+          );
+      fewest = λ alike nodes there. omega (arith, many_luts laws.luts made net h.body, are.fewer alike nodes (needed_here laws.graphs k was nodes there));
+      settled = settled_there laws was net made h are.settled;
+    }
 
 -- no deeper than any covering
 pub least_mapped_to : LutLaws → (k : ℕ) (was : Network) (net : LutNet) (made : LutNetwork) → AreOf was net made → AreLeastLuts k was.body net → IsLeastMappedTo k (written was) (written_luts made)
@@ -144,6 +158,10 @@ least_mapped_to laws k was net made h are =
       settled = settled_there laws was net made h are.settled;
     }
 
+-- by other names of the most inputs and of the areas
+pub few_by : (k : ℕ) (areas : List ℕ) (sizes : LutSizes) (graph : Graph) (net : LutNet) → k ≡ sizes.most → areas ≡ sizes.areas → AreFewLuts (record { most = k; areas = areas }) graph net → AreFewLuts sizes graph net
+few_by k areas sizes graph net e f are = subst₂ (λ (m : ℕ) (costs : List ℕ). AreFewLuts (record { most = m; areas = costs }) graph net) e f are
+
 -- by another name of the number of inputs
 pub least_by : (j k : ℕ) (old new : Written) → j ≡ k → IsLeastMappedTo j old new → IsLeastMappedTo k old new
 least_by j k old new is made = subst (λ (n : ℕ). IsLeastMappedTo n old new) is made
@@ -154,6 +172,22 @@ pub of_made : (was : Network) (net : LutNet) (made : Result LutNetwork AllocErro
 of_made was net (Ok n) holds names body function each = each n (record { names = names; body = body; function = function })
 of_made was net (Err error) holds names body function each = tt
 
+-- LUTs that all cost the same
+alike : (n : ℕ) → 2 ≤ n → n ≤ 8 → cost_of (luts_alike 8).areas n ≡ cost_of (luts_alike 8).areas 2
+alike zero many few = absurd (omega (arith, many))
+alike (suc zero) many few = absurd (omega (arith, many))
+alike (suc (suc zero)) many few = refl
+alike (suc (suc (suc zero))) many few = refl
+alike (suc (suc (suc (suc zero)))) many few = refl
+alike (suc (suc (suc (suc (suc zero))))) many few = refl
+alike (suc (suc (suc (suc (suc (suc zero)))))) many few = refl
+alike (suc (suc (suc (suc (suc (suc (suc zero))))))) many few = refl
+alike (suc (suc (suc (suc (suc (suc (suc (suc zero)))))))) many few = refl
+alike (suc (suc (suc (suc (suc (suc (suc (suc (suc n))))))))) many few = absurd (omega (arith, few))
+
+all_alike : (inputs : ℕ) → inputs ≤ 8 → CostAlike inputs (luts_alike inputs).areas
+all_alike inputs most n many few = alike n many (omega (arith, most, few))
+
 -- few LUTs are no more than those of plain mapping, and no deeper
 pub area_is_no_worse : AreaIsNoWorse
-area_is_no_worse inputs graph plain few is are = (omega (arith, are.fewest is.nodes is.needed, is.count), omega (arith, are.depth, is.depth))
+area_is_no_worse inputs graph plain few many most is are = (omega (arith, are.fewest (all_alike inputs most) is.nodes is.needed, is.count), omega (arith, are.depth, is.depth))

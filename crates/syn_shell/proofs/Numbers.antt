@@ -11,7 +11,8 @@ use Rattle.syn_netlist.specs.Lists.{Frame, Netlist, sources}
 use Rattle.syn_network.specs.GraphShape.{GraphCountsAnds, and_tables, rows_of, observed_of}
 use Rattle.syn_network.specs.NamedGraphs.{IsNamedGraph}
 use Rattle.syn_network.specs.Spelling.{NetworkOfGraph, NetworkSpells, network}
-use Rattle.syn_shell.specs.Lines.{greatest, greatest_level, numbers_text, IsGraphLine}
+use Rattle.syn_report.specs.Levels.{greatest}
+use Rattle.syn_shell.specs.Lines.{greatest_level, numbers_text, IsGraphLine}
 
 pub graph_line_is : NetworkOfGraph → GraphCountsAnds → (frame : Frame) (rows : List Row) (lits : List Lit) (ands depth : ℕ) (line : List ℕ) → distinct frame.clocks ≡ true → distinct (sources frame) ≡ true
     → IsNamedGraph frame rows lits → ands ≡ length rows - length (sources frame) - 1 → depth ≡ greatest (map (λ l. level_in (levels_of rows) (node_of l)) lits) → line ≡ numbers_text frame (codes " and = ") ands depth

@@ -12,7 +12,7 @@ use Rattle.syn_seq.proofs.Fewer.{fewer_sources}
 use Rattle.syn_words.specs.declared.recipes.Recipe.{Recipe}
 use Rattle.syn_words.specs.declared.recipes.Recipe.TheVariants as recipes
 use Rattle.syn_shell.specs.Networks.{IsSmall, Written, ands_by, gates_by, gates_in, graph_network, mapped_network}
-use Rattle.syn_shell.specs.Makes.{IsInLuts, IsRemade, IsSweptTo, Makes, MakesOfGraph, NoMoreBy, OnGraph, most_inputs}
+use Rattle.syn_shell.specs.Makes.{IsInLuts, IsRemade, IsSweptTo, Makes, MakesOfGraph, NoMoreBy, OnGraph, luts_in, most_inputs}
 use Rattle.syn_shell.specs.Origins.{IsSameBy}
 use Rattle.syn_shell.proofs.RemadeGraphs.{passed_remade}
 
@@ -95,8 +95,8 @@ kept_of (recipes.Refactor options) old new graph made = remade_of_it old new gra
 kept_of (recipes.Resubstitute options) old new graph made = remade_of_it old new graph (passed_remade options.levels resubstitutions old new made)
 kept_of (recipes.Merge limits) old new graph made = remade_of_it old new graph made.remade
 kept_of (recipes.Replace limits) old new graph made = remade_of_it old new graph made.remade
-kept_of (recipes.Map false inputs) old new graph made = luts_of_it (most_inputs inputs) old new made.luts
-kept_of (recipes.Map true inputs) old new graph made = luts_of_it (most_inputs inputs) old new made.luts
+kept_of (recipes.Map false sizes) old new graph made = luts_of_it (luts_in sizes).most old new made.luts
+kept_of (recipes.Map true sizes) old new graph made = luts_of_it (luts_in sizes).most old new made.luts
 kept_of (recipes.MapByFlow inputs) old new graph made = luts_of_it (most_inputs inputs) old new made.luts
 kept_of recipes.Sweep old new graph made = record { same = made.sweep.same; ordered = made.sweep.ordered; small = swept_small old new graph made }
 

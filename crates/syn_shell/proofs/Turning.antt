@@ -5,15 +5,17 @@ use Rattle.syn_reader.specs.declared.ReadFault.{ReadFault}
 use Rattle.syn_reader.specs.declared.ReadFault.TheVariants as file
 use Rattle.syn_aiger_files.specs.declared.fault.AigFault.{AigFault}
 use Rattle.syn_aiger_files.specs.declared.fault.AigFault.TheVariants as aiger
+use Rattle.syn_shell.specs.declared.refusal.FileCause.{FileCause}
+use Rattle.syn_shell.specs.declared.refusal.FileCause.TheVariants as causes
 use Rattle.syn_shell.specs.declared.refusal.Refusal.{Refusal}
-use Rattle.syn_shell.specs.declared.refusal.Refusal.TheVariants.{Words, Script, CommandFile, Read, ReadAiger, ReadLuts, FileTooLong, LineTooLong, CommandFileTooLong, TooDeep, TooManyLines, TooManyGates, LatchType, NoNetwork, GetFailed, PutFailed, LineFailed, SinkFailed, NoMemory}
+use Rattle.syn_shell.specs.declared.refusal.Refusal.TheVariants.{Words, Script, CommandFile, Read, ReadAiger, ReadLuts, NotRead, Unmatched, FileTooLong, LineTooLong, CommandFileTooLong, TooDeep, TooManyLines, TooManyGates, LatchType, NoNetwork, GetFailed, PutFailed, LineFailed, SinkFailed, NoMemory}
 use Rattle.syn_shell.specs.declared.refusal_lines.Reported.{Reported}
 use Rattle.syn_shell.specs.declared.refusal_lines.Reported.TheVariants.{Whole, Cut}
 use Rattle.syn_shell.specs.declared.line_mode.Turn.{Turn}
 use Rattle.syn_shell.specs.declared.line_mode.Turn.TheVariants as turn
 use Rattle.syn_io.specs.Outside.{Disk, Screen, Input}
 use Rattle.syn_shell.specs.Outside.{Kept, State, nothing_yet, state, GaveLine, GaveNone}
-use Rattle.syn_shell.specs.Lines.{aiger_status, read_status, refusal_status}
+use Rattle.syn_shell.specs.Lines.{aiger_status, not_read_status, read_status, refusal_status}
 use Rattle.syn_shell.specs.Scripts.{InText, Source, Refused, nameless, RunsScript}
 use Rattle.syn_shell.specs.declared.scripts.Ending.{Ending}
 use Rattle.syn_shell.specs.declared.scripts.Ending.TheVariants.{Quit, Stops, Through}
@@ -37,6 +39,12 @@ aiger_refused (aiger.TooManyGates count) = refl
 aiger_refused aiger.NoMemory = refl
 aiger_refused other = refl
 
+not_read_refused : (cause : FileCause) → nat_eq (not_read_status cause) 0 ≡ false
+not_read_refused (causes.Read fault) = read_refused fault
+not_read_refused (causes.ReadAiger fault) = aiger_refused fault
+not_read_refused causes.TooLong = refl
+not_read_refused causes.GetFailed = refl
+
 pub is_refused : (cause : Refusal) → nat_eq (refusal_status cause) 0 ≡ false
 is_refused Words = refl
 is_refused (Script fault) = refl
@@ -44,6 +52,8 @@ is_refused (CommandFile line word fault) = refl
 is_refused (Read fault) = read_refused fault
 is_refused (ReadAiger fault) = aiger_refused fault
 is_refused (ReadLuts fault) = refl
+is_refused (NotRead name cause) = not_read_refused cause
+is_refused (Unmatched fault) = refl
 is_refused FileTooLong = refl
 is_refused LineTooLong = refl
 is_refused CommandFileTooLong = refl

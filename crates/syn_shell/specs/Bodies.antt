@@ -15,7 +15,9 @@ use Rattle.syn_absorb.specs.Flips.{AllShown}
 use Rattle.syn_absorb.specs.Needed.{AllDepend}
 use Rattle.syn_map.specs.Labels.{label_of}
 use Rattle.syn_map.specs.Mappings.{IsMapped}
+use Rattle.syn_area.specs.Areas.{CostAlike, luts_cost, nodes_cost}
 use Rattle.syn_area.specs.Plain.{AreNeeded}
+use Rattle.syn_words.specs.declared.inputs.LutSizes.{LutSizes}
 use Rattle.syn_flow.specs.Flows.{HasLeastDepth}
 
 -- A pass made a graph of this one; or it made none, and no proposal of those that it goes by saves.
@@ -52,11 +54,12 @@ pub record AreSettledIn (graph : Graph) (net : LutNet) : Type 0 where
   pub depend : AllDepend (luts_data net.luts)
   pub shown : AllShown (graph.source_count + 1) net.observed
 
--- No deeper than that, and no more of them than nodes that need one over the chosen cuts.
-pub record AreFewLuts (k : ℕ) (graph : Graph) (net : LutNet) : Type 0 where
-  pub luts : AreLuts k graph net
-  pub depth : depth_over graph net ≤ greatest_label k graph
-  pub fewer : (nodes : List ℕ) → AreNeeded k graph.rows graph.observed nodes → length net.luts ≤ length nodes
+-- No deeper than that, at no more cost than LUTs of the nodes that need one over the chosen cuts, and no more of them where all cost the same.
+pub record AreFewLuts (sizes : LutSizes) (graph : Graph) (net : LutNet) : Type 0 where
+  pub luts : AreLuts sizes.most graph net
+  pub depth : depth_over graph net ≤ greatest_label sizes.most graph
+  pub cost : (nodes : List ℕ) → AreNeeded sizes.most graph.rows graph.observed nodes → luts_cost sizes.areas (luts_data net.luts) ≤ nodes_cost sizes.most graph.rows sizes.areas nodes
+  pub fewer : CostAlike sizes.most sizes.areas → (nodes : List ℕ) → AreNeeded sizes.most graph.rows graph.observed nodes → length net.luts ≤ length nodes
   pub settled : AreSettledIn graph net
 
 -- No deeper than any covering.

@@ -1,13 +1,20 @@
 -- How many refusals of a run are of the files, of the lines and of the sink, beside their counts of faults.
 use Rattle.std.specs.Prelude.{◌⊎◌, ℕ, ◌+◌, ◌-◌, ◌^◌, ◌<◌, ◌≤◌, Bool, true, false, if◌then◌else◌, List, [], ◌∷◌}
 use Rattle.syn_io.specs.Outside.{Rose, Disk, Screen, Input}
+use Rattle.syn_shell.specs.declared.refusal.FileCause.{FileCause}
+use Rattle.syn_shell.specs.declared.refusal.FileCause.TheVariants as causes
 use Rattle.syn_shell.specs.declared.refusal.Refusal.{Refusal}
-use Rattle.syn_shell.specs.declared.refusal.Refusal.TheVariants.{GetFailed, PutFailed, LineFailed, SinkFailed}
+use Rattle.syn_shell.specs.declared.refusal.Refusal.TheVariants.{GetFailed, NotRead, PutFailed, LineFailed, SinkFailed}
 use Rattle.syn_shell.specs.Scripts.{Refused}
+
+abbrev pub is_get : FileCause → Bool
+is_get causes.GetFailed = true
+is_get other = false
 
 abbrev pub is_of_files : Refusal → Bool
 is_of_files GetFailed = true
 is_of_files PutFailed = true
+is_of_files (NotRead name cause) = is_get cause
 is_of_files other = false
 
 abbrev pub is_of_lines : Refusal → Bool

@@ -3,6 +3,8 @@ pub mod Outside
 pub mod Lines
 pub mod Makes
 pub mod Bodies
+pub mod Reads
+pub mod Comparing
 pub mod Steps
 pub mod Scripts
 pub mod LineMode

@@ -1,11 +1,14 @@
 -- The lines that are printed: a network's numbers, and refusals.
-use Rattle.std.specs.Prelude.{◌≡◌, ℕ, Bool, true, false, max, ◌++◌, List, [], ◌∷◌, length, map, flat_map, codes, decimal, Option, Some, None}
+use Rattle.std.specs.Prelude.{◌≡◌, ℕ, Bool, true, false, ◌++◌, List, [], ◌∷◌, length, map, flat_map, codes, decimal, Option, Some, None}
 use Rattle.syn_rows.specs.Rows.{node_of}
 use Rattle.syn_rows.specs.Reach.{Ands}
 use Rattle.syn_rows.specs.Levels.{level_in, levels_of}
-use Rattle.syn_netlist.specs.Lists.{Frame, Netlist}
+use Rattle.syn_netlist.specs.Lists.{Frame, Netlist, sources}
 use Rattle.syn_network.specs.GraphShape.{rows_of, observed_of}
-use Rattle.syn_network.specs.LutShape.{count_of, depth_of}
+use Rattle.syn_lutnet.specs.LutData.{depth_in, signal_depths}
+use Rattle.syn_network.specs.LutShape.{count_of, depth_of, luts_of}
+use Rattle.syn_network.specs.LutShape as shape
+use Rattle.syn_report.specs.Levels.{greatest, levels_text}
 use Rattle.syn_words.specs.declared.ScriptFault.{ScriptFault}
 use Rattle.syn_words.specs.declared.ScriptFault.TheVariants as script
 use Rattle.syn_reader.specs.declared.ReadFault.{ReadFault}
@@ -14,13 +17,12 @@ use Rattle.syn_aiger_files.specs.declared.fault.AigFault.{AigFault}
 use Rattle.syn_aiger_files.specs.declared.fault.AigFault.TheVariants as aiger
 use Rattle.syn_command_files.specs.Luts.{line_of}
 use Rattle.syn_shell.specs.Networks.{Written}
+use Rattle.syn_compare.specs.declared.answers.CompareFault.{CompareFault}
+use Rattle.syn_compare.specs.declared.answers.CompareFault.TheVariants as compare
+use Rattle.syn_shell.specs.declared.refusal.FileCause.{FileCause}
+use Rattle.syn_shell.specs.declared.refusal.FileCause.TheVariants as causes
 use Rattle.syn_shell.specs.declared.refusal.Refusal.{Refusal}
-use Rattle.syn_shell.specs.declared.refusal.Refusal.TheVariants.{Words, Script, CommandFile, Read, ReadAiger, ReadLuts, FileTooLong, LineTooLong, CommandFileTooLong, TooDeep, TooManyLines, TooManyGates, LatchType, NoNetwork, GetFailed, PutFailed, LineFailed, SinkFailed, NoMemory}
-
--- the greatest number of a list, 0 where it is empty
-abbrev pub greatest : List ℕ → ℕ
-greatest [] = 0
-greatest (n ∷ ns) = max n (greatest ns)
+use Rattle.syn_shell.specs.declared.refusal.Refusal.TheVariants.{Words, Script, CommandFile, Read, ReadAiger, ReadLuts, NotRead, Unmatched, FileTooLong, LineTooLong, CommandFileTooLong, TooDeep, TooManyLines, TooManyGates, LatchType, NoNetwork, GetFailed, PutFailed, LineFailed, SinkFailed, NoMemory}
 
 -- the greatest level of an observed node of the rows that a netlist spells
 abbrev pub greatest_level : Netlist → ℕ
@@ -50,6 +52,15 @@ LineBy true netlist bytes = IsLutsLine netlist bytes
 -- The bytes are the network's line of statistics.
 abbrev pub IsStatsLine : Written → List ℕ → Type 0
 IsStatsLine network bytes = LineBy network.mapped network.netlist bytes
+
+-- the levels of the observed signals of a netlist by its mark: those of a graph's nodes, and the depths of a net's LUTs
+abbrev pub levels_by : Bool → Netlist → List ℕ
+levels_by false m = map (λ l. level_in (levels_of (rows_of m)) (node_of l)) (observed_of m)
+levels_by true m = map (λ l. depth_in (signal_depths (length (sources m.frame)) (luts_of m)) (node_of l)) (shape.observed_of m)
+
+-- The text tells how many observed signals of the network have each level.
+abbrev pub IsLevelsText : Written → List ℕ → Type 0
+IsLevelsText network text = text ≡ levels_text (levels_by network.mapped network.netlist)
 
 -- pieces of text, one after the other
 abbrev pub joined : List (List ℕ) → List ℕ
@@ -144,6 +155,7 @@ read_text fault = in_line_or (fault_at_line fault) (file_fault_text fault)
 -- what a fault of an AIGER file says; its places are offsets of bytes
 abbrev pub aiger_text : AigFault → List ℕ
 aiger_text aiger.Header = codes "aiger header"
+aiger_text aiger.Justice = codes "aiger justice"
 aiger_text (aiger.Line at) = joined (codes "byte " ∷ decimal at ∷ codes ": aiger line" ∷ [])
 aiger_text (aiger.Pair at) = joined (codes "byte " ∷ decimal at ∷ codes ": aiger pair" ∷ [])
 aiger_text (aiger.Symbol at) = joined (codes "byte " ∷ decimal at ∷ codes ": aiger symbol" ∷ [])
@@ -153,6 +165,20 @@ aiger_text (aiger.TooManySources count) = joined (decimal count ∷ codes " sour
 aiger_text (aiger.TooManyGates count) = joined (decimal count ∷ codes " gates" ∷ [])
 aiger_text aiger.NoMemory = codes "out of memory"
 
+-- what is told of a file that is compared and holds no network
+abbrev pub not_read_text : List ℕ → FileCause → List ℕ
+not_read_text name (causes.Read fault) = joined (name ∷ codes ": " ∷ []) ++ read_text fault
+not_read_text name (causes.ReadAiger fault) = joined (name ∷ codes ": " ∷ []) ++ aiger_text fault
+not_read_text name causes.TooLong = joined (name ∷ codes ": file longer than 16777216 bytes" ∷ [])
+not_read_text name causes.GetFailed = joined (codes "cannot read " ∷ name ∷ [])
+
+-- what is told of networks whose names don't match
+abbrev pub unmatched_text : CompareFault → List ℕ
+unmatched_text (compare.Input word) = joined (codes "input " ∷ word ∷ codes " in one network only" ∷ [])
+unmatched_text (compare.Output word) = joined (codes "output " ∷ word ∷ codes " in one network only" ∷ [])
+unmatched_text (compare.Latch word) = joined (codes "latch " ∷ word ∷ codes " in one network only" ∷ [])
+unmatched_text compare.NoMemory = codes "out of memory"
+
 -- what a refusal says; the name is that of the file that the command names, or of the file of commands in which the cause is
 abbrev pub refusal_text : Refusal → List ℕ → List ℕ
 refusal_text Words name = codes "command line"
@@ -161,6 +187,8 @@ refusal_text (CommandFile line word fault) name = command_fault_text name line w
 refusal_text (Read fault) name = read_text fault
 refusal_text (ReadAiger fault) name = aiger_text fault
 refusal_text (ReadLuts fault) name = joined (codes "line " ∷ decimal (line_of fault) ∷ codes ": lut row" ∷ [])
+refusal_text (NotRead file cause) name = not_read_text file cause
+refusal_text (Unmatched fault) name = unmatched_text fault
 refusal_text FileTooLong name = codes "file longer than 16777216 bytes"
 refusal_text LineTooLong name = codes "line longer than 65536 bytes"
 refusal_text CommandFileTooLong name = codes "file of commands longer than 65536 bytes"
@@ -194,6 +222,13 @@ aiger_status (aiger.TooManyGates count) = 5
 aiger_status aiger.NoMemory = 8
 aiger_status fault = 4
 
+-- the same of a file that is compared and holds no network
+abbrev pub not_read_status : FileCause → ℕ
+not_read_status (causes.Read fault) = read_status fault
+not_read_status (causes.ReadAiger fault) = aiger_status fault
+not_read_status causes.TooLong = 5
+not_read_status causes.GetFailed = 7
+
 -- the status that a run ends with where this is refused first
 abbrev pub refusal_status : Refusal → ℕ
 refusal_status Words = 2
@@ -202,6 +237,8 @@ refusal_status (CommandFile line word fault) = 3
 refusal_status (Read fault) = read_status fault
 refusal_status (ReadAiger fault) = aiger_status fault
 refusal_status (ReadLuts fault) = 4
+refusal_status (NotRead file cause) = not_read_status cause
+refusal_status (Unmatched fault) = 9
 refusal_status FileTooLong = 5
 refusal_status LineTooLong = 5
 refusal_status CommandFileTooLong = 5

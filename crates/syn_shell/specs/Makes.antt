@@ -14,6 +14,7 @@ use Rattle.syn_lutnet.specs.LutData.{greatest}
 use Rattle.syn_absorb.specs.Flips.{AllShown}
 use Rattle.syn_absorb.specs.Needed.{AllDepend}
 use Rattle.syn_map.specs.Labels.{label_of}
+use Rattle.syn_area.specs.Areas.{CostAlike, luts_cost, nodes_cost}
 use Rattle.syn_area.specs.Plain.{AreNeeded}
 use Rattle.syn_levels.specs.Levels.{keeping}
 use Rattle.syn_proposals.specs.Closing.{Closed}
@@ -23,6 +24,8 @@ use Rattle.syn_refactor.specs.Refactoring.{refactorings}
 use Rattle.syn_resub.specs.Resubstitution.{resubstitutions}
 use Rattle.syn_rewrite.specs.Rewriting.{rewritings}
 use Rattle.syn_seq.specs.Sweeping.{IsSweepOf}
+use Rattle.syn_words.specs.declared.inputs.LutSizes.{LutSizes}
+use Rattle.syn_words.specs.Commands.{luts_alike}
 use Rattle.syn_words.specs.declared.recipes.Recipe.{Recipe}
 use Rattle.syn_words.specs.declared.recipes.Recipe.TheVariants as recipes
 use Rattle.syn_shell.specs.Networks.{Written}
@@ -47,6 +50,11 @@ level_at m i = level_in (levels_of (rows_of m)) (node_of (lit_at (observed_of m)
 -- No observed signal of the second netlist has a higher level than in the first.
 abbrev pub NoDeeper : Netlist → Netlist → Type 0
 NoDeeper old new = (i : ℕ) → i < length (observed_of new) → level_at new i ≤ level_at old i
+
+-- The graph that stands for a network, by the mark: itself, or what hashing makes of a net of LUTs.
+abbrev pub IsGraphFor : Bool → Written → Written → Type 0
+IsGraphFor false net graph = graph ≡ net
+IsGraphFor true net graph = IsRemade net graph
 
 -- What balancing makes of a graph: it is remade, and no observed signal has a higher level than before.
 pub record IsBalanced (old new : Written) : Type 0 where
@@ -94,11 +102,12 @@ pub record AreSettled (net : Netlist) : Type 0 where
   pub depend : AllDepend (luts_of net)
   pub shown : AllShown (length (sources net.frame) + 1) (shape.observed_of net)
 
--- What mapping for few LUTs makes of a graph: a net of LUTs that is no deeper than what mapping makes, and has no more LUTs than nodes need one over the chosen cuts, by the rows that the graph spells.
-pub record IsMappedForArea (inputs : ℕ) (old new : Written) : Type 0 where
-  pub luts : IsInLuts inputs old new
-  pub depth : depth_of new.netlist ≤ greatest (label_of inputs (rows_of old.netlist)) (map node_of (observed_of old.netlist))
-  pub fewest : (nodes : List ℕ) → AreNeeded inputs (rows_of old.netlist) (observed_of old.netlist) nodes → count_of new.netlist ≤ length nodes
+-- What mapping for few LUTs makes of a graph, by the LUTs that there are: a net of LUTs that is no deeper than what mapping makes, and costs no more than LUTs of the nodes that need one over the chosen cuts, by the rows that the graph spells; where LUTs all cost the same it has no more of them.
+pub record IsMappedForArea (sizes : LutSizes) (old new : Written) : Type 0 where
+  pub luts : IsInLuts sizes.most old new
+  pub depth : depth_of new.netlist ≤ greatest (label_of sizes.most (rows_of old.netlist)) (map node_of (observed_of old.netlist))
+  pub cost : (nodes : List ℕ) → AreNeeded sizes.most (rows_of old.netlist) (observed_of old.netlist) nodes → luts_cost sizes.areas (luts_of new.netlist) ≤ nodes_cost sizes.most (rows_of old.netlist) sizes.areas nodes
+  pub fewest : CostAlike sizes.most sizes.areas → (nodes : List ℕ) → AreNeeded sizes.most (rows_of old.netlist) (observed_of old.netlist) nodes → count_of new.netlist ≤ length nodes
   pub settled : AreSettled new.netlist
 
 -- What mapping by flow makes of a graph: a net of LUTs, and no covering of the graph by LUTs of so many inputs at most is shallower, by the rows that it spells.
@@ -117,6 +126,11 @@ abbrev pub most_inputs : Option ℕ → ℕ
 most_inputs None = 6
 most_inputs (Some most) = most
 
+-- the LUTs that are named: of six inputs at most, which all cost the same, where none are
+abbrev pub luts_in : Option LutSizes → LutSizes
+luts_in None = luts_alike 6
+luts_in (Some sizes) = sizes
+
 -- What a recipe makes of a graph.
 abbrev pub MakesOfGraph : Recipe → Written → Written → Type 0
 MakesOfGraph recipes.Strash = IsRemade
@@ -126,8 +140,8 @@ MakesOfGraph (recipes.Refactor options) = IsPassed options.levels refactorings
 MakesOfGraph (recipes.Resubstitute options) = IsPassed options.levels resubstitutions
 MakesOfGraph (recipes.Merge limits) = IsMerged limits.levels
 MakesOfGraph (recipes.Replace limits) = IsMerged limits.levels
-MakesOfGraph (recipes.Map false inputs) = IsMappedTo (most_inputs inputs)
-MakesOfGraph (recipes.Map true inputs) = IsMappedForArea (most_inputs inputs)
+MakesOfGraph (recipes.Map false sizes) = IsMappedTo (luts_in sizes).most
+MakesOfGraph (recipes.Map true sizes) = IsMappedForArea (luts_in sizes)
 MakesOfGraph (recipes.MapByFlow inputs) = IsLeastMappedTo (most_inputs inputs)
 MakesOfGraph recipes.Sweep = IsSweptTo
 
@@ -141,7 +155,7 @@ abbrev pub Makes : Recipe → Written → Written → Type 0
 Makes recipes.Strash old new = IsRemade old new
 Makes other old new = OnGraph (MakesOfGraph other) old.mapped old new
 
--- Where few LUTs are looked for there are never more of them than plain mapping makes of the same graph, and they are never deeper.
+-- Where few LUTs are looked for that all cost the same there are never more of them than plain mapping makes of the same graph, and they are never deeper.
 abbrev pub AreaIsNoWorse : Type 0
-AreaIsNoWorse = (inputs : ℕ) (graph plain few : Written) → IsMappedTo inputs graph plain → IsMappedForArea inputs graph few
+AreaIsNoWorse = (inputs : ℕ) (graph plain few : Written) → 2 ≤ inputs → inputs ≤ 8 → IsMappedTo inputs graph plain → IsMappedForArea (luts_alike inputs) graph few
     → (count_of few.netlist ≤ count_of plain.netlist) × (depth_of few.netlist ≤ depth_of plain.netlist)

@@ -63,16 +63,16 @@ abbrev pub steps_of_words : (words : List (List ℕ)) (before : State) (i : Inpu
 steps_of_words words before i refusals after i' (inl runs) = steps_of_usage (usage_of words) before i refusals after i' runs
 steps_of_words words before i refusals after i' (inr nothing) = []
 
--- Where a netlist comes from: a file of that name, or an AIGER file, as the files were when it was read; or it was generated, from a seed and a size.
+-- Where a netlist comes from: a file of that name, or an AIGER file, with properties or without, as the files were when it was read; or it was generated, from a seed and a size.
 pub data Place : Type 0 where
   OfFile : List ℕ → Disk → Place
-  OfAiger : List ℕ → Disk → Place
+  OfAiger : Bool → List ℕ → Disk → Place
   OfSeed : ℕ → ℕ → Place
 
 -- The netlist is one that comes from there: the file's bytes read as it; or they spell an AIGER file of which it is a graph; or it is the generated one.
 abbrev pub ComesFrom : Place → Netlist → Type 0
 ComesFrom (OfFile name files) n = (bytes : List ℕ) × FileIs name files bytes × Reads bytes n
-ComesFrom (OfAiger name files) n = (bytes : List ℕ) × (g : Aig) × FileIs name files bytes × Spells bytes g × IsGraphOfAig g n
+ComesFrom (OfAiger properties name files) n = (bytes : List ℕ) × (g : Aig) × FileIs name files bytes × Spells properties bytes g × IsGraphOfAig g n
 ComesFrom (OfSeed seed size) n = n ≡ generated seed size
 
 -- Where a network came from, and whether its latches were swept since.
@@ -97,7 +97,7 @@ origin_made other origin = origin
 -- where the network comes from behind a command that was accepted: from what it reads or generates, else from where it came before
 abbrev pub origin_by : Command → Disk → Option Origin → Option Origin
 origin_by (commands.Read name) files origin = fresh (OfFile name files)
-origin_by (commands.ReadAiger name) files origin = fresh (OfAiger name files)
+origin_by (commands.ReadAiger properties name) files origin = fresh (OfAiger properties name files)
 origin_by (commands.Generate seed size) files origin = fresh (OfSeed seed size)
 origin_by (commands.Make recipe) files origin = origin_made recipe origin
 origin_by other files origin = origin
@@ -130,7 +130,7 @@ writes other = false
 -- What is found in the file that a command wrote, by its format: the printed form of the netlist, which reads back from it; or bytes that spell an AIGER file that keeps what the netlist means, but for the types of latches where these are left out.
 abbrev pub Gives : Command → Disk → Netlist → Type 0
 Gives (commands.Write name) files m = FileIs name files (printed m) × Reads (printed m) m
-Gives (commands.WriteAiger ascii bare name) files m = (bytes : List ℕ) × (g : Aig) × FileIs name files bytes × Spells bytes g × IsWrittenAs (kept_by bare m) g
+Gives (commands.WriteAiger ascii bare name) files m = (bytes : List ℕ) × (g : Aig) × FileIs name files bytes × Spells false bytes g × IsWrittenAs (kept_by bare m) g
 Gives other files m = ⊥
 
 -- What each write of a run gives: behind an accepted write, whatever steps were before and after it, the file gives a netlist that keeps what was read or generated last before the write, which there is.

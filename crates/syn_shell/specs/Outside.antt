@@ -2,26 +2,28 @@
 use Rattle.std.specs.Prelude.{◌≡◌, ℕ, ◌≤◌, ◌<◌, List, ◌++◌, length, Option, Some, None, IfSome, IsSomeAnd, Result, Ok, Err}
 use Rattle.syn_io.specs.declared.SinkFailed.{SinkFailed}
 use Rattle.syn_io.specs.Outside.{Disk, Input, Screen, Rose, file_at, without_file, GrewByPart, next_line, after_line}
+use Rattle.syn_words.specs.declared.inputs.LutSizes.{LutSizes}
+use Rattle.syn_words.specs.Commands.{luts_alike}
 use Rattle.syn_shell.specs.Networks.{Written}
 
--- What a session keeps from command to command: its network, and the most inputs of a LUT where a command names no number.
+-- What a session keeps from command to command: its network, and the LUTs that mapping uses where a command names none.
 pub record Kept : Type 0 where
   pub network : Option Written
-  pub inputs : ℕ
+  pub luts : LutSizes
 
--- What it begins with: no network, and LUTs of six inputs.
+-- What it begins with: no network, and LUTs of six inputs at most that all cost the same.
 abbrev pub nothing_yet : Kept
-nothing_yet = record { network = None; inputs = 6 }
+nothing_yet = record { network = None; luts = luts_alike 6 }
 
 -- What commands work on: what the session keeps, the files and the sink.
 pub record State : Type 0 where
   pub network : Option Written
-  pub inputs : ℕ
+  pub luts : LutSizes
   pub files : Disk
   pub sink : Screen
 
 abbrev pub state : Kept → Disk → Screen → State
-state kept files sink = record { network = kept.network; inputs = kept.inputs; files = files; sink = sink }
+state kept files sink = record { network = kept.network; luts = kept.luts; files = files; sink = sink }
 
 -- No file but the one of that name changed.
 pub record OthersUnchanged (name : List ℕ) (before after : Disk) : Type 0 where

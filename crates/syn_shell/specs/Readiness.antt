@@ -1,5 +1,5 @@
 -- When a run is ready: nothing stands in its way but want of memory and calls that fail. It is a condition on the run itself: what each command needs is there in the state in which the run ran it.
-use Rattle.std.specs.Prelude.{◌≡◌, ◌⊎◌, ℕ, ◌+◌, ◌<◌, ◌≤◌, List, [], ◌∷◌, length, Bool, true, false, Option, IfSome, IsSome, IsSomeAnd, None, Ok, ⊤}
+use Rattle.std.specs.Prelude.{◌≡◌, ◌⊎◌, ℕ, ◌+◌, ◌<◌, ◌≤◌, List, [], ◌∷◌, length, Bool, true, false, Option, IfSome, IsSome, IsSomeAnd, None, Some, Ok, ⊤}
 use mathlib.Core.Logic.{inl, inr}
 use Rattle.syn_io.specs.Outside.{Disk, Input, Screen, file_at, next_line}
 use Rattle.syn_netlist.specs.Lists.{Netlist}
@@ -10,14 +10,19 @@ use Rattle.syn_aiger_files.specs.declared.files.Aig.{Aig}
 use Rattle.syn_aiger.specs.Faults.{Spells}
 use Rattle.syn_aiger.specs.Faults as aiger
 use Rattle.syn_aiger.specs.Writing.{first_typed}
+use Rattle.syn_compare.specs.Matching.{AreMatched}
+use Rattle.syn_words.specs.declared.formats.NetworkFile.{NetworkFile}
+use Rattle.syn_words.specs.declared.formats.NetworkFile.TheVariants as files
+use Rattle.syn_words.specs.declared.inputs.LutSizes.{LutSizes}
 use Rattle.syn_words.specs.declared.Command.{Command}
 use Rattle.syn_words.specs.declared.Command.TheVariants as commands
-use Rattle.syn_command_files.specs.Luts.{most_inputs}
+use Rattle.syn_command_files.specs.Luts.{sizes_in}
 use Rattle.syn_command_files.specs.Loading.{ScriptSays}
 use Rattle.syn_command_files.specs.Sources.{has_no_source}
 use Rattle.syn_shell.specs.Networks.{gates_in}
 use Rattle.syn_shell.specs.Outside.{State, script_limit}
-use Rattle.syn_shell.specs.Steps.{file_limit}
+use Rattle.syn_shell.specs.Comparing.{IsFirst, IsReadFrom}
+use Rattle.syn_shell.specs.Reads.{file_limit}
 use Rattle.syn_shell.specs.Scripts.{Refused, InFile, InText, Loads, RunsCommands, RunsScript, Source}
 use Rattle.syn_shell.specs.LineMode.{RunsLines, most_lines}
 use Rattle.syn_usage.specs.Usage.{Usage, OneScript, OneFile, EachLine, Faulty, usage_of}
@@ -28,21 +33,40 @@ use Rattle.syn_shell.specs.Runs.{Ran, RunsUsage, RunsWords}
 abbrev pub IsReadable : List ℕ → Disk → Type 0
 IsReadable name files = IsSomeAnd files.told (λ list. IsSomeAnd (file_at name list) (λ bytes. (length bytes ≤ file_limit) × (net : Netlist) × Reads bytes net × Within bytes net))
 
--- The file of that name is told and there; it is short enough, and spells an AIGER file within both limits: sources and ANDs.
-abbrev pub IsReadableAiger : List ℕ → Disk → Type 0
-IsReadableAiger name files = IsSomeAnd files.told (λ list. IsSomeAnd (file_at name list) (λ bytes. (length bytes ≤ file_limit) × (g : Aig) × Spells bytes g × aiger.Within g))
+-- The file of that name is told and there; it is short enough, and spells an AIGER file within both limits: sources and ANDs; with properties or without.
+abbrev pub IsReadableAiger : Bool → List ℕ → Disk → Type 0
+IsReadableAiger properties name files = IsSomeAnd files.told (λ list. IsSomeAnd (file_at name list) (λ bytes. (length bytes ≤ file_limit) × (g : Aig) × Spells properties bytes g × aiger.Within g))
 
--- The file of that name is told and there; it is short enough, and says the most inputs of a LUT.
+-- The file of that name is told and there; it is short enough, and says what LUTs there are.
 abbrev pub HasLuts : List ℕ → Disk → Type 0
-HasLuts name files = IsSomeAnd files.told (λ list. IsSomeAnd (file_at name list) (λ bytes. (length bytes ≤ file_limit) × (most : ℕ) × (most_inputs bytes ≡ Ok most)))
+HasLuts name files = IsSomeAnd files.told (λ list. IsSomeAnd (file_at name list) (λ bytes. (length bytes ≤ file_limit) × (sizes : LutSizes) × (sizes_in bytes ≡ Ok sizes)))
 
--- What a command needs: its file, nothing, or a network, to make it anew or to write it as an AIGER file one that not too many gates make a graph, and for the latter one without types of latches where these aren't left out.
+-- A file that holds a network can be read.
+abbrev pub HoldsNetwork : NetworkFile → Disk → Type 0
+HoldsNetwork (files.Blif name) disk = IsReadable name disk
+HoldsNetwork (files.Aiger name) disk = IsReadableAiger false name disk
+
+-- What is compared first is there: a file, or a network that not too many gates make a graph.
+abbrev pub HasFirst : Option NetworkFile → State → Type 0
+HasFirst None before = IsSomeAnd before.network (λ net. gates_in net ≤ most_gates)
+HasFirst (Some file) before = HoldsNetwork file before.files
+
+-- What is compared is there, and its names match.
+pub record IsComparable (first : Option NetworkFile) (second : NetworkFile) (before : State) : Type 0 where
+  pub first_is : HasFirst first before
+  pub second_is : HoldsNetwork second before.files
+  pub match : (n m : Netlist) → IsFirst first before.network before.files n → IsReadFrom second before.files m → AreMatched n.frame m.frame
+
+-- What a command needs: its files, nothing, or a network, to make it anew or to write it as an AIGER file one that not too many gates make a graph, and for the latter one without types of latches where these aren't left out.
 abbrev pub Needs : Command → State → Type 0
 Needs (commands.Read name) before = IsReadable name before.files
-Needs (commands.ReadAiger name) before = IsReadableAiger name before.files
+Needs (commands.ReadAiger properties name) before = IsReadableAiger properties name before.files
 Needs (commands.ReadLuts name) before = HasLuts name before.files
 Needs (commands.Generate seed size) before = ⊤
 Needs commands.Stats before = IsSome before.network
+Needs commands.Levels before = IsSome before.network
+Needs commands.Time before = ⊤
+Needs (commands.Compare conflicts first second) before = IsComparable first second before
 Needs (commands.Write name) before = IsSome before.network
 Needs (commands.WriteAiger ascii bare name) before = IsSomeAnd before.network (λ net. (gates_in net ≤ most_gates) × (bare ≡ false → first_typed net.netlist.frame ≡ None))
 Needs (commands.Print text) before = ⊤

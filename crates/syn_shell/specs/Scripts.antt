@@ -28,7 +28,7 @@ nameless cause = record { cause = cause; name = [] }
 abbrev pub name_in : Command → List ℕ
 name_in (commands.Read name) = name
 name_in (commands.Write name) = name
-name_in (commands.ReadAiger name) = name
+name_in (commands.ReadAiger properties name) = name
 name_in (commands.WriteAiger ascii bare name) = name
 name_in (commands.ReadLuts name) = name
 name_in other = []
@@ -72,7 +72,7 @@ refused_by refusal = record { cause = cause_of refusal.cause; name = refusal.nam
 -- Of two states: only how often a call of the files has failed may be another.
 pub record OnlyCounts (before after : State) : Type 0 where
   pub network : after.network ≡ before.network
-  pub inputs : after.inputs ≡ before.inputs
+  pub luts : after.luts ≡ before.luts
   pub files : FilesUnchanged before.files after.files
   pub sink : after.sink ≡ before.sink
 
@@ -91,7 +91,7 @@ RunsScript source before outcome after =
 -- Of two states: only what the sink took may be another.
 pub record OnlySink (before after : State) : Type 0 where
   pub network : after.network ≡ before.network
-  pub inputs : after.inputs ≡ before.inputs
+  pub luts : after.luts ≡ before.luts
   pub files : after.files ≡ before.files
 
 -- The line of a refusal was put. A sink that failed has no line.

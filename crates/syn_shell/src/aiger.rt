@@ -9,7 +9,8 @@ ghost use Rattle.syn_aiger.specs.Networks.{IsGraphOfAig};
 ghost use Rattle.syn_shell.specs.Networks.{graph_network, IsSmall, network_of};
 ghost use Rattle.syn_command_files.specs.Told.{FileIs, FilesUnchanged};
 ghost use Rattle.syn_shell.specs.Outside.{OthersUnchanged};
-ghost use Rattle.syn_shell.specs.Steps.{AigerParseRefused, AigerReadRefused, AigerRefused, AigerWriteRefused, file_limit, IsAigerOf, IsReadAsAiger};
+ghost use Rattle.syn_shell.specs.Reads.{AigerParseRefused, AigerReadRefused, file_limit, IsReadAsAiger};
+ghost use Rattle.syn_shell.specs.Steps.{AigerRefused, AigerWriteRefused, IsAigerOf};
 
 use crate::commands::graph_of;
 use crate::files::{get, put};
@@ -22,28 +23,33 @@ use syn_io::Files;
 use syn_network::Network;
 
 // The graph of the file that bytes spell, or their first fault.
-fn parse(alloc: Global, bytes: &[u8]) -> Result<Network, Refusal>
+fn parse(alloc: Global, properties: bool, bytes: &[u8]) -> Result<Network, Refusal>
     requires { length bytes.now ≤ file_limit }
-    ensures graph { IfOk result (λ graph. (g : Aig) × Spells bytes.now g × aiger.Within g × IsGraphOfAig g (graphs.network_of graph)) }
+    ensures graph { IfOk result (λ graph. (g : Aig) × Spells properties bytes.now g × aiger.Within g × IsGraphOfAig g (graphs.network_of graph)) }
     ensures small { IfOk result (λ graph. IsSmall (graph_network (graphs.network_of graph))) }
-    ensures refused { IfErr result (AigerParseRefused bytes.now) }
+    ensures refused { IfErr result (AigerParseRefused properties bytes.now) }
 {
-    match read_aig(alloc, bytes) {
+    match read_aig(alloc, bytes, properties) {
         Ok(graph) => Ok(graph),
         Err(AigFault::NoMemory) => Err(Refusal::NoMemory),
         Err(fault) => Err(Refusal::ReadAiger(fault)),
     }
 }
 
-/// The graph of an AIGER file.
-pub(crate) fn read<F: Files>(alloc: Global, name: &str, files: &mut F) -> Result<Network, Refusal>
-    ensures read { IfOk result (λ graph. IsReadAsAiger name.now (F.disk files.old) (graphs.network_of graph)) }
+/// The graph of an AIGER file, with bad states and constraints as outputs, or with none.
+pub(crate) fn read<F: Files>(
+    alloc: Global,
+    properties: bool,
+    name: &str,
+    files: &mut F,
+) -> Result<Network, Refusal>
+    ensures read { IfOk result (λ graph. IsReadAsAiger properties name.now (F.disk files.old) (graphs.network_of graph)) }
     ensures small { IfOk result (λ graph. IsSmall (graph_network (graphs.network_of graph))) }
-    ensures refused { IfErr result (AigerReadRefused name.now (F.disk files.old) (F.disk files.new)) }
+    ensures refused { IfErr result (AigerReadRefused properties name.now (F.disk files.old) (F.disk files.new)) }
     ensures unchanged { FilesUnchanged (F.disk files.old) (F.disk files.new) }
 {
     let bytes = get(alloc, name, files)?;
-    let graph = parse(alloc, bytes.as_slice())?;
+    let graph = parse(alloc, properties, bytes.as_slice())?;
     Ok(graph)
 }
 

@@ -11,7 +11,8 @@ ghost use Rattle.syn_balance.specs.Balanced as balanced;
 ghost use Rattle.syn_gain.specs.Replacements.{Replacement};
 ghost use Rattle.syn_shell.specs.Networks.{gates_in, graph_network, IsSmall, mapped_network, network_of, made_in};
 ghost use Rattle.syn_shell.specs.Bodies.{AreFewLuts, AreLeastLuts, AreMerged, ArePlainLuts, IsLeftBy};
-ghost use Rattle.syn_shell.specs.Makes.{IsBalanced, IsLeastMappedTo, IsMappedForArea, IsMappedTo, IsMerged, IsPassed, IsRemade, Makes, MakesOfGraph, most_inputs};
+ghost use Rattle.syn_shell.specs.Makes.{IsBalanced, IsLeastMappedTo, IsMappedForArea, IsMappedTo, IsMerged, IsPassed, IsRemade, luts_in, Makes, MakesOfGraph, most_inputs};
+ghost use Rattle.syn_words.specs.declared.inputs.LutSizes.{LutSizes};
 ghost use Rattle.syn_words.specs.declared.recipes.Recipe.TheVariants as recipes;
 ghost use Rattle.syn_shell.specs.Steps.{MakingRefused};
 
@@ -34,7 +35,7 @@ use syn_rewrite::rewrite;
 use syn_seq::sweep;
 use syn_settled::{few_luts, least_luts};
 use syn_sresub::sresub;
-use syn_words::{LutInputs, PassOptions, Recipe, ReplaceLimits, SearchLimits};
+use syn_words::{LutInputs, LutSizes, PassOptions, Recipe, ReplaceLimits, SearchLimits};
 use syn_workers::Workers;
 
 // How a pass is to go: as the options say, with so many workers where these name none.
@@ -103,7 +104,7 @@ fn put(network: &mut Network, new: Network)
 fn mapped(alloc: Global, network: &Network, net: LutNet) -> Result<LutNetwork, AllocError>
     requires { HasFunctionOf network.now.body net }
     ensures plain { (k : ℕ) → ArePlainLuts k network.now.body net → IfOk result (λ made. IsMappedTo k (graph_network (graphs.network_of network.now)) (mapped_network (luts.network_of made))) }
-    ensures few { (k : ℕ) → AreFewLuts k network.now.body net → IfOk result (λ made. IsMappedForArea k (graph_network (graphs.network_of network.now)) (mapped_network (luts.network_of made))) }
+    ensures few { (sizes : LutSizes) → AreFewLuts sizes network.now.body net → IfOk result (λ made. IsMappedForArea sizes (graph_network (graphs.network_of network.now)) (mapped_network (luts.network_of made))) }
     ensures least { (k : ℕ) → AreLeastLuts k network.now.body net → IfOk result (λ made. IsLeastMappedTo k (graph_network (graphs.network_of network.now)) (mapped_network (luts.network_of made))) }
 {
     syn_network::network_of_graph();
@@ -124,20 +125,32 @@ fn number_in(inputs: &Option<LutInputs>) -> u8
     }
 }
 
-// LUTs of so many inputs at most under a copy of a graph's names: few of them where that is asked, else those of the chosen cuts.
+// The LUTs that are named: of six inputs at most, which all cost the same, where none are.
+fn luts_in(sizes: &Option<LutSizes>) -> LutSizes
+    ensures { result ≡ luts_in sizes.now }
+{
+    match sizes {
+        None => LutSizes::usual(),
+        Some(sizes) => *sizes,
+    }
+}
+
+// Such LUTs under a copy of a graph's names: few of them where that is asked, else those of the chosen cuts.
 fn mapped_by<R: Threads + Sync>(
     rt: &R,
     alloc: Global,
     network: &Network,
     area: &bool,
-    inputs: &Option<LutInputs>,
+    sizes: &Option<LutSizes>,
     workers: Workers,
 ) -> Result<LutNetwork, AllocError>
-    ensures { IfOk result (λ made. MakesOfGraph (recipes.Map area.now inputs.now) (graph_network (graphs.network_of network.now)) (mapped_network (luts.network_of made))) }
+    ensures { IfOk result (λ made. MakesOfGraph (recipes.Map area.now sizes.now) (graph_network (graphs.network_of network.now)) (mapped_network (luts.network_of made))) }
 {
-    let number = number_in(inputs);
+    let sizes = luts_in(sizes);
+    let number = sizes.most.number();
     if *area {
-        let few = few_luts(rt, alloc, &network.body, number, workers)?;
+        let areas = sizes.areas.as_slice();
+        let few = few_luts(rt, alloc, &network.body, number, areas, workers)?;
         mapped(alloc, network, few)
     } else {
         let plain = map(rt, alloc, &network.body, number, workers)?;
@@ -196,8 +209,8 @@ pub(crate) fn remake_graph<R: Threads + Sync, G: CommitHook>(
             remade(network, Some(new));
             Ok(None)
         }
-        Recipe::Map { area, inputs } => {
-            let made = mapped_by(rt, alloc, network, area, inputs, workers)?;
+        Recipe::Map { area, luts } => {
+            let made = mapped_by(rt, alloc, network, area, luts, workers)?;
             Ok(Some(made))
         }
         Recipe::MapByFlow(inputs) => {

@@ -4,7 +4,7 @@ ghost use Rattle.std.specs.Prelude.{◌≡◌, ◌⊎◌, ◌≤◌, length, IfO
 ghost use Rattle.syn_io.specs.Outside.{Rose};
 ghost use Rattle.syn_command_files.specs.Told.{FileIs, FilesUnchanged};
 ghost use Rattle.syn_shell.specs.Outside.{OthersUnchanged};
-ghost use Rattle.syn_shell.specs.Steps.{file_limit, GetRefused};
+ghost use Rattle.syn_shell.specs.Reads.{file_limit, GetRefused};
 
 use crate::refusal::Refusal;
 use std::alloc::Global;

@@ -12,6 +12,7 @@ use crate::scripts::{Ending, SCRIPT_LIMIT, Source, run_script};
 use crate::session::Session;
 use std::alloc::Global;
 use std::thread::Threads;
+use std::time::Clock;
 use syn_commit::CommitHook;
 use syn_io::{Files, LineFault, Lines, Sink};
 use syn_workers::Workers;
@@ -60,7 +61,7 @@ fn first_status(status: u8, next: u8) -> u8
 }
 
 // Takes a line and runs it.
-fn take_turn<R: Threads + Sync, F: Files, L: Lines, O: Sink, G: CommitHook>(
+fn take_turn<R: Threads + Sync + Clock, F: Files, L: Lines, O: Sink, G: CommitHook>(
     rt: &R,
     alloc: Global,
     session: &mut Session,
@@ -93,7 +94,7 @@ fn refuse_one_more_line<L: Lines, O: Sink>(alloc: Global, lines: &mut L, out: &m
 }
 
 /// Runs the lines, each as a script, and gives the status of the first refusal, 0 where nothing was refused.
-pub(crate) fn run_lines<R: Threads + Sync, F: Files, L: Lines, O: Sink, G: CommitHook>(
+pub(crate) fn run_lines<R: Threads + Sync + Clock, F: Files, L: Lines, O: Sink, G: CommitHook>(
     rt: &R,
     alloc: Global,
     workers: Workers,
@@ -105,7 +106,7 @@ pub(crate) fn run_lines<R: Threads + Sync, F: Files, L: Lines, O: Sink, G: Commi
     ensures { (m : Kept) × RanLines result 0 (state nothing_yet (F.disk files.old) (O.screen out.old)) (L.input lines.old)
         (state m (F.disk files.new) (O.screen out.new)) (L.input lines.new) }
 {
-    let mut session = Session::new(workers);
+    let mut session = Session::new(rt, workers);
     let mut status: u8 = 0;
     for _taken in 0..MAX_LINES {
         match take_turn(rt, alloc, &mut session, files, lines, out, hook) {

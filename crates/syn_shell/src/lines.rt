@@ -8,42 +8,21 @@ ghost use Rattle.syn_netlist.specs.Frames.{frame_in};
 ghost use Rattle.syn_netlist.specs.Lists.{Frame};
 ghost use Rattle.syn_network.specs.Written as graphs;
 ghost use Rattle.syn_network.specs.WrittenLuts as luts;
-ghost use Rattle.syn_shell.specs.Lines.{greatest, IsGraphLine, IsLutsLine, IsStatsLine, numbers_text};
+ghost use Rattle.syn_report.specs.Levels.{greatest};
+ghost use Rattle.syn_shell.specs.Lines.{IsGraphLine, IsLutsLine, IsStatsLine, numbers_text};
 ghost use Rattle.syn_shell.specs.Outside.{Took};
 ghost use Rattle.syn_shell.specs.Networks.{network_of};
 ghost use Rattle.syn_shell.specs.Steps.{PrintRefused};
 
 use crate::network::HeldNetwork;
 use crate::refusal::Refusal;
-use itoa::Buffer;
 use std::alloc::{AllocError, Global};
 use syn_graph::Graph;
 use syn_io::Sink;
 use syn_netlist::Frame;
 use syn_network::{LutNetwork, Network};
+use syn_report::{push_counted, push_text};
 use syn_rows::Lit;
-
-fn push_text(line: &mut Vec<u8>, text: &[u8]) -> Result<(), AllocError>
-    ensures { OnOk result (line.new.items ≡ line.old.items ++ text.now) }
-{
-    line.extend_from_slice(text)?;
-    Ok(())
-}
-
-fn push_number(line: &mut Vec<u8>, number: u64) -> Result<(), AllocError>
-    ensures { OnOk result (line.new.items ≡ line.old.items ++ decimal number) }
-{
-    let mut buffer = Buffer::new();
-    push_text(line, buffer.format(number).as_bytes())
-}
-
-// A text and a number.
-fn push_counted(line: &mut Vec<u8>, text: &[u8], number: u64) -> Result<(), AllocError>
-    ensures { OnOk result (line.new.items ≡ line.old.items ++ (text.now ++ decimal number)) }
-{
-    push_text(line, text)?;
-    push_number(line, number)
-}
 
 // The greatest level of the literals' nodes.
 fn greatest_level(levels: &[u32], lits: &[Lit]) -> u32
@@ -141,7 +120,7 @@ pub(crate) fn print_stats<O: Sink>(
     out: &mut O,
 ) -> Result<(), Refusal>
     ensures printed { OnOk result ((line : List ℕ) × IsStatsLine (network_of network.now) line × Took line (O.screen out.old) (O.screen out.new)) }
-    ensures refused { IfErr result (PrintRefused (Some (network_of network.now)) (O.screen out.old) (O.screen out.new)) }
+    ensures refused { IfErr result (PrintRefused IsStatsLine (Some (network_of network.now)) (O.screen out.old) (O.screen out.new)) }
 {
     let line = network_line(alloc, network)?;
     match out.put(line.as_slice()) {

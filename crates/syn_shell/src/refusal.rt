@@ -5,14 +5,30 @@ ghost use Rattle.std.specs.Prelude.{◌≡◌};
 use std::alloc::AllocError;
 use syn_aiger_files::AigFault;
 use syn_command_files::{LoadFault, LutFileFault};
+use syn_compare::CompareFault;
 use syn_netlist::Word;
 use syn_reader::ReadFault;
 use syn_usage::UsageFault;
 use syn_words::{ScriptFault, Text};
 
+/// Why a file that is compared holds no network.
+///
+/// Want of memory is none of these causes.
+#[derive(Debug, Drop)]
+pub enum FileCause {
+    /// Its first fault.
+    Read(ReadFault),
+    /// Its first fault, as an AIGER file.
+    ReadAiger(AigFault),
+    /// It has more than 16,777,216 bytes.
+    TooLong,
+    /// It could not be read.
+    GetFailed,
+}
+
 /// Why a run or a command is refused. Each but `SinkFailed` has a line that says so.
 ///
-/// Want of memory is always `NoMemory`: none of `Script`, `CommandFile`, `Read` and `ReadAiger` has it inside.
+/// Want of memory is always `NoMemory`: none of `Script`, `CommandFile`, `Read`, `ReadAiger` and `Unmatched` has it inside.
 #[derive(Debug, Drop)]
 pub enum Refusal {
     /// The words are no call of the program.
@@ -31,6 +47,13 @@ pub enum Refusal {
     ReadAiger(AigFault),
     /// The first fault of the file of LUTs that the command names.
     ReadLuts(LutFileFault),
+    /// The file of this name, which is compared, holds no network.
+    NotRead {
+        name: Word,
+        cause: FileCause,
+    },
+    /// The first name that one of the networks that are compared has and the other lacks.
+    Unmatched(CompareFault),
     /// The file that the command names has more than 16,777,216 bytes.
     FileTooLong,
     /// A script or a line has more than 65,536 bytes.

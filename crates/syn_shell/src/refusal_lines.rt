@@ -1,19 +1,23 @@
 //! The lines of refusals, put in pieces that take no memory, and their statuses.
 
 ghost use Rattle.std.specs.Prelude.{◌≡◌, ◌++◌, ◌∷◌, [], codes, decimal, flat_map, map, IfNone, IfSome, None, Some};
-ghost use Rattle.syn_shell.specs.Lines.{aiger_status, aiger_text, at_place, chain_text, command_fault_text, fault_words, gap_before, joined, name_at_line, read_status, read_text, refusal_line, refusal_status, refusal_text, script_text, fault_at_line, file_fault_text};
+ghost use Rattle.syn_shell.specs.Lines.{aiger_status, aiger_text, at_place, chain_text, command_fault_text, fault_words, gap_before, joined, name_at_line, not_read_status, not_read_text, read_status, read_text, refusal_line, refusal_status, refusal_text, script_text, fault_at_line, file_fault_text, unmatched_text};
 ghost use Rattle.syn_shell.specs.Outside.{Puts};
 ghost use Rattle.syn_shell.specs.Scripts.{Refused};
 ghost use Rattle.syn_shell.specs.Stopping.{status_in, AnnouncesAs};
 
-use crate::refusal::Refusal;
+use crate::refusal::{FileCause, Refusal};
 use itoa::Buffer;
 use syn_aiger_files::AigFault;
 use syn_command_files::LutFileFault;
+use syn_compare::CompareFault;
 use syn_io::{Sink, SinkFailed};
 use syn_netlist::Word;
 use syn_reader::ReadFault;
 use syn_words::ScriptFault;
+
+// Behind a name that networks that are compared don't have in common.
+const ONLY: &[u8] = b" in one network only";
 
 /// What became of the line of a refusal: it was put whole, or the sink failed. Each has the refusal's status.
 #[derive(Clone, Copy, Debug, PartialEq, Eq)]
@@ -295,6 +299,7 @@ fn put_aiger_fault<O: Sink>(out: &mut O, fault: &AigFault) -> Result<(), SinkFai
 {
     match fault {
         AigFault::Header => put(out, b"aiger header"),
+        AigFault::Justice => put(out, b"aiger justice"),
         AigFault::Line(at) => put_number(out, b"byte ", *at as u64, b": aiger line"),
         AigFault::Pair(at) => put_number(out, b"byte ", *at as u64, b": aiger pair"),
         AigFault::Symbol(at) => put_number(out, b"byte ", *at as u64, b": aiger symbol"),
@@ -305,6 +310,53 @@ fn put_aiger_fault<O: Sink>(out: &mut O, fault: &AigFault) -> Result<(), SinkFai
         AigFault::TooManySources(count) => put_number(out, b"", *count as u64, b" sources"),
         AigFault::TooManyGates(count) => put_number(out, b"", *count as u64, b" gates"),
         AigFault::NoMemory => put(out, b"out of memory"),
+    }
+}
+
+// Puts a file's name before what is told of it.
+fn put_name<O: Sink>(out: &mut O, name: &[u8]) -> Result<(), SinkFailed>
+    ensures { Puts result (joined (name.now ∷ codes ": " ∷ [])) (O.screen out.old) (O.screen out.new) }
+{
+    put_all(out, &[name, b": "])
+}
+
+// Puts a file's name and what a fault of it says.
+fn put_fault_in<O: Sink>(out: &mut O, name: &[u8], fault: &ReadFault) -> Result<(), SinkFailed>
+    ensures { Puts result (joined (name.now ∷ codes ": " ∷ []) ++ read_text fault.now) (O.screen out.old) (O.screen out.new) }
+{
+    put_name(out, name)?;
+    put_read_fault(out, fault)
+}
+
+// Puts an AIGER file's name and what a fault of it says.
+fn put_aiger_fault_in<O: Sink>(out: &mut O, name: &[u8], fault: &AigFault) -> Result<(), SinkFailed>
+    ensures { Puts result (joined (name.now ∷ codes ": " ∷ []) ++ aiger_text fault.now) (O.screen out.old) (O.screen out.new) }
+{
+    put_name(out, name)?;
+    put_aiger_fault(out, fault)
+}
+
+// Puts why a file that is compared holds no network.
+fn put_not_read<O: Sink>(out: &mut O, name: &[u8], cause: &FileCause) -> Result<(), SinkFailed>
+    ensures { Puts result (not_read_text name.now cause.now) (O.screen out.old) (O.screen out.new) }
+{
+    match cause {
+        FileCause::Read(fault) => put_fault_in(out, name, fault),
+        FileCause::ReadAiger(fault) => put_aiger_fault_in(out, name, fault),
+        FileCause::TooLong => put_all(out, &[name, b": file longer than 16777216 bytes"]),
+        FileCause::GetFailed => put_all(out, &[b"cannot read ", name]),
+    }
+}
+
+// Puts which name is in one of two networks only.
+fn put_unmatched<O: Sink>(out: &mut O, fault: &CompareFault) -> Result<(), SinkFailed>
+    ensures { Puts result (unmatched_text fault.now) (O.screen out.old) (O.screen out.new) }
+{
+    match fault {
+        CompareFault::Input(name) => put_all(out, &[b"input ", name.as_slice(), ONLY]),
+        CompareFault::Output(name) => put_all(out, &[b"output ", name.as_slice(), ONLY]),
+        CompareFault::Latch(name) => put_all(out, &[b"latch ", name.as_slice(), ONLY]),
+        CompareFault::NoMemory => put(out, b"out of memory"),
     }
 }
 
@@ -323,6 +375,8 @@ fn put_text<O: Sink>(out: &mut O, refusal: &Refusal, name: &[u8]) -> Result<(), 
         Refusal::ReadLuts(LutFileFault::Line(line)) => {
             put_number(out, b"line ", *line as u64, b": lut row")
         }
+        Refusal::NotRead { name, cause } => put_not_read(out, name.as_slice(), cause),
+        Refusal::Unmatched(fault) => put_unmatched(out, fault),
         Refusal::FileTooLong => put(out, b"file longer than 16777216 bytes"),
         Refusal::LineTooLong => put(out, b"line longer than 65536 bytes"),
         Refusal::CommandFileTooLong => put(out, b"file of commands longer than 65536 bytes"),
@@ -370,6 +424,18 @@ fn aiger_status(fault: &AigFault) -> u8
     }
 }
 
+// The same of a file that is compared and holds no network.
+fn not_read_status(cause: &FileCause) -> u8
+    ensures { result ≡ not_read_status cause.now }
+{
+    match cause {
+        FileCause::Read(fault) => read_status(fault),
+        FileCause::ReadAiger(fault) => aiger_status(fault),
+        FileCause::TooLong => 5,
+        FileCause::GetFailed => 7,
+    }
+}
+
 // The status of a run where this is refused first.
 fn status_of(refusal: &Refusal) -> u8
     ensures { result ≡ refusal_status refusal.now }
@@ -380,6 +446,7 @@ fn status_of(refusal: &Refusal) -> u8
         Refusal::Read(fault) => read_status(fault),
         Refusal::ReadAiger(fault) => aiger_status(fault),
         Refusal::ReadLuts(_) => 4,
+        Refusal::NotRead { cause, .. } => not_read_status(cause),
         Refusal::FileTooLong
         | Refusal::LineTooLong
         | Refusal::CommandFileTooLong
@@ -389,7 +456,7 @@ fn status_of(refusal: &Refusal) -> u8
         Refusal::NoNetwork => 6,
         Refusal::GetFailed | Refusal::PutFailed | Refusal::LineFailed | Refusal::SinkFailed => 7,
         Refusal::NoMemory => 8,
-        Refusal::LatchType(_) => 9,
+        Refusal::LatchType(_) | Refusal::Unmatched(_) => 9,
     }
 }
 

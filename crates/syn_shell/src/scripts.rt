@@ -13,6 +13,7 @@ use crate::refusal_lines::{Reported, report_refusal};
 use crate::session::Session;
 use std::alloc::Global;
 use std::thread::Threads;
+use std::time::Clock;
 use syn_command_files::{Unread, is_quit, load_file, load_script};
 use syn_commit::CommitHook;
 use syn_io::{Files, Sink};
@@ -65,8 +66,8 @@ fn name_in(command: &Command) -> &[u8]
     match command {
         Command::Read(name)
         | Command::Write(name)
-        | Command::ReadAiger(name)
         | Command::ReadLuts(name)
+        | Command::ReadAiger { name, .. }
         | Command::WriteAiger { name, .. } => name.as_str().as_bytes(),
         _ => &[],
     }
@@ -112,7 +113,7 @@ fn has_quit(commands: &[Command]) -> bool
 }
 
 // The commands one after the other, up to the first that is refused.
-fn run_commands<'a, R: Threads + Sync, F: Files, O: Sink, G: CommitHook>(
+fn run_commands<'a, R: Threads + Sync + Clock, F: Files, O: Sink, G: CommitHook>(
     rt: &R,
     alloc: Global,
     session: &mut Session,
@@ -133,7 +134,7 @@ fn run_commands<'a, R: Threads + Sync, F: Files, O: Sink, G: CommitHook>(
 }
 
 /// Runs a script, or a file of commands, and tells its refusal, if there is one.
-pub(crate) fn run_script<R: Threads + Sync, F: Files, O: Sink, G: CommitHook>(
+pub(crate) fn run_script<R: Threads + Sync + Clock, F: Files, O: Sink, G: CommitHook>(
     rt: &R,
     alloc: Global,
     session: &mut Session,

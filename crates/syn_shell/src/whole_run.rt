@@ -13,13 +13,14 @@ use crate::scripts::{Source, run_script};
 use crate::session::Session;
 use std::alloc::Global;
 use std::thread::Threads;
+use std::time::Clock;
 use syn_commit::CommitHook;
 use syn_io::{Files, Lines, Sink};
 use syn_usage::{Work, arguments_in};
 use syn_workers::Workers;
 
 // Runs one script, or one file of commands, and gives the status of its refusal, 0 where nothing was refused.
-fn run_one<R: Threads + Sync, F: Files, O: Sink, G: CommitHook>(
+fn run_one<R: Threads + Sync + Clock, F: Files, O: Sink, G: CommitHook>(
     rt: &R,
     alloc: Global,
     workers: Workers,
@@ -30,12 +31,12 @@ fn run_one<R: Threads + Sync, F: Files, O: Sink, G: CommitHook>(
 ) -> u8
     ensures { RanOne result (source_in source.entry) (F.disk files.old) (O.screen out.old) (F.disk files.new) (O.screen out.new) }
 {
-    let mut session = Session::new(workers);
+    let mut session = Session::new(rt, workers);
     run_script(rt, alloc, &mut session, source, files, out, hook).status()
 }
 
 // Runs what the words mean.
-fn run_words<R: Threads + Sync, F: Files, L: Lines, O: Sink, G: CommitHook>(
+fn run_words<R: Threads + Sync + Clock, F: Files, L: Lines, O: Sink, G: CommitHook>(
     rt: &R,
     alloc: Global,
     words: &[String],
@@ -72,7 +73,7 @@ fn run_words<R: Threads + Sync, F: Files, L: Lines, O: Sink, G: CommitHook>(
 /// A status of 7 comes only where a call of the files, of the lines or of the sink failed. Where the words are well
 /// formed, scripts and lines are within their limits and spell commands, what each command needs is there in the state
 /// in which it is run, and no such call failed, the status is 0, or 8 for want of memory.
-pub fn run<R: Threads + Sync, F: Files, L: Lines, O: Sink, G: CommitHook>(
+pub fn run<R: Threads + Sync + Clock, F: Files, L: Lines, O: Sink, G: CommitHook>(
     rt: &R,
     alloc: Global,
     words: &[String],

@@ -2,6 +2,7 @@
 use Rattle.std.specs.Prelude.{ℕ, Bool, true, false, min, max, map, option_map, if◌then◌else◌, List, [], ◌∷◌, Option, Some, None, Result, Ok, Err, bytes_eq, codes}
 use Rattle.syn_words.specs.declared.words.Phrase.{Phrase}
 use Rattle.syn_words.specs.Forms.{and_then, given_by}
+use Rattle.syn_words.specs.Formats.{network_file}
 use Rattle.syn_words.specs.Texts.{echoed}
 use Rattle.syn_words.specs.Quotes.{meant}
 use Rattle.syn_words.specs.Help.{helped}
@@ -12,6 +13,7 @@ use Rattle.syn_words.specs.declared.formats.Format.TheVariants as formats
 use Rattle.syn_words.specs.declared.word_reader.Given.{Given}
 use Rattle.syn_words.specs.declared.table.Keyword.{Keyword}
 use Rattle.syn_words.specs.declared.table.Keyword.TheVariants as keywords
+use Rattle.syn_words.specs.declared.inputs.LutSizes.{LutSizes}
 use Rattle.syn_words.specs.declared.recipes.PassOptions.{PassOptions}
 use Rattle.syn_words.specs.declared.recipes.ReplaceLimits.{ReplaceLimits}
 use Rattle.syn_words.specs.declared.recipes.SearchLimits.{SearchLimits}
@@ -29,6 +31,14 @@ workers_of number = max 1 (min number 16)
 -- A number of inputs, 2 at least and 8 at most, likewise.
 abbrev pub inputs_of : ℕ → ℕ
 inputs_of number = max 2 (min number 8)
+
+-- LUTs of so many inputs at most that all cost the same: a thousand thousandths each.
+abbrev pub luts_alike : ℕ → LutSizes
+luts_alike most = record { most = most; areas = 1000 ∷ 1000 ∷ 1000 ∷ 1000 ∷ 1000 ∷ 1000 ∷ 1000 ∷ 1000 ∷ [] }
+
+-- The same by a number that was given.
+abbrev pub luts_of : ℕ → LutSizes
+luts_of number = luts_alike (inputs_of number)
 
 -- A number of tables, 32768 at most, likewise.
 abbrev pub size_of : ℕ → ℕ
@@ -67,14 +77,19 @@ replace_limits given = record { gates = given_gates given.further; conflicts = g
 -- The command that reads a file in a format.
 abbrev pub reading : Format → List ℕ → Command
 reading formats.Blif name = commands.Read name
-reading formats.Aiger name = commands.ReadAiger name
-reading formats.AsciiAiger name = commands.ReadAiger name
+reading formats.Aiger name = commands.ReadAiger false name
+reading formats.AsciiAiger name = commands.ReadAiger false name
 
 -- The command that writes a file in a format; of AIGER it refuses a latch with a type.
 abbrev pub writing : Format → List ℕ → Command
 writing formats.Blif name = commands.Write name
 writing formats.Aiger name = commands.WriteAiger false false name
 writing formats.AsciiAiger name = commands.WriteAiger true false name
+
+-- The command that compares the network with a file, or a file with another, where one was given.
+abbrev pub comparing : ℕ → List ℕ → Option (List ℕ) → Command
+comparing conflicts name None = commands.Compare conflicts None (network_file name)
+comparing conflicts name (Some other) = commands.Compare conflicts (Some (network_file name)) (network_file other)
 
 -- The command that makes the network anew by a recipe.
 abbrev pub make : Recipe → Command
@@ -125,11 +140,14 @@ resyn2l =
 abbrev pub commands_of : Keyword → Given → List Command
 commands_of keywords.ReadBlif given = commands.Read (map meant given.name) ∷ []
 commands_of keywords.WriteBlif given = commands.Write (map meant given.name) ∷ []
-commands_of keywords.ReadAiger given = commands.ReadAiger (map meant given.name) ∷ []
+commands_of keywords.ReadAiger given = commands.ReadAiger given.flags.0 (map meant given.name) ∷ []
 commands_of keywords.WriteAiger given = commands.WriteAiger given.flags.0 given.flags.1 (map meant given.name) ∷ []
 commands_of keywords.Read given = reading given.format (map meant given.name) ∷ []
 commands_of keywords.Write given = writing given.format (map meant given.name) ∷ []
 commands_of keywords.PrintStats given = commands.Stats ∷ []
+commands_of keywords.PrintLevels given = commands.Levels ∷ []
+commands_of keywords.Compare given = comparing (given_conflicts given.number) (map meant given.name) (option_map (map meant) given.other) ∷ []
+commands_of keywords.Time given = commands.Time ∷ []
 commands_of keywords.Echo given = commands.Print (echoed given.words) ∷ []
 commands_of keywords.Help given = commands.Print (helped given.topic) ∷ []
 commands_of keywords.Quit given = commands.Quit ∷ []
@@ -150,7 +168,7 @@ commands_of keywords.Resubstitute given = make (recipes.Resubstitute (given_opti
 commands_of keywords.ResubstituteZero given = make (recipes.Resubstitute (given_options true given)) ∷ []
 commands_of keywords.Merge given = make (recipes.Merge (given_limits given)) ∷ []
 commands_of keywords.Replace given = make (recipes.Replace (replace_limits given)) ∷ []
-commands_of keywords.Map given = make (recipes.Map given.flags.0 (option_map inputs_of given.number)) ∷ []
+commands_of keywords.Map given = make (recipes.Map given.flags.0 (option_map luts_of given.number)) ∷ []
 commands_of keywords.MapByFlow given = make (recipes.MapByFlow (option_map inputs_of given.number)) ∷ []
 commands_of keywords.Sweep given = make recipes.Sweep ∷ []
 

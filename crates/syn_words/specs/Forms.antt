@@ -36,11 +36,11 @@ number_behind (Some numbered) text = if is_option numbered.letter text then Some
 
 -- Nothing was given yet.
 abbrev pub nothing_given : Given
-nothing_given = record { flags = (false, false, false); number = None; further = None; name = []; format = formats.Blif; numbers = (0, 0); words = []; topic = None }
+nothing_given = record { flags = (false, false, false); number = None; further = None; name = []; format = formats.Blif; other = None; numbers = (0, 0); words = []; topic = None }
 
 -- These words were given, and nothing else.
 abbrev pub all_given : List Word → Given
-all_given words = record { flags = (false, false, false); number = None; further = None; name = []; format = formats.Blif; numbers = (0, 0); words = words; topic = None }
+all_given words = record { flags = (false, false, false); number = None; further = None; name = []; format = formats.Blif; other = None; numbers = (0, 0); words = words; topic = None }
 
 -- With these options without a number.
 abbrev pub put_flags : Flags → Given → Given
@@ -50,6 +50,7 @@ put_flags flags given = record {
   further = given.further;
   name = given.name;
   format = given.format;
+  other = given.other;
   numbers = given.numbers;
   words = given.words;
   topic = given.topic;
@@ -63,6 +64,7 @@ put_number number given = record {
   further = given.further;
   name = given.name;
   format = given.format;
+  other = given.other;
   numbers = given.numbers;
   words = given.words;
   topic = given.topic;
@@ -76,6 +78,7 @@ put_further number given = record {
   further = Some number;
   name = given.name;
   format = given.format;
+  other = given.other;
   numbers = given.numbers;
   words = given.words;
   topic = given.topic;
@@ -89,6 +92,21 @@ put_name name format given = record {
   further = given.further;
   name = name;
   format = format;
+  other = given.other;
+  numbers = given.numbers;
+  words = given.words;
+  topic = given.topic;
+}
+
+-- With a second file's name.
+abbrev pub put_other : List ℕ → Given → Given
+put_other name given = record {
+  flags = given.flags;
+  number = given.number;
+  further = given.further;
+  name = given.name;
+  format = given.format;
+  other = Some name;
   numbers = given.numbers;
   words = given.words;
   topic = given.topic;
@@ -102,6 +120,7 @@ put_numbers numbers given = record {
   further = given.further;
   name = given.name;
   format = given.format;
+  other = given.other;
   numbers = numbers;
   words = given.words;
   topic = given.topic;
@@ -115,6 +134,7 @@ put_topic keyword given = record {
   further = given.further;
   name = given.name;
   format = given.format;
+  other = given.other;
   numbers = given.numbers;
   words = given.words;
   topic = Some keyword;
@@ -151,6 +171,7 @@ with_first operands.Nothing given word = Err (ExtraWord word.at)
 with_first operands.Command given word = with_command (entry_in table word.text) given word
 with_first operands.Words given word = Err (ExtraWord word.at)
 with_first operands.Name given word = Ok (record { given = put_name word.text given.format given; awaits = awaits.Nothing })
+with_first operands.OneOrTwoNames given word = Ok (record { given = put_name word.text given.format given; awaits = awaits.SecondName })
 with_first operands.NameWithFormat given word = with_format (format_of word.text) given word
 with_first (operands.TwoNumbers first second) given word =
     and_then (number_at first word) (λ n. Ok (record { given = put_numbers (n, 0) given; awaits = awaits.SecondNumber second }))
@@ -181,6 +202,7 @@ after_word form (awaits.FurtherNumber range) given word =
     and_then (number_at range word) (λ n. Ok (record { given = put_further n given; awaits = awaits.Options }))
 after_word form (awaits.SecondNumber range) given word =
     and_then (number_at range word) (λ n. Ok (record { given = put_numbers (given.numbers.0, n) given; awaits = awaits.Nothing }))
+after_word form awaits.SecondName given word = Ok (record { given = put_other word.text given; awaits = awaits.Nothing })
 after_word form awaits.Nothing given word = Err (ExtraWord word.at)
 
 -- No further word, where a first one may be awaited.
@@ -189,6 +211,7 @@ without_first operands.Nothing end given = Ok given
 without_first operands.Command end given = Ok given
 without_first operands.Words end given = Err (MissingWord end)
 without_first operands.Name end given = Err (MissingWord end)
+without_first operands.OneOrTwoNames end given = Err (MissingWord end)
 without_first operands.NameWithFormat end given = Err (MissingWord end)
 without_first (operands.TwoNumbers first second) end given = Err (MissingWord end)
 
@@ -198,6 +221,7 @@ at_end form end awaits.Options given = without_first form.operands end given
 at_end form end (awaits.OptionNumber range) given = Err (MissingWord end)
 at_end form end (awaits.FurtherNumber range) given = Err (MissingWord end)
 at_end form end (awaits.SecondNumber range) given = Err (MissingWord end)
+at_end form end awaits.SecondName given = Ok given
 at_end form end awaits.Nothing given = Ok given
 
 -- What words give by a form, or their first fault: one word after the other.

@@ -7,13 +7,16 @@ use Rattle.syn_words.specs.declared.help.TheConstants as topics
 -- What is told of a keyword's command: its names and what may stand behind them, what it does, and a line for each option.
 abbrev pub topic_of : Keyword → List ℕ × List ℕ × List ℕ
 topic_of keywords.ReadBlif = (codes "read_blif FILE", codes "reads a BLIF file; the graph of its netlist becomes the network", [])
-topic_of keywords.ReadAiger = (codes "read_aiger FILE", codes "reads an AIGER file, ASCII or binary; its graph becomes the network", [])
+topic_of keywords.ReadAiger = (codes "read_aiger [-p] FILE", codes "reads an AIGER file, ASCII or binary; its graph becomes the network", codes "  -p    takes bad states and constraints, as outputs; they are refused without it" ++ 10 ∷ [])
 topic_of keywords.Generate = (codes "gen SEED SIZE", codes "generates a netlist of SIZE tables, 1 to 32768; its graph becomes the network", [])
 topic_of keywords.WriteBlif = (codes "write_blif FILE", codes "writes the network to a BLIF file", [])
 topic_of keywords.WriteAiger = (codes "write_aiger [-a] [-t] FILE", codes "writes the network's graph to an AIGER file", codes "  -a    in the ASCII format; else in the binary one" ++ 10 ∷ codes "  -t    leaves out the types of latches, which are refused without it" ++ 10 ∷ [])
 topic_of keywords.Read = (codes "read FILE", codes "is read_blif for a name that ends in .blif, read_aiger for one in .aig or .aag", [])
 topic_of keywords.Write = (codes "write FILE", codes "is write_blif for a name that ends in .blif, write_aiger for one in .aig, write_aiger -a for one in .aag", [])
 topic_of keywords.PrintStats = (codes "print_stats, ps", codes "prints name, inputs and outputs, latches, ANDs or LUTs, and levels", [])
+topic_of keywords.PrintLevels = (codes "print_level", codes "prints how many observed signals have each level", [])
+topic_of keywords.Compare = (codes "cec [-C N] FILE [FILE]", codes "compares the network with a file, or two files: whether outputs and next latch values are equal", codes "  -C N  at most N conflicts a question, 0 to 1000000, by default 100" ++ 10 ∷ [])
+topic_of keywords.Time = (codes "time", codes "prints the seconds since the last time, or since the run began", [])
 topic_of keywords.Strash = (codes "strash, st", codes "turns a mapped network into a graph, by structural hashing", [])
 topic_of keywords.Balance = (codes "balance, b", codes "rebuilds trees of ANDs, the shallow operands first", [])
 topic_of keywords.Rewrite = (codes "rewrite, rw [-z] [-L] [-l] [-w N]", codes "replaces cones of four inputs until no listed replacement saves an AND", topics.PASS_OPTIONS.now)
@@ -33,7 +36,7 @@ topic_of keywords.MapByFlow = (codes "flowmap [-K N]", codes "maps to LUTs of at
 topic_of keywords.Echo = (codes "echo WORDS", codes "prints the words, one blank apart", [])
 topic_of keywords.Help = (codes "help [COMMAND]", codes "prints a line a command, or what is to know of one", [])
 topic_of keywords.Source = (codes "source FILE", codes "runs the commands of a file", [])
-topic_of keywords.ReadLuts = (codes "read_lut FILE", codes "reads how many inputs a LUT has at most where no -K is given", [])
+topic_of keywords.ReadLuts = (codes "read_lut FILE", codes "reads how many inputs a LUT has at most, and what it costs, where no -K is given", [])
 topic_of keywords.Dress = (codes "dress FILE", codes "does nothing: names are kept anyway", [])
 topic_of keywords.Quit = (codes "quit, q, exit", codes "ends the run, also of the lines behind", [])
 

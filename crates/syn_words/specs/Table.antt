@@ -26,6 +26,10 @@ name_alone = record { flags = (None, None, None); numbered = (None, None); opera
 abbrev pub name_with_format : Form
 name_with_format = record { flags = (None, None, None); numbered = (None, None); operands = operands.NameWithFormat }
 
+-- An option without a number, and then a file's name.
+abbrev pub flag_and_name : ℕ → Form
+flag_and_name flag = record { flags = (Some flag, None, None); numbered = (None, None); operands = operands.Name }
+
 -- Two options without a number, and then a file's name.
 abbrev pub flags_and_name : ℕ → ℕ → Form
 flags_and_name first second = record { flags = (Some first, Some second, None); numbered = (None, None); operands = operands.Name }
@@ -37,6 +41,10 @@ with_workers zero = record { flags = (zero, Some 76, Some 108); numbered = (Some
 -- The option `-C` with a number of conflicts from 0 to 1000000.
 abbrev pub conflicts_option : Numbered
 conflicts_option = record { letter = 67; range = record { least = 0; most = 1000000 } }
+
+-- The option `-C` with a number of conflicts, and then a file's name, or two.
+abbrev pub conflicts_and_names : Form
+conflicts_and_names = record { flags = (None, None, None); numbered = (Some conflicts_option, None); operands = operands.OneOrTwoNames }
 
 -- The option `-N` with a number of ANDs, 1 or 2.
 abbrev pub gates_option : Numbered
@@ -58,13 +66,16 @@ seed_and_size = record { flags = (None, None, None); numbered = (None, None); op
 abbrev pub Row : Type 0
 Row = List ℕ × Form × Keyword
 
--- The names, long and short. `rewrite`, `refactor` and `resub` take `-z`, `-L` and `-l`; `rwz`, `rfz` and `rsz` have `-z` set. `if` takes `-a`, `write_aiger` `-a` and `-t`. `compress2` is `resyn2`.
+-- The names, long and short. `rewrite`, `refactor` and `resub` take `-z`, `-L` and `-l`; `rwz`, `rfz` and `rsz` have `-z` set. `if` takes `-a`, `read_aiger` `-p`, `write_aiger` `-a` and `-t`. `compress2` is `resyn2`.
 abbrev pub table : List Row
 table =
     (codes "read_blif", name_alone, keywords.ReadBlif)
     ∷ (codes "write_blif", name_alone, keywords.WriteBlif)
     ∷ (codes "print_stats", no_words, keywords.PrintStats)
     ∷ (codes "ps", no_words, keywords.PrintStats)
+    ∷ (codes "print_level", no_words, keywords.PrintLevels)
+    ∷ (codes "cec", conflicts_and_names, keywords.Compare)
+    ∷ (codes "time", no_words, keywords.Time)
     ∷ (codes "echo", any_words, keywords.Echo)
     ∷ (codes "help", command_name, keywords.Help)
     ∷ (codes "quit", no_words, keywords.Quit)
@@ -97,7 +108,7 @@ table =
     ∷ (codes "srs", with_conflicts (Some gates_option), keywords.Replace)
     ∷ (codes "resyn", no_words, keywords.Resyn)
     ∷ (codes "compress2", no_words, keywords.Resyn2)
-    ∷ (codes "read_aiger", name_alone, keywords.ReadAiger)
+    ∷ (codes "read_aiger", flag_and_name 112, keywords.ReadAiger)
     ∷ (codes "write_aiger", flags_and_name 97 116, keywords.WriteAiger)
     ∷ (codes "read", name_with_format, keywords.Read)
     ∷ (codes "write", name_with_format, keywords.Write)

@@ -1,18 +1,19 @@
 -- Worked scripts with their commands, texts with their first faults, and words read by forms.
 use Rattle.std.specs.Prelude.{◌≡◌, true, false, ℕ, Bool, List, [], ◌∷◌, ◌++◌, Option, Some, None, Result, Ok, Err, codes}
 use Rattle.syn_words.specs.Words.{words_at}
-use Rattle.syn_words.specs.Commands.{options}
+use Rattle.syn_words.specs.Commands.{luts_alike, options}
 use Rattle.syn_words.specs.Help.{overview}
-use Rattle.syn_words.specs.Table.{flags_and_name}
+use Rattle.syn_words.specs.Table.{conflicts_and_names, flags_and_name}
 use Rattle.syn_words.specs.Flags.{Flags}
 use Rattle.syn_words.specs.Forms.{given_by}
 use Rattle.syn_words.specs.Scripts.{IsScript, IsFirstFault}
 use Rattle.syn_words.specs.declared.Command.{Command}
-use Rattle.syn_words.specs.declared.Command.TheVariants.{Read, Write, ReadAiger, WriteAiger, Stats, Print, Quit, Source, ReadLuts, Generate, Make}
+use Rattle.syn_words.specs.declared.Command.TheVariants.{Read, Write, ReadAiger, WriteAiger, Stats, Levels, Compare, Time, Print, Quit, Source, ReadLuts, Generate, Make}
 use Rattle.syn_words.specs.declared.recipes.Recipe.TheVariants.{Strash, Balance, Rewrite, Refactor, Resubstitute, Merge, Replace, Map, MapByFlow, Sweep}
 use Rattle.syn_words.specs.declared.ScriptFault.{ScriptFault}
 use Rattle.syn_words.specs.declared.ScriptFault.TheVariants.{BadByte, UnknownCommand, MissingWord, ExtraWord, UnknownEnding, BadNumber, OutOfRange}
 use Rattle.syn_words.specs.declared.formats.Format.TheVariants.{Blif}
+use Rattle.syn_words.specs.declared.formats.NetworkFile.TheVariants as files
 use Rattle.syn_words.specs.declared.forms.Form.{Form}
 use Rattle.syn_words.specs.declared.forms.Operands.TheVariants.{Nothing, TwoNumbers, Words}
 use Rattle.syn_words.specs.declared.recipes.SearchLimits.{SearchLimits}
@@ -40,7 +41,7 @@ words = record { flags = (Some 97, None, None); numbered = (None, None); operand
 
 -- These options were given, by the numbers of those with one, and a file's name.
 abbrev pub given : Flags → Option ℕ → Option ℕ → List ℕ → Given
-given flags number further name = record { flags = flags; number = number; further = further; name = name; format = Blif; numbers = (0, 0); words = []; topic = None }
+given flags number further name = record { flags = flags; number = number; further = further; name = name; format = Blif; other = None; numbers = (0, 0); words = []; topic = None }
 
 -- So many conflicts a question, and whether no observed signal may get deeper.
 abbrev pub limits : ℕ → Bool → SearchLimits
@@ -62,8 +63,8 @@ pub record WorkedScripts : Type 0 where
   pub hyphen_is_a_name : IsScript (codes "read_blif -a") (Read (codes "-a") ∷ [])
   pub rewriting : IsScript (codes "rw; rewrite -w 4 -z; rwz") (Make (Rewrite (options false false None)) ∷ Make (Rewrite (options true false (Some 4))) ∷ Make (Rewrite (options true false None)) ∷ [])
   pub refactoring : IsScript (codes "rf; refactor -w 4 -z; rfz -w 2") (Make (Refactor (options false false None)) ∷ Make (Refactor (options true false (Some 4))) ∷ Make (Refactor (options true false (Some 2))) ∷ [])
-  pub mapping : IsScript (codes "if; if -K 2; if -K 008") (Make (Map false None) ∷ Make (Map false (Some 2)) ∷ Make (Map false (Some 8)) ∷ [])
-  pub mapping_for_area : IsScript (codes "if -a; if -a -K 4; if -K 4 -a") (Make (Map true None) ∷ Make (Map true (Some 4)) ∷ Make (Map true (Some 4)) ∷ [])
+  pub mapping : IsScript (codes "if; if -K 2; if -K 008") (Make (Map false None) ∷ Make (Map false (Some (luts_alike 2))) ∷ Make (Map false (Some (luts_alike 8))) ∷ [])
+  pub mapping_for_area : IsScript (codes "if -a; if -a -K 4; if -K 4 -a") (Make (Map true None) ∷ Make (Map true (Some (luts_alike 4))) ∷ Make (Map true (Some (luts_alike 4))) ∷ [])
   pub mapping_by_flow : IsScript (codes "flowmap; flowmap -K 2; flowmap -K 8") (Make (MapByFlow None) ∷ Make (MapByFlow (Some 2)) ∷ Make (MapByFlow (Some 8)) ∷ [])
   pub ten_commands : IsScript (codes "resyn2")
       (Make Balance ∷ Make (Rewrite (options false false None)) ∷ Make (Refactor (options false false None)) ∷ Make Balance ∷ Make (Rewrite (options false false None)) ∷ Make (Rewrite (options true false None)) ∷ Make Balance ∷ Make (Refactor (options true false None)) ∷ Make (Rewrite (options true false None)) ∷ Make Balance ∷ [])
@@ -90,13 +91,17 @@ pub record WorkedScripts : Type 0 where
       (Print (codes "sresub, srs [-N N] [-C N] [-L]: replaces nodes by others, or by new ANDs, that are proved to have their values" ++ 10 ∷ codes "  -N N  at most N new ANDs in place of a node, 1 or 2, by default 1" ++ 10 ∷ codes "  -C N  at most N conflicts a question, 0 to 1000000, by default 100" ++ 10 ∷ codes "  -L    keeps levels: no observed signal gets deeper" ++ 10 ∷ []) ∷ [])
   pub leaving : IsScript (codes "q; quit; exit; ps") (Quit ∷ Quit ∷ Quit ∷ Stats ∷ [])
   pub sourcing : IsScript (codes "source a.abc; dress b; ps") (Source (codes "a.abc") ∷ Stats ∷ [])
-  pub reading_luts : IsScript (codes "read_lut l; if -K 6") (ReadLuts (codes "l") ∷ Make (Map false (Some 6)) ∷ [])
+  pub reading_luts : IsScript (codes "read_lut l; if -K 6") (ReadLuts (codes "l") ∷ Make (Map false (Some (luts_alike 6))) ∷ [])
   pub generated : IsScript (codes "gen 18446744073709551615 32768; ps") (Generate 18446744073709551615 32768 ∷ Stats ∷ [])
   pub sweeping : IsScript (codes "read_blif a; scl; ps") (Read (codes "a") ∷ Make Sweep ∷ Stats ∷ [])
   pub resubstitution : IsScript (codes "rs; resub -w 4 -z; rsz -w 2") (Make (Resubstitute (options false false None)) ∷ Make (Resubstitute (options true false (Some 4))) ∷ Make (Resubstitute (options true false (Some 2))) ∷ [])
-  pub aiger : IsScript (codes "read_aiger -a; write_aiger o; write_aiger -a o") (ReadAiger (codes "-a") ∷ WriteAiger false false (codes "o") ∷ WriteAiger true false (codes "o") ∷ [])
+  pub aiger : IsScript (codes "read_aiger -a; write_aiger o; write_aiger -a o") (ReadAiger false (codes "-a") ∷ WriteAiger false false (codes "o") ∷ WriteAiger true false (codes "o") ∷ [])
+  pub aiger_with_properties : IsScript (codes "read_aiger -p a") (ReadAiger true (codes "a") ∷ [])
+  pub levels : IsScript (codes "print_level; time") (Levels ∷ Time ∷ [])
+  pub compared_with_a_file : IsScript (codes "cec f.aag; cec -C 7 f.v") (Compare 100 None (files.Aiger (codes "f.aag")) ∷ Compare 7 None (files.Blif (codes "f.v")) ∷ [])
+  pub compared_files : IsScript (codes "cec a b.aig; cec -C 0 a.blif b") (Compare 100 (Some (files.Blif (codes "a"))) (files.Aiger (codes "b.aig")) ∷ Compare 0 (Some (files.Blif (codes "a.blif"))) (files.Blif (codes "b")) ∷ [])
   pub untyped_aiger : IsScript (codes "write_aiger -t o; write_aiger -at o") (WriteAiger false true (codes "o") ∷ WriteAiger true true (codes "o") ∷ [])
-  pub read_by_ending : IsScript (codes "read a.blif; read a.aig; read .aag") (Read (codes "a.blif") ∷ ReadAiger (codes "a.aig") ∷ ReadAiger (codes ".aag") ∷ [])
+  pub read_by_ending : IsScript (codes "read a.blif; read a.aig; read .aag") (Read (codes "a.blif") ∷ ReadAiger false (codes "a.aig") ∷ ReadAiger false (codes ".aag") ∷ [])
   pub written_by_ending : IsScript (codes "write a.aag.blif; write a.aig; write a.aag") (Write (codes "a.aag.blif") ∷ WriteAiger false false (codes "a.aig") ∷ WriteAiger true false (codes "a.aag") ∷ [])
   pub unknown_ending : IsFirstFault (codes "write a.v; rewrit") (UnknownEnding 6)
   pub upper_case_ending : IsFirstFault (codes "read a.BLIF b") (UnknownEnding 5)
@@ -142,6 +147,11 @@ pub record WorkedScripts : Type 0 where
   pub option_of_reading_aiger : IsFirstFault (codes "read_aiger -a f") (ExtraWord 14)
   pub ascii_behind_the_name : IsFirstFault (codes "write_aiger o -a") (ExtraWord 14)
   pub ascii_without_a_name : IsFirstFault (codes "write_aiger -a") (MissingWord 14)
+  pub properties_without_a_name : IsFirstFault (codes "read_aiger -p") (MissingWord 13)
+  pub nothing_to_compare : IsFirstFault (codes "cec -C 7; ps") (MissingWord 8)
+  pub three_to_compare : IsFirstFault (codes "cec a b c") (ExtraWord 8)
+  pub too_many_conflicts_of_comparing : IsFirstFault (codes "cec -C 1000001 a") (OutOfRange 7)
+  pub conflicts_behind_a_name : IsFirstFault (codes "cec a -C 7") (ExtraWord 9)
   pub no_tables : IsFirstFault (codes "gen 1 0") (OutOfRange 6)
   pub size_no_number : IsFirstFault (codes "gen 1 x") (BadNumber 6)
   pub seed_too_great : IsFirstFault (codes "gen 18446744073709551616 1") (OutOfRange 4)
@@ -205,8 +215,10 @@ pub record WorkedForms : Type 0 where
   pub flag_for_a_name : Gives (flags_and_name 97 116) (codes "-a -a") (Err (ExtraWord 3))
   pub flags_for_a_name : Gives (flags_and_name 97 116) (codes "-ab") (Ok (given (false, false, false) None None (codes "-ab")))
   pub name_missing : Gives (flags_and_name 97 116) (codes "-a") (Err (MissingWord 99))
-  pub words_as_they_are : Gives words (codes "-a  x") (Ok (record { flags = (false, false, false); number = None; further = None; name = []; format = Blif; numbers = (0, 0); words = words_at 0 (codes "-a  x"); topic = None }))
-  pub seed_and_size : Gives two_numbers (codes "18446744073709551615 1") (Ok (record { flags = (false, false, false); number = None; further = None; name = []; format = Blif; numbers = (18446744073709551615, 1); words = []; topic = None }))
+  pub one_of_two_names : Gives conflicts_and_names (codes "a") (Ok (given (false, false, false) None None (codes "a")))
+  pub no_names : Gives conflicts_and_names (codes "-C 7") (Err (MissingWord 99))
+  pub words_as_they_are : Gives words (codes "-a  x") (Ok (record { flags = (false, false, false); number = None; further = None; name = []; format = Blif; other = None; numbers = (0, 0); words = words_at 0 (codes "-a  x"); topic = None }))
+  pub seed_and_size : Gives two_numbers (codes "18446744073709551615 1") (Ok (record { flags = (false, false, false); number = None; further = None; name = []; format = Blif; other = None; numbers = (18446744073709551615, 1); words = []; topic = None }))
   pub size_missing : Gives two_numbers (codes "1") (Err (MissingWord 99))
   pub size_no_number : Gives two_numbers (codes "1 x") (Err (BadNumber 2))
   pub size_too_great : Gives two_numbers (codes "1 32769") (Err (OutOfRange 2))

@@ -1,6 +1,6 @@
 -- Worked files of commands, with their commands or first faults.
 use Rattle.std.specs.Prelude.{ℕ, false, true, List, [], ◌∷◌, ◌++◌, None, Some, codes}
-use Rattle.syn_words.specs.Commands.{options}
+use Rattle.syn_words.specs.Commands.{luts_alike, options}
 use Rattle.syn_words.specs.Files.{IsCommandFile, IsFirstFileFault}
 use Rattle.syn_words.specs.declared.Command.TheVariants.{Read, Write, Stats, Print, Make}
 use Rattle.syn_words.specs.declared.recipes.Recipe.TheVariants.{Balance, Rewrite, Map}
@@ -24,7 +24,7 @@ pub record WorkedFiles : Type 0 where
   pub quotes_around_a_plain_word : IsCommandFile (quoted (codes "b") ++ codes ";" ++ quoted (codes "ps")) (Make Balance ∷ Stats ∷ [])
   pub quotes_that_stay_open : IsCommandFile (codes "write_blif " ++ 34 ∷ codes "a b") (Write (codes "a b") ∷ [])
   pub no_quotes_within_a_word : IsCommandFile (codes "write_blif a" ++ quoted (codes "b")) (Write (codes "a" ++ quoted (codes "b")) ∷ [])
-  pub echo : IsCommandFile (line (codes "echo + read_blif " ++ quoted (codes "a  b") ++ codes ";") ++ line (codes "if -K 4;")) (Print (line (codes "+ read_blif a  b")) ∷ Make (Map false (Some 4)) ∷ [])
+  pub echo : IsCommandFile (line (codes "echo + read_blif " ++ quoted (codes "a  b") ++ codes ";") ++ line (codes "if -K 4;")) (Print (line (codes "+ read_blif a  b")) ∷ Make (Map false (Some (luts_alike 4))) ∷ [])
   pub unknown : IsFirstFileFault (line (codes "b") ++ line (codes "# rw") ++ line (codes "  dc2 -b") ++ codes "ps") 3 (codes "dc2") (UnknownCommand 9)
   pub extra : IsFirstFileFault (line [] ++ codes "b; rw " ++ quoted (codes "a b")) 2 (codes "a b") (ExtraWord 8)
   pub missing : IsFirstFileFault (line (codes "b") ++ line (codes "read_blif") ++ codes "ps") 2 [] (MissingWord 11)

@@ -22,6 +22,8 @@ pub enum Operands {
     Name,
     /// A file's name with the ending of a format.
     NameWithFormat,
+    /// A file's name, or two.
+    OneOrTwoNames,
     /// Two numbers, each in its range.
     TwoNumbers(NumberRange, NumberRange),
     /// A command's name, or no word.

@@ -32,6 +32,9 @@ const ORDER: &[Keyword] = &[
     Keyword::Read,
     Keyword::Write,
     Keyword::PrintStats,
+    Keyword::PrintLevels,
+    Keyword::Compare,
+    Keyword::Time,
     Keyword::Strash,
     Keyword::Balance,
     Keyword::Rewrite,
@@ -69,9 +72,9 @@ fn topic_of(keyword: Keyword) -> Topic
             b"",
         ),
         Keyword::ReadAiger => (
-            b"read_aiger FILE",
+            b"read_aiger [-p] FILE",
             b"reads an AIGER file, ASCII or binary; its graph becomes the network",
-            b"",
+            b"  -p    takes bad states and constraints, as outputs; they are refused without it\n",
         ),
         Keyword::Generate => (
             b"gen SEED SIZE",
@@ -101,6 +104,21 @@ fn topic_of(keyword: Keyword) -> Topic
         Keyword::PrintStats => (
             b"print_stats, ps",
             b"prints name, inputs and outputs, latches, ANDs or LUTs, and levels",
+            b"",
+        ),
+        Keyword::PrintLevels => (
+            b"print_level",
+            b"prints how many observed signals have each level",
+            b"",
+        ),
+        Keyword::Compare => (
+            b"cec [-C N] FILE [FILE]",
+            b"compares the network with a file, or two files: whether outputs and next latch values are equal",
+            b"  -C N  at most N conflicts a question, 0 to 1000000, by default 100\n",
+        ),
+        Keyword::Time => (
+            b"time",
+            b"prints the seconds since the last time, or since the run began",
             b"",
         ),
         Keyword::Strash => (
@@ -176,7 +194,7 @@ fn topic_of(keyword: Keyword) -> Topic
         Keyword::Source => (b"source FILE", b"runs the commands of a file", b""),
         Keyword::ReadLuts => (
             b"read_lut FILE",
-            b"reads how many inputs a LUT has at most where no -K is given",
+            b"reads how many inputs a LUT has at most, and what it costs, where no -K is given",
             b"",
         ),
         Keyword::Dress => (b"dress FILE", b"does nothing: names are kept anyway", b""),

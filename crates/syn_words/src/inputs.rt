@@ -1,7 +1,7 @@
-//! Numbers of inputs of LUTs.
+//! The LUTs that mapping may use: how many inputs they have, and what area they take.
 
 ghost use Rattle.std.specs.Prelude.{◌≡◌, ◌≤◌};
-ghost use Rattle.syn_words.specs.Commands.{inputs_of};
+ghost use Rattle.syn_words.specs.Commands.{inputs_of, luts_alike};
 
 use std::marker::Model;
 
@@ -14,8 +14,11 @@ const MAX_INPUTS: u8 = 8;
 // So many inputs where no number is given, and no file of LUTs was read.
 const USUAL_INPUTS: u8 = 6;
 
+// The area of each LUT where all cost the same, in thousandths.
+const EQUAL_AREA: u32 = 1000;
+
 /// How many inputs a LUT may have: a number from 2 to 8. Contracts see it.
-#[derive(Debug, Drop)]
+#[derive(Clone, Copy, Debug)]
 pub struct LutInputs {
     number: u8,
 }
@@ -26,6 +29,8 @@ impl Model for LutInputs {
     ghost Value = { ℕ };
 
     ghost view = { λ inputs. inputs.number };
+
+    ghost inverse = { λ number. record { number = number } };
 
     ghost invariant = { λ inputs. (2 ≤ inputs.number) × (inputs.number ≤ 8) };
 }
@@ -69,5 +74,36 @@ impl LutInputs {
         ensures few { result ≤ 8 }
     {
         self.number
+    }
+}
+
+/// The LUTs that mapping may use.
+#[derive(Clone, Copy, Debug)]
+pub struct LutSizes {
+    /// How many inputs they have at most.
+    pub most: LutInputs,
+    /// The areas of those of 1 to 8 inputs, in thousandths.
+    pub areas: [u32; 8],
+}
+
+impl LutSizes {
+    /// LUTs of so many inputs at most that all cost the same. A number out of range gives the nearest in it.
+    pub fn alike(number: u64) -> LutSizes
+        ensures { result ≡ luts_alike (inputs_of number) }
+    {
+        LutSizes {
+            most: LutInputs::of(number),
+            areas: [EQUAL_AREA; 8],
+        }
+    }
+
+    /// LUTs of as many inputs as are usual, which are 6, that all cost the same.
+    pub fn usual() -> LutSizes
+        ensures { result ≡ luts_alike 6 }
+    {
+        LutSizes {
+            most: LutInputs::usual(),
+            areas: [EQUAL_AREA; 8],
+        }
     }
 }

@@ -6,7 +6,7 @@
 //! order is answered, alone.
 //!
 //! What may stand behind a name is data, a form: three options without a number, two with
-//! a number in a range, and then a file's name, a command's, or two numbers; or any words. One
+//! a number in a range, and then a file's name or two, a command's, or two numbers; or any words. One
 //! function reads words by a form, and one table has a row a name: the form, and the keyword, which
 //! says what the words spell (`specs/Table.antt`, `specs/Commands.antt`, and in the code `table.rt`
 //! and `spelling.rt`) and what `help` tells of it (`help.rt`). A command that makes the network anew
@@ -37,8 +37,9 @@ mod word_reader;
 mod words;
 
 pub use files::{FileFault, parse_file};
+pub use formats::NetworkFile;
 pub use forms::NumberRange;
-pub use inputs::LutInputs;
+pub use inputs::{LutInputs, LutSizes};
 pub use laws::{
     either_or, not_both, one_fault, one_script, worked_files, worked_forms, worked_scripts,
 };
@@ -58,8 +59,13 @@ pub enum Command {
     Read(FileName),
     /// `write_blif F`, `write F`: writes the network to the file of that name.
     Write(FileName),
-    /// `read_aiger F`, `read F`: the graph of the AIGER file of that name becomes the network.
-    ReadAiger(FileName),
+    /// `read_aiger [-p] F`, `read F`: the graph of the AIGER file of that name becomes the network.
+    ReadAiger {
+        /// Whether bad states and constraints are taken, as outputs; else they are refused.
+        properties: bool,
+        /// The file's name.
+        name: FileName,
+    },
     /// `write_aiger [-a] [-t] F`, `write F`: writes the network's graph to the file of that name, as an AIGER file.
     WriteAiger {
         /// Whether the file is in the ASCII format; else it is in the binary one.
@@ -71,6 +77,19 @@ pub enum Command {
     },
     /// `print_stats`, `ps`: prints the network's line.
     Stats,
+    /// `print_level`: prints how many observed signals have each level.
+    Levels,
+    /// `cec [-C n] F`, `cec [-C n] F G`: prints how the network compares with that of a file, or how those of two files do.
+    Compare {
+        /// At most so many conflicts for each question.
+        conflicts: u32,
+        /// The first file, where two are compared.
+        first: Option<NetworkFile>,
+        /// The second file.
+        second: NetworkFile,
+    },
+    /// `time`: prints the seconds since it was last run, or since the run began.
+    Time,
     /// `echo WORDS`, `help [COMMAND]`: prints a text.
     Print(Text),
     /// `quit`, `q`, `exit`: ends the run.

@@ -1,6 +1,6 @@
 //! Recipes: how a command makes the network anew.
 
-use crate::inputs::LutInputs;
+use crate::inputs::{LutInputs, LutSizes};
 use syn_workers::Workers;
 
 /// How a command rewrites, refactors or resubstitutes.
@@ -51,12 +51,12 @@ pub enum Recipe {
     Merge(SearchLimits),
     /// `sresub [-N n] [-C n] [-L]`, `srs`: replaces nodes by others, or by few new ANDs, that are shown to have their values.
     Replace(ReplaceLimits),
-    /// `if [-a] [-K n]`: maps the network to LUTs of so many inputs at most; of as many as the session has, where none is named.
+    /// `if [-a] [-K n]`: maps the network to LUTs of so many inputs at most that cost the same; to those that the session has, where none are named.
     Map {
         /// Whether few LUTs are looked for.
         area: bool,
-        /// The most inputs of a LUT.
-        inputs: Option<LutInputs>,
+        /// The LUTs.
+        luts: Option<LutSizes>,
     },
     /// `flowmap [-K n]`: maps the network to LUTs of so many inputs at most, likewise, at the least depth that there is.
     MapByFlow(Option<LutInputs>),

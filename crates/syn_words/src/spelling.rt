@@ -1,16 +1,17 @@
 //! What a command's name spells with what was given behind it.
 
-ghost use Rattle.std.specs.Prelude.{◌≡◌, ◌⊎◌, [], ◌∷◌, Err, Ok, IfOk, OnOk, IfErr, None, option_map};
+ghost use Rattle.std.specs.Prelude.{◌≡◌, ◌⊎◌, [], ◌∷◌, Err, Ok, IfOk, OnOk, IfErr, None, map, option_map};
 ghost use Rattle.syn_words.specs.Help.{helped};
+ghost use Rattle.syn_words.specs.Quotes.{meant};
 ghost use Rattle.syn_words.specs.Texts.{echoed};
-ghost use Rattle.syn_words.specs.Commands.{commands_of, gates_of, given_conflicts, given_gates, given_limits, given_options, inputs_of, options, reading, replace_limits, resyn, resyn2, resyn2l, said, size_of, workers_of, writing};
+ghost use Rattle.syn_words.specs.Commands.{commands_of, comparing, gates_of, given_conflicts, given_gates, given_limits, given_options, inputs_of, luts_of, options, reading, replace_limits, resyn, resyn2, resyn2l, said, size_of, workers_of, writing};
 ghost use Rattle.syn_words.specs.Scripts.{said_onto};
 ghost use Rattle.syn_words.specs.declared.Command.TheVariants as commands;
 
-use crate::formats::Format;
+use crate::formats::{Format, NetworkFile};
 use crate::help::helped;
-use crate::inputs::LutInputs;
-use crate::names::FileName;
+use crate::inputs::{LutInputs, LutSizes};
+use crate::names::{FileName, WordText};
 use crate::recipes::{PassOptions, Recipe, ReplaceLimits, SearchLimits};
 use crate::table::{Keyword, MAX_CONFLICTS, MAX_GATES, MAX_TABLES, entry_of};
 use crate::texts::echoed;
@@ -85,6 +86,16 @@ fn given_inputs(number: Option<u64>) -> Option<LutInputs>
     }
 }
 
+// The LUTs of as many inputs as were given, if any.
+fn given_luts(number: Option<u64>) -> Option<LutSizes>
+    ensures { result ≡ option_map luts_of number }
+{
+    match number {
+        Some(number) => Some(LutSizes::alike(number)),
+        None => None,
+    }
+}
+
 // How a search goes by what was given.
 fn given_limits(given: &Given<'_>) -> SearchLimits
     ensures { result ≡ given_limits given.now }
@@ -137,13 +148,20 @@ fn make(alloc: Global, recipe: Recipe) -> Result<Vec<Command>, AllocError>
     one(alloc, Command::Make(recipe))
 }
 
+// The command that reads an AIGER file.
+fn reading_aiger(properties: bool, name: FileName) -> Command
+    ensures { result ≡ commands.ReadAiger properties name }
+{
+    Command::ReadAiger { properties, name }
+}
+
 // The command that reads a file in this format.
 fn reading(format: Format, name: FileName) -> Command
     ensures { result ≡ reading format name }
 {
     match format {
         Format::Blif => Command::Read(name),
-        Format::Aiger | Format::AsciiAiger => Command::ReadAiger(name),
+        Format::Aiger | Format::AsciiAiger => reading_aiger(false, name),
     }
 }
 
@@ -166,6 +184,32 @@ fn writing(format: Format, name: FileName) -> Command
         Format::Blif => Command::Write(name),
         Format::Aiger => writing_aiger(false, false, name),
         Format::AsciiAiger => writing_aiger(true, false, name),
+    }
+}
+
+// The command that compares the network with a file, or a file with another where one was given.
+fn comparing(
+    alloc: Global,
+    conflicts: u32,
+    name: FileName,
+    other: Option<WordText<'_>>,
+) -> Result<Command, AllocError>
+    ensures { IfOk result (λ c. c ≡ comparing conflicts name (option_map (map meant) other.entry)) }
+{
+    match other {
+        None => Ok(Command::Compare {
+            conflicts,
+            first: None,
+            second: NetworkFile::of(name),
+        }),
+        Some(other) => {
+            let second = FileName::of(alloc, other)?;
+            Ok(Command::Compare {
+                conflicts,
+                first: Some(NetworkFile::of(name)),
+                second: NetworkFile::of(second),
+            })
+        }
     }
 }
 
@@ -249,17 +293,24 @@ fn commands_of(
     let zero = given_options(true, &given);
     let limits = given_limits(&given);
     let replacing = replace_limits(&given);
+    let luts = given_luts(given.number);
     let inputs = given_inputs(given.number);
     let (seed, size) = (given.numbers.0, size_of(given.numbers.1));
     let name = FileName::of(alloc, given.name)?;
     match keyword {
         Keyword::ReadBlif => one(alloc, Command::Read(name)),
         Keyword::WriteBlif => one(alloc, Command::Write(name)),
-        Keyword::ReadAiger => one(alloc, Command::ReadAiger(name)),
+        Keyword::ReadAiger => one(alloc, reading_aiger(flag, name)),
         Keyword::WriteAiger => one(alloc, writing_aiger(flag, given.flags.1, name)),
         Keyword::Read => one(alloc, reading(given.format, name)),
         Keyword::Write => one(alloc, writing(given.format, name)),
         Keyword::PrintStats => one(alloc, Command::Stats),
+        Keyword::PrintLevels => one(alloc, Command::Levels),
+        Keyword::Compare => one(
+            alloc,
+            comparing(alloc, limits.conflicts, name, given.other)?,
+        ),
+        Keyword::Time => one(alloc, Command::Time),
         Keyword::Echo => one(alloc, Command::Print(echoed(alloc, given.words)?)),
         Keyword::Help => one(alloc, Command::Print(helped(alloc, given.topic)?)),
         Keyword::Quit => one(alloc, Command::Quit),
@@ -280,7 +331,7 @@ fn commands_of(
         Keyword::ResubstituteZero => make(alloc, Recipe::Resubstitute(zero)),
         Keyword::Merge => make(alloc, Recipe::Merge(limits)),
         Keyword::Replace => make(alloc, Recipe::Replace(replacing)),
-        Keyword::Map => make(alloc, Recipe::Map { area: flag, inputs }),
+        Keyword::Map => make(alloc, Recipe::Map { area: flag, luts }),
         Keyword::MapByFlow => make(alloc, Recipe::MapByFlow(inputs)),
         Keyword::Sweep => make(alloc, Recipe::Sweep),
     }

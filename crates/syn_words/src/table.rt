@@ -12,6 +12,9 @@ pub enum Keyword {
     ReadBlif,
     WriteBlif,
     PrintStats,
+    PrintLevels,
+    Compare,
+    Time,
     Echo,
     Help,
     Quit,
@@ -133,6 +136,20 @@ const NAME_WITH_FORMAT: Form = Form {
     operands: Operands::NameWithFormat,
 };
 
+// `-p`, and then a file's name.
+const PROPERTIES_AND_NAME: Form = Form {
+    flags: (Some(b'p'), None, None),
+    numbered: (None, None),
+    operands: Operands::Name,
+};
+
+// A number of conflicts, and then a file's name, or two.
+const CONFLICTS_AND_NAMES: Form = Form {
+    flags: (None, None, None),
+    numbered: (Some(CONFLICTS), None),
+    operands: Operands::OneOrTwoNames,
+};
+
 // `-a`, `-t`, and then a file's name.
 const AIGER_NAME: Form = Form {
     flags: (Some(b'a'), Some(b't'), None),
@@ -190,11 +207,14 @@ const SEED_AND_SIZE: Form = Form {
 };
 
 // The names, long and short.
-const TABLE: [Row; 40] = [
+const TABLE: [Row; 43] = [
     (b"read_blif", NAME, Keyword::ReadBlif),
     (b"write_blif", NAME, Keyword::WriteBlif),
     (b"print_stats", NOTHING, Keyword::PrintStats),
     (b"ps", NOTHING, Keyword::PrintStats),
+    (b"print_level", NOTHING, Keyword::PrintLevels),
+    (b"cec", CONFLICTS_AND_NAMES, Keyword::Compare),
+    (b"time", NOTHING, Keyword::Time),
     (b"echo", WORDS, Keyword::Echo),
     (b"help", COMMAND, Keyword::Help),
     (b"quit", NOTHING, Keyword::Quit),
@@ -227,7 +247,7 @@ const TABLE: [Row; 40] = [
     (b"srs", GATE_SEARCH, Keyword::Replace),
     (b"resyn", NOTHING, Keyword::Resyn),
     (b"compress2", NOTHING, Keyword::Resyn2),
-    (b"read_aiger", NAME, Keyword::ReadAiger),
+    (b"read_aiger", PROPERTIES_AND_NAME, Keyword::ReadAiger),
     (b"write_aiger", AIGER_NAME, Keyword::WriteAiger),
     (b"read", NAME_WITH_FORMAT, Keyword::Read),
     (b"write", NAME_WITH_FORMAT, Keyword::Write),

@@ -26,6 +26,8 @@ pub struct Given<'a> {
     pub name: WordText<'a>,
     /// The format that the name's end tells, BLIF where none is expected.
     pub format: Format,
+    /// The second file's name, where one was given.
+    pub other: Option<WordText<'a>>,
     /// The numbers, 0 where none are expected.
     pub numbers: (u64, u64),
     /// The words, none where none are expected but those above.
@@ -45,6 +47,8 @@ pub enum Awaits {
     FurtherNumber(NumberRange),
     /// The second of two numbers.
     SecondNumber(NumberRange),
+    /// A second file's name, or no word.
+    SecondName,
     /// No word.
     Nothing,
 }
@@ -91,6 +95,7 @@ impl<'a> Given<'a> {
             further: None,
             name: WordText::empty(),
             format: Format::Blif,
+            other: None,
             numbers: (0, 0),
             words: CommandWords::of(&[], 0),
             topic: None,
@@ -125,6 +130,10 @@ impl<'a> Given<'a> {
             Operands::Name => {
                 self.name = word.text;
                 Ok(self.before(Awaits::Nothing))
+            }
+            Operands::OneOrTwoNames => {
+                self.name = word.text;
+                Ok(self.before(Awaits::SecondName))
             }
             Operands::NameWithFormat => {
                 let Some(format) = format_of(word.text.as_slice()) else {
@@ -195,7 +204,7 @@ impl<'a> Given<'a> {
         ensures { result ≡ at_end form end awaits self.entry }
     {
         let complete = match awaits {
-            Awaits::Nothing => true,
+            Awaits::Nothing | Awaits::SecondName => true,
             Awaits::Options => matches!(form.operands, Operands::Nothing | Operands::Command),
             Awaits::OptionNumber(_) | Awaits::FurtherNumber(_) | Awaits::SecondNumber(_) => false,
         };
@@ -225,6 +234,10 @@ impl<'a> Progress<'a> {
             }
             Awaits::SecondNumber(range) => {
                 given.numbers = (given.numbers.0, number_at(range, &word)?);
+                Ok(given.before(Awaits::Nothing))
+            }
+            Awaits::SecondName => {
+                given.other = Some(word.text);
                 Ok(given.before(Awaits::Nothing))
             }
             Awaits::Nothing => Err(ScriptFault::ExtraWord(word.at)),

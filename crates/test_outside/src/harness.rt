@@ -3,6 +3,7 @@
 use std::alloc::{AllocError, Global};
 use std::test::Fail;
 use std::thread::Threads;
+use std::time::Clock;
 use syn_commit::NoHook;
 use syn_io::{MemFiles, MemLines, MemSink};
 
@@ -54,7 +55,7 @@ pub fn lines_of(alloc: Global, text: &str) -> Result<MemLines, AllocError> {
 }
 
 // The status of a run.
-fn status<R: Threads + Sync>(
+fn status<R: Threads + Sync + Clock>(
     rt: &R,
     alloc: Global,
     words: &[&str],
@@ -82,7 +83,7 @@ fn is_file(bytes: Option<&[u8]>, text: Option<&str>) -> bool {
 }
 
 /// Whether a run leaves this.
-pub fn leaves<R: Threads + Sync>(
+pub fn leaves<R: Threads + Sync + Clock>(
     rt: &R,
     alloc: Global,
     words: &[&str],

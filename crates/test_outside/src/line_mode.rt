@@ -4,10 +4,11 @@ use crate::harness::{NAND, NAND_WRITTEN, Outcome, file_of, leaves, lines_of, sin
 use std::alloc::Global;
 use std::test::Fail;
 use std::thread::Threads;
+use std::time::Clock;
 use syn_io::{MemFiles, MemLines, MemSink};
 
 // Whether lines leave this over the files.
-fn lines_leave<R: Threads + Sync>(
+fn lines_leave<R: Threads + Sync + Clock>(
     rt: &R,
     alloc: Global,
     lines: &str,

@@ -26,5 +26,6 @@ returns c =
       fewer = omega (arith, done.fewer, length-map net.luts lut_data, length-map c.of.result lut_data);
       depth = done.depth;
       inputs = done.inputs;
+      cheaper = done.cheaper;
       depend = all.rebuilt.depend;
     }

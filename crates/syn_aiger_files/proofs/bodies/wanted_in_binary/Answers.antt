@@ -1,4 +1,4 @@
-use Rattle.std.proofs.Common.{◌+◌, ◌-◌, ◌*◌, false, arith, refl}
+use Rattle.std.proofs.Common.{◌+◌, ◌-◌, ◌*◌, ℕ, false, ap, arith}
 use Rattle.syn_aiger_files.specs.Parts.{NextLine, OutputLine, PairOf, wanted_by}
 use Rattle.syn_aiger_files.proofs.Gathering.{binary_next, binary_output, binary_pair, by_next}
 use Rattle.syn_aiger_files.proofs.bodies.wanted_in_binary.Goals as goal
@@ -11,5 +11,7 @@ returns-then-k-h-2-clause-next c = by_next (wanted_by false c.args.h.now) c.args
 
 pub returns-clause-next : goal.returns-clause-next
 returns-clause-next c =
-    by_next (wanted_by false c.args.h.now) c.args.k (PairOf (2 * (c.args.h.now.inputs + c.args.h.now.latches + 1 + (c.args.k - c.args.h.now.latches - c.args.h.now.outputs))))
-    (binary_pair c.args.h.now c.args.k (2 * (c.args.h.now.inputs + c.args.h.now.latches + 1 + (c.args.k - c.args.h.now.latches - c.args.h.now.outputs))) (omega (arith, c.if-k-h-2.false)) (omega (arith, c.requires.within)) refl)
+    let h = c.args.h.now in
+    let literal : ℕ → ℕ = λ (outputs : ℕ). 2 * (h.inputs + h.latches + 1 + (c.args.k - h.latches - outputs)) in
+    by_next (wanted_by false h) c.args.k (PairOf (literal c.all_outputs-outputs.result))
+    (binary_pair h c.args.k (literal c.all_outputs-outputs.result) (omega (arith, c.if-k-h-2.false, c.all_outputs-outputs.ensures)) (omega (arith, c.requires.within)) (ap literal c.all_outputs-outputs.ensures))

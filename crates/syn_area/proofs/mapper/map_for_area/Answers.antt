@@ -1,12 +1,58 @@
-use Rattle.std.proofs.Common.{ℕ, ◌≤◌, List, length, arith}
+use Rattle.std.proofs.Common.{◌≡◌, ℕ, ◌+◌, ◌≤◌, true, List, length, map, arith}
 use Rattle.std.proofs.lemmas.Result.{IfOk-weaker}
-use Rattle.syn_area.specs.Plain.{AreNeeded, IsNoWorse}
-use Rattle.syn_area.proofs.Counting.{plain_fewest}
+use Rattle.syn_rows.specs.Rows.{node_of}
+use Rattle.syn_lutnet.specs.LutData.{greatest, net_depth, none_exceeds}
+use Rattle.syn_lutnet.specs.Data.{luts_data}
+use Rattle.syn_lutnet.specs.Nets.{HasFunctionOf}
+use Rattle.syn_map.specs.Labels.{label_of}
+use Rattle.syn_area.specs.Areas.{luts_cost, nodes_cost}
+use Rattle.syn_area.specs.Plain.{AreLutsOf, AreNeeded, IsNoWorse}
+use Rattle.syn_area.proofs.Bettering.{if_both, no_deeper}
+use Rattle.syn_area.proofs.Counting.{plain_cheap, plain_fewest}
 use Rattle.syn_area.proofs.mapper.map_for_area.Goals as goal
 
-pub returns-in-Ok-clause-fewer : goal.returns-in-Ok-clause-fewer
-returns-in-Ok-clause-fewer g c =
+pub best-requires-clause-luts : goal.best-requires-clause-luts
+best-requires-clause-luts g c = let h = c.in_ok-plain.ensures in record { function = h.function; inputs = h.inputs; count = h.count }
+
+pub returns-clause-function : goal.returns-clause-function
+returns-clause-function g c =
+    let gr = c.args.graph.now in
+    IfOk-weaker c.best.result (AreLutsOf c.args.k gr) (HasFunctionOf gr) (λ kept luts. luts.function) c.best.ensures.luts
+
+pub returns-clause-inputs : goal.returns-clause-inputs
+returns-clause-inputs g c =
+    let gr = c.args.graph.now in
+    IfOk-weaker c.best.result (AreLutsOf c.args.k gr) (λ kept. none_exceeds c.args.k (luts_data kept.luts) ≡ true) (λ kept luts. luts.inputs) c.best.ensures.luts
+
+pub returns-clause-count : goal.returns-clause-count
+returns-clause-count g c =
+    let gr = c.args.graph.now in
+    IfOk-weaker c.best.result (AreLutsOf c.args.k gr) (λ kept. length kept.luts + (gr.source_count + 1) ≤ length gr.rows) (λ kept luts. luts.count) c.best.ensures.luts
+
+pub returns-clause-depth : goal.returns-clause-depth
+returns-clause-depth g c =
+    let gr = c.args.graph.now in
+    let k = c.args.k in
+    let plain = c.in_ok-plain.plain in
+    let h = c.in_ok-plain.ensures in
+    IfOk-weaker c.best.result (λ kept. AreLutsOf k gr kept × IsNoWorse k c.args.areas.now kept plain)
+    (λ kept. net_depth gr.source_count (luts_data kept.luts) ≤ greatest (label_of k gr.rows) (map node_of gr.observed))
+    (λ kept both. omega (arith, no_deeper gr kept plain both.0.function h.function both.1.depth, h.depth))
+    (if_both c.best.result (AreLutsOf k gr) (λ kept. IsNoWorse k c.args.areas.now kept plain) c.best.ensures.luts c.best.ensures.no_worse)
+
+pub returns-clause-cost : goal.returns-clause-cost
+returns-clause-cost g c =
+    let gr = c.args.graph.now in
+    let areas = c.args.areas.now in
+    let plain = c.in_ok-plain.plain in
+    IfOk-weaker c.best.result (λ kept. IsNoWorse c.args.k areas kept plain)
+    (λ kept. (nodes : List ℕ) → AreNeeded c.args.k gr.rows gr.observed nodes → luts_cost areas (luts_data kept.luts) ≤ nodes_cost c.args.k gr.rows areas nodes)
+    (λ kept no_worse nodes needed. omega (arith, no_worse.cost, plain_cheap c.args.k areas gr plain nodes c.in_ok-plain.ensures.mapping needed)) c.best.ensures.no_worse
+
+pub returns-clause-fewer : goal.returns-clause-fewer
+returns-clause-fewer g c = λ alike.
     let gr = c.args.graph.now in
     let plain = c.in_ok-plain.plain in
-    IfOk-weaker c.better.result (λ kept. IsNoWorse kept plain) (λ kept. (nodes : List ℕ) → AreNeeded c.args.k gr.rows gr.observed nodes → length kept.luts ≤ length nodes)
-    (λ kept no_worse nodes needed. omega (arith, no_worse.fewer, plain_fewest c.args.k gr plain nodes c.in_ok-plain.ensures.mapping needed)) c.better.ensures.no_worse
+    IfOk-weaker c.best.result (λ kept. IsNoWorse c.args.k c.args.areas.now kept plain)
+    (λ kept. (nodes : List ℕ) → AreNeeded c.args.k gr.rows gr.observed nodes → length kept.luts ≤ length nodes)
+    (λ kept no_worse nodes needed. omega (arith, no_worse.fewer alike, plain_fewest c.args.k gr plain nodes c.in_ok-plain.ensures.mapping needed)) c.best.ensures.no_worse

@@ -24,8 +24,8 @@ returns-in_err-push_commands-in-Ok-Some-clause-refused g t c =
     c.in-Ok-Some.said.items c.in-Some.command got.0 (refusal_of c.in_err-push_commands-in-Ok-Some.field-0.0)
     c.loop-command.invariant.rest is c.loop-command.invariant.told c.in-Ok-Some.ensures.unchanged.told got.1 c.in_err-push_commands-in-Ok-Some.ensures.refused)
 
-pub loop-command-preserved-in_ok-push_commands-in-Ok-Some-6 : goal.loop-command-preserved-in_ok-push_commands-in-Ok-Some-6
-loop-command-preserved-in_ok-push_commands-in-Ok-Some-6 g t c =
+pub loop-command-preserved-in_ok-push_commands-in-Ok-Some-8 : goal.loop-command-preserved-in_ok-push_commands-in-Ok-Some-8
+loop-command-preserved-in_ok-push_commands-in-Ok-Some-8 g t c =
     let is : into_iter_items c.loop-command.command-iterator ≡ c.in-Some.command ∷ into_iter_items c.next.new.self = search rules in
     let got : Opens c.args.depth (g.F.Files.disk c.loop-command.files).told c.in-Some.command (Some c.in-Ok-Some.said) = search rules in
     record {

@@ -5,7 +5,9 @@ use Rattle.syn_lutnet.specs.LutData.{greatest, net_depth, none_exceeds}
 use Rattle.syn_lutnet.specs.Data.{luts_data}
 use Rattle.syn_lutnet.specs.Nets.{HasFunctionOf}
 use Rattle.syn_map.specs.Labels.{label_of}
+use Rattle.syn_area.specs.Areas.{cost_of, luts_cost, nodes_cost}
 use Rattle.syn_area.specs.Plain.{AreNeeded}
+use Rattle.syn_area.proofs.Costing.{never_falls}
 use Rattle.syn_absorb.specs.Flips.{AllShown}
 use Rattle.syn_absorb.specs.Needed.{AllDepend}
 use Rattle.syn_settled.specs.Settled.{IsSettled}
@@ -36,13 +38,24 @@ returns-clause-depth g c =
     IfOk-weaker c.settle.result (IsSettled was) (λ net. net_depth graph.source_count (luts_data net.luts) ≤ greatest (label_of c.args.k graph.rows) (map node_of graph.observed))
     (λ now s. omega (arith, no_deeper graph was now h.function s, h.depth)) c.settle.ensures
 
+pub returns-clause-cost : goal.returns-clause-cost
+returns-clause-cost g c =
+    let graph = c.args.graph.now in
+    let areas = c.args.areas.now in
+    let was = c.in_ok-mapped.mapped in
+    let h = c.in_ok-mapped.ensures in
+    IfOk-weaker c.settle.result (IsSettled was) (λ net. (nodes : List ℕ) → AreNeeded c.args.k graph.rows graph.observed nodes → luts_cost areas (luts_data net.luts) ≤ nodes_cost c.args.k graph.rows areas nodes)
+    (λ now s. λ nodes needed.
+    let less : luts_cost areas (luts_data now.luts) ≤ luts_cost areas (luts_data was.luts) = s.cheaper (cost_of areas) (never_falls areas) in
+    omega (arith, less, h.cost nodes needed)) c.settle.ensures
+
 pub returns-clause-fewer : goal.returns-clause-fewer
-returns-clause-fewer g c =
+returns-clause-fewer g c = λ alike.
     let graph = c.args.graph.now in
     let was = c.in_ok-mapped.mapped in
     let h = c.in_ok-mapped.ensures in
     IfOk-weaker c.settle.result (IsSettled was) (λ net. (nodes : List ℕ) → AreNeeded c.args.k graph.rows graph.observed nodes → length net.luts ≤ length nodes)
-    (λ now s. λ nodes needed. omega (arith, s.fewer, h.fewer nodes needed)) c.settle.ensures
+    (λ now s. λ nodes needed. omega (arith, s.fewer, h.fewer alike nodes needed)) c.settle.ensures
 
 pub returns-clause-count : goal.returns-clause-count
 returns-clause-count g c =

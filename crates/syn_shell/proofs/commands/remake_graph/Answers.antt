@@ -26,7 +26,7 @@ returns-in_ok-new-in-Replace-clause-made g c =
     (c.remade-in-Replace.ensures.merged c.in-Replace.limits.levels (record { follows = h.follows; levels = λ kept. h.levels (c.reach_of.ensures.levels ∙ kept) }))
 
 pub returns-in_ok-made-in-Map-clause-made : goal.returns-in_ok-made-in-Map-clause-made
-returns-in_ok-made-in-Map-clause-made g c = made_by _ (recipes.Map c.in-Map.area c.in-Map.inputs) _ _ c.in-Map.is c.in_ok-made-in-Map.ensures
+returns-in_ok-made-in-Map-clause-made g c = made_by _ (recipes.Map c.in-Map.area c.in-Map.luts) _ _ c.in-Map.is c.in_ok-made-in-Map.ensures
 
 pub returns-in_ok-mapped-in-MapByFlow-clause-made : goal.returns-in_ok-mapped-in-MapByFlow-clause-made
 returns-in_ok-mapped-in-MapByFlow-clause-made g c =
