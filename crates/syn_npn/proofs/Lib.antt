@@ -12,3 +12,4 @@ pub mod Undoing
 pub mod Unique
 pub mod Composing
 pub mod Noting
+pub mod Listing

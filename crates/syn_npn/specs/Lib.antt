@@ -1,3 +1,4 @@
+pub mod EachPermutation
 pub mod Images
 pub mod Keys
 pub mod Permutations

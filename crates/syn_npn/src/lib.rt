@@ -13,7 +13,7 @@ mod table;
 mod walk;
 
 pub use classes::{canon, image, undo};
-pub use laws::one_canon;
+pub use laws::{each_permutation, one_canon};
 pub use table::Classes;
 
 /// Turns a function f into its image g: g(x) is f(y), complemented where `neg` is set, where variable i of y is
