@@ -20,6 +20,7 @@ pub use commits::try_commit;
 pub use hints::Hints;
 pub use hooks::{CommitHook, Moment, NoHook};
 pub use pools::Pool;
+pub use spare::MAX_SPARE;
 use syn_table::Shared;
 
 /// What all commits of a worker use.

@@ -8,7 +8,7 @@ use arrayvec::ArrayVec;
 use syn_decide::{Attempt, Deciding};
 
 /// The most leaves of a proposal.
-const MAX_LEAVES: usize = 8;
+const MAX_LEAVES: usize = syn_plan::MAX_LEAVES as usize;
 
 /// The leaves that the walk met, in their order.
 pub(crate) fn met_leaves(attempt: &Attempt<'_>, deciding: &Deciding) -> ArrayVec<u32, MAX_LEAVES>

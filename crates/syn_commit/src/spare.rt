@@ -13,7 +13,7 @@ use syn_rows::Row;
 use syn_table::{Seat, Shared};
 
 /// The most nodes that a pool has.
-pub(crate) const MAX_SPARE: usize = 512;
+pub const MAX_SPARE: usize = 512;
 
 /// Free nodes that one seat holds, at most 512. Contracts see the list.
 #[derive(Debug, Drop)]

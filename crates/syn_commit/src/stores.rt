@@ -21,9 +21,9 @@ ghost use Rattle.syn_commit.specs.Storing.{AreMade, AreNewRows, KeepsKnown, MayR
 use crate::returns::{Holding, MAX_HELD, add_refs, place_of};
 use crate::spare::Spare;
 use arrayvec::ArrayVec;
-use syn_decide::{NewRows, NodeRow};
+use syn_decide::{FIRST_NEW, NewRows, NodeRow};
 use syn_plan::MAX_GATES;
-use syn_rows::{Lit, NODE_LIMIT, Row, ordered_and};
+use syn_rows::{Lit, Row, ordered_and};
 use syn_table::{Seat, Shared};
 
 // A gate of the zero list is referred to again.
@@ -127,9 +127,6 @@ pub(crate) struct Spacing {
     /// How far apart two keys lie.
     pub(crate) step: u64,
 }
-
-// The number of the first new gate.
-const FIRST_NEW: u32 = NODE_LIMIT as u32;
 
 // The node at a place of the list, 0 past its end.
 fn node_at(rows: &[NodeRow], place: usize) -> u32

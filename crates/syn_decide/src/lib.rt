@@ -25,6 +25,7 @@ pub use laws::{
     hits_in_order, one_read_more, rows_always_fit, worked_reads,
 };
 pub use mffc::dying_with;
+pub use place::FIRST_NEW;
 pub use reads::{Deciding, Reads, decide};
 pub use rows::NewRows;
 pub use words::Words;

@@ -17,8 +17,8 @@ use syn_rows::{Lit, NODE_LIMIT, Row};
 /// What the plan of a commit becomes. It is some six thousand bytes, so it is filled in place and lent.
 pub(crate) type Placed = PlacedPlan<MAX_INDEXES>;
 
-// The number of the first new gate.
-const FIRST_NEW: u32 = NODE_LIMIT as u32;
+/// The number of the first new gate of a plan: no table has a node of such a number.
+pub const FIRST_NEW: u32 = NODE_LIMIT as u32;
 
 fn is_new_gate(l: Lit) -> bool
     ensures { result ≡ spec.is_new_gate l }

@@ -9,13 +9,13 @@ ghost use Rattle.syn_table.specs.WorkedKeys.{Worked};
 use std::alloc::{AllocError, Global};
 use syn_graph::Graph;
 
-// How far the keys of two levels are apart.
-const GAP: u64 = 1 << 32;
+/// How far apart two keys lie at first: those of two levels, or of two numbers of nodes.
+pub const KEY_GAP: u64 = 1 << 32;
 
 fn key_of_level(level: u32) -> u64
     ensures { result ≡ key_of_level level }
 {
-    u64::from(level) * GAP
+    u64::from(level) * KEY_GAP
 }
 
 fn keys_of_levels(alloc: Global, levels: &[u32]) -> Result<Vec<u64>, AllocError>

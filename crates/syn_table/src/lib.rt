@@ -18,7 +18,7 @@ mod words;
 use arrayvec::ArrayVec;
 use atomic_table::{Table, TableRule};
 pub use closed::Rows;
-pub use keys::{between, spread, worked_keys};
+pub use keys::{KEY_GAP, between, spread, worked_keys};
 use std::alloc::Global;
 use std::collections::LinkedList;
 use std::snapshot::Snapshot;

@@ -4,16 +4,14 @@ ghost use Rattle.std.specs.Prelude.{◌≡◌, ◌<◌, All, true};
 ghost use Rattle.syn_rows.specs.declared.TheConstants.{NODE_LIMIT};
 
 use syn_commit::Hints;
+use syn_decide::FIRST_NEW;
 use syn_gain::{Lookup, PlacedPlan, literal_for};
 use syn_plan::Plan;
-use syn_rows::{Lit, NODE_LIMIT, Row, has_node};
+use syn_rows::{Lit, Row, has_node};
 use syn_table::Shared;
 
 // How many indexes a plan has that is looked at: the constant, its leaves and its gates.
 const MAX_INDEXES: usize = 24;
-
-// The number of the first new row.
-const FIRST_NEW: u32 = NODE_LIMIT as u32;
 
 // The rows of a table that hints find, as they stand: nothing is promised of them.
 #[derive(Clone, Copy)]

@@ -11,10 +11,10 @@ ghost use Rattle.syn_pool.specs.Keys.{HasKeys, key_of_row};
 
 use crate::rounds::visits::is_gate;
 use std::alloc::{AllocError, Global};
-use syn_commit::Hints;
+use syn_commit::{Hints, MAX_SPARE};
 use syn_graph::Graph;
 use syn_rows::Row;
-use syn_table::{Seat, Shared, spread};
+use syn_table::{KEY_GAP, Seat, Shared, spread};
 use syn_workers::Workers;
 
 /// Which nodes come later on a round's table: a commit uses rows that come before its root.
@@ -26,18 +26,15 @@ pub(crate) enum Order {
     Numbers,
 }
 
-/// The spare nodes of a worker.
-pub(crate) const SPARE: u32 = 512;
-
-// How far the keys of two neighbours are apart.
-const GAP: u64 = 1 << 32;
+/// The spare nodes of a worker: as many as its pool takes in.
+pub(crate) const SPARE: u32 = MAX_SPARE as u32;
 
 // The key of a node with this row by its number: 0 where it is no AND.
 fn key_of_row(node: u32, row: Row) -> u64
     ensures { result ≡ key_of_row node row }
 {
     match row {
-        Row::And(_, _) => u64::from(node) * GAP,
+        Row::And(_, _) => u64::from(node) * KEY_GAP,
         Row::Free | Row::Source | Row::Alias(_) => 0,
     }
 }
