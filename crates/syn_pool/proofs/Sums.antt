@@ -1,6 +1,7 @@
 -- Reports are sums.
-use Rattle.std.proofs.Common.{◌≡◌, ℕ, ◌+◌, ◌-◌, ◌^◌, ◌≤◌, List, [], ◌∷◌, ◌++◌, length, refl, sym, ap, ap₂, ◌∙◌, subst, arith, inl, inr}
+use Rattle.std.proofs.Common.{◌≡◌, ℕ, ◌+◌, ◌-◌, ◌^◌, ◌≤◌, Bool, List, [], ◌∷◌, ◌++◌, length, refl, sym, ap, ap₂, ◌∙◌, subst, arith, inl, inr, ℤ, ◌+ℤ◌}
 use Rattle.std.proofs.lemmas.Bool.{cases_lt}
+use Rattle.std.proofs.lemmas.Int.{ints}
 use Rattle.std.proofs.Math.Nat.{min-eq_left, min-eq_right}
 use Rattle.syn_core_laws.specs.declared.View.{View}
 use Rattle.syn_core_laws.specs.declared.Change.{Change}
@@ -11,7 +12,7 @@ use Rattle.syn_decide.specs.Tasks.{Task}
 use Rattle.syn_commit_laws.specs.Freeing.{redefines}
 use Rattle.syn_commit.specs.Committed.{Stores, gain_of}
 use Rattle.syn_proposals.specs.declared.gains.Report.{Report}
-use Rattle.syn_pool.specs.Reports.{HasTriedAll, IsSum, Sweep, all_answers, done_of, dones, gains, reported, told, with_answer}
+use Rattle.syn_pool.specs.Reports.{HasTriedAll, IsSum, Sweep, all_answers, all_differences, done_of, dones, gains, reported, told, with_answer}
 
 -- ---- numbers of reports
 pub told_low : (a : ℕ) → a ≤ 2 ^ 64 - 1 → told a ≡ a
@@ -44,13 +45,20 @@ append_again : (xs ys zs : List Answer) → (xs ++ ys) ++ zs ≡ xs ++ (ys ++ zs
 append_again [] ys zs = refl
 append_again (a ∷ xs) ys zs = ap (λ (l : List Answer). a ∷ l) (append_again xs ys zs)
 
-pub all_append : (ss ts : List Sweep) → all_answers (ss ++ ts) ≡ all_answers ss ++ all_answers ts
+pub all_append : {zero_gain : Bool} (ss ts : List (Sweep zero_gain)) → all_answers (ss ++ ts) ≡ all_answers ss ++ all_answers ts
 all_append [] ts = refl
 all_append (s ∷ ss) ts = ap (λ (l : List Answer). s.answers ++ l) (all_append ss ts) ∙ sym (append_again s.answers (all_answers ss) (all_answers ts))
 
-pub tried_both : (xs ys : List Answer) (u v w : View) → HasTriedAll xs u v → HasTriedAll ys v w → HasTriedAll (xs ++ ys) u w
-tried_both [] ys u v w first second = subst (λ (x : View). HasTriedAll ys x w) first second
-tried_both (a ∷ xs) ys u v w first second = (first.0, first.1, tried_both xs ys first.0 v w first.2 second)
+sum_more : (a b c d : ℤ) → b ≡ c +ℤ d → a +ℤ b ≡ (a +ℤ c) +ℤ d
+sum_more a b c d is = omega (arith, ints, is)
+
+pub differences_append : {zero_gain : Bool} (ss ts : List (Sweep zero_gain)) → all_differences (ss ++ ts) ≡ all_differences ss +ℤ all_differences ts
+differences_append [] ts = omega (arith, ints)
+differences_append (s ∷ ss) ts = sum_more s.after.difference (all_differences (ss ++ ts)) (all_differences ss) (all_differences ts) (differences_append ss ts)
+
+pub tried_both : (zero_gain : Bool) (xs ys : List Answer) (u v w : View) → HasTriedAll zero_gain xs u v → HasTriedAll zero_gain ys v w → HasTriedAll zero_gain (xs ++ ys) u w
+tried_both zero_gain [] ys u v w first second = subst (λ (x : View). HasTriedAll zero_gain ys x w) first second
+tried_both zero_gain (a ∷ xs) ys u v w first second = (first.0, first.1, tried_both zero_gain xs ys first.0 v w first.2 second)
 
 pub reported_both : (r : Report) (xs ys : List Answer) → reported r (xs ++ ys) ≡ reported (reported r xs) ys
 reported_both r [] ys = refl

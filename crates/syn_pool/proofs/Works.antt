@@ -1,6 +1,8 @@
 -- What a worker has done, moment by moment.
 use Rattle.std.proofs.Common.{◌≡◌, ◌≢◌, ℕ, ◌+◌, ◌<◌, ◌≤◌, Bool, true, false, not, if◌then◌else◌, List, [], ◌∷◌, ◌++◌, length, refl, sym, ap, ap₂, ◌∙◌, subst, arith, ℤ, pos, ◌+ℤ◌, ◌≤ℤ◌}
+use Rattle.std.proofs.lemmas.Bool.{both_ways}
 use Rattle.std.proofs.lemmas.Int.{ints}
+use Rattle.std.proofs.lemmas.List.Elements.{All-append, All-nil, All-cons}
 use Rattle.syn_core_laws.specs.declared.Seen.{Seen}
 use Rattle.syn_decide.specs.declared.decisions.Outcome.{Outcome}
 use Rattle.syn_decide.specs.declared.decisions.Outcome.TheVariants as outcome
@@ -23,10 +25,10 @@ use Rattle.syn_commit.specs.Committed.{FellSince, StoredSince, changes_since, ga
 use Rattle.syn_commit.specs.Giving.{IsAtRest}
 use Rattle.syn_core_laws.specs.declared.View.{View}
 use Rattle.syn_pool.specs.declared.rounds.workers.Worker.{Worker}
-use Rattle.syn_pool.specs.Reports.{HasTried, done_of, IsSum, all_answers, reported, told, with_answer, with_gain}
+use Rattle.syn_pool.specs.Reports.{BeginsAnew, HasTried, HasTriedAll, done_of, IsSum, all_answers, all_differences, reported, told, with_answer, with_gain}
 use Rattle.syn_pool.specs.Closing.{IsLeft}
 use Rattle.syn_pool.specs.Working.{HasSwept, HasWorked, IsRound, IsRoundReport}
-use Rattle.syn_pool.proofs.Sums.{all_append, reported_both, stored_dones, sum_both, sum_of_reported, tried_both}
+use Rattle.syn_pool.proofs.Sums.{all_append, differences_append, reported_both, stored_dones, sum_both, sum_of_reported, tried_both}
 use Rattle.syn_decide.proofs.Enough.{gain_enough}
 
 -- nothing was done
@@ -38,15 +40,23 @@ pub has_both : (zero_gain : Bool) (u v w : Worker) → HasWorked zero_gain u v �
 has_both zero_gain u v w f s = record {
   known = s.known ∙ ap (λ (k : Known). with_view k (view_of w.seat)) f.known;
   answers = f.answers ++ s.answers;
-  tried = tried_both f.answers s.answers (view_of u.seat) (view_of v.seat) (view_of w.seat) f.tried s.tried;
+  tried = tried_both zero_gain f.answers s.answers (view_of u.seat) (view_of v.seat) (view_of w.seat) f.tried s.tried;
   report = s.report ∙ ap (λ (r : Report). reported r s.answers) f.report ∙ sym (reported_both u.report f.answers s.answers);
   fell = let a = f.fell in let b = s.fell in omega (arith, ints, a, b);
   gains = λ strict le. s.gains strict (f.gains strict le);
 }
 
+-- where no gain of 0 was let through, it is so where one may be
+tried_saving : (zero_gain : Bool) (answer : Answer) (v w : View) → HasTried false answer v w → HasTried zero_gain answer v w
+tried_saving zero_gain answer v w f = record { task = f.task; allowed = λ is. absurd (both_ways false refl (f.allowed is)); decision = f.decision; reads = f.reads; changes = f.changes; stored = f.stored; fell = f.fell }
+
+all_saving : (zero_gain : Bool) (xs : List Answer) (v w : View) → HasTriedAll false xs v w → HasTriedAll zero_gain xs v w
+all_saving zero_gain [] v w tried = tried
+all_saving zero_gain (a ∷ xs) v w tried = (tried.0, tried_saving zero_gain a v tried.0 tried.1, all_saving zero_gain xs tried.0 w tried.2)
+
 -- where each commit saved, it is so whether gains of 0 are enough or not
 pub has_saved : (zero_gain : Bool) (u v : Worker) → HasWorked false u v → HasWorked zero_gain u v
-has_saved zero_gain u v f = record { known = f.known; answers = f.answers; tried = f.tried; report = f.report; fell = f.fell; gains = λ _ le. f.gains refl le }
+has_saved zero_gain u v f = record { known = f.known; answers = f.answers; tried = all_saving zero_gain f.answers (view_of u.seat) (view_of v.seat) f.tried; report = f.report; fell = f.fell; gains = λ _ le. f.gains refl le }
 
 fell_by : (d e : ℤ) (gain more was now : ℕ) → (d +ℤ pos (gain + more)) ≡ e → now ≤ was + gain → (d +ℤ pos now) ≤ℤ (e +ℤ pos was)
 fell_by d e gain more was now is le = omega (arith, ints, is, le)
@@ -55,7 +65,7 @@ fell_by d e gain more was now is le = omega (arith, ints, is, le)
 pub has_done : (t : Task) (was now : Worker) (answer : Outcome) (gain : ℕ) → answer ≡ outcome.Done gain
     → known_of now.seat ≡ with_view (known_of was.seat) (view_of now.seat)
     → FellSince t (view_of was.seat) (told_answer answer) (view_of now.seat)
-    → HasTried (told_answer answer) (view_of was.seat) (view_of now.seat)
+    → HasTried t.zero_gain (told_answer answer) (view_of was.seat) (view_of now.seat)
     → (met : List Seen) → decided t met ≡ Answered (told_answer answer)
     → now.report ≡ with_gain was.report gain
     → now.report.gained ≤ was.report.gained + gain
@@ -98,19 +108,22 @@ done_none (outcome.NoRoom need have) other = refl
 
 -- a commit is an attempt
 pub has_tried : (t : Task) (pool grown : List ℕ) (answer : Answer) (v w : View) → decided t (met_since v w) ≡ Answered answer
-    → w.changes ≡ v.changes ++ changes_since v w → StoredSince t v pool answer w grown → HasTried answer v w
-has_tried t pool grown answer v w decision changes stored = record {
+    → w.reads ≡ v.reads ++ met_since v w → w.changes ≡ v.changes ++ changes_since v w → StoredSince t v pool answer w grown → FellSince t v answer w → HasTried t.zero_gain answer v w
+has_tried t pool grown answer v w decision reads changes stored fell = record {
   task = t;
+  allowed = λ is. is;
   decision = decision;
+  reads = reads;
   changes = changes;
   stored = stored_dones t (state_since t v w) answer pool stored.0 (makes_since v w) (changes_since v w) stored.1;
+  fell = fell;
 }
 
 -- one commit was answered otherwise
 pub has_failed : (t : Task) (was now : Worker) (answer : Outcome)
     → known_of now.seat ≡ with_view (known_of was.seat) (view_of now.seat)
     → FellSince t (view_of was.seat) (told_answer answer) (view_of now.seat)
-    → HasTried (told_answer answer) (view_of was.seat) (view_of now.seat)
+    → HasTried t.zero_gain (told_answer answer) (view_of was.seat) (view_of now.seat)
     → ((gain : ℕ) → answer ≢ outcome.Done gain)
     → now.report ≡ was.report
     → HasWorked t.zero_gain was now
@@ -144,6 +157,9 @@ append_none (a ∷ xs) = ap (λ (l : List Answer). a ∷ l) (append_none xs)
 fell_both : (was mine theirs start : ℤ) (a b c : ℕ) → (mine +ℤ pos a) ≤ℤ was → (theirs +ℤ pos b) ≤ℤ start → start ≡ pos 0 → c ≤ a + b → ((mine +ℤ theirs) +ℤ pos c) ≤ℤ was
 fell_both was mine theirs start a b c f s none le = omega (arith, ints, f, s, none, le)
 
+sum_both_ways : (now mine theirs a b c d e : ℤ) → now ≡ mine +ℤ theirs → mine ≡ a +ℤ b → theirs ≡ c +ℤ d → e ≡ b +ℤ (c +ℤ d) → now ≡ a +ℤ e
+sum_both_ways now mine theirs a b c d e is f s both = omega (arith, ints, is, f, s, both)
+
 -- what a seat and the seat that was split from it have done, when they are joined again
 pub swept_both : (shared : Shared) (zero_gain : Bool) (was left new first second now : Seat) (r s t : Report)
     → 0 < length (known_of was).numbers
@@ -160,8 +176,12 @@ swept_both shared zero_gain was left new first second now r s t some is_left is_
   known = subst (λ (k : Known). k ≡ with_view (known_of was) k.core) (sym whole) (ap (λ (ns : List ℕ). record (known_of was) { core = view_after_join (view_of first) (view_of second); numbers = ns }) (all_again (known_of was).numbers some));
   own = f.own;
   others = f.others ++ g.own ∷ g.others;
-  since = f.since ∙ ap (λ (k : Known). k.core.changes) is_left;
-  until = ap (λ (k : Known). k.core.changes) is_now ∙ f.until;
+  since = (f.since.0 ∙ ap (λ (k : Known). k.core.changes) is_left, f.since.1 ∙ ap (λ (k : Known). k.core.difference) is_left);
+  until = (ap (λ (k : Known). k.core.changes) is_now ∙ f.until.0, ap (λ (k : Known). k.core.reads) is_now ∙ f.until.1);
+  anew = All-append BeginsAnew f.others (g.own ∷ g.others) f.anew
+      (All-cons BeginsAnew g.own g.others (g.since.0 ∙ ap (λ (k : Known). k.core.changes) is_new, g.since.1 ∙ ap (λ (k : Known). k.core.difference) is_new) g.anew);
+  difference = sum_both_ways (view_of now).difference (view_of first).difference (view_of second).difference f.own.after.difference (all_differences f.others) g.own.after.difference (all_differences g.others)
+      (all_differences (f.others ++ g.own ∷ g.others)) (ap (λ (k : Known). k.core.difference) is_now) f.difference g.difference (differences_append f.others (g.own ∷ g.others));
   sums = subst (λ (xs : List Answer). IsSum xs t) (sym (all_append (f.own ∷ f.others) (g.own ∷ g.others)))
       (sum_both (all_answers (f.own ∷ f.others)) (all_answers (g.own ∷ g.others)) r s t f.sums g.sums sum_done sum_gained);
   fell = subst (λ d. (d +ℤ pos t.gained) ≤ℤ (view_of was).difference) (sym (ap (λ (k : Known). k.core.difference) is_now))
@@ -179,6 +199,9 @@ swept_both shared zero_gain was left new first second now r s t some is_left is_
     whole : known_of now ≡ record (known_of was) { core = view_after_join (view_of first) (view_of second); numbers = all_but_last (known_of was).numbers ++ last_of (known_of was).numbers ∷ [] }
     whole = is_now ∙ ap₂ with_joined one two
 
+alone : (d : ℤ) → d ≡ d +ℤ pos 0
+alone d = omega (arith, ints)
+
 -- ---- one worker
 -- what a worker has done from its first node to its last
 pub swept_one : (shared : Shared) (zero_gain : Bool) (was now : Seat) (start end : Worker) (report : Report)
@@ -187,17 +210,19 @@ pub swept_one : (shared : Shared) (zero_gain : Bool) (was now : Seat) (start end
     → start.report.done ≡ 0 → start.report.gained ≡ 0
     → HasWorked zero_gain start end
     → IsOf now shared → IsAtRest (view_of now) → known_of now ≡ with_view (known_of end.seat) (view_of now)
-    → (view_of now).difference ≡ (view_of end.seat).difference → (view_of now).changes ≡ (view_of end.seat).changes
+    → (view_of now).difference ≡ (view_of end.seat).difference → (view_of now).changes ≡ (view_of end.seat).changes → (view_of now).reads ≡ (view_of end.seat).reads
     → report ≡ end.report
     → HasSwept shared zero_gain was now report
-swept_one shared zero_gain was now start end report begun difference changes no_done no_gain f table rest ended same_difference same_changes same = record {
+swept_one shared zero_gain was now start end report begun difference changes no_done no_gain f table rest ended same_difference same_changes same_reads same = record {
   table = table;
   rest = rest;
   known = ended ∙ ap (λ (k : Known). with_view k (view_of now)) (f.known ∙ ap (λ (k : Known). with_view k (view_of end.seat)) begun);
   own = record { answers = f.answers; before = view_of start.seat; after = view_of end.seat; tried = f.tried };
   others = [];
-  since = changes;
-  until = same_changes;
+  since = (changes, difference);
+  until = (same_changes, same_reads);
+  anew = All-nil BeginsAnew;
+  difference = same_difference ∙ alone (view_of end.seat).difference;
   sums = subst (λ (xs : List Answer). IsSum xs report) (sym (append_none f.answers)) (sum_of_reported start.report report f.answers no_done no_gain (same ∙ f.report));
   fell = fell_whole (view_of was).difference (view_of start.seat).difference (view_of end.seat).difference (view_of now).difference start.report.gained end.report.gained report.gained
       difference same_difference no_gain (ap (λ (r : Report). r.gained) same) f.fell;
@@ -213,8 +238,10 @@ swept_none shared zero_gain was now report table rest is no_done no_gain = recor
   known = is ∙ ap (λ (k : Known). with_view (known_of was) k.core) (sym is);
   own = record { answers = []; before = view_of was; after = view_of was; tried = refl };
   others = [];
-  since = refl;
-  until = ap (λ (k : Known). k.core.changes) is;
+  since = (refl, refl);
+  until = (ap (λ (k : Known). k.core.changes) is, ap (λ (k : Known). k.core.reads) is);
+  anew = All-nil BeginsAnew;
+  difference = ap (λ (k : Known). k.core.difference) is ∙ alone (view_of was).difference;
   sums = record { done = no_done; gained = no_gain };
   fell = fell_none (view_of was).difference (view_of now).difference report.gained (ap (λ (k : Known). k.core.difference) is) no_gain;
   gains = λ strict. omega (arith, no_done, no_gain);

@@ -1,11 +1,11 @@
 -- What commits are reported: how many were done, and what they gained.
-use Rattle.std.specs.Prelude.{◌≡◌, ℕ, ◌+◌, ◌-◌, ◌^◌, min, List, [], ◌∷◌, ◌++◌, length}
+use Rattle.std.specs.Prelude.{◌≡◌, ℕ, ◌+◌, ◌-◌, ◌^◌, min, Bool, true, List, [], ◌∷◌, ◌++◌, length, ℤ, pos, ◌+ℤ◌}
 use Rattle.syn_core_laws.specs.declared.View.{View}
 use Rattle.syn_decide.specs.Decided.{Answer, Answered, Done, Busy, Reach, Wide, Differs, NoGain, NoGap, NoRoom}
 use Rattle.syn_decide.specs.Fold.{decided}
 use Rattle.syn_decide.specs.Tasks.{Task}
 use Rattle.syn_commit_laws.specs.Freeing.{redefines}
-use Rattle.syn_commit.specs.Committed.{changes_since, gain_of, met_since}
+use Rattle.syn_commit.specs.Committed.{FellSince, changes_since, gain_of, met_since}
 use Rattle.syn_proposals.specs.declared.gains.Report.{Report}
 
 -- 1 for `Done`
@@ -28,29 +28,41 @@ abbrev pub gains : List Answer → ℕ
 gains [] = 0
 gains (a ∷ xs) = gain_of a + gains xs
 
--- A seat tried to commit: the answer is decided by what it met, and it redefined one row where that is `Done`, and none else.
-pub record HasTried (answer : Answer) (was now : View) : Type 0 where
+-- A seat tried to commit: the answer is decided by what it met, and it redefined one row where that is `Done`, and none else; the difference in ANDs fell by exactly the gain and the late ANDs. A gain of 0 is let through only where it may be.
+pub record HasTried (zero_gain : Bool) (answer : Answer) (was now : View) : Type 0 where
   pub task : Task
+  pub allowed : task.zero_gain ≡ true → zero_gain ≡ true
   pub decision : decided task (met_since was now) ≡ Answered answer
+  pub reads : now.reads ≡ was.reads ++ met_since was now
   pub changes : now.changes ≡ was.changes ++ changes_since was now
   pub stored : length (redefines (changes_since was now)) ≡ done_of answer
+  pub fell : FellSince task was answer now
 
 -- a seat tried to commit one time after the other, with these answers
-abbrev pub HasTriedAll : List Answer → View → View → Type 0
-HasTriedAll [] was now = now ≡ was
-HasTriedAll (a ∷ xs) was now = (v : View) × HasTried a was v × HasTriedAll xs v now
+abbrev pub HasTriedAll : Bool → List Answer → View → View → Type 0
+HasTriedAll zero_gain [] was now = now ≡ was
+HasTriedAll zero_gain (a ∷ xs) was now = (v : View) × HasTried zero_gain a was v × HasTriedAll zero_gain xs v now
 
 -- The attempts of one seat, from its first to its last.
-pub record Sweep : Type 0 where
+pub record Sweep (zero_gain : Bool) : Type 0 where
   pub answers : List Answer
   pub before : View
   pub after : View
-  pub tried : HasTriedAll answers before after
+  pub tried : HasTriedAll zero_gain answers before after
 
 -- the answers of several
-abbrev pub all_answers : List Sweep → List Answer
+abbrev pub all_answers : {zero_gain : Bool} → List (Sweep zero_gain) → List Answer
 all_answers [] = []
 all_answers (s ∷ ss) = s.answers ++ all_answers ss
+
+-- the differences in ANDs that several leave, together
+abbrev pub all_differences : {zero_gain : Bool} → List (Sweep zero_gain) → ℤ
+all_differences [] = pos 0
+all_differences (s ∷ ss) = s.after.difference +ℤ all_differences ss
+
+-- the seat of a sweep had stored nothing before it, and made no difference
+abbrev pub BeginsAnew : {zero_gain : Bool} → Sweep zero_gain → Type 0
+BeginsAnew s = (s.before.changes ≡ []) × (s.before.difference ≡ pos 0)
 
 -- a number of a report: past the largest it is the largest
 abbrev pub told : ℕ → ℕ

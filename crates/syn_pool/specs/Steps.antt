@@ -14,7 +14,7 @@ use Rattle.syn_pool.specs.Turns.{IsPassReport}
 
 -- a graph follows another with fewer ANDs; none of its commits gained nothing, and the report is of what led to it
 abbrev pub IsFewer : Graph → Report → Graph → Type 0
-IsFewer was report now = Follows was report.gained now × (length now.rows < length was.rows) × IsGain true report × IsPassReport was now report
+IsFewer was report now = Follows was report.gained now × (length now.rows < length was.rows) × IsGain true report × ((strict : Bool) → IsPassReport strict was now report)
 
 -- one with fewer ANDs follows a graph; none where it is closed
 abbrev pub IsCheck : Graph → (List Row → ℕ → List Replacement) → Option Improved → Type 0
@@ -24,5 +24,5 @@ IsCheck was proposals None = Closed was.rows was.observed (proposals was.rows)
 -- the graph is closed; or a closed one follows it; or one with fewer ANDs
 abbrev pub IsStepOf : {L : Type 0} → Graph → (List Row → ℕ → List Replacement) → Bool → Step L → Type 0
 IsStepOf was proposals strict Stays = Closed was.rows was.observed (proposals was.rows)
-IsStepOf was proposals strict (Ends now report) = Follows was report.gained now × Closed now.rows now.observed (proposals now.rows) × IsGain strict report × IsPassReport was now report
-IsStepOf was proposals strict (GoesOn now report _ _) = Follows was report.gained now × (length now.rows < length was.rows) × IsGain strict report × IsPassReport was now report
+IsStepOf was proposals strict (Ends now report) = Follows was report.gained now × Closed now.rows now.observed (proposals now.rows) × IsGain strict report × IsPassReport strict was now report
+IsStepOf was proposals strict (GoesOn now report _ _) = Follows was report.gained now × (length now.rows < length was.rows) × IsGain strict report × IsPassReport strict was now report

@@ -1,5 +1,5 @@
 -- Workers at a table, and what their commits leave.
-use Rattle.std.specs.Prelude.{◌≡◌, ◌⊎◌, ℕ, ◌+◌, ◌*◌, ◌^◌, ◌≤◌, Bool, false, List, [], ◌∷◌, length, pos, ◌+ℤ◌, ◌≤ℤ◌}
+use Rattle.std.specs.Prelude.{◌≡◌, ◌⊎◌, ℕ, ◌+◌, ◌*◌, ◌^◌, ◌≤◌, All, Bool, false, List, [], ◌∷◌, length, pos, ◌+ℤ◌, ◌≤ℤ◌}
 use Rattle.syn_rows.specs.declared.TheConstants.{NODE_LIMIT}
 use Rattle.syn_graph.specs.declared.Graph.{Graph}
 use Rattle.syn_decide.specs.Decided.{Answer}
@@ -11,7 +11,7 @@ use Rattle.syn_table.specs.Steps.{with_view}
 use Rattle.syn_commit.specs.Giving.{HoldsAlone, IsAtRest}
 use Rattle.syn_pool.specs.declared.rounds.workers.Worker.{Worker}
 use Rattle.syn_pool.specs.Closing.{IsLeft}
-use Rattle.syn_pool.specs.Reports.{HasTriedAll, IsSum, Sweep, all_answers, reported}
+use Rattle.syn_pool.specs.Reports.{BeginsAnew, HasTriedAll, IsSum, Sweep, all_answers, all_differences, reported}
 
 -- the seat is one of this table, it holds its spare nodes alone, and nothing is pinned
 pub record IsAtWork (shared : Shared) (w : Worker) : Type 0 where
@@ -22,20 +22,22 @@ pub record IsAtWork (shared : Shared) (w : Worker) : Type 0 where
 pub record HasWorked (zero_gain : Bool) (was now : Worker) : Type 0 where
   pub known : known_of now.seat ≡ with_view (known_of was.seat) (view_of now.seat)
   pub answers : List Answer
-  pub tried : HasTriedAll answers (view_of was.seat) (view_of now.seat)
+  pub tried : HasTriedAll zero_gain answers (view_of was.seat) (view_of now.seat)
   pub report : now.report ≡ reported was.report answers
   pub fell : ((view_of now.seat).difference +ℤ pos now.report.gained) ≤ℤ ((view_of was.seat).difference +ℤ pos was.report.gained)
   pub gains : zero_gain ≡ false → was.report.done ≤ was.report.gained → now.report.done ≤ now.report.gained
 
--- What a seat at rest has done, and those that were split from it and joined again: it is at rest again, what it stored it stored by its own attempts, and the report has the sums of these and of the others' attempts.
+-- What a seat at rest has done, and those that were split from it and joined again: it is at rest again; what it met and stored it met and stored by its own attempts; its difference in ANDs is what these and the others' attempts leave together, where each of the others began anew; and the report has the sums of all these attempts.
 pub record HasSwept (shared : Shared) (zero_gain : Bool) (was now : Seat) (report : Report) : Type 0 where
   pub table : IsOf now shared
   pub rest : IsAtRest (view_of now)
   pub known : known_of now ≡ with_view (known_of was) (view_of now)
-  pub own : Sweep
-  pub others : List Sweep
-  pub since : own.before.changes ≡ (view_of was).changes
-  pub until : (view_of now).changes ≡ own.after.changes
+  pub own : Sweep zero_gain
+  pub others : List (Sweep zero_gain)
+  pub since : (own.before.changes ≡ (view_of was).changes) × (own.before.difference ≡ (view_of was).difference)
+  pub until : ((view_of now).changes ≡ own.after.changes) × ((view_of now).reads ≡ own.after.reads)
+  pub anew : All BeginsAnew others
+  pub difference : (view_of now).difference ≡ own.after.difference +ℤ all_differences others
   pub sums : IsSum (all_answers (own ∷ others)) report
   pub fell : ((view_of now).difference +ℤ pos report.gained) ≤ℤ (view_of was).difference
   pub gains : zero_gain ≡ false → report.done ≤ report.gained

@@ -36,11 +36,11 @@ fn close<R: Threads + Sync, P: Proposer, H: CommitHook>(
 ) -> Result<(Graph, Report), AllocError>
     requires follows { Follows start.now report.gained graph }
     requires gain { IsGain (not pass.now.zero_gain) report }
-    requires report { IsPassReport start.now graph report }
+    requires report { IsPassReport (not pass.now.zero_gain) start.now graph report }
     ensures follows { IfOk result (λ r. Follows start.now r.1.gained r.0) }
     ensures closed { IfOk result (λ r. Closed r.0.rows r.0.observed (P.proposals pass.now.proposer.now r.0.rows)) }
     ensures gain { IfOk result (λ r. IsGain (not pass.now.zero_gain) r.1) }
-    ensures report { IfOk result (λ r. IsPassReport start.now r.0 r.1) }
+    ensures report { IfOk result (λ r. IsPassReport (not pass.now.zero_gain) start.now r.0 r.1) }
 {
     let mut graph = graph;
     let mut report = report;
@@ -66,7 +66,7 @@ pub(crate) fn closed<R: Threads + Sync, P: Proposer, H: CommitHook>(
     pass: &PassContext<'_, R, P, H>,
     graph: &Graph,
 ) -> Result<Option<(Graph, Report)>, AllocError>
-    ensures some { IfOk result (λ made. IfSome made (λ r. Follows graph.now r.1.gained r.0 × Closed r.0.rows r.0.observed (P.proposals pass.now.proposer.now r.0.rows) × IsGain (not pass.now.zero_gain) r.1 × IsPassReport graph.now r.0 r.1)) }
+    ensures some { IfOk result (λ made. IfSome made (λ r. Follows graph.now r.1.gained r.0 × Closed r.0.rows r.0.observed (P.proposals pass.now.proposer.now r.0.rows) × IsGain (not pass.now.zero_gain) r.1 × IsPassReport (not pass.now.zero_gain) graph.now r.0 r.1)) }
     ensures none { IfOk result (λ made. IfNone made (Closed graph.now.rows graph.now.observed (P.proposals pass.now.proposer.now graph.now.rows))) }
 {
     let mut seen = Seen::new(pass.alloc, graph)?;
@@ -94,7 +94,7 @@ pub fn pass<R: Threads + Sync, P: Proposer, H: CommitHook>(
     zero_gain: bool,
     hook: &H,
 ) -> Result<Option<(Graph, Report)>, AllocError>
-    ensures some { IfOk result (λ made. IfSome made (λ r. Follows graph.now r.1.gained r.0 × Closed r.0.rows r.0.observed (P.proposals proposer.now r.0.rows) × IsGain (not zero_gain) r.1 × IsPassReport graph.now r.0 r.1)) }
+    ensures some { IfOk result (λ made. IfSome made (λ r. Follows graph.now r.1.gained r.0 × Closed r.0.rows r.0.observed (P.proposals proposer.now r.0.rows) × IsGain (not zero_gain) r.1 × IsPassReport (not zero_gain) graph.now r.0 r.1)) }
     ensures none { IfOk result (λ made. IfNone made (Closed graph.now.rows graph.now.observed (P.proposals proposer.now graph.now.rows))) }
 {
     let context = PassContext {

@@ -1,5 +1,5 @@
 -- Sound proposals, and those that are left over.
-use Rattle.std.specs.Prelude.{ℕ, ◌⊎◌, All, Bool, List}
+use Rattle.std.specs.Prelude.{◌≡◌, ℕ, ◌⊎◌, All, Bool, List, [], ◌∷◌, length}
 use Rattle.syn_rows.specs.declared.Lit.{Lit}
 use Rattle.syn_rows.specs.declared.Row.{Row}
 use Rattle.syn_gain.specs.declared.proposals.Proposal.{Proposal}
@@ -23,7 +23,7 @@ pub record IsLeftover (rows : List Row) (observed : List Lit) (proposals : ℕ �
 abbrev pub IsSoundSaving : Graph → Proposal → Type 0
 IsSoundSaving was p = IsSound was.rows p × SavesSome was.rows was.observed (replacement p)
 
--- One sound proposal that saves was applied alone, or many together.
-abbrev pub AppliesSome : Graph → Graph → Type 0
-AppliesSome was now =
-    ((p : Proposal) × IsSoundSaving was p × IsAppliedAlone was (replacement p) now) ⊎ ((found : List Proposal) × (taken : List Bool) × All (IsSoundSaving was) found × AreAppliedTogether was found taken now)
+-- Of these proposals the first was applied alone, or those with a mark together.
+abbrev pub AppliesSome : Graph → List Proposal → Graph → Type 0
+AppliesSome was [] now = ⊥
+AppliesSome was (p ∷ more) now = IsAppliedAlone was (replacement p) now ⊎ ((marks : List Bool) × (length marks ≡ length (p ∷ more)) × AreAppliedTogether was (p ∷ more) marks now)

@@ -84,7 +84,7 @@ pub fn smaller<P: Proposer>(
     requires saves { All (λ p. SavesSome graph.now.rows graph.now.observed (replacement p)) found.now }
     requires sound { All (IsSound graph.now.rows) found.now }
     ensures follows { IfOk result (Follows graph.now 1) }
-    ensures applied { IfOk result (AppliesSome graph.now) }
+    ensures applied { IfOk result (AppliesSome graph.now found.now) }
 {
     let marks = select_compatible(alloc, graph, uses, found)?;
     let next = applied_together(alloc, graph, found, marks.as_slice())?;

@@ -176,8 +176,8 @@ fn choose(
     ))
 }
 
-/// Marks the proposals of a list that are applied together: from the last to the first, each whose cone meets none of those
-/// that were marked before, and of which none hits a row that the other replaces or takes away. The only error is want of memory.
+/// A mark for each proposal of a list, whether it is applied with others: from the last to the first, each is whose cone meets none
+/// of those before it, and where none hits a row that the other replaces or takes away. The only error is want of memory.
 pub(crate) fn select_compatible(
     alloc: Global,
     graph: &Graph,
@@ -186,6 +186,7 @@ pub(crate) fn select_compatible(
 ) -> Result<Vec<bool>, AllocError>
     requires uses { IsUsesOf uses.now graph.now }
     requires roots { All (λ p. is_and (row_at graph.now.rows p.root) ≡ true) proposals.now }
+    ensures { IfOk result (λ marks. length marks.items ≡ length proposals.now) }
 {
     let mut chosen = Chosen::none(alloc, graph.rows.as_slice().len())?;
     let mut marks = no_marks(alloc, proposals.len())?;

@@ -13,11 +13,11 @@ use syn_graph::Graph;
 use syn_pool::{PassSettings, improve};
 
 /// Rewrites a graph until no proposal of rewriting for any of its ANDs saves: the same function, and no more ANDs. None comes where
-/// that is so of the given graph. Where levels are kept, only proposals that keep their root's level are made: no observed
-/// signal is deeper, and none of these proposals saves. Up to as many workers as the settings say list cuts, commit proposals,
-/// and look at proposals again: with one the graph is the same each time, with several it may depend on which commits first.
-/// Where the settings let gains of 0 through, proposals that save nothing are made too, before the graph is checked. The hook is
-/// told of each commit. The only error is want of memory.
+/// that is so of the given graph. Where levels are kept, no observed signal is deeper, and no proposal that keeps its root's
+/// level saves. Up to as many workers as the settings say list cuts, commit proposals, and look at proposals again: with one, as
+/// tests show, the graph is the same each time; with several it may depend on which commits first. Where the settings let gains
+/// of 0 through, proposals that save nothing are made too, before the graph is checked. The hook is told of each commit. The only
+/// error is want of memory.
 pub fn rewrite<R: Threads + Sync, H: CommitHook>(
     rt: &R,
     alloc: Global,

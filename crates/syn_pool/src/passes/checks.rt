@@ -56,7 +56,7 @@ fn workers_for(leftovers: usize, workers: Workers) -> Workers {
 
 // A graph in place of one with leftovers, and better than another that isn't larger: workers commit for their roots and around
 // them. There may be none.
-#[tactic(auto, using(crate::proofs::Turning::one_round))]
+#[tactic(auto, using(crate::proofs::Turning::one_saving_round))]
 fn committed<R: Threads + Sync, P: Proposer, H: CommitHook>(
     pass: &PassContext<'_, R, P, H>,
     viewed: &Viewed<'_, P::Lists>,

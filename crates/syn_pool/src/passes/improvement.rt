@@ -21,14 +21,14 @@ pub struct PassSettings {
     pub workers: Workers,
     /// Whether commits of gain 0 are let through before the graph is checked.
     pub zero_gain: bool,
-    /// Whether levels are kept: only proposals that keep their root's level are made, and no observed signal becomes deeper.
+    /// Whether levels are kept: no observed signal becomes deeper, and what is looked for keeps its root's level.
     pub levels: bool,
 }
 
 /// The graph that a pass of a proposer leaves, without its report: the same function, no more ANDs, and no proposal saves; where
 /// levels are kept, no observed signal is deeper, and no proposal saves that keeps its root's level. None comes where that is so of
-/// the given graph. With one worker it is the same each time; with several it may depend on which commits first. The hook is told
-/// of each commit. The only error is want of memory.
+/// the given graph. With one worker, as tests show, it is the same each time; with several it may depend on which commits first.
+/// The hook is told of each commit. The only error is want of memory.
 pub fn improve<R: Threads + Sync, P: Proposer + Drop, H: CommitHook>(
     rt: &R,
     alloc: Global,

@@ -87,8 +87,9 @@ fn check_improved<R: Threads + Sync, P: Proposer, H: CommitHook>(
     clean: &mut Neighbourhoods,
 ) -> Result<Step<P::Lists>, AllocError>
     requires follows { Follows graph.now improved.report.gained improved.graph }
-    requires report { IsPassReport graph.now improved.graph improved.report }
-    ensures { (strict : Bool) → IsGain strict improved.report → IfOk result (IsStepOf graph.now (P.proposals pass.now.proposer.now) strict) }
+    requires gain { IsGain (not pass.now.zero_gain) improved.report }
+    requires report { IsPassReport (not pass.now.zero_gain) graph.now improved.graph improved.report }
+    ensures { IfOk result (IsStepOf graph.now (P.proposals pass.now.proposer.now) (not pass.now.zero_gain)) }
 {
     let report = improved.report;
     let (made, lists) = check_listed(pass, &improved.graph, Some(lists), clean)?;
@@ -115,8 +116,9 @@ fn goes_on<R: Threads + Sync, P: Proposer, H: CommitHook>(
     clean: &mut Neighbourhoods,
 ) -> Result<Step<P::Lists>, AllocError>
     requires follows { Follows graph.now improved.report.gained improved.graph }
-    requires report { IsPassReport graph.now improved.graph improved.report }
-    ensures { (strict : Bool) → IsGain strict improved.report → IfOk result (IsStepOf graph.now (P.proposals pass.now.proposer.now) strict) }
+    requires gain { IsGain (not pass.now.zero_gain) improved.report }
+    requires report { IsPassReport (not pass.now.zero_gain) graph.now improved.graph improved.report }
+    ensures { IfOk result (IsStepOf graph.now (P.proposals pass.now.proposer.now) (not pass.now.zero_gain)) }
 {
     if pass.zero_gain && is_worth_another(graph, &improved.graph) {
         return Ok(Step::GoesOn(improved.graph, improved.report, lists, true));

@@ -50,6 +50,7 @@ impl Worker {
         ensures known { known_of result.0 ≡ with_view (known_of self.seat) (view_of result.0) }
         ensures difference { (view_of result.0).difference ≡ (view_of self.seat).difference }
         ensures changes { (view_of result.0).changes ≡ (view_of self.seat).changes }
+        ensures reads { (view_of result.0).reads ≡ (view_of self.seat).reads }
         ensures report { result.1 ≡ self.report }
     {
         let Worker {

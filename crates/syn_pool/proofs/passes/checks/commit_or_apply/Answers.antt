@@ -9,5 +9,5 @@ returns g c =
       record { same = f.same; count = omega (arith, f.count) },
       omega (arith, f.count),
       λ _. omega arith,
-      one_applied c.args.viewed.now.graph.now c.in_ok-next.next (record { done = 0; gained = 0 }) refl refl f c.in_ok-next.ensures.applied,
+      one_applied c.args.viewed.now.graph.now c.in_ok-next.next c.args.found.now (record { done = 0; gained = 0 }) refl refl f (λ i d lt. (c.requires.sound i d lt, c.requires.saves i d lt)) c.in_ok-next.ensures.applied,
     )

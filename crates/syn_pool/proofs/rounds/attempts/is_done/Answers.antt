@@ -24,20 +24,20 @@ returns-in-Done-clause-worked g c =
     record { seat = c.try_commit-outcome.new.seat; pool = c.try_commit-outcome.new.pool; report = c.with_done-worker.result }
     c.try_commit-outcome.result c.in-Done.gain c.in-Done.is c.try_commit-outcome.ensures.known c.try_commit-outcome.ensures.fell
     (has_tried (asked c.args.proposal.now c.args.zero_gain (length c.args.worker.now.pool)) c.args.worker.now.pool c.try_commit-outcome.new.pool (told_answer c.try_commit-outcome.result)
-    (view_of c.args.worker.now.seat) (view_of c.try_commit-outcome.new.seat) c.try_commit-outcome.ensures.answer c.try_commit-outcome.ensures.changes c.try_commit-outcome.ensures.stored)
+    (view_of c.args.worker.now.seat) (view_of c.try_commit-outcome.new.seat) c.try_commit-outcome.ensures.answer c.try_commit-outcome.ensures.reads c.try_commit-outcome.ensures.changes c.try_commit-outcome.ensures.stored c.try_commit-outcome.ensures.fell)
     (met_since (view_of c.args.worker.now.seat) (view_of c.try_commit-outcome.new.seat)) c.try_commit-outcome.ensures.answer
     c.with_done-worker.ensures.sum c.with_done-worker.ensures.gained c.with_done-worker.ensures.done
 
 pub returns-in-Done-clause-done : goal.returns-in-Done-clause-done
 returns-in-Done-clause-done g c =
     let tried = has_tried (asked c.args.proposal.now c.args.zero_gain (length c.args.worker.now.pool)) c.args.worker.now.pool c.try_commit-outcome.new.pool (told_answer c.try_commit-outcome.result)
-    (view_of c.args.worker.now.seat) (view_of c.try_commit-outcome.new.seat) c.try_commit-outcome.ensures.answer c.try_commit-outcome.ensures.changes c.try_commit-outcome.ensures.stored in
+    (view_of c.args.worker.now.seat) (view_of c.try_commit-outcome.new.seat) c.try_commit-outcome.ensures.answer c.try_commit-outcome.ensures.reads c.try_commit-outcome.ensures.changes c.try_commit-outcome.ensures.stored c.try_commit-outcome.ensures.fell in
     tried.stored ∙ ap (λ (a : Outcome). done_of (told_answer a)) c.in-Done.is
 
 pub returns-in_default : goal.returns-in_default
 returns-in_default g c =
     let tried = has_tried (asked c.args.proposal.now c.args.zero_gain (length c.args.worker.now.pool)) c.args.worker.now.pool c.try_commit-outcome.new.pool (told_answer c.try_commit-outcome.result)
-    (view_of c.args.worker.now.seat) (view_of c.try_commit-outcome.new.seat) c.try_commit-outcome.ensures.answer c.try_commit-outcome.ensures.changes c.try_commit-outcome.ensures.stored in
+    (view_of c.args.worker.now.seat) (view_of c.try_commit-outcome.new.seat) c.try_commit-outcome.ensures.answer c.try_commit-outcome.ensures.reads c.try_commit-outcome.ensures.changes c.try_commit-outcome.ensures.stored c.try_commit-outcome.ensures.fell in
     record {
       at_work = record { table = c.try_commit-outcome.ensures.table; alone = c.try_commit-outcome.ensures.alone };
       worked = has_failed (asked c.args.proposal.now c.args.zero_gain (length c.args.worker.now.pool)) c.args.worker.now
