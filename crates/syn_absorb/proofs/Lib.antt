@@ -2,6 +2,7 @@ pub mod Flipped
 pub mod Same
 pub mod Absorbed
 pub mod Narrowing
+pub mod Observing
 pub mod Marking
 pub mod Literals
 pub mod Steps

@@ -1,7 +1,7 @@
 -- A LUT net with complemented signals has the same function and depth.
-use Rattle.std.proofs.Common.{◌≡◌, ℕ, zero, suc, ◌+◌, ◌-◌, ◌*◌, ◌/◌, ◌%◌, ◌^◌, ◌<◌, ◌≤◌, ◌&&◌, ◌||◌, if◌then◌else◌, nat_eq, nat_le, nat_lt, not, Bool, true, false, All, List, [], ◌∷◌, ◌++◌, map, length, get_or, replicate, refl, sym, ap, ap₂, ◌∙◌, subst, inl, inr, arith, eqb-true}
-use Rattle.std.specs.List.{list_any, list_all, AllByRecursion}
-use Rattle.std.proofs.lemmas.Bool.{cases_lt, cases_Bool, and_parts, and_from}
+use Rattle.std.proofs.Common.{◌≡◌, ℕ, zero, suc, ◌+◌, ◌-◌, ◌*◌, ◌/◌, ◌%◌, ◌^◌, ◌<◌, ◌≤◌, ◌&&◌, if◌then◌else◌, nat_eq, nat_le, nat_lt, not, Bool, true, false, All, List, [], ◌∷◌, ◌++◌, map, length, get_or, replicate, refl, sym, ap, ap₂, ◌∙◌, subst, inl, inr, arith}
+use Rattle.std.specs.List.{list_all, AllByRecursion}
+use Rattle.std.proofs.lemmas.Bool.{cases_lt, and_parts, and_from}
 use Rattle.std.proofs.lemmas.List.{length-map, get_or-map}
 use Rattle.std.proofs.lemmas.List.Elements.{recursion_from_All}
 use Rattle.syn_rows.specs.declared.Lit.{Lit}
@@ -12,7 +12,7 @@ use Rattle.syn_lists.specs.Numbers.{distinct_numbers}
 use Rattle.syn_lutnet.specs.LutData.{Lut, lut_at, lut_value, lut_depth, fold_luts, signal_values, luts_function, greatest, depth_in, net_depth, none_exceeds, is_input, is_lut, ones_value, rising, Reached, IsLutNet}
 use Rattle.syn_lutnet.proofs.Folding.{below, In, IsLocal, map_below, luts_kept, lut_step}
 use Rattle.syn_lutnet.proofs.LutParts.{lut_parts}
-use Rattle.syn_absorb.specs.Flips.{xor, is_opposite, is_plain, flipped_lit, is_flipped, AreFlipped, AllShown}
+use Rattle.syn_absorb.specs.Flips.{xor, flipped_lit, AreFlipped}
 use Rattle.syn_absorb.proofs.Flipped.{xor_xor}
 
 -- literals
@@ -206,74 +206,3 @@ module _ (count : ℕ) (luts new : List Lut) (lits : List Lit) (flip : ℕ → B
       reaches j lt set closed seen = net.reached j lt set
           (λ i less t. subst (λ (is : List ℕ). All (λ m. set m ≡ true) is) (inputs_at i less) (closed i (omega (arith, less, made.long)) t))
           (λ i d less. ap set (sym (node_is i d less)) ∙ seen i d (omega (arith, less, length-map lits (flipped_lit flip))))
-
--- which signals are observed how
-
-abbrev pick : Bool → Bool → Bool → Bool
-pick f a b = if f then b else a
-
-opposite_is : (flip : ℕ → Bool) (n : ℕ) (l : Lit) → is_opposite n (flipped_lit flip l) ≡ pick (flip n) (is_opposite n l) (is_plain n l)
-opposite_is flip n l =
-    ap₂ (λ (m : ℕ) (s : Bool). nat_eq m n && s) (flipped_node flip l) (made_opposite (node_of l) (xor (flip (node_of l)) (nat_eq (l.0 % 2) 1)))
-    ∙ elim (cases_Bool (nat_eq (node_of l) n)) [
-      | inl e ↦ ap (λ m. nat_eq (node_of l) n && xor (flip m) (nat_eq (l.0 % 2) 1)) (eqb-true (node_of l) n e) ∙ here (nat_eq (node_of l) n) (flip n) (nat_eq (l.0 % 2) 1)
-      | inr e ↦ away (nat_eq (node_of l) n) (flip n) (xor (flip (node_of l)) (nat_eq (l.0 % 2) 1)) (nat_eq (l.0 % 2) 1) e
-    ]
-  where
-    here : (a f s : Bool) → (a && xor f s) ≡ pick f (a && s) (a && not s)
-    here a true s = refl
-    here a false s = refl
-
-    away : (a f x s : Bool) → a ≡ false → (a && x) ≡ pick f (a && s) (a && not s)
-    away a true x s e = ap (λ b. b && x) e ∙ sym (ap (λ b. b && not s) e)
-    away a false x s e = ap (λ b. b && x) e ∙ sym (ap (λ b. b && s) e)
-
-plain_is : (flip : ℕ → Bool) (n : ℕ) (l : Lit) → is_plain n (flipped_lit flip l) ≡ pick (flip n) (is_plain n l) (is_opposite n l)
-plain_is flip n l =
-    ap₂ (λ (m : ℕ) (s : Bool). nat_eq m n && not s) (flipped_node flip l) (made_opposite (node_of l) (xor (flip (node_of l)) (nat_eq (l.0 % 2) 1)))
-    ∙ elim (cases_Bool (nat_eq (node_of l) n)) [
-      | inl e ↦ ap (λ m. nat_eq (node_of l) n && not (xor (flip m) (nat_eq (l.0 % 2) 1))) (eqb-true (node_of l) n e) ∙ here (nat_eq (node_of l) n) (flip n) (nat_eq (l.0 % 2) 1)
-      | inr e ↦ away (nat_eq (node_of l) n) (flip n) (not (xor (flip (node_of l)) (nat_eq (l.0 % 2) 1))) (nat_eq (l.0 % 2) 1) e
-    ]
-  where
-    here : (a f s : Bool) → (a && not (xor f s)) ≡ pick f (a && not s) (a && s)
-    here a true true = refl
-    here a true false = refl
-    here a false s = refl
-
-    away : (a f x s : Bool) → a ≡ false → (a && x) ≡ pick f (a && not s) (a && s)
-    away a true x s e = ap (λ b. b && x) e ∙ sym (ap (λ b. b && s) e)
-    away a false x s e = ap (λ b. b && x) e ∙ sym (ap (λ b. b && not s) e)
-
-pick_or : (f a b c d : Bool) → (pick f a b || pick f c d) ≡ pick f (a || c) (b || d)
-pick_or true a b c d = refl
-pick_or false a b c d = refl
-
-none_picked : (f : Bool) → false ≡ pick f false false
-none_picked true = refl
-none_picked false = refl
-
-opposites_are : (flip : ℕ → Bool) (n : ℕ) (lits : List Lit) → list_any (is_opposite n) (map (flipped_lit flip) lits) ≡ pick (flip n) (list_any (is_opposite n) lits) (list_any (is_plain n) lits)
-opposites_are flip n [] = none_picked (flip n)
-opposites_are flip n (l ∷ ls) =
-    ap₂ (λ (a b : Bool). a || b) (opposite_is flip n l) (opposites_are flip n ls) ∙ pick_or (flip n) (is_opposite n l) (is_plain n l) (list_any (is_opposite n) ls) (list_any (is_plain n) ls)
-
-plains_are : (flip : ℕ → Bool) (n : ℕ) (lits : List Lit) → list_any (is_plain n) (map (flipped_lit flip) lits) ≡ pick (flip n) (list_any (is_plain n) lits) (list_any (is_opposite n) lits)
-plains_are flip n [] = none_picked (flip n)
-plains_are flip n (l ∷ ls) =
-    ap₂ (λ (a b : Bool). a || b) (plain_is flip n l) (plains_are flip n ls) ∙ pick_or (flip n) (is_plain n l) (is_opposite n l) (list_any (is_plain n) ls) (list_any (is_opposite n) ls)
-
-none_left : (low a b : Bool) → (low && (pick (low && (a && not b)) a b && not (pick (low && (a && not b)) b a))) ≡ false
-none_left false a b = refl
-none_left true true true = refl
-none_left true true false = refl
-none_left true false true = refl
-none_left true false false = refl
-
-pub flipped_shown : (first : ℕ) (lits : List Lit) (flip : ℕ → Bool) → ((n : ℕ) → flip n ≡ is_flipped first lits n) → AllShown first (map (flipped_lit flip) lits)
-flipped_shown first lits flip is n =
-    let a : Bool = list_any (is_opposite n) lits in
-    let b : Bool = list_any (is_plain n) lits in
-    ap₂ (λ (x y : Bool). nat_le first n && (x && not y)) (opposites_are flip n lits) (plains_are flip n lits)
-    ∙ ap (λ f. nat_le first n && (pick f a b && not (pick f b a))) (is n)
-    ∙ none_left (nat_le first n) a b

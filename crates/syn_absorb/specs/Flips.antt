@@ -1,5 +1,5 @@
 -- Signals that are complemented, and the LUTs and literals that read them.
-use Rattle.std.specs.Prelude.{◌≡◌, ℕ, ◌+◌, ◌*◌, ◌%◌, ◌^◌, ◌<◌, ◌==◌, ◌&&◌, not, nat_le, nat_lt, if◌then◌else◌, Bool, true, false, List, [], ◌∷◌, length, slice_set, slice_index_or, map}
+use Rattle.std.specs.Prelude.{◌≡◌, ℕ, ◌+◌, ◌*◌, ◌%◌, ◌^◌, ◌<◌, ◌≤◌, ◌==◌, ◌&&◌, not, nat_le, nat_lt, if◌then◌else◌, Bool, true, false, List, [], ◌∷◌, length, slice_set, slice_index_or, map, count_by}
 use Rattle.std.specs.List.{list_any, list_all}
 use Rattle.syn_rows.specs.declared.Lit.{Lit}
 use Rattle.syn_rows.specs.Rows.{node_of}
@@ -22,9 +22,13 @@ is_plain n l = (node_of l == n) && not (l.0 % 2 == 1)
 abbrev pub is_only_opposite : List Lit → ℕ → Bool
 is_only_opposite lits n = list_any (is_opposite n) lits && not (list_any (is_plain n) lits)
 
+-- more of the literals are the signal's complement than its own
+abbrev pub is_mostly_opposite : List Lit → ℕ → Bool
+is_mostly_opposite lits n = nat_lt (count_by (is_plain n) lits) (count_by (is_opposite n) lits)
+
 -- so is a signal that isn't below the first of a LUT
 abbrev pub is_flipped : ℕ → List Lit → ℕ → Bool
-is_flipped first lits n = nat_le first n && is_only_opposite lits n
+is_flipped first lits n = nat_le first n && is_mostly_opposite lits n
 
 -- the same by marks
 abbrev pub flip_in : ℕ → List Bool → ℕ → Bool
@@ -56,10 +60,14 @@ pub record AreFlipped (flip : ℕ → Bool) (first : ℕ) (old new : List Lut) :
   pub long : length new ≡ length old
   pub each : (j : ℕ) → j < length old → IsFlipped flip (first + j) (lut_at old j) (lut_at new j)
 
+-- No LUT is read complemented by more of the literals than plain.
+abbrev pub MostShown : ℕ → List Lit → Type 0
+MostShown first lits = (n : ℕ) → first ≤ n → count_by (is_opposite n) lits ≤ count_by (is_plain n) lits
+
 -- No LUT is observed only complemented.
 abbrev pub AllShown : ℕ → List Lit → Type 0
-AllShown first lits = (n : ℕ) → is_flipped first lits n ≡ false
+AllShown first lits = (n : ℕ) → first ≤ n → is_only_opposite lits n ≡ false
 
--- The LUTs of signals that are observed only complemented are complemented, and so are the literals.
+-- The LUTs of signals that more literals read complemented than plain are complemented, and so are the literals.
 unfoldable pub IsFlippedTo : ℕ → List Lut → List Lit → List Lut → List Lit → Type 0
 IsFlippedTo first luts lits new outs = (flip : ℕ → Bool) × ((n : ℕ) → flip n ≡ is_flipped first lits n) × AreFlipped flip first luts new × (outs ≡ map (flipped_lit flip) lits)

@@ -1,5 +1,5 @@
-//! LUT nets that are written and read well: each LUT reads only what it depends on (`trim`), and complements of what is
-//! observed are in the LUTs (`absorb`).
+//! LUT nets that are written and read well: each LUT reads only what it depends on (`trim`), and has the polarity in which
+//! more of the observed literals want it (`absorb`).
 //!
 //! Both make a net of another, of the same function over the same sources. `trim` works by literals: each signal becomes a
 //! literal of the new net (`rebuild`), the constant's or that of a signal, of which a LUT with fewer inputs may be one

@@ -27,6 +27,7 @@ returns c =
       nodes = all.same.nodes;
       depth = all.same.depth;
       inputs = all.same.inputs;
+      most = all.most;
       shown = all.shown;
       depend = depend_still (is_flipped (net.source_count + 1) net.observed) (net.source_count + 1) (luts_data net.luts) (luts_data c.of.result) all.flipped;
     }
