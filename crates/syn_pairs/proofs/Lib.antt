@@ -1,0 +1,2 @@
+pub mod Conjoining
+pub mod Keeping
