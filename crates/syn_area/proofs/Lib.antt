@@ -1,5 +1,5 @@
 mod Joining
 mod Visiting
-mod Bettering
-mod Counting
+pub mod Bettering
+pub mod Counting
 pub mod Costing

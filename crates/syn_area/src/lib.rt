@@ -19,9 +19,11 @@ mod laws;
 mod lists;
 mod mapper;
 mod near;
+mod nets;
 mod picks;
 mod prices;
 mod rounds;
 
 pub use laws::{cost_never_falls, needed_exist};
-pub use mapper::map_for_area;
+pub use mapper::{map_for_area, map_for_least_area};
+pub use nets::cheaper;

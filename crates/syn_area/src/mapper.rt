@@ -1,16 +1,14 @@
 //! From a graph to a LUT net.
 
-ghost use Rattle.std.specs.Prelude.{◌≡◌, ◌⊎◌, ℕ, ◌+◌, ◌≤◌, true, List, IfOk, IsTrue, length, map};
-ghost use Rattle.syn_rows.specs.Rows.{node_of};
+ghost use Rattle.std.specs.Prelude.{◌≡◌, ◌+◌, ◌≤◌, true, IfOk, length};
 ghost use Rattle.syn_truth.specs.declared.TheConstants.{MAX_VARS};
-ghost use Rattle.syn_lutnet.specs.LutData.{greatest, net_depth, none_exceeds};
+ghost use Rattle.syn_lutnet.specs.LutData.{net_depth, none_exceeds};
 ghost use Rattle.syn_lutnet.specs.Data.{luts_data};
 ghost use Rattle.syn_lutnet.specs.Nets.{HasFunctionOf};
-ghost use Rattle.syn_map.specs.Labels.{label_of};
-ghost use Rattle.syn_area.specs.Areas.{CostAlike, luts_cost, nodes_cost};
-ghost use Rattle.syn_area.specs.Plain.{AreLutsOf, AreNeeded, IsNoDearer, IsNoWorse};
+ghost use Rattle.syn_area.specs.Areas.{CostAlike};
+ghost use Rattle.syn_area.specs.Plain.{AreLutsOf, IsNoWorse, NoDearerThanPlain, NoDeeperThanPlain, NoMoreThanPlain};
 
-use crate::areas::luts_cost;
+use crate::nets::cheaper;
 use crate::prices::Prices;
 use crate::rounds::choose;
 use std::alloc::{AllocError, Global};
@@ -38,9 +36,9 @@ pub fn map_for_area<R: Threads + Sync>(
     requires few { k ≤ MAX_VARS }
     ensures function { IfOk result (HasFunctionOf graph.now) }
     ensures inputs { IfOk result (λ net. none_exceeds k (luts_data net.luts) ≡ true) }
-    ensures depth { IfOk result (λ net. net_depth graph.now.source_count (luts_data net.luts) ≤ greatest (label_of k graph.now.rows) (map node_of graph.now.observed)) }
-    ensures cost { IfOk result (λ net. (nodes : List ℕ) → AreNeeded k graph.now.rows graph.now.observed nodes → luts_cost areas.now (luts_data net.luts) ≤ nodes_cost k graph.now.rows areas.now nodes) }
-    ensures fewer { CostAlike k areas.now → IfOk result (λ net. (nodes : List ℕ) → AreNeeded k graph.now.rows graph.now.observed nodes → length net.luts ≤ length nodes) }
+    ensures depth { IfOk result (NoDeeperThanPlain k graph.now) }
+    ensures cost { IfOk result (NoDearerThanPlain k areas.now graph.now) }
+    ensures fewer { CostAlike k areas.now → IfOk result (NoMoreThanPlain k graph.now) }
     ensures count { IfOk result (λ net. length net.luts + (graph.now.source_count + 1) ≤ length graph.now.rows) }
 {
     let plain = syn_map::map(rt, alloc, graph, k, workers)?;
@@ -95,13 +93,32 @@ fn bettered(
     ensures luts { IfOk result (AreLutsOf k graph.now) }
     ensures no_worse { IfOk result (λ kept. IsNoWorse k areas.now kept plain) }
 {
-    match searched(alloc, graph, k, prices, room) {
-        Ok(net) => better(alloc, k, areas, net, plain),
+    match searched_beside(alloc, graph, k, prices, room, &plain) {
+        Ok((net, most)) => cheaper(alloc, areas, net, plain, most),
         Err(error) => {
             drop(plain);
             Err(error)
         }
     }
+}
+
+// What is searched, and how deep another net is.
+fn searched_beside(
+    alloc: Global,
+    graph: &Graph,
+    k: u8,
+    prices: &Prices,
+    room: u32,
+    plain: &LutNet,
+) -> Result<(LutNet, u32), AllocError>
+    requires many { 2 ≤ k }
+    requires few { k ≤ MAX_VARS }
+    ensures luts { IfOk result (λ found. AreLutsOf k graph.now found.0) }
+    ensures depth { IfOk result (λ found. found.1 ≡ net_depth plain.now.source_count (luts_data plain.now.luts)) }
+{
+    let depth = plain.depth(alloc)?;
+    let net = searched(alloc, graph, k, prices, room)?;
+    Ok((net, depth))
 }
 
 // The LUTs over the cuts that the rounds choose.
@@ -120,66 +137,20 @@ fn searched(
     net_of(alloc, graph, &chosen)
 }
 
-// Whether the LUTs of a net cost less than those of another, or as much, and are no more of them.
-fn is_no_dearer(areas: &[u32], net: &LutNet, plain: &LutNet) -> bool
-    ensures { IsTrue result → IsNoDearer areas.now net.now plain.now }
-{
-    let cost = luts_cost(areas, net.luts.as_slice());
-    let most = luts_cost(areas, plain.luts.as_slice());
-    if cost == most {
-        net.count() <= plain.count()
-    } else {
-        cost < most
-    }
-}
-
-// Whether a net is no dearer than another and no deeper.
-fn is_no_worse(
+/// LUTs of at most `k` inputs of a graph that cost little, as they are found where there is room up to a depth. They mostly
+/// cost less than those of `map_for_area`, yet nothing is promised of that; `cheaper` tells. The only error is want of
+/// memory.
+pub fn map_for_least_area(
     alloc: Global,
+    graph: &Graph,
     k: u8,
     areas: &[u32],
-    net: &LutNet,
-    plain: &LutNet,
-) -> Result<bool, AllocError>
-    requires net { none_exceeds k (luts_data net.now.luts) ≡ true }
-    requires plain { none_exceeds k (luts_data plain.now.luts) ≡ true }
-    ensures { IfOk result (λ yes. IsTrue yes → IsNoWorse k areas.now net.now plain.now) }
-{
-    let _ = k;
-    if !is_no_dearer(areas, net, plain) {
-        return Ok(false);
-    }
-    let depth = net.depth(alloc)?;
-    let most = plain.depth(alloc)?;
-    Ok(depth <= most)
-}
-
-// The first of two nets, where it is no dearer than the second and no deeper; else the second.
-fn better(
-    alloc: Global,
-    k: u8,
-    areas: &[u32],
-    net: LutNet,
-    plain: LutNet,
+    room: u32,
 ) -> Result<LutNet, AllocError>
-    requires net { none_exceeds k (luts_data net.luts) ≡ true }
-    requires plain { none_exceeds k (luts_data plain.luts) ≡ true }
-    ensures either { IfOk result (λ kept. (kept ≡ net) ⊎ (kept ≡ plain)) }
-    ensures no_worse { IfOk result (λ kept. IsNoWorse k areas.now kept plain) }
+    requires many { 2 ≤ k }
+    requires few { k ≤ MAX_VARS }
+    ensures { IfOk result (AreLutsOf k graph.now) }
 {
-    match is_no_worse(alloc, k, areas, &net, &plain) {
-        Ok(true) => {
-            drop(plain);
-            Ok(net)
-        }
-        Ok(false) => {
-            drop(net);
-            Ok(plain)
-        }
-        Err(error) => {
-            drop(net);
-            drop(plain);
-            Err(error)
-        }
-    }
+    let prices = Prices::of(areas, k);
+    searched(alloc, graph, k, &prices, room)
 }

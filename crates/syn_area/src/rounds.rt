@@ -233,18 +233,20 @@ fn round(
     Ok(())
 }
 
-// The aims of the rounds.
-const AIMS: [Aim; 7] = [
-    Aim::Depth,
-    Aim::DepthThenFlow,
-    Aim::DepthThenFlow,
-    Aim::Flow,
-    Aim::Flow,
-    Aim::Area,
-    Aim::Area,
+// What the rounds aim at, and whether each is made where nothing bounds the depth too: the four that are find about as few
+// LUTs as all would.
+const STEPS: [(Aim, bool); 7] = [
+    (Aim::Depth, false),
+    (Aim::DepthThenFlow, false),
+    (Aim::DepthThenFlow, true),
+    (Aim::Flow, true),
+    (Aim::Flow, true),
+    (Aim::Area, true),
+    (Aim::Area, false),
 ];
 
-/// A cut of at most `k` leaves for each AND of a graph, for LUTs of these prices; with room up to a depth.
+/// A cut of at most `k` leaves for each AND of a graph, for LUTs of these prices; with room up to a depth, which the greatest
+/// number doesn't bound.
 pub(crate) fn choose(
     alloc: Global,
     graph: &Graph,
@@ -260,7 +262,11 @@ pub(crate) fn choose(
     let mut chosen = Chosen::fan_ins(alloc, graph.rows.as_slice())?;
     let mut costs = Costs::of(alloc, graph, prices, room)?;
     let mut lists = Lists::none(alloc, graph.rows.as_slice().len())?;
-    for aim in AIMS {
+    for step in STEPS {
+        let (aim, always) = step;
+        if room == u32::MAX && !always {
+            continue;
+        }
         costs.begin(aim);
         round(graph, &mut costs, &mut chosen, &mut lists, k)?;
         costs.end(&chosen, graph.observed.as_slice());

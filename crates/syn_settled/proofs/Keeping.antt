@@ -1,16 +1,17 @@
 -- What holds of a net holds of it when it is settled.
-use Rattle.std.proofs.Common.{◌≡◌, ℕ, suc, ◌+◌, ◌<◌, ◌≤◌, Bool, true, List, [], ◌∷◌, length, refl, sym, ap, ◌∙◌, subst, arith}
+use Rattle.std.proofs.Common.{◌≡◌, ℕ, suc, ◌+◌, ◌<◌, ◌≤◌, List, [], ◌∷◌, length, refl, sym, ap, ◌∙◌, subst, arith}
 use Rattle.std.proofs.lemmas.List.{length-map}
 use Rattle.std.proofs.lemmas.List.Sums.{sum_by-cons}
-use Rattle.syn_rows.specs.declared.Lit.{Lit}
 use Rattle.syn_graph.specs.declared.Graph.{Graph}
 use Rattle.syn_lutnet.specs.LutData.{Lut, lut_at, net_depth}
 use Rattle.syn_lutnet.specs.declared.nets.LutNet.{LutNet}
 use Rattle.syn_lutnet.specs.Data.{lut_data, luts_data}
 use Rattle.syn_lutnet.specs.Nets.{HasFunctionOf}
 use Rattle.syn_absorb.specs.Costs.{cost_by}
-use Rattle.syn_absorb.specs.Flips.{AllShown}
+use Rattle.syn_absorb.specs.Flips.{AllShown, MostShown}
 use Rattle.syn_absorb.specs.Nets.{IsAbsorbed, IsTrimmed, KeepsFunction}
+use Rattle.syn_area.specs.Plain.{AreLutsOf}
+use Rattle.syn_settled.specs.Fewest.{AreWrittenLutsOf}
 use Rattle.syn_settled.specs.Settled.{IsSettled}
 
 keeps_both : (a b c : LutNet) → KeepsFunction a b → KeepsFunction b c → KeepsFunction a c
@@ -43,6 +44,7 @@ settled was trimmed now trim absorb = record {
   inputs = λ k few. absorb.inputs k ∙ trim.inputs k few;
   cheaper = λ cost rises. omega (arith, trim.cheaper cost rises, same_cost cost (luts_data trimmed.luts) (luts_data now.luts) absorb.luts.long (λ j lt. (absorb.luts.each j lt).inputs));
   depend = absorb.depend trim.depend;
+  most = subst (λ n. MostShown (n + 1) now.observed) (sym absorb.same.sources) absorb.most;
   shown = subst (λ n. AllShown (n + 1) now.observed) (sym absorb.same.sources) absorb.shown;
 }
 
@@ -62,3 +64,14 @@ module _ (graph : Graph) (was now : LutNet) (function : HasFunctionOf graph was)
 
   pub all_shown : AllShown (graph.source_count + 1) now.observed
   all_shown = subst (λ n. AllShown (n + 1) now.observed) (settled.same.sources ∙ function.sources) settled.shown
+
+  pub most_shown : MostShown (graph.source_count + 1) now.observed
+  most_shown = subst (λ n. MostShown (n + 1) now.observed) (settled.same.sources ∙ function.sources) settled.most
+
+pub written : (k : ℕ) (graph : Graph) (was now : LutNet) → AreLutsOf k graph was → IsSettled was now → AreWrittenLutsOf k graph now
+written k graph was now are s = record {
+  luts = record { function = keeps_function graph was now are.function s; inputs = s.inputs k are.inputs; count = omega (arith, s.fewer, are.count) };
+  depend = s.depend;
+  most = most_shown graph was now are.function s;
+  shown = all_shown graph was now are.function s;
+}

@@ -1,1 +1,2 @@
+pub mod Fewest
 pub mod Settled

@@ -1,15 +1,13 @@
 //! Nets of few LUTs.
 
-ghost use Rattle.std.specs.Prelude.{◌≡◌, ℕ, ◌+◌, ◌≤◌, true, List, IfOk, length, map};
-ghost use Rattle.syn_rows.specs.Rows.{node_of};
+ghost use Rattle.std.specs.Prelude.{◌≡◌, ◌+◌, ◌≤◌, true, IfOk, length};
 ghost use Rattle.syn_truth.specs.declared.TheConstants.{MAX_VARS};
-ghost use Rattle.syn_lutnet.specs.LutData.{greatest, net_depth, none_exceeds};
+ghost use Rattle.syn_lutnet.specs.LutData.{none_exceeds};
 ghost use Rattle.syn_lutnet.specs.Data.{luts_data};
 ghost use Rattle.syn_lutnet.specs.Nets.{HasFunctionOf};
-ghost use Rattle.syn_map.specs.Labels.{label_of};
-ghost use Rattle.syn_area.specs.Areas.{CostAlike, luts_cost, nodes_cost};
-ghost use Rattle.syn_area.specs.Plain.{AreNeeded};
-ghost use Rattle.syn_absorb.specs.Flips.{AllShown};
+ghost use Rattle.syn_area.specs.Areas.{CostAlike};
+ghost use Rattle.syn_area.specs.Plain.{NoDearerThanPlain, NoDeeperThanPlain, NoMoreThanPlain};
+ghost use Rattle.syn_absorb.specs.Flips.{AllShown, MostShown};
 ghost use Rattle.syn_absorb.specs.Needed.{AllDepend};
 
 use crate::settling::settle;
@@ -20,9 +18,9 @@ use syn_graph::Graph;
 use syn_lutnet::LutNet;
 use syn_workers::Workers;
 
-/// A graph mapped to LUTs that cost little, each of which reads only what it depends on, and none of which is observed only
-/// complemented. A LUT costs the least of the areas of those of as many inputs or more; the areas are those of LUTs of one
-/// input, of two, and so on. The only error is want of memory.
+/// A graph mapped to LUTs that cost little, each of which reads only what it depends on, and none of which more literals
+/// observe complemented than plain. A LUT costs the least of the areas of those of as many inputs or more; the areas are those
+/// of LUTs of one input, of two, and so on. The only error is want of memory.
 pub fn few_luts<R: Threads + Sync>(
     rt: &R,
     alloc: Global,
@@ -35,11 +33,12 @@ pub fn few_luts<R: Threads + Sync>(
     requires few { k ≤ MAX_VARS }
     ensures function { IfOk result (HasFunctionOf graph.now) }
     ensures inputs { IfOk result (λ net. none_exceeds k (luts_data net.luts) ≡ true) }
-    ensures depth { IfOk result (λ net. net_depth graph.now.source_count (luts_data net.luts) ≤ greatest (label_of k graph.now.rows) (map node_of graph.now.observed)) }
-    ensures cost { IfOk result (λ net. (nodes : List ℕ) → AreNeeded k graph.now.rows graph.now.observed nodes → luts_cost areas.now (luts_data net.luts) ≤ nodes_cost k graph.now.rows areas.now nodes) }
-    ensures fewer { CostAlike k areas.now → IfOk result (λ net. (nodes : List ℕ) → AreNeeded k graph.now.rows graph.now.observed nodes → length net.luts ≤ length nodes) }
+    ensures depth { IfOk result (NoDeeperThanPlain k graph.now) }
+    ensures cost { IfOk result (NoDearerThanPlain k areas.now graph.now) }
+    ensures fewer { CostAlike k areas.now → IfOk result (NoMoreThanPlain k graph.now) }
     ensures count { IfOk result (λ net. length net.luts + (graph.now.source_count + 1) ≤ length graph.now.rows) }
     ensures depend { IfOk result (λ net. AllDepend (luts_data net.luts)) }
+    ensures most { IfOk result (λ net. MostShown (graph.now.source_count + 1) net.observed) }
     ensures shown { IfOk result (λ net. AllShown (graph.now.source_count + 1) net.observed) }
 {
     let mapped = map_for_area(rt, alloc, graph, k, areas, workers)?;

@@ -6,7 +6,7 @@ ghost use Rattle.syn_lutnet.specs.LutData.{none_exceeds};
 ghost use Rattle.syn_lutnet.specs.Data.{luts_data};
 ghost use Rattle.syn_lutnet.specs.Nets.{HasFunctionOf};
 ghost use Rattle.syn_flow.specs.Flows.{HasLeastDepth};
-ghost use Rattle.syn_absorb.specs.Flips.{AllShown};
+ghost use Rattle.syn_absorb.specs.Flips.{AllShown, MostShown};
 ghost use Rattle.syn_absorb.specs.Needed.{AllDepend};
 
 use crate::settling::settle;
@@ -15,8 +15,8 @@ use syn_flow::flow;
 use syn_graph::Graph;
 use syn_lutnet::LutNet;
 
-/// A graph mapped at the least depth, to LUTs each of which reads only what it depends on, and none of which is observed only
-/// complemented. The only error is want of memory.
+/// A graph mapped at the least depth, to LUTs each of which reads only what it depends on, and none of which more literals
+/// observe complemented than plain. The only error is want of memory.
 pub fn least_luts(alloc: Global, graph: &Graph, k: u8) -> Result<LutNet, AllocError>
     requires many { 2 ≤ k }
     requires few { k ≤ MAX_VARS }
@@ -25,6 +25,7 @@ pub fn least_luts(alloc: Global, graph: &Graph, k: u8) -> Result<LutNet, AllocEr
     ensures inputs { IfOk result (λ net. none_exceeds k (luts_data net.luts) ≡ true) }
     ensures count { IfOk result (λ net. length net.luts + (graph.now.source_count + 1) ≤ length graph.now.rows) }
     ensures depend { IfOk result (λ net. AllDepend (luts_data net.luts)) }
+    ensures most { IfOk result (λ net. MostShown (graph.now.source_count + 1) net.observed) }
     ensures shown { IfOk result (λ net. AllShown (graph.now.source_count + 1) net.observed) }
 {
     let (mapped, _proof) = flow(alloc, graph, k)?;

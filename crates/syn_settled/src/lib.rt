@@ -2,8 +2,10 @@
 #![tactic(auto)]
 
 mod few;
+mod fewest;
 mod least;
 mod settling;
 
 pub use few::few_luts;
+pub use fewest::fewest_luts;
 pub use least::least_luts;

@@ -1,12 +1,9 @@
-use Rattle.std.proofs.Common.{◌≡◌, ℕ, ◌+◌, ◌≤◌, true, List, length, map, arith}
+use Rattle.std.proofs.Common.{◌≡◌, ◌+◌, ◌≤◌, true, length, arith}
 use Rattle.std.proofs.lemmas.Result.{IfOk-weaker}
-use Rattle.syn_rows.specs.Rows.{node_of}
-use Rattle.syn_lutnet.specs.LutData.{greatest, net_depth, none_exceeds}
+use Rattle.syn_lutnet.specs.LutData.{none_exceeds}
 use Rattle.syn_lutnet.specs.Data.{luts_data}
 use Rattle.syn_lutnet.specs.Nets.{HasFunctionOf}
-use Rattle.syn_map.specs.Labels.{label_of}
-use Rattle.syn_area.specs.Areas.{luts_cost, nodes_cost}
-use Rattle.syn_area.specs.Plain.{AreLutsOf, AreNeeded, IsNoWorse}
+use Rattle.syn_area.specs.Plain.{AreLutsOf, IsNoWorse, NoDearerThanPlain, NoDeeperThanPlain, NoMoreThanPlain}
 use Rattle.syn_area.proofs.Bettering.{if_both, no_deeper}
 use Rattle.syn_area.proofs.Counting.{plain_cheap, plain_fewest}
 use Rattle.syn_area.proofs.mapper.map_for_area.Goals as goal
@@ -36,7 +33,7 @@ returns-clause-depth g c =
     let plain = c.in_ok-plain.plain in
     let h = c.in_ok-plain.ensures in
     IfOk-weaker c.best.result (λ kept. AreLutsOf k gr kept × IsNoWorse k c.args.areas.now kept plain)
-    (λ kept. net_depth gr.source_count (luts_data kept.luts) ≤ greatest (label_of k gr.rows) (map node_of gr.observed))
+    (NoDeeperThanPlain k gr)
     (λ kept both. omega (arith, no_deeper gr kept plain both.0.function h.function both.1.depth, h.depth))
     (if_both c.best.result (AreLutsOf k gr) (λ kept. IsNoWorse k c.args.areas.now kept plain) c.best.ensures.luts c.best.ensures.no_worse)
 
@@ -46,7 +43,7 @@ returns-clause-cost g c =
     let areas = c.args.areas.now in
     let plain = c.in_ok-plain.plain in
     IfOk-weaker c.best.result (λ kept. IsNoWorse c.args.k areas kept plain)
-    (λ kept. (nodes : List ℕ) → AreNeeded c.args.k gr.rows gr.observed nodes → luts_cost areas (luts_data kept.luts) ≤ nodes_cost c.args.k gr.rows areas nodes)
+    (NoDearerThanPlain c.args.k areas gr)
     (λ kept no_worse nodes needed. omega (arith, no_worse.cost, plain_cheap c.args.k areas gr plain nodes c.in_ok-plain.ensures.mapping needed)) c.best.ensures.no_worse
 
 pub returns-clause-fewer : goal.returns-clause-fewer
@@ -54,5 +51,5 @@ returns-clause-fewer g c = λ alike.
     let gr = c.args.graph.now in
     let plain = c.in_ok-plain.plain in
     IfOk-weaker c.best.result (λ kept. IsNoWorse c.args.k c.args.areas.now kept plain)
-    (λ kept. (nodes : List ℕ) → AreNeeded c.args.k gr.rows gr.observed nodes → length kept.luts ≤ length nodes)
+    (NoMoreThanPlain c.args.k gr)
     (λ kept no_worse nodes needed. omega (arith, no_worse.fewer alike, plain_fewest c.args.k gr plain nodes c.in_ok-plain.ensures.mapping needed)) c.best.ensures.no_worse

@@ -5,8 +5,8 @@ use Rattle.syn_area.specs.Kept as kept
 use Rattle.syn_area.proofs.Joining.{fan_ins_chosen}
 use Rattle.syn_area.proofs.rounds.choose.Goals as goal
 
-pub loop-aim-init : goal.loop-aim-init
-loop-aim-init c =
+pub loop-step-init : goal.loop-step-init
+loop-step-init c =
     let gr = c.args.graph.now in
     let chosen = c.in_ok-chosen.chosen in
     let is : chosen ≡ map kept.fan_ins gr.rows = c.in_ok-chosen.ensures ∙ ap (λ (l : List Row). map kept.fan_ins l) c.as_slice.ensures in

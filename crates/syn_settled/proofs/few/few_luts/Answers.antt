@@ -1,17 +1,15 @@
-use Rattle.std.proofs.Common.{◌≡◌, ◌+◌, ◌≤◌, ℕ, List, true, length, map, arith}
+use Rattle.std.proofs.Common.{◌≡◌, ◌+◌, ◌≤◌, true, length, arith}
 use Rattle.std.proofs.lemmas.Result.{IfOk-weaker}
-use Rattle.syn_rows.specs.Rows.{node_of}
-use Rattle.syn_lutnet.specs.LutData.{greatest, net_depth, none_exceeds}
+use Rattle.syn_lutnet.specs.LutData.{none_exceeds}
 use Rattle.syn_lutnet.specs.Data.{luts_data}
 use Rattle.syn_lutnet.specs.Nets.{HasFunctionOf}
-use Rattle.syn_map.specs.Labels.{label_of}
-use Rattle.syn_area.specs.Areas.{cost_of, luts_cost, nodes_cost}
-use Rattle.syn_area.specs.Plain.{AreNeeded}
+use Rattle.syn_area.specs.Areas.{cost_of, luts_cost}
+use Rattle.syn_area.specs.Plain.{NoDearerThanPlain, NoDeeperThanPlain, NoMoreThanPlain}
 use Rattle.syn_area.proofs.Costing.{never_falls}
-use Rattle.syn_absorb.specs.Flips.{AllShown}
+use Rattle.syn_absorb.specs.Flips.{AllShown, MostShown}
 use Rattle.syn_absorb.specs.Needed.{AllDepend}
 use Rattle.syn_settled.specs.Settled.{IsSettled}
-use Rattle.syn_settled.proofs.Keeping.{all_shown, keeps_function, no_deeper}
+use Rattle.syn_settled.proofs.Keeping.{all_shown, keeps_function, most_shown, no_deeper}
 use Rattle.syn_settled.proofs.few.few_luts.Goals as goal
 
 pub returns-clause-function : goal.returns-clause-function
@@ -35,7 +33,7 @@ returns-clause-depth g c =
     let graph = c.args.graph.now in
     let was = c.in_ok-mapped.mapped in
     let h = c.in_ok-mapped.ensures in
-    IfOk-weaker c.settle.result (IsSettled was) (λ net. net_depth graph.source_count (luts_data net.luts) ≤ greatest (label_of c.args.k graph.rows) (map node_of graph.observed))
+    IfOk-weaker c.settle.result (IsSettled was) (NoDeeperThanPlain c.args.k graph)
     (λ now s. omega (arith, no_deeper graph was now h.function s, h.depth)) c.settle.ensures
 
 pub returns-clause-cost : goal.returns-clause-cost
@@ -44,7 +42,7 @@ returns-clause-cost g c =
     let areas = c.args.areas.now in
     let was = c.in_ok-mapped.mapped in
     let h = c.in_ok-mapped.ensures in
-    IfOk-weaker c.settle.result (IsSettled was) (λ net. (nodes : List ℕ) → AreNeeded c.args.k graph.rows graph.observed nodes → luts_cost areas (luts_data net.luts) ≤ nodes_cost c.args.k graph.rows areas nodes)
+    IfOk-weaker c.settle.result (IsSettled was) (NoDearerThanPlain c.args.k areas graph)
     (λ now s. λ nodes needed.
     let less : luts_cost areas (luts_data now.luts) ≤ luts_cost areas (luts_data was.luts) = s.cheaper (cost_of areas) (never_falls areas) in
     omega (arith, less, h.cost nodes needed)) c.settle.ensures
@@ -54,7 +52,7 @@ returns-clause-fewer g c = λ alike.
     let graph = c.args.graph.now in
     let was = c.in_ok-mapped.mapped in
     let h = c.in_ok-mapped.ensures in
-    IfOk-weaker c.settle.result (IsSettled was) (λ net. (nodes : List ℕ) → AreNeeded c.args.k graph.rows graph.observed nodes → length net.luts ≤ length nodes)
+    IfOk-weaker c.settle.result (IsSettled was) (NoMoreThanPlain c.args.k graph)
     (λ now s. λ nodes needed. omega (arith, s.fewer, h.fewer alike nodes needed)) c.settle.ensures
 
 pub returns-clause-count : goal.returns-clause-count
@@ -72,6 +70,14 @@ returns-clause-depend g c =
     let h = c.in_ok-mapped.ensures in
     IfOk-weaker c.settle.result (IsSettled was) (λ net. AllDepend (luts_data net.luts))
     (λ now s. s.depend) c.settle.ensures
+
+pub returns-clause-most : goal.returns-clause-most
+returns-clause-most g c =
+    let graph = c.args.graph.now in
+    let was = c.in_ok-mapped.mapped in
+    let h = c.in_ok-mapped.ensures in
+    IfOk-weaker c.settle.result (IsSettled was) (λ net. MostShown (graph.source_count + 1) net.observed)
+    (λ now s. most_shown graph was now h.function s) c.settle.ensures
 
 pub returns-clause-shown : goal.returns-clause-shown
 returns-clause-shown g c =

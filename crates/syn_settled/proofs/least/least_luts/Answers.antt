@@ -1,13 +1,13 @@
-use Rattle.std.proofs.Common.{◌≡◌, ◌+◌, ◌≤◌, ℕ, List, true, length, arith}
+use Rattle.std.proofs.Common.{◌≡◌, ◌+◌, ◌≤◌, true, length, arith}
 use Rattle.std.proofs.lemmas.Result.{IfOk-weaker}
-use Rattle.syn_lutnet.specs.LutData.{net_depth, none_exceeds}
+use Rattle.syn_lutnet.specs.LutData.{none_exceeds}
 use Rattle.syn_lutnet.specs.Data.{luts_data}
 use Rattle.syn_lutnet.specs.Nets.{HasFunctionOf}
 use Rattle.syn_flow.specs.Flows.{HasLeastDepth}
-use Rattle.syn_absorb.specs.Flips.{AllShown}
+use Rattle.syn_absorb.specs.Flips.{AllShown, MostShown}
 use Rattle.syn_absorb.specs.Needed.{AllDepend}
 use Rattle.syn_settled.specs.Settled.{IsSettled}
-use Rattle.syn_settled.proofs.Keeping.{all_shown, keeps_function, no_deeper}
+use Rattle.syn_settled.proofs.Keeping.{all_shown, keeps_function, most_shown, no_deeper}
 use Rattle.syn_settled.proofs.least.least_luts.Goals as goal
 
 pub returns-clause-function : goal.returns-clause-function
@@ -49,6 +49,14 @@ returns-clause-depend c =
     let h = c.in_ok-mapped.ensures in
     IfOk-weaker c.settle.result (IsSettled was) (λ net. AllDepend (luts_data net.luts))
     (λ now s. s.depend) c.settle.ensures
+
+pub returns-clause-most : goal.returns-clause-most
+returns-clause-most c =
+    let graph = c.args.graph.now in
+    let was = c.in_ok-mapped.mapped in
+    let h = c.in_ok-mapped.ensures in
+    IfOk-weaker c.settle.result (IsSettled was) (λ net. MostShown (graph.source_count + 1) net.observed)
+    (λ now s. most_shown graph was now h.function s) c.settle.ensures
 
 pub returns-clause-shown : goal.returns-clause-shown
 returns-clause-shown c =
