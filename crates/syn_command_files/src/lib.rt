@@ -25,8 +25,8 @@ use std::alloc::Global;
 use syn_io::Files;
 use syn_words::{Command, ScriptFault, Text, parse_script};
 
-// The most bytes of a script, and of a file of commands.
-pub(crate) const TEXT_LIMIT: usize = 65_536;
+/// The most bytes of a script, and of a file of commands.
+pub const TEXT_LIMIT: usize = 65_536;
 
 // So many files deep at most.
 const MOST_DEEP: u32 = 16;

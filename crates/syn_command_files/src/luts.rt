@@ -5,13 +5,11 @@
 //! not used.
 
 ghost use Rattle.std.specs.Prelude.{◌≡◌, ◌+◌, ◌*◌, ◌-◌, ◌<◌, ◌≤◌, ◌^◌, min, Err, IfErr, IfOk, IfSome, length, Ok, slice_index_or};
-ghost use Rattle.std.specs.List.{list_all};
-ghost use Rattle.syn_words.specs.Numbers.{is_digit, is_number, number_after};
+ghost use Rattle.syn_words.specs.Numbers.{number_after};
 ghost use Rattle.syn_command_files.specs.Luts.{are_decimals, digit_at, fraction_digits, is_decimal, is_fraction, line_of, most_area, row_in, row_words, sizes_in, thousandths, three_digits, with_area};
 
 use syn_lex::{WordBytes, Words, bytes_before, cut_piece};
-use syn_words::{LutInputs, LutSizes, NumberRange, number_in};
-use thiserror::Error;
+use syn_words::{LutInputs, LutSizes, NumberRange, is_number, number_in};
 
 // A row has at least so many inputs, and at most so many.
 const ROW_INPUTS: NumberRange = NumberRange { least: 1, most: 8 };
@@ -23,11 +21,10 @@ const LEAST_MOST: u64 = 2;
 const NO_AREAS: [u32; 8] = [u32::MAX; 8];
 
 /// Why a text is no file of LUTs.
-#[derive(Clone, Copy, Debug, PartialEq, Eq, Error)]
+#[derive(Clone, Copy, Debug, PartialEq, Eq)]
 pub enum LutFileFault {
     /// The line of this number, from 1, is the first that isn't a row of 1 to 8 inputs. Where each is
     /// one and none has 2 or more, it is the last line; 0 where there is none.
-    #[error("line {0}: lut row")]
     Line(u32),
 }
 
@@ -46,25 +43,6 @@ impl WordBytes for RowBytes {
 
 // The words that are left of a row.
 type RowWords<'a> = Words<'a, RowBytes>;
-
-// Each byte is a digit.
-fn all_digits(text: &[u8]) -> bool
-    ensures { result ≡ list_all is_digit text.now }
-{
-    for byte in text {
-        if *byte < b'0' || *byte > b'9' {
-            return false;
-        }
-    }
-    true
-}
-
-// One or more digits, and nothing else.
-fn is_number(text: &[u8]) -> bool
-    ensures { result ≡ is_number text.now }
-{
-    !text.is_empty() && all_digits(text)
-}
 
 // Nothing, or a point and digits, where the first byte is a point if there is one.
 fn is_fraction(text: &[u8]) -> bool

@@ -19,6 +19,7 @@ use Rattle.syn_command_files.specs.declared.LoadFault.TheVariants as faults
 use Rattle.syn_command_files.specs.Loading.{IsOutside}
 use Rattle.syn_command_files.specs.Luts.{line_of, sizes_in}
 use Rattle.syn_command_files.specs.Sources as sources
+use Rattle.syn_command_files.specs.Sources.{text_limit}
 use Rattle.syn_command_files.proofs.Deciding.{file_accepted, script_accepted, script_alone}
 use Rattle.syn_netlist.specs.Lists.{Frame, Netlist}
 use Rattle.syn_compare.specs.Matching.{AreMatched, IsFault}
@@ -33,7 +34,7 @@ use Rattle.syn_shell.specs.declared.refusal.Refusal.{Refusal}
 use Rattle.syn_shell.specs.declared.refusal.Refusal.TheVariants.{Read, ReadAiger, ReadLuts, NotRead, Unmatched, FileTooLong, LineTooLong, TooManyGates, LatchType, NoNetwork, GetFailed, PutFailed, LineFailed, SinkFailed, NoMemory}
 use Rattle.syn_build.specs.BuildFaults.{most_gates}
 use Rattle.syn_shell.specs.Networks.{Written, gates_in}
-use Rattle.syn_shell.specs.Outside.{State, script_limit}
+use Rattle.syn_shell.specs.Outside.{State}
 use Rattle.syn_shell.specs.Comparing.{CompareRefused, IsNotRead, cause_in}
 use Rattle.syn_shell.specs.Lines.{IsLevelsText, IsStatsLine, refusal_status}
 use Rattle.syn_shell.specs.Reads.{file_limit, AigerReadRefused, GetRefused, LutsRefused, ReadRefused}
@@ -296,20 +297,20 @@ first_fine : (outcome : Option Refused) (more : List Refused) → OutcomeFine ou
 first_fine None more here behind = behind
 first_fine (Some refused) more here behind = here
 
-long_at : (taken : ℕ) (line : Option (List ℕ)) → IfSome line (λ l. (length l ≤ script_limit) × (taken < most_lines)) → IsSomeAnd line (λ l. script_limit < length l) → ⊥
+long_at : (taken : ℕ) (line : Option (List ℕ)) → IfSome line (λ l. (length l ≤ text_limit) × (taken < most_lines)) → IsSomeAnd line (λ l. text_limit < length l) → ⊥
 long_at taken None ready long = long
 long_at taken (Some line) ready long = absurd (omega (arith, ready.0, long))
 
-not_long : (taken : ℕ) (told : Option (List ℕ)) → IsSomeAnd told (λ left. IfSome (next_line left) (λ l. (length l ≤ script_limit) × (taken < most_lines)))
-    → IfSome told (λ left. IsSomeAnd (next_line left) (λ l. script_limit < length l)) → ⊥
+not_long : (taken : ℕ) (told : Option (List ℕ)) → IsSomeAnd told (λ left. IfSome (next_line left) (λ l. (length l ≤ text_limit) × (taken < most_lines)))
+    → IfSome told (λ left. IsSomeAnd (next_line left) (λ l. text_limit < length l)) → ⊥
 not_long taken None ready long = ready
 not_long taken (Some left) ready long = long_at taken (next_line left) ready long
 
-one_left : (taken : ℕ) (found : Option (List ℕ)) (line : List ℕ) → taken ≡ most_lines → IfSome found (λ l. (length l ≤ script_limit) × (taken < most_lines)) → Some line ≡ found → ⊥
+one_left : (taken : ℕ) (found : Option (List ℕ)) (line : List ℕ) → taken ≡ most_lines → IfSome found (λ l. (length l ≤ text_limit) × (taken < most_lines)) → Some line ≡ found → ⊥
 one_left taken None line all ready is = absurd (cc)
 one_left taken (Some l) line all ready is = absurd (omega (arith, ready.1, all))
 
-not_many : (taken : ℕ) (told : Option (List ℕ)) (line : List ℕ) → taken ≡ most_lines → IsSomeAnd told (λ left. IfSome (next_line left) (λ l. (length l ≤ script_limit) × (taken < most_lines)))
+not_many : (taken : ℕ) (told : Option (List ℕ)) (line : List ℕ) → taken ≡ most_lines → IsSomeAnd told (λ left. IfSome (next_line left) (λ l. (length l ≤ text_limit) × (taken < most_lines)))
     → IfSome told (λ left. Some line ≡ next_line left) → ⊥
 not_many taken None line all ready is = ready
 not_many taken (Some left) line all ready is = one_left taken (next_line left) line all ready is

@@ -1,5 +1,5 @@
 -- LUTs that were made of a graph, under its names, are as they are written what the recipes for mapping make of it.
-use Rattle.std.proofs.Common.{◌≡◌, ℕ, zero, suc, ◌+◌, ◌≤◌, true, List, map, length, refl, sym, ap, ap₂, ◌∙◌, subst, subst₂, arith, IfOk, Result, Ok, Err}
+use Rattle.std.proofs.Common.{◌≡◌, ℕ, zero, suc, ◌+◌, ◌≤◌, true, List, map, length, refl, sym, ap, ap₂, ◌∙◌, subst, subst₂, arith, IfOk, IfSome, Option, Result, Ok, Err}
 use Rattle.std.proofs.lemmas.List.{length-drop, length-map}
 use Rattle.syn_rows.specs.declared.Lit.{Lit}
 use Rattle.syn_rows.specs.declared.Row.{Row}
@@ -14,15 +14,18 @@ use Rattle.syn_network.specs.declared.lut_networks.LutNetwork.{LutNetwork}
 use Rattle.syn_network.specs.GraphShape.{observed_of, rows_of}
 use Rattle.syn_network.specs.Laws.{MappedKeepsMeaning}
 use Rattle.syn_network.specs.LutShape.{count_of, depth_of, luts_of}
+use Rattle.syn_network.specs.LutShape as shape
 use Rattle.syn_network.specs.LutSpelling.{NetworkOfLuts, NetworkSpellsLuts, lut_network}
+use Rattle.syn_network.specs.Networks.{IsNamed}
 use Rattle.syn_network.specs.Spelling.{NetworkOfGraph}
+use Rattle.syn_network.proofs.LutNaming.{named_net, names_fit}
 use Rattle.syn_network.specs.Written as graphs
 use Rattle.syn_network.specs.WrittenLuts as luts
 use Rattle.syn_lutnet.specs.LutData.{greatest, net_depth, none_exceeds}
 use Rattle.syn_lutnet.specs.Data.{lut_data, luts_data}
 use Rattle.syn_lutnet.specs.Nets.{HasFunctionOf}
 use Rattle.syn_lutnet.specs.declared.nets.LutNet.{LutNet}
-use Rattle.syn_absorb.specs.Flips.{AllShown}
+use Rattle.syn_absorb.specs.Flips.{AllShown, MostShown}
 use Rattle.syn_absorb.specs.Needed.{AllDepend}
 use Rattle.syn_flow.specs.Coverings.{IsLeastDepth}
 use Rattle.syn_covering.specs.Making.{IsMappedBy}
@@ -30,11 +33,12 @@ use Rattle.syn_map.specs.Labels.{label_of}
 use Rattle.syn_map.specs.Mappings.{IsMapped}
 use Rattle.syn_area.specs.Areas.{CostAlike, cost_of, luts_cost, nodes_cost}
 use Rattle.syn_area.specs.Plain.{AreNeeded}
+use Rattle.syn_settled.specs.Fewest.{AreFewLutsOf, AreFewestLutsOf}
 use Rattle.syn_words.specs.Commands.{luts_alike}
 use Rattle.syn_words.specs.declared.inputs.LutSizes.{LutSizes}
 use Rattle.syn_shell.specs.Networks.{Written, graph_network, mapped_network}
-use Rattle.syn_shell.specs.Bodies.{AreFewLuts, AreLeastLuts, AreLuts, ArePlainLuts, AreSettledIn, depth_over, greatest_label}
-use Rattle.syn_shell.specs.Makes.{AreSettled, AreaIsNoWorse, IsInLuts, IsLeastMappedTo, IsMappedForArea, IsMappedTo}
+use Rattle.syn_shell.specs.Bodies.{AreFewestLuts, AreLeastLuts, AreLuts, ArePlainLuts, AreSettledIn, depth_over, greatest_label}
+use Rattle.syn_shell.specs.Makes.{AreSettled, AreaIsNoWorse, IsInLuts, IsLeastMappedTo, IsMappedForArea, IsMappedLoosely, IsMappedTo}
 use Rattle.syn_shell.proofs.RemadeGraphs.{spelled, written}
 
 -- what a graph and LUTs under names are as netlists
@@ -60,6 +64,10 @@ spelled_luts spells made = spells (frame_in made.frame) (luts_data made.body.lut
 -- the number of LUTs, and how deep they are
 many_luts : NetworkOfLuts → (made : LutNetwork) (net : LutNet) → made.body ≡ net → count_of (luts.network_of made) ≡ length net.luts
 many_luts spells made net is = (spelled_luts spells made).count ∙ length-map made.body.luts lut_data ∙ ap (λ (n : LutNet). length n.luts) is
+
+-- the LUTs, as they are written
+luts_there : NetworkOfLuts → (made : LutNetwork) (net : LutNet) → made.body ≡ net → luts_of (luts.network_of made) ≡ luts_data net.luts
+luts_there spells made net is = (spelled_luts spells made).same_luts ∙ ap (λ (n : LutNet). luts_data n.luts) is
 
 deep_luts : LutLaws → (was : Network) (net : LutNet) (made : LutNetwork) → AreOf was net made → depth_of (luts.network_of made) ≡ depth_over was.body net
 deep_luts laws was net made h =
@@ -112,34 +120,67 @@ mapped_to laws k was net made h are =
       count = many_luts laws.luts made net h.body ∙ there.2;
     }
 
+-- what holds of the observed literals as they are made holds of them as they are written
+observed_there : LutLaws → (was : Network) (net : LutNet) (made : LutNetwork) → AreOf was net made → (holds : ℕ → List Lit → Type 0) → holds (was.body.source_count + 1) net.observed
+    → holds (length (sources (frame_in made.frame)) + 1) (shape.observed_of (luts.network_of made))
+observed_there laws was net made h holds there =
+    let many : was.body.source_count ≡ length (sources (frame_in made.frame)) = was.named.sources_are ∙ ap (λ (f : Frame). length (sources f)) (sym h.names) in
+    subst (holds (length (sources (frame_in made.frame)) + 1)) (sym (spelled_luts laws.luts made).same_lits)
+    (subst (λ (n : ℕ). holds (n + 1) made.body.observed) many (subst (λ (n : LutNet). holds (was.body.source_count + 1) n.observed) (sym h.body) there))
+
 -- settled as they are made, they are so as they are written
 settled_there : LutLaws → (was : Network) (net : LutNet) (made : LutNetwork) → AreOf was net made → AreSettledIn was.body net → AreSettled (luts.network_of made)
-settled_there laws was net made h are =
-    let s = spelled_luts laws.luts made in
-    let many : was.body.source_count ≡ length (sources (frame_in made.frame)) = was.named.sources_are ∙ ap (λ (f : Frame). length (sources f)) (sym h.names) in
-    record {
-      depend = subst AllDepend (sym s.same_luts) (subst (λ (n : LutNet). AllDepend (luts_data n.luts)) (sym h.body) are.depend);
-      shown = subst (AllShown (length (sources (frame_in made.frame)) + 1)) (sym s.same_lits)
-          (subst (λ (n : ℕ). AllShown (n + 1) made.body.observed) many (subst (λ (n : LutNet). AllShown (was.body.source_count + 1) n.observed) (sym h.body) are.shown));
-    }
+settled_there laws was net made h are = record {
+  depend = subst AllDepend (sym (luts_there laws.luts made net h.body)) are.depend;
+  most = observed_there laws was net made h MostShown are.most;
+  shown = observed_there laws was net made h AllShown are.shown;
+}
 
 -- no deeper than the greatest label, and no more of them than nodes need one
-pub mapped_for_area : LutLaws → (sizes : LutSizes) (was : Network) (net : LutNet) (made : LutNetwork) → AreOf was net made → AreFewLuts sizes was.body net → IsMappedForArea sizes (written was) (written_luts made)
+pub mapped_for_area : LutLaws → (sizes : LutSizes) (was : Network) (net : LutNet) (made : LutNetwork) → AreOf was net made → AreFewLutsOf sizes.most sizes.areas was.body net → IsMappedForArea sizes (written was) (written_luts made)
 mapped_for_area laws sizes was net made h are =
     let k : ℕ = sizes.most in
     let rows : rows_of (graphs.network_of was) ≡ was.body.rows = (spelled laws.graphs was).same_rows in
-    let luts : luts_of (luts.network_of made) ≡ luts_data net.luts = (spelled_luts laws.luts made).same_luts ∙ ap (λ (n : LutNet). luts_data n.luts) h.body in
     record {
-      luts = in_luts laws k was net made h are.luts;
+      luts = in_luts laws k was net made h (record { inputs = are.inputs; count = are.count });
       depth = omega (arith, deep_luts laws was net made h, are.depth, same_greatest laws.graphs k was);
       cost = λ nodes there.
           omega (
             arith,
-            ap (luts_cost sizes.areas) luts,
+            ap (luts_cost sizes.areas) (luts_there laws.luts made net h.body),
             ap (λ (rs : List Row). nodes_cost k rs sizes.areas nodes) rows,
             are.cost nodes (needed_here laws.graphs k was nodes there),
           );
       fewest = λ alike nodes there. omega (arith, many_luts laws.luts made net h.body, are.fewer alike nodes (needed_here laws.graphs k was nodes there));
+      settled = settled_there laws was net made h (record { depend = are.depend; most = are.most; shown = are.shown });
+    }
+
+-- others of the graph's function, under the same names
+other_luts : (was : Network) (net few : LutNet) (made : LutNetwork) → AreOf was net made → HasFunctionOf was.body few → (other : LutNetwork) × AreOf was few other
+other_luts was net few made h function =
+    let named = names_fit (frame_in made.frame) was.body few function (subst (λ (f : Frame). IsNamed f was.body.source_count was.body.observed) (sym h.names) was.named) in
+    let other : LutNetwork = record { frame = made.frame; body = few; named = named; net = named_net (frame_in made.frame) few named; few_names = made.few_names } in
+    (other, record { names = h.names; body = refl; function = function })
+
+-- so many levels deeper, by other names of both depths
+deeper_by : (slack : Option ℕ) (a b c d : ℕ) → a ≡ c → b ≡ d → IfSome slack (λ levels. a ≤ b + levels) → IfSome slack (λ levels. c ≤ d + levels)
+deeper_by slack a b c d is same deep = subst₂ (λ (m n : ℕ). IfSome slack (λ levels. m ≤ n + levels)) is same deep
+
+-- no dearer than some that are few, whatever the depth
+pub mapped_loosely : LutLaws → (sizes : LutSizes) (slack : Option ℕ) (was : Network) (net : LutNet) (made : LutNetwork) → AreOf was net made → AreFewestLuts sizes slack was.body net
+    → IsMappedLoosely sizes slack (written was) (written_luts made)
+mapped_loosely laws sizes slack was net made h are =
+    let f = are.fewest in
+    let others = other_luts was net f.few made h f.are_few.function in
+    let other : LutNetwork = others.0 in
+    let of_few : AreOf was f.few other = others.1 in
+    record {
+      luts = in_luts laws sizes.most was net made h are.luts;
+      few = written_luts other;
+      for_area = mapped_for_area laws sizes was f.few other of_few f.are_few;
+      cost = omega (arith, ap (luts_cost sizes.areas) (luts_there laws.luts made net h.body), ap (luts_cost sizes.areas) (luts_there laws.luts other f.few of_few.body), f.cost);
+      fewest = λ alike. omega (arith, many_luts laws.luts made net h.body, many_luts laws.luts other f.few of_few.body, f.alike alike);
+      depth = deeper_by slack _ _ _ _ (sym (deep_luts laws was net made h)) (sym (deep_luts laws was f.few other of_few)) f.depth;
       settled = settled_there laws was net made h are.settled;
     }
 
@@ -159,8 +200,12 @@ least_mapped_to laws k was net made h are =
     }
 
 -- by other names of the most inputs and of the areas
-pub few_by : (k : ℕ) (areas : List ℕ) (sizes : LutSizes) (graph : Graph) (net : LutNet) → k ≡ sizes.most → areas ≡ sizes.areas → AreFewLuts (record { most = k; areas = areas }) graph net → AreFewLuts sizes graph net
-few_by k areas sizes graph net e f are = subst₂ (λ (m : ℕ) (costs : List ℕ). AreFewLuts (record { most = m; areas = costs }) graph net) e f are
+pub few_by : (k : ℕ) (areas : List ℕ) (sizes : LutSizes) (graph : Graph) (net : LutNet) → k ≡ sizes.most → areas ≡ sizes.areas → AreFewLutsOf k areas graph net → AreFewLutsOf sizes.most sizes.areas graph net
+few_by k areas sizes graph net e f are = subst₂ (λ (m : ℕ) (costs : List ℕ). AreFewLutsOf m costs graph net) e f are
+
+pub fewest_by : (k : ℕ) (areas : List ℕ) (sizes : LutSizes) (slack : Option ℕ) (graph : Graph) (net : LutNet) → k ≡ sizes.most → areas ≡ sizes.areas → AreFewestLuts (record { most = k; areas = areas }) slack graph net
+    → AreFewestLuts sizes slack graph net
+fewest_by k areas sizes slack graph net e f are = subst₂ (λ (m : ℕ) (costs : List ℕ). AreFewestLuts (record { most = m; areas = costs }) slack graph net) e f are
 
 -- by another name of the number of inputs
 pub least_by : (j k : ℕ) (old new : Written) → j ≡ k → IsLeastMappedTo j old new → IsLeastMappedTo k old new
@@ -190,4 +235,8 @@ all_alike inputs most n many few = alike n many (omega (arith, most, few))
 
 -- few LUTs are no more than those of plain mapping, and no deeper
 pub area_is_no_worse : AreaIsNoWorse
-area_is_no_worse inputs graph plain few many most is are = (omega (arith, are.fewest (all_alike inputs most) is.nodes is.needed, is.count), omega (arith, are.depth, is.depth))
+area_is_no_worse = record {
+  named = all_alike;
+  depth = λ sizes graph plain few is are. omega (arith, are.depth, is.depth);
+  count = λ sizes graph plain few alike is are. omega (arith, are.fewest alike is.nodes is.needed, is.count);
+}

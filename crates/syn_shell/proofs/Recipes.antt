@@ -90,6 +90,7 @@ luts_of_it inputs old new made = record {
 pub kept_of : (r : Recipe) (old new : Written) → old.mapped ≡ false → MakesOfGraph r old new → IsKeptOf (sweeps r) old new
 kept_of recipes.Strash old new graph made = remade_of_it old new graph made
 kept_of recipes.Balance old new graph made = remade_of_it old new graph made.remade
+kept_of recipes.BalanceShared old new graph made = remade_of_it old new graph made.remade
 kept_of (recipes.Rewrite options) old new graph made = remade_of_it old new graph (passed_remade options.levels rewritings old new made)
 kept_of (recipes.Refactor options) old new graph made = remade_of_it old new graph (passed_remade options.levels refactorings old new made)
 kept_of (recipes.Resubstitute options) old new graph made = remade_of_it old new graph (passed_remade options.levels resubstitutions old new made)
@@ -97,6 +98,7 @@ kept_of (recipes.Merge limits) old new graph made = remade_of_it old new graph m
 kept_of (recipes.Replace limits) old new graph made = remade_of_it old new graph made.remade
 kept_of (recipes.Map false sizes) old new graph made = luts_of_it (luts_in sizes).most old new made.luts
 kept_of (recipes.Map true sizes) old new graph made = luts_of_it (luts_in sizes).most old new made.luts
+kept_of (recipes.MapLoosely slack sizes) old new graph made = luts_of_it (luts_in sizes).most old new made.luts
 kept_of (recipes.MapByFlow inputs) old new graph made = luts_of_it (most_inputs inputs) old new made.luts
 kept_of recipes.Sweep old new graph made = record { same = made.sweep.same; ordered = made.sweep.ordered; small = swept_small old new graph made }
 

@@ -6,7 +6,7 @@ use Rattle.syn_rows.specs.declared.Row.{Row}
 use Rattle.syn_hashed.specs.Growing.{level_by}
 use Rattle.syn_hashed.specs.Hashed.{lit_at}
 use Rattle.syn_graph.specs.declared.Graph.{Graph}
-use Rattle.syn_graph.specs.Relations.{SameFunction}
+use Rattle.syn_graph.specs.Relations.{Follows, SameFunction}
 use Rattle.syn_netlist.specs.Frames.{frame_in}
 use Rattle.syn_netlist.specs.Lists.{Frame, sources}
 use Rattle.syn_netlist.specs.Meaning.{SameMeaning}
@@ -84,6 +84,10 @@ merged_of laws levels was now names h = record {
   remade = remade_of laws was now names h.follows.same (omega (arith, h.follows.count));
   levels = λ kept. no_deeper laws.spells was now (λ i lt. h.levels kept i);
 }
+
+-- a graph of the same function, with no more ANDs, where no levels are kept
+pub merged_freely : (graph made : Graph) → Follows graph 0 made → AreMerged false graph made
+merged_freely graph made h = record { follows = h; levels = λ kept. absurd (let no : false ≡ true = kept in cc) }
 
 -- the proposals that no longer save, by the rows that the netlist spells
 closed_of : NetworkOfGraph → (proposals : List Row → ℕ → List Replacement) (now : Network) → Closed now.body.rows now.body.observed (proposals now.body.rows)

@@ -11,14 +11,13 @@ use Rattle.syn_pool.specs.Improving.{IsImproved, allowed}
 use Rattle.syn_lutnet.specs.LutData.{greatest, net_depth, none_exceeds}
 use Rattle.syn_lutnet.specs.Data.{luts_data}
 use Rattle.syn_lutnet.specs.declared.nets.LutNet.{LutNet}
-use Rattle.syn_absorb.specs.Flips.{AllShown}
+use Rattle.syn_absorb.specs.Flips.{AllShown, MostShown}
 use Rattle.syn_absorb.specs.Needed.{AllDepend}
 use Rattle.syn_map.specs.Labels.{label_of}
 use Rattle.syn_map.specs.Mappings.{IsMapped}
-use Rattle.syn_area.specs.Areas.{CostAlike, luts_cost, nodes_cost}
-use Rattle.syn_area.specs.Plain.{AreNeeded}
 use Rattle.syn_words.specs.declared.inputs.LutSizes.{LutSizes}
 use Rattle.syn_flow.specs.Flows.{HasLeastDepth}
+use Rattle.syn_settled.specs.Fewest.{AreFewestLutsOf}
 
 -- A pass made a graph of this one; or it made none, and no proposal of those that it goes by saves.
 pub record IsLeftBy (proposals : List Row → ℕ → List Replacement) (levels : Bool) (graph : Graph) (made : Option Graph) : Type 0 where
@@ -49,17 +48,16 @@ pub record ArePlainLuts (k : ℕ) (graph : Graph) (net : LutNet) : Type 0 where
   pub mapping : IsMapped k graph net
   pub depth : depth_over graph net ≡ greatest_label k graph
 
--- Each LUT depends on each signal that it reads, and none is observed only complemented.
+-- Each LUT depends on each signal that it reads, no more literals observe one complemented than plain, and none is observed only complemented.
 pub record AreSettledIn (graph : Graph) (net : LutNet) : Type 0 where
   pub depend : AllDepend (luts_data net.luts)
+  pub most : MostShown (graph.source_count + 1) net.observed
   pub shown : AllShown (graph.source_count + 1) net.observed
 
--- No deeper than that, at no more cost than LUTs of the nodes that need one over the chosen cuts, and no more of them where all cost the same.
-pub record AreFewLuts (sizes : LutSizes) (graph : Graph) (net : LutNet) : Type 0 where
+-- Those of mapping for few LUTs whatever the depth, or with at most so many levels more where a number is given.
+pub record AreFewestLuts (sizes : LutSizes) (slack : Option ℕ) (graph : Graph) (net : LutNet) : Type 0 where
   pub luts : AreLuts sizes.most graph net
-  pub depth : depth_over graph net ≤ greatest_label sizes.most graph
-  pub cost : (nodes : List ℕ) → AreNeeded sizes.most graph.rows graph.observed nodes → luts_cost sizes.areas (luts_data net.luts) ≤ nodes_cost sizes.most graph.rows sizes.areas nodes
-  pub fewer : CostAlike sizes.most sizes.areas → (nodes : List ℕ) → AreNeeded sizes.most graph.rows graph.observed nodes → length net.luts ≤ length nodes
+  pub fewest : AreFewestLutsOf sizes.most sizes.areas slack graph net
   pub settled : AreSettledIn graph net
 
 -- No deeper than any covering.

@@ -58,25 +58,19 @@ pub record AreCompared (n m : Netlist) (comparison : Comparison) : Type 0 where
   pub matched : AreMatched n.frame m.frame
   pub compares : Compares n m comparison
 
--- What a comparison puts: how the graph that is compared first compares with that of the second file.
-pub record Compared (first : Option NetworkFile) (second : NetworkFile) (network : Option Written) (disk : Disk) (before after : Screen) : Type 0 where
+-- A comparison is answered: the text says how the graph that is compared first compares with that of the second file.
+pub record IsAnswered (first : Option NetworkFile) (second : NetworkFile) (network : Option Written) (disk : Disk) (answer : List ℕ → Type 0) : Type 0 where
   pub n : Netlist
   pub m : Netlist
   pub comparison : Comparison
   pub first_is : IsFirst first network disk n
   pub second_is : IsReadFrom second disk m
   pub compared : AreCompared n m comparison
-  pub took : Took (comparison_text (sources n.frame) comparison) before after
+  pub took : answer (comparison_text (sources n.frame) comparison)
 
--- A sink that failed took a first part of that.
-pub record ComparedInPart (first : Option NetworkFile) (second : NetworkFile) (network : Option Written) (disk : Disk) (before after : Screen) : Type 0 where
-  pub n : Netlist
-  pub m : Netlist
-  pub comparison : Comparison
-  pub first_is : IsFirst first network disk n
-  pub second_is : IsReadFrom second disk m
-  pub compared : AreCompared n m comparison
-  pub took : TookPart (comparison_text (sources n.frame) comparison) before after
+-- The sink took that text.
+abbrev pub Compared : Option NetworkFile → NetworkFile → Option Written → Disk → Screen → Screen → Type 0
+Compared first second network disk before after = IsAnswered first second network disk (λ text. Took text before after)
 
 -- Why two netlists aren't compared: a name is in one of them only; memory may be refused.
 abbrev pub IsUnmatched : Netlist → Netlist → Refusal → Type 0
@@ -99,6 +93,6 @@ CompareRefused first second network d d' s s' NoNetwork = (first ≡ None) × (n
 CompareRefused first second network d d' s s' (TooManyGates gates) = (first ≡ None) × IsSomeAnd network (λ net. (gates ≡ gates_in net) × (most_gates < gates)) × (s' ≡ s)
 CompareRefused first second network d d' s s' (NotRead name cause) = (IsSomeAnd first (λ file. IsNotRead file d d' (NotRead name cause)) ⊎ IsNotRead second d d' (NotRead name cause)) × (s' ≡ s)
 CompareRefused first second network d d' s s' (Unmatched fault) = AreUnmatched first second network d fault × (s' ≡ s)
-CompareRefused first second network d d' s s' SinkFailed = ComparedInPart first second network d s s'
+CompareRefused first second network d d' s s' SinkFailed = IsAnswered first second network d (λ text. TookPart text s s')
 CompareRefused first second network d d' s s' NoMemory = s' ≡ s
 CompareRefused first second network d d' s s' other = ⊥

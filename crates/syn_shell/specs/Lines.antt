@@ -9,6 +9,7 @@ use Rattle.syn_lutnet.specs.LutData.{depth_in, signal_depths}
 use Rattle.syn_network.specs.LutShape.{count_of, depth_of, luts_of}
 use Rattle.syn_network.specs.LutShape as shape
 use Rattle.syn_report.specs.Levels.{greatest, levels_text}
+use Rattle.syn_words.specs.Files.{place_of}
 use Rattle.syn_words.specs.declared.ScriptFault.{ScriptFault}
 use Rattle.syn_words.specs.declared.ScriptFault.TheVariants as script
 use Rattle.syn_reader.specs.declared.ReadFault.{ReadFault}
@@ -70,18 +71,7 @@ joined pieces = flat_map (λ piece. piece) pieces
 abbrev pub at_place : ℕ → List ℕ → List ℕ
 at_place at what = joined (codes "script " ∷ decimal at ∷ codes ": " ∷ what ∷ [])
 
--- what a fault of a script says
-abbrev pub script_text : ScriptFault → List ℕ
-script_text (script.BadByte at) = at_place at (codes "bad byte")
-script_text (script.UnknownCommand at) = at_place at (codes "unknown command")
-script_text (script.MissingWord at) = at_place at (codes "missing word")
-script_text (script.ExtraWord at) = at_place at (codes "extra word")
-script_text (script.BadNumber at) = at_place at (codes "bad number")
-script_text (script.OutOfRange at) = at_place at (codes "out of range")
-script_text (script.UnknownEnding at) = at_place at (codes "unknown ending")
-script_text script.NoMemory = codes "out of memory"
-
--- what it says without its place
+-- what is wrong by a fault of a script
 abbrev pub fault_words : ScriptFault → List ℕ
 fault_words (script.BadByte at) = codes "bad byte"
 fault_words (script.UnknownCommand at) = codes "unknown command"
@@ -91,6 +81,10 @@ fault_words (script.UnknownEnding at) = codes "unknown ending"
 fault_words (script.BadNumber at) = codes "bad number"
 fault_words (script.OutOfRange at) = codes "out of range"
 fault_words script.NoMemory = codes "out of memory"
+
+-- what a fault of a script says: its place, and what is wrong there
+abbrev pub script_text : ScriptFault → List ℕ
+script_text fault = at_place (place_of fault) (fault_words fault)
 
 -- the blank before a word, where there is one
 abbrev pub gap_before : List ℕ → List ℕ

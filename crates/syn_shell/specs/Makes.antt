@@ -1,5 +1,5 @@
 -- What recipes make of a network, as it is written.
-use Rattle.std.specs.Prelude.{◌≡◌, ℕ, ◌+◌, ◌≤◌, ◌<◌, Bool, true, false, List, length, map, Option, None, Some}
+use Rattle.std.specs.Prelude.{◌≡◌, ℕ, ◌+◌, ◌≤◌, ◌<◌, Bool, true, false, List, length, map, Option, None, Some, IfSome}
 use Rattle.syn_rows.specs.declared.Row.{Row}
 use Rattle.syn_rows.specs.Rows.{node_of}
 use Rattle.syn_rows.specs.Levels.{level_in, levels_of}
@@ -11,7 +11,7 @@ use Rattle.syn_network.specs.LutShape.{LutShape, count_of, depth_of, gates_of, l
 use Rattle.syn_network.specs.LutShape as shape
 use Rattle.syn_hashed.specs.Hashed.{lit_at}
 use Rattle.syn_lutnet.specs.LutData.{greatest}
-use Rattle.syn_absorb.specs.Flips.{AllShown}
+use Rattle.syn_absorb.specs.Flips.{AllShown, MostShown}
 use Rattle.syn_absorb.specs.Needed.{AllDepend}
 use Rattle.syn_map.specs.Labels.{label_of}
 use Rattle.syn_area.specs.Areas.{CostAlike, luts_cost, nodes_cost}
@@ -61,7 +61,7 @@ pub record IsBalanced (old new : Written) : Type 0 where
   pub remade : IsRemade old new
   pub levels : NoDeeper old.netlist new.netlist
 
--- What merging and resubstitution by refutation make of a graph: it is remade, and where levels are kept no observed signal has a higher level than before.
+-- What merging, resubstitution by refutation and sharing of pairs make of a graph: it is remade, and where levels are kept no observed signal has a higher level than before.
 pub record IsMerged (keeps : Bool) (old new : Written) : Type 0 where
   pub remade : IsRemade old new
   pub levels : keeps ≡ true → NoDeeper old.netlist new.netlist
@@ -97,9 +97,10 @@ pub record IsMappedTo (inputs : ℕ) (old new : Written) : Type 0 where
   pub needed : AreNeeded inputs (rows_of old.netlist) (observed_of old.netlist) nodes
   pub count : count_of new.netlist ≡ length nodes
 
--- LUTs as they are left behind mapping for few LUTs and by flow: each depends on each signal that it reads, and none is observed only complemented.
+-- LUTs as they are left behind mapping for few LUTs and by flow: each depends on each signal that it reads, no more literals observe one complemented than plain, and none is observed only complemented.
 pub record AreSettled (net : Netlist) : Type 0 where
   pub depend : AllDepend (luts_of net)
+  pub most : MostShown (length (sources net.frame) + 1) (shape.observed_of net)
   pub shown : AllShown (length (sources net.frame) + 1) (shape.observed_of net)
 
 -- What mapping for few LUTs makes of a graph, by the LUTs that there are: a net of LUTs that is no deeper than what mapping makes, and costs no more than LUTs of the nodes that need one over the chosen cuts, by the rows that the graph spells; where LUTs all cost the same it has no more of them.
@@ -108,6 +109,16 @@ pub record IsMappedForArea (sizes : LutSizes) (old new : Written) : Type 0 where
   pub depth : depth_of new.netlist ≤ greatest (label_of sizes.most (rows_of old.netlist)) (map node_of (observed_of old.netlist))
   pub cost : (nodes : List ℕ) → AreNeeded sizes.most (rows_of old.netlist) (observed_of old.netlist) nodes → luts_cost sizes.areas (luts_of new.netlist) ≤ nodes_cost sizes.most (rows_of old.netlist) sizes.areas nodes
   pub fewest : CostAlike sizes.most sizes.areas → (nodes : List ℕ) → AreNeeded sizes.most (rows_of old.netlist) (observed_of old.netlist) nodes → count_of new.netlist ≤ length nodes
+  pub settled : AreSettled new.netlist
+
+-- What mapping for few LUTs makes of a graph whatever the depth: a net of LUTs that costs no more than one that mapping for few LUTs makes of it, has no more of them where all cost the same, and is at most so many levels deeper where a number is given.
+pub record IsMappedLoosely (sizes : LutSizes) (slack : Option ℕ) (old new : Written) : Type 0 where
+  pub luts : IsInLuts sizes.most old new
+  pub few : Written
+  pub for_area : IsMappedForArea sizes old few
+  pub cost : luts_cost sizes.areas (luts_of new.netlist) ≤ luts_cost sizes.areas (luts_of few.netlist)
+  pub fewest : CostAlike sizes.most sizes.areas → count_of new.netlist ≤ count_of few.netlist
+  pub depth : IfSome slack (λ levels. depth_of new.netlist ≤ depth_of few.netlist + levels)
   pub settled : AreSettled new.netlist
 
 -- What mapping by flow makes of a graph: a net of LUTs, and no covering of the graph by LUTs of so many inputs at most is shallower, by the rows that it spells.
@@ -135,6 +146,7 @@ luts_in (Some sizes) = sizes
 abbrev pub MakesOfGraph : Recipe → Written → Written → Type 0
 MakesOfGraph recipes.Strash = IsRemade
 MakesOfGraph recipes.Balance = IsBalanced
+MakesOfGraph recipes.BalanceShared = IsMerged false
 MakesOfGraph (recipes.Rewrite options) = IsPassed options.levels rewritings
 MakesOfGraph (recipes.Refactor options) = IsPassed options.levels refactorings
 MakesOfGraph (recipes.Resubstitute options) = IsPassed options.levels resubstitutions
@@ -142,6 +154,7 @@ MakesOfGraph (recipes.Merge limits) = IsMerged limits.levels
 MakesOfGraph (recipes.Replace limits) = IsMerged limits.levels
 MakesOfGraph (recipes.Map false sizes) = IsMappedTo (luts_in sizes).most
 MakesOfGraph (recipes.Map true sizes) = IsMappedForArea (luts_in sizes)
+MakesOfGraph (recipes.MapLoosely slack sizes) = IsMappedLoosely (luts_in sizes) slack
 MakesOfGraph (recipes.MapByFlow inputs) = IsLeastMappedTo (most_inputs inputs)
 MakesOfGraph recipes.Sweep = IsSweptTo
 
@@ -155,7 +168,8 @@ abbrev pub Makes : Recipe → Written → Written → Type 0
 Makes recipes.Strash old new = IsRemade old new
 Makes other old new = OnGraph (MakesOfGraph other) old.mapped old new
 
--- Where few LUTs are looked for that all cost the same there are never more of them than plain mapping makes of the same graph, and they are never deeper.
-abbrev pub AreaIsNoWorse : Type 0
-AreaIsNoWorse = (inputs : ℕ) (graph plain few : Written) → 2 ≤ inputs → inputs ≤ 8 → IsMappedTo inputs graph plain → IsMappedForArea (luts_alike inputs) graph few
-    → (count_of few.netlist ≤ count_of plain.netlist) × (depth_of few.netlist ≤ depth_of plain.netlist)
+-- Where few LUTs are looked for they are never deeper than those that plain mapping makes of the same graph, and where all cost the same there are never more of them. All cost the same where a command names how many inputs they have.
+pub record AreaIsNoWorse : Type 0 where
+  pub named : (inputs : ℕ) → inputs ≤ 8 → CostAlike inputs (luts_alike inputs).areas
+  pub depth : (sizes : LutSizes) (graph plain few : Written) → IsMappedTo sizes.most graph plain → IsMappedForArea sizes graph few → depth_of few.netlist ≤ depth_of plain.netlist
+  pub count : (sizes : LutSizes) (graph plain few : Written) → CostAlike sizes.most sizes.areas → IsMappedTo sizes.most graph plain → IsMappedForArea sizes graph few → count_of few.netlist ≤ count_of plain.netlist

@@ -2,6 +2,7 @@
 use Rattle.std.specs.Prelude.{◌≡◌, ℕ, ◌≤◌, ◌<◌, List, ◌++◌, length, Option, Some, None, IfSome, IsSomeAnd, Result, Ok, Err}
 use Rattle.syn_io.specs.declared.SinkFailed.{SinkFailed}
 use Rattle.syn_io.specs.Outside.{Disk, Input, Screen, Rose, file_at, without_file, GrewByPart, next_line, after_line}
+use Rattle.syn_command_files.specs.Sources.{text_limit}
 use Rattle.syn_words.specs.declared.inputs.LutSizes.{LutSizes}
 use Rattle.syn_words.specs.Commands.{luts_alike}
 use Rattle.syn_shell.specs.Networks.{Written}
@@ -46,15 +47,11 @@ abbrev pub Puts : Result (Unit {0}) SinkFailed → List ℕ → Screen → Scree
 Puts (Ok done) bytes before after = Took bytes before after
 Puts (Err failed) bytes before after = TookPart bytes before after
 
--- the most bytes of a script, and of a line
-abbrev pub script_limit : ℕ
-script_limit = 65536
-
 -- The next line was given, and is taken from what is left.
 pub record GaveLine (line : List ℕ) (before after : Input) : Type 0 where
   pub next : IfSome before.told (λ left. Some line ≡ next_line left)
   pub left : IfSome before.told (λ left. after.told ≡ Some (after_line left))
-  pub short : length line ≤ script_limit
+  pub short : length line ≤ text_limit
   pub later : before.faults ≤ after.faults
 
 -- No line is left.
@@ -65,5 +62,5 @@ pub record GaveNone (before after : Input) : Type 0 where
 
 -- The next line is longer than a script may be.
 pub record LineIsLong (before after : Input) : Type 0 where
-  pub long : IfSome before.told (λ left. IsSomeAnd (next_line left) (λ line. script_limit < length line))
+  pub long : IfSome before.told (λ left. IsSomeAnd (next_line left) (λ line. text_limit < length line))
   pub later : before.faults ≤ after.faults

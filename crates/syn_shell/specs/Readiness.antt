@@ -18,9 +18,9 @@ use Rattle.syn_words.specs.declared.Command.{Command}
 use Rattle.syn_words.specs.declared.Command.TheVariants as commands
 use Rattle.syn_command_files.specs.Luts.{sizes_in}
 use Rattle.syn_command_files.specs.Loading.{ScriptSays}
-use Rattle.syn_command_files.specs.Sources.{has_no_source}
+use Rattle.syn_command_files.specs.Sources.{has_no_source, text_limit}
 use Rattle.syn_shell.specs.Networks.{gates_in}
-use Rattle.syn_shell.specs.Outside.{State, script_limit}
+use Rattle.syn_shell.specs.Outside.{State}
 use Rattle.syn_shell.specs.Comparing.{IsFirst, IsReadFrom}
 use Rattle.syn_shell.specs.Reads.{file_limit}
 use Rattle.syn_shell.specs.Scripts.{Refused, InFile, InText, Loads, RunsCommands, RunsScript, Source}
@@ -96,7 +96,7 @@ ScriptReady source before outcome after (inr (commands, start, loads, only, runs
 
 -- A further line, where one is left, is within its limit, and the lines are within their number. It is told what is left.
 abbrev pub LineReady : ℕ → Input → Type 0
-LineReady taken i = IsSomeAnd i.told (λ left. IfSome (next_line left) (λ line. (length line ≤ script_limit) × (taken < most_lines)))
+LineReady taken i = IsSomeAnd i.told (λ left. IfSome (next_line left) (λ line. (length line ≤ text_limit) × (taken < most_lines)))
 
 -- The same of all lines, and each script is ready.
 abbrev pub LinesReady : (lines : List (List ℕ)) (taken : ℕ) (before : State) (i : Input) (refusals : List Refused) (after : State) (i' : Input) → RunsLines lines taken before i refusals after i' → Type 0

@@ -58,7 +58,7 @@ pub record IsFaultyAiger (properties : Bool) (name : List ℕ) (files : Disk) (f
   pub first : aiger.IsFirstFault properties bytes fault
 
 -- What an accepted file of LUTs makes the LUTs that mapping uses: its bytes say them.
-pub record AreLutsOf (name : List ℕ) (files : Disk) (sizes : LutSizes) : Type 0 where
+pub record IsLutFile (name : List ℕ) (files : Disk) (sizes : LutSizes) : Type 0 where
   pub bytes : List ℕ
   pub file : FileIs name files bytes
   pub short : length bytes ≤ file_limit

@@ -1,5 +1,5 @@
 -- What each command does, accepted or refused: a relation between what the session keeps, the files and the sink before and after it. There are commands that read a file, of either format or of LUTs, that generate a netlist, that print the network's line, its levels, seconds or a text, that compare networks, that write a file, in either format, and that make the network anew by a recipe.
-use Rattle.std.specs.Prelude.{◌≡◌, ℕ, ◌≤◌, ◌<◌, Bool, true, false, List, Option, Some, None, IsSome, IsSomeAnd, Result, Ok, Err, ⊤}
+use Rattle.std.specs.Prelude.{◌≡◌, ℕ, ◌≤◌, ◌<◌, Bool, true, false, List, Option, Some, None, unwrap_or, IsSome, IsSomeAnd, Result, Ok, Err, ⊤}
 use Rattle.syn_io.specs.Outside.{Rose, Disk, Screen}
 use Rattle.syn_netlist.specs.Lists.{Netlist}
 use Rattle.syn_text.specs.Printed.{printed}
@@ -25,7 +25,7 @@ use Rattle.syn_report.specs.Seconds.{seconds_text}
 use Rattle.syn_shell.specs.Lines.{IsLevelsText, IsStatsLine}
 use Rattle.syn_shell.specs.Comparing.{CompareRefused, Compared}
 use Rattle.syn_shell.specs.Makes.{IsGraphFor}
-use Rattle.syn_shell.specs.Reads.{IsReadAs, IsReadAsAiger, AreLutsOf, ReadRefused, AigerReadRefused, LutsRefused}
+use Rattle.syn_shell.specs.Reads.{IsReadAs, IsReadAsAiger, IsLutFile, ReadRefused, AigerReadRefused, LutsRefused}
 
 -- Why a text that tells of a network is refused, and what the sink took of it.
 abbrev pub PrintRefused : (Written → List ℕ → Type 0) → Option Written → Screen → Screen → Refusal → Type 0
@@ -84,20 +84,11 @@ AigerWriteRefused bare m name before after other = WriteRefused m name before af
 abbrev pub Remakes : Recipe → Option Written → Option Written → Type 0
 Remakes recipe m m' = (old : Written) × (new : Written) × (m ≡ Some old) × (m' ≡ Some new) × (gates_in old ≤ most_gates) × Makes recipe old new
 
--- what is named, or this
-abbrev pub inputs_or : Option ℕ → ℕ → ℕ
-inputs_or None most = most
-inputs_or (Some named) most = named
-
--- the LUTs that are named, or these
-abbrev pub luts_or : Option LutSizes → LutSizes → LutSizes
-luts_or None sizes = sizes
-luts_or (Some named) sizes = named
-
 -- A recipe with these LUTs where it names none.
 abbrev pub with_luts : LutSizes → Recipe → Recipe
-with_luts sizes (recipes.Map area named) = recipes.Map area (Some (luts_or named sizes))
-with_luts sizes (recipes.MapByFlow named) = recipes.MapByFlow (Some (inputs_or named sizes.most))
+with_luts sizes (recipes.Map area named) = recipes.Map area (Some (unwrap_or named sizes))
+with_luts sizes (recipes.MapLoosely slack named) = recipes.MapLoosely slack (Some (unwrap_or named sizes))
+with_luts sizes (recipes.MapByFlow named) = recipes.MapByFlow (Some (unwrap_or named sizes.most))
 with_luts sizes other = other
 
 -- Why a network is not made anew.
@@ -129,7 +120,7 @@ Accepted (commands.Read name) before after =
 Accepted (commands.ReadAiger properties name) before after =
     (net : Netlist) × Becomes net before after × IsReadAsAiger properties name before.files net × FilesUnchanged before.files after.files × (after.sink ≡ before.sink)
 Accepted (commands.ReadLuts name) before after =
-    (after.network ≡ before.network) × AreLutsOf name before.files after.luts × FilesUnchanged before.files after.files × (after.sink ≡ before.sink)
+    (after.network ≡ before.network) × IsLutFile name before.files after.luts × FilesUnchanged before.files after.files × (after.sink ≡ before.sink)
 Accepted (commands.Generate seed size) before after =
     (net : Netlist) × Becomes net before after × IsGraphOf (generated seed size) net × (after.files ≡ before.files) × (after.sink ≡ before.sink)
 Accepted commands.Stats before after =

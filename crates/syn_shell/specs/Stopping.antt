@@ -13,7 +13,7 @@ use Rattle.syn_shell.specs.declared.refusal_lines.Reported.TheVariants.{Whole, C
 use Rattle.syn_shell.specs.declared.line_mode.Turn.{Turn}
 use Rattle.syn_shell.specs.declared.line_mode.Turn.TheVariants as turn
 use Rattle.syn_io.specs.Outside.{Disk, Screen, Input}
-use Rattle.syn_shell.specs.Outside.{Kept, State, nothing_yet, state, Took, GaveLine, GaveNone, script_limit}
+use Rattle.syn_shell.specs.Outside.{Kept, State, nothing_yet, state, Took, GaveLine, GaveNone}
 use Rattle.syn_shell.specs.Lines.{refusal_line, refusal_status}
 use Rattle.syn_shell.specs.Scripts.{Refused, InFile, InText, RunsScript, Announced, SinkGaveUp, Source, TookLess}
 use Rattle.syn_shell.specs.LineMode.{GoesOn, LineRefused, Quits, RunsLines, StaysOn, listed, most_lines}

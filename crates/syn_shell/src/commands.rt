@@ -1,6 +1,6 @@
 //! What recipes make of a graph and of a net of LUTs.
 
-ghost use Rattle.std.specs.Prelude.{◌≡◌, ◌≤◌, ℕ, Bool, List, IfOk, IfErr, IfSome, Some};
+ghost use Rattle.std.specs.Prelude.{◌≡◌, ◌≤◌, ℕ, Bool, List, IfOk, IfErr, IfSome, Option, Some};
 ghost use Rattle.syn_rows.specs.declared.Row.{Row};
 ghost use Rattle.syn_network.specs.Written as graphs;
 ghost use Rattle.syn_network.specs.WrittenLuts as luts;
@@ -10,8 +10,9 @@ ghost use Rattle.syn_lutnet.specs.Nets.{HasFunctionOf};
 ghost use Rattle.syn_balance.specs.Balanced as balanced;
 ghost use Rattle.syn_gain.specs.Replacements.{Replacement};
 ghost use Rattle.syn_shell.specs.Networks.{gates_in, graph_network, IsSmall, mapped_network, network_of, made_in};
-ghost use Rattle.syn_shell.specs.Bodies.{AreFewLuts, AreLeastLuts, AreMerged, ArePlainLuts, IsLeftBy};
-ghost use Rattle.syn_shell.specs.Makes.{IsBalanced, IsLeastMappedTo, IsMappedForArea, IsMappedTo, IsMerged, IsPassed, IsRemade, luts_in, Makes, MakesOfGraph, most_inputs};
+ghost use Rattle.syn_shell.specs.Bodies.{AreFewestLuts, AreLeastLuts, AreMerged, ArePlainLuts, IsLeftBy};
+ghost use Rattle.syn_shell.specs.Makes.{IsBalanced, IsLeastMappedTo, IsMappedForArea, IsMappedLoosely, IsMappedTo, IsMerged, IsPassed, IsRemade, luts_in, Makes, MakesOfGraph, most_inputs};
+ghost use Rattle.syn_settled.specs.Fewest.{AreFewLutsOf};
 ghost use Rattle.syn_words.specs.declared.inputs.LutSizes.{LutSizes};
 ghost use Rattle.syn_words.specs.declared.recipes.Recipe.TheVariants as recipes;
 ghost use Rattle.syn_shell.specs.Steps.{MakingRefused};
@@ -28,12 +29,13 @@ use syn_graph::Graph;
 use syn_lutnet::LutNet;
 use syn_map::map;
 use syn_network::{LutNetwork, Network};
+use syn_pairs::share_pairs;
 use syn_pool::PassSettings;
 use syn_refactor::refactor;
 use syn_resub::resub;
 use syn_rewrite::rewrite;
 use syn_seq::sweep;
-use syn_settled::{few_luts, least_luts};
+use syn_settled::{few_luts, fewest_luts, least_luts};
 use syn_sresub::sresub;
 use syn_words::{LutInputs, LutSizes, PassOptions, Recipe, ReplaceLimits, SearchLimits};
 use syn_workers::Workers;
@@ -104,7 +106,8 @@ fn put(network: &mut Network, new: Network)
 fn mapped(alloc: Global, network: &Network, net: LutNet) -> Result<LutNetwork, AllocError>
     requires { HasFunctionOf network.now.body net }
     ensures plain { (k : ℕ) → ArePlainLuts k network.now.body net → IfOk result (λ made. IsMappedTo k (graph_network (graphs.network_of network.now)) (mapped_network (luts.network_of made))) }
-    ensures few { (sizes : LutSizes) → AreFewLuts sizes network.now.body net → IfOk result (λ made. IsMappedForArea sizes (graph_network (graphs.network_of network.now)) (mapped_network (luts.network_of made))) }
+    ensures few { (sizes : LutSizes) → AreFewLutsOf sizes.most sizes.areas network.now.body net → IfOk result (λ made. IsMappedForArea sizes (graph_network (graphs.network_of network.now)) (mapped_network (luts.network_of made))) }
+    ensures fewest { (sizes : LutSizes) (slack : Option ℕ) → AreFewestLuts sizes slack network.now.body net → IfOk result (λ made. IsMappedLoosely sizes slack (graph_network (graphs.network_of network.now)) (mapped_network (luts.network_of made))) }
     ensures least { (k : ℕ) → AreLeastLuts k network.now.body net → IfOk result (λ made. IsLeastMappedTo k (graph_network (graphs.network_of network.now)) (mapped_network (luts.network_of made))) }
 {
     syn_network::network_of_graph();
@@ -158,6 +161,24 @@ fn mapped_by<R: Threads + Sync>(
     }
 }
 
+// Few such LUTs however deep they lie, likewise; or at most so many levels deeper, where a number is given.
+fn mapped_loosely<R: Threads + Sync>(
+    rt: &R,
+    alloc: Global,
+    network: &Network,
+    slack: &Option<u32>,
+    sizes: &Option<LutSizes>,
+    workers: Workers,
+) -> Result<LutNetwork, AllocError>
+    ensures { IfOk result (λ made. MakesOfGraph (recipes.MapLoosely slack.now sizes.now) (graph_network (graphs.network_of network.now)) (mapped_network (luts.network_of made))) }
+{
+    let sizes = luts_in(sizes);
+    let number = sizes.most.number();
+    let areas = sizes.areas.as_slice();
+    let fewest = fewest_luts(rt, alloc, &network.body, number, areas, *slack, workers)?;
+    mapped(alloc, network, fewest)
+}
+
 /// Makes a graph anew by a recipe, under its names; or gives the LUTs that the recipe makes of it, under these names too. So
 /// many workers do it where the recipe names none. Refused, for want of memory alone, the graph stays.
 pub(crate) fn remake_graph<R: Threads + Sync, G: CommitHook>(
@@ -178,6 +199,11 @@ pub(crate) fn remake_graph<R: Threads + Sync, G: CommitHook>(
         }
         Recipe::Balance => {
             let new = balance(alloc, &network.body)?;
+            remade(network, Some(new));
+            Ok(None)
+        }
+        Recipe::BalanceShared => {
+            let new = share_pairs(alloc, &network.body)?;
             remade(network, Some(new));
             Ok(None)
         }
@@ -211,6 +237,10 @@ pub(crate) fn remake_graph<R: Threads + Sync, G: CommitHook>(
         }
         Recipe::Map { area, luts } => {
             let made = mapped_by(rt, alloc, network, area, luts, workers)?;
+            Ok(Some(made))
+        }
+        Recipe::MapLoosely { slack, luts } => {
+            let made = mapped_loosely(rt, alloc, network, slack, luts, workers)?;
             Ok(Some(made))
         }
         Recipe::MapByFlow(inputs) => {

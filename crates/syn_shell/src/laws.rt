@@ -9,7 +9,7 @@ pub fn few_lines()
     ensures { FewLines }
 {}
 
-/// Mapping for few LUTs makes no more of them of a graph than plain mapping does, and none deeper.
+/// Mapping for few LUTs makes none deeper of a graph than plain mapping does, and no more of them where all cost the same.
 pub fn area_is_no_worse()
     ensures { AreaIsNoWorse }
 {}

@@ -8,11 +8,12 @@ ghost use Rattle.syn_shell.specs.Stopping.{first_status, Gave, RanLines, turn_of
 
 use crate::refusal::Refusal;
 use crate::refusal_lines::{Reported, report_refusal};
-use crate::scripts::{Ending, SCRIPT_LIMIT, Source, run_script};
+use crate::scripts::{Ending, Source, run_script};
 use crate::session::Session;
 use std::alloc::Global;
 use std::thread::Threads;
 use std::time::Clock;
+use syn_command_files::TEXT_LIMIT;
 use syn_commit::CommitHook;
 use syn_io::{Files, LineFault, Lines, Sink};
 use syn_workers::Workers;
@@ -45,7 +46,7 @@ impl Turn {
 fn next_line<L: Lines>(alloc: Global, lines: &mut L) -> Result<Option<Vec<u8>>, Refusal>
     ensures { Gave result (L.input lines.old) (L.input lines.new) }
 {
-    match lines.next(alloc, SCRIPT_LIMIT as u64) {
+    match lines.next(alloc, TEXT_LIMIT as u64) {
         Ok(line) => Ok(line),
         Err(LineFault::Failed) => Err(Refusal::LineFailed),
         Err(LineFault::TooLong) => Err(Refusal::LineTooLong),

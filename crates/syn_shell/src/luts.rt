@@ -1,29 +1,9 @@
 //! Recipes with what the session adds to them.
 
 ghost use Rattle.std.specs.Prelude.{◌≡◌};
-ghost use Rattle.syn_shell.specs.Steps.{inputs_or, luts_or, with_luts};
+ghost use Rattle.syn_shell.specs.Steps.{with_luts};
 
-use syn_words::{LutInputs, LutSizes, Recipe};
-
-// The most inputs that are named, or these.
-fn inputs_or(named: Option<LutInputs>, most: LutInputs) -> LutInputs
-    ensures { result ≡ inputs_or named most }
-{
-    match named {
-        None => most,
-        Some(named) => named,
-    }
-}
-
-// The LUTs that are named, or these.
-fn luts_or(named: Option<LutSizes>, sizes: LutSizes) -> LutSizes
-    ensures { result ≡ luts_or named sizes }
-{
-    match named {
-        None => sizes,
-        Some(named) => named,
-    }
-}
+use syn_words::{LutSizes, Recipe};
 
 /// The recipe, with these LUTs where it names none.
 pub(crate) fn with_luts(recipe: &Recipe, sizes: &LutSizes) -> Recipe
@@ -32,6 +12,7 @@ pub(crate) fn with_luts(recipe: &Recipe, sizes: &LutSizes) -> Recipe
     match recipe {
         Recipe::Strash => Recipe::Strash,
         Recipe::Balance => Recipe::Balance,
+        Recipe::BalanceShared => Recipe::BalanceShared,
         Recipe::Rewrite(options) => Recipe::Rewrite(*options),
         Recipe::Refactor(options) => Recipe::Refactor(*options),
         Recipe::Resubstitute(options) => Recipe::Resubstitute(*options),
@@ -39,9 +20,13 @@ pub(crate) fn with_luts(recipe: &Recipe, sizes: &LutSizes) -> Recipe
         Recipe::Replace(limits) => Recipe::Replace(*limits),
         Recipe::Map { area, luts } => Recipe::Map {
             area: *area,
-            luts: Some(luts_or(*luts, *sizes)),
+            luts: Some(luts.unwrap_or(*sizes)),
         },
-        Recipe::MapByFlow(inputs) => Recipe::MapByFlow(Some(inputs_or(*inputs, sizes.most))),
+        Recipe::MapLoosely { slack, luts } => Recipe::MapLoosely {
+            slack: *slack,
+            luts: Some(luts.unwrap_or(*sizes)),
+        },
+        Recipe::MapByFlow(inputs) => Recipe::MapByFlow(Some(inputs.unwrap_or(sizes.most))),
         Recipe::Sweep => Recipe::Sweep,
     }
 }

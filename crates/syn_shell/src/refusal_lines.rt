@@ -14,7 +14,7 @@ use syn_compare::CompareFault;
 use syn_io::{Sink, SinkFailed};
 use syn_netlist::Word;
 use syn_reader::ReadFault;
-use syn_words::ScriptFault;
+use syn_words::{ScriptFault, place_of};
 
 // Behind a name that networks that are compared don't have in common.
 const ONLY: &[u8] = b" in one network only";
@@ -136,23 +136,7 @@ fn put_name_at_line<O: Sink>(
     )
 }
 
-// Puts what a fault of a script says.
-fn put_script_fault<O: Sink>(out: &mut O, fault: &ScriptFault) -> Result<(), SinkFailed>
-    ensures { Puts result (script_text fault.now) (O.screen out.old) (O.screen out.new) }
-{
-    match fault {
-        ScriptFault::BadByte(at) => put_at_place(out, *at, b"bad byte"),
-        ScriptFault::UnknownCommand(at) => put_at_place(out, *at, b"unknown command"),
-        ScriptFault::MissingWord(at) => put_at_place(out, *at, b"missing word"),
-        ScriptFault::ExtraWord(at) => put_at_place(out, *at, b"extra word"),
-        ScriptFault::BadNumber(at) => put_at_place(out, *at, b"bad number"),
-        ScriptFault::OutOfRange(at) => put_at_place(out, *at, b"out of range"),
-        ScriptFault::UnknownEnding(at) => put_at_place(out, *at, b"unknown ending"),
-        ScriptFault::NoMemory => put(out, b"out of memory"),
-    }
-}
-
-// What a fault of a script says without its place.
+// What is wrong by a fault of a script.
 fn fault_words(fault: &ScriptFault) -> &'static [u8]
     ensures { result.now ≡ fault_words fault.now }
 {
@@ -166,6 +150,13 @@ fn fault_words(fault: &ScriptFault) -> &'static [u8]
         ScriptFault::OutOfRange(_) => b"out of range",
         ScriptFault::NoMemory => b"out of memory",
     }
+}
+
+// Puts a fault of a script: its place, and what is wrong there.
+fn put_script_fault<O: Sink>(out: &mut O, fault: &ScriptFault) -> Result<(), SinkFailed>
+    ensures { Puts result (script_text fault.now) (O.screen out.old) (O.screen out.new) }
+{
+    put_at_place(out, place_of(*fault), fault_words(fault))
 }
 
 // The blank before a word, where there is one.

@@ -19,9 +19,6 @@ use syn_commit::CommitHook;
 use syn_io::{Files, Sink};
 use syn_words::Command;
 
-/// The most bytes of a line.
-pub(crate) const SCRIPT_LIMIT: usize = 65_536;
-
 /// What holds commands: the text of a script, or the file of a name.
 #[derive(Clone, Copy, Debug)]
 pub(crate) enum Source<'a> {

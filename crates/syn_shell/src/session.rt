@@ -13,7 +13,7 @@ ghost use Rattle.syn_shell.specs.Lines.{IsLevelsText, IsStatsLine};
 ghost use Rattle.syn_command_files.specs.Told.{FileIs, FilesUnchanged};
 ghost use Rattle.syn_shell.specs.Outside.{nothing_yet, OthersUnchanged, Took, state};
 ghost use Rattle.syn_shell.specs.Comparing.{CompareRefused, Compared};
-ghost use Rattle.syn_shell.specs.Reads.{AigerReadRefused, AreLutsOf, IsReadAs, IsReadAsAiger, LutsRefused, ReadRefused};
+ghost use Rattle.syn_shell.specs.Reads.{AigerReadRefused, IsLutFile, IsReadAs, IsReadAsAiger, LutsRefused, ReadRefused};
 ghost use Rattle.syn_shell.specs.Steps.{AigerWriteRefused, GeneratingRefused, IsAigerOf, MakingRefused, PrintRefused, Remakes, SessionStep, TimeRefused, with_luts, WriteRefused};
 
 use crate::comparing::{compare_files, compare_network};
@@ -125,7 +125,7 @@ impl Session {
         name: &str,
         files: &mut F,
     ) -> Result<(), Refusal>
-        ensures luts { OnOk result (AreLutsOf name.now (F.disk files.old) self.new.luts) }
+        ensures luts { OnOk result (IsLutFile name.now (F.disk files.old) self.new.luts) }
         ensures stays { IfErr result (λ cause. self.new.luts ≡ self.old.luts) }
         ensures refused { IfErr result (LutsRefused name.now (F.disk files.old) (F.disk files.new)) }
         ensures network { self.new.network ≡ self.old.network }

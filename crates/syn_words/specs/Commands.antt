@@ -1,5 +1,5 @@
 -- What the names of the table spell with what was given behind them.
-use Rattle.std.specs.Prelude.{ℕ, Bool, true, false, min, max, map, option_map, if◌then◌else◌, List, [], ◌∷◌, Option, Some, None, Result, Ok, Err, bytes_eq, codes}
+use Rattle.std.specs.Prelude.{ℕ, Bool, true, false, min, max, map, option_map, if◌then◌else◌, List, [], ◌∷◌, Option, Some, None, Result, Ok, Err}
 use Rattle.syn_words.specs.declared.words.Phrase.{Phrase}
 use Rattle.syn_words.specs.Forms.{and_then, given_by}
 use Rattle.syn_words.specs.Formats.{network_file}
@@ -73,6 +73,21 @@ given_gates (Some number) = gates_of number
 -- How nodes are replaced by what was given behind a name: by how many new ANDs and conflicts, and with `-L`.
 abbrev pub replace_limits : Given → ReplaceLimits
 replace_limits given = record { gates = given_gates given.further; conflicts = given_conflicts given.number; levels = given.flags.1 }
+
+-- A number of levels, 1000000 at most; the form lets no other through.
+abbrev pub slack_of : ℕ → ℕ
+slack_of number = min number 1000000
+
+-- How trees of ANDs are rebuilt by what was given behind a name: with `-s` or without.
+abbrev pub balancing : Given → Recipe
+balancing given = if given.flags.0 then recipes.BalanceShared else recipes.Balance
+
+-- How LUTs are made by what was given behind a name: with `-A` however deep, or so many levels deeper at most; else with `-a` or without.
+abbrev pub mapping : Given → Recipe
+mapping given =
+    if given.flags.1
+    then recipes.MapLoosely (option_map slack_of given.further) (option_map luts_of given.number)
+    else recipes.Map given.flags.0 (option_map luts_of given.number)
 
 -- The command that reads a file in a format.
 abbrev pub reading : Format → List ℕ → Command
@@ -159,7 +174,7 @@ commands_of keywords.Resyn given = resyn
 commands_of keywords.Resyn2 given = resyn2
 commands_of keywords.Resyn2Levels given = resyn2l
 commands_of keywords.Strash given = make recipes.Strash ∷ []
-commands_of keywords.Balance given = make recipes.Balance ∷ []
+commands_of keywords.Balance given = make (balancing given) ∷ []
 commands_of keywords.Rewrite given = make (recipes.Rewrite (given_options given.flags.0 given)) ∷ []
 commands_of keywords.RewriteZero given = make (recipes.Rewrite (given_options true given)) ∷ []
 commands_of keywords.Refactor given = make (recipes.Refactor (given_options given.flags.0 given)) ∷ []
@@ -168,7 +183,7 @@ commands_of keywords.Resubstitute given = make (recipes.Resubstitute (given_opti
 commands_of keywords.ResubstituteZero given = make (recipes.Resubstitute (given_options true given)) ∷ []
 commands_of keywords.Merge given = make (recipes.Merge (given_limits given)) ∷ []
 commands_of keywords.Replace given = make (recipes.Replace (replace_limits given)) ∷ []
-commands_of keywords.Map given = make (recipes.Map given.flags.0 (option_map luts_of given.number)) ∷ []
+commands_of keywords.Map given = make (mapping given) ∷ []
 commands_of keywords.MapByFlow given = make (recipes.MapByFlow (option_map inputs_of given.number)) ∷ []
 commands_of keywords.Sweep given = make recipes.Sweep ∷ []
 

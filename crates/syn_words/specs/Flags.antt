@@ -26,18 +26,18 @@ letters_of (byte ∷ bytes) = if byte == 45 then bytes else []
 abbrev pub are_flags : Form → List ℕ → Bool
 are_flags form letters = nat_lt 0 (length letters) && list_all (is_flag form) letters
 
--- These, unless the option was given before.
-abbrev pub once : Bool → Flags → Option Flags
-once given_before flags = if given_before then None else Some flags
+-- These, unless the option may not be given.
+abbrev pub unless : Bool → Flags → Option Flags
+unless barred flags = if barred then None else Some flags
 
--- The options that are given with one more, by its letter, unless it was given before.
+-- The options that are given with one more, by its letter, unless it was given before; where the second stands apart it is not given beside another.
 abbrev pub with_flag : Form → Flags → ℕ → Option Flags
 with_flag form flags letter =
-    if is_letter form.flags.0 letter then once flags.0 (true, flags.1, flags.2)
-    else (if is_letter form.flags.1 letter then once flags.1 (flags.0, true, flags.2)
-    else once flags.2 (flags.0, flags.1, true))
+    if is_letter form.flags.0 letter then unless (flags.0 || (form.apart && flags.1)) (true, flags.1, flags.2)
+    else (if is_letter form.flags.1 letter then unless (flags.1 || (form.apart && (flags.0 || flags.2))) (flags.0, true, flags.2)
+    else unless (flags.2 || (form.apart && flags.1)) (flags.0, flags.1, true))
 
--- The options that are given with those of letters, one after the other, unless one is given twice.
+-- The options that are given with those of letters, one after the other, unless one of them may not be given.
 abbrev pub with_flags : Form → Flags → List ℕ → Option Flags
 with_flags form flags [] = Some flags
 with_flags form flags (letter ∷ letters) = option_and_then (λ given. with_flags form given letters) (with_flag form flags letter)

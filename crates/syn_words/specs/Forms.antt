@@ -1,5 +1,5 @@
 -- Forms: what may stand behind a command's name, read word by word.
-use Rattle.std.specs.Prelude.{ℕ, true, false, Bool, is_some, if◌then◌else◌, List, [], ◌∷◌, Option, Some, None, Result, Ok, Err, bytes_eq}
+use Rattle.std.specs.Prelude.{ℕ, true, false, Bool, ◌&&◌, not, is_some, if◌then◌else◌, List, [], ◌∷◌, Option, Some, None, Result, Ok, Err, bytes_eq}
 use Rattle.syn_lex.specs.Words.{Word}
 use Rattle.syn_words.specs.Numbers.{number_at}
 use Rattle.syn_words.specs.Formats.{format_of}
@@ -40,111 +40,41 @@ nothing_given = record { flags = (false, false, false); number = None; further =
 
 -- These words were given, and nothing else.
 abbrev pub all_given : List Word → Given
-all_given words = record { flags = (false, false, false); number = None; further = None; name = []; format = formats.Blif; other = None; numbers = (0, 0); words = words; topic = None }
+all_given words = record nothing_given { words = words }
 
 -- With these options without a number.
 abbrev pub put_flags : Flags → Given → Given
-put_flags flags given = record {
-  flags = flags;
-  number = given.number;
-  further = given.further;
-  name = given.name;
-  format = given.format;
-  other = given.other;
-  numbers = given.numbers;
-  words = given.words;
-  topic = given.topic;
-}
+put_flags flags given = record given { flags = flags }
 
 -- With this number of the first option with one.
 abbrev pub put_number : ℕ → Given → Given
-put_number number given = record {
-  flags = given.flags;
-  number = Some number;
-  further = given.further;
-  name = given.name;
-  format = given.format;
-  other = given.other;
-  numbers = given.numbers;
-  words = given.words;
-  topic = given.topic;
-}
+put_number number given = record given { number = Some number }
 
 -- With this number of the second such option.
 abbrev pub put_further : ℕ → Given → Given
-put_further number given = record {
-  flags = given.flags;
-  number = given.number;
-  further = Some number;
-  name = given.name;
-  format = given.format;
-  other = given.other;
-  numbers = given.numbers;
-  words = given.words;
-  topic = given.topic;
-}
+put_further number given = record given { further = Some number }
 
 -- With a file's name, and the format that its end tells.
 abbrev pub put_name : List ℕ → Format → Given → Given
-put_name name format given = record {
-  flags = given.flags;
-  number = given.number;
-  further = given.further;
-  name = name;
-  format = format;
-  other = given.other;
-  numbers = given.numbers;
-  words = given.words;
-  topic = given.topic;
-}
+put_name name format given = record given { name = name; format = format }
 
 -- With a second file's name.
 abbrev pub put_other : List ℕ → Given → Given
-put_other name given = record {
-  flags = given.flags;
-  number = given.number;
-  further = given.further;
-  name = given.name;
-  format = given.format;
-  other = Some name;
-  numbers = given.numbers;
-  words = given.words;
-  topic = given.topic;
-}
+put_other name given = record given { other = Some name }
 
 -- With two numbers.
 abbrev pub put_numbers : ℕ × ℕ → Given → Given
-put_numbers numbers given = record {
-  flags = given.flags;
-  number = given.number;
-  further = given.further;
-  name = given.name;
-  format = given.format;
-  other = given.other;
-  numbers = numbers;
-  words = given.words;
-  topic = given.topic;
-}
+put_numbers numbers given = record given { numbers = numbers }
 
 -- With what the name of a command says.
 abbrev pub put_topic : Keyword → Given → Given
-put_topic keyword given = record {
-  flags = given.flags;
-  number = given.number;
-  further = given.further;
-  name = given.name;
-  format = given.format;
-  other = given.other;
-  numbers = given.numbers;
-  words = given.words;
-  topic = Some keyword;
-}
+put_topic keyword given = record given { topic = Some keyword }
 
 -- The words behind a name are read from here.
 abbrev pub from_the_name : Progress
 from_the_name = record { given = nothing_given; awaits = awaits.Options }
 
--- A word of options without a number, by which these are given, or one of them is given twice.
+-- A word of options without a number, by which these are given, or one of them may not be given.
 abbrev pub with_options : Option Flags → Given → Word → Result Progress ScriptFault
 with_options None given word = Err (ExtraWord word.at)
 with_options (Some flags) given word = Ok (record { given = put_flags flags given; awaits = awaits.Options })
@@ -205,19 +135,23 @@ after_word form (awaits.SecondNumber range) given word =
 after_word form awaits.SecondName given word = Ok (record { given = put_other word.text given; awaits = awaits.Nothing })
 after_word form awaits.Nothing given word = Err (ExtraWord word.at)
 
--- No further word, where a first one may be awaited.
-abbrev pub without_first : Operands → ℕ → Given → Result Given ScriptFault
-without_first operands.Nothing end given = Ok given
-without_first operands.Command end given = Ok given
-without_first operands.Words end given = Err (MissingWord end)
-without_first operands.Name end given = Err (MissingWord end)
-without_first operands.OneOrTwoNames end given = Err (MissingWord end)
-without_first operands.NameWithFormat end given = Err (MissingWord end)
-without_first (operands.TwoNumbers first second) end given = Err (MissingWord end)
+-- Options alone may stand.
+abbrev pub ends_with_options : Operands → Bool
+ends_with_options operands.Nothing = true
+ends_with_options operands.Command = true
+ends_with_options other = false
+
+-- The second option without a number is missing: where it stands apart, the second one with a number stands only beside it.
+abbrev pub lacks_second : Form → Given → Bool
+lacks_second form given = form.apart && is_some given.further && not given.flags.1
+
+-- No further word, where options were given.
+abbrev pub without_first : Form → ℕ → Given → Result Given ScriptFault
+without_first form end given = if not (lacks_second form given) && ends_with_options form.operands then Ok given else Err (MissingWord end)
 
 -- No further word: what is awaited is missing, at the place where the words end.
 abbrev pub at_end : Form → ℕ → Awaits → Given → Result Given ScriptFault
-at_end form end awaits.Options given = without_first form.operands end given
+at_end form end awaits.Options given = without_first form end given
 at_end form end (awaits.OptionNumber range) given = Err (MissingWord end)
 at_end form end (awaits.FurtherNumber range) given = Err (MissingWord end)
 at_end form end (awaits.SecondNumber range) given = Err (MissingWord end)

@@ -9,7 +9,7 @@ use Rattle.syn_words.specs.Forms.{given_by}
 use Rattle.syn_words.specs.Scripts.{IsScript, IsFirstFault}
 use Rattle.syn_words.specs.declared.Command.{Command}
 use Rattle.syn_words.specs.declared.Command.TheVariants.{Read, Write, ReadAiger, WriteAiger, Stats, Levels, Compare, Time, Print, Quit, Source, ReadLuts, Generate, Make}
-use Rattle.syn_words.specs.declared.recipes.Recipe.TheVariants.{Strash, Balance, Rewrite, Refactor, Resubstitute, Merge, Replace, Map, MapByFlow, Sweep}
+use Rattle.syn_words.specs.declared.recipes.Recipe.TheVariants.{Strash, Balance, BalanceShared, Rewrite, Refactor, Resubstitute, Merge, Replace, Map, MapLoosely, MapByFlow, Sweep}
 use Rattle.syn_words.specs.declared.ScriptFault.{ScriptFault}
 use Rattle.syn_words.specs.declared.ScriptFault.TheVariants.{BadByte, UnknownCommand, MissingWord, ExtraWord, UnknownEnding, BadNumber, OutOfRange}
 use Rattle.syn_words.specs.declared.formats.Format.TheVariants.{Blif}
@@ -25,19 +25,23 @@ Gives form text wanted = given_by form 99 (words_at 0 text) ≡ wanted
 
 -- Flags `-z`, `-L` and `-l`, and an option `-w` with a number from 1 to 16.
 abbrev pub flags_and_workers : Form
-flags_and_workers = record { flags = (Some 122, Some 76, Some 108); numbered = (Some (record { letter = 119; range = record { least = 1; most = 16 } }), None); operands = Nothing }
+flags_and_workers = record { flags = (Some 122, Some 76, Some 108); numbered = (Some (record { letter = 119; range = record { least = 1; most = 16 } }), None); apart = false; operands = Nothing }
 
 -- A flag `-L`, an option `-C` with a number from 0 to 9, and an option `-N` with one from 1 to 2.
 abbrev pub two_options : Form
-two_options = record { flags = (Some 76, None, None); numbered = (Some (record { letter = 67; range = record { least = 0; most = 9 } }), Some (record { letter = 78; range = record { least = 1; most = 2 } })); operands = Nothing }
+two_options = record { flags = (Some 76, None, None); numbered = (Some (record { letter = 67; range = record { least = 0; most = 9 } }), Some (record { letter = 78; range = record { least = 1; most = 2 } })); apart = false; operands = Nothing }
+
+-- A flag `-A` apart from `-a` and `-b`, an option `-K` with a number from 0 to 9, and beside `-A` an option `-D` with one from 0 to 5.
+abbrev pub flag_apart : Form
+flag_apart = record { flags = (Some 97, Some 65, Some 98); numbered = (Some (record { letter = 75; range = record { least = 0; most = 9 } }), Some (record { letter = 68; range = record { least = 0; most = 5 } })); apart = true; operands = Nothing }
 
 -- A number of 64 bits, and one from 1 to 32768.
 abbrev pub two_numbers : Form
-two_numbers = record { flags = (None, None, None); numbered = (None, None); operands = TwoNumbers (record { least = 0; most = 18446744073709551615 }) (record { least = 1; most = 32768 }) }
+two_numbers = record { flags = (None, None, None); numbered = (None, None); apart = false; operands = TwoNumbers (record { least = 0; most = 18446744073709551615 }) (record { least = 1; most = 32768 }) }
 
 -- Any words.
 abbrev pub words : Form
-words = record { flags = (Some 97, None, None); numbered = (None, None); operands = Words }
+words = record { flags = (Some 97, None, None); numbered = (None, None); apart = false; operands = Words }
 
 -- These options were given, by the numbers of those with one, and a file's name.
 abbrev pub given : Flags → Option ℕ → Option ℕ → List ℕ → Given
@@ -65,6 +69,8 @@ pub record WorkedScripts : Type 0 where
   pub refactoring : IsScript (codes "rf; refactor -w 4 -z; rfz -w 2") (Make (Refactor (options false false None)) ∷ Make (Refactor (options true false (Some 4))) ∷ Make (Refactor (options true false (Some 2))) ∷ [])
   pub mapping : IsScript (codes "if; if -K 2; if -K 008") (Make (Map false None) ∷ Make (Map false (Some (luts_alike 2))) ∷ Make (Map false (Some (luts_alike 8))) ∷ [])
   pub mapping_for_area : IsScript (codes "if -a; if -a -K 4; if -K 4 -a") (Make (Map true None) ∷ Make (Map true (Some (luts_alike 4))) ∷ Make (Map true (Some (luts_alike 4))) ∷ [])
+  pub mapping_loosely : IsScript (codes "if -A; if -K 4 -A; if -D 0 -A; if -A -K 4 -D 1000000") (Make (MapLoosely None None) ∷ Make (MapLoosely None (Some (luts_alike 4))) ∷ Make (MapLoosely (Some 0) None) ∷ Make (MapLoosely (Some 1000000) (Some (luts_alike 4))) ∷ [])
+  pub sharing : IsScript (codes "b -s; balance -s; b") (Make BalanceShared ∷ Make BalanceShared ∷ Make Balance ∷ [])
   pub mapping_by_flow : IsScript (codes "flowmap; flowmap -K 2; flowmap -K 8") (Make (MapByFlow None) ∷ Make (MapByFlow (Some 2)) ∷ Make (MapByFlow (Some 8)) ∷ [])
   pub ten_commands : IsScript (codes "resyn2")
       (Make Balance ∷ Make (Rewrite (options false false None)) ∷ Make (Refactor (options false false None)) ∷ Make Balance ∷ Make (Rewrite (options false false None)) ∷ Make (Rewrite (options true false None)) ∷ Make Balance ∷ Make (Refactor (options true false None)) ∷ Make (Rewrite (options true false None)) ∷ Make Balance ∷ [])
@@ -166,6 +172,22 @@ pub record WorkedScripts : Type 0 where
   pub inputs_no_number : IsFirstFault (codes "if -K x") (BadNumber 6)
   pub no_number_of_inputs : IsFirstFault (codes "if -K") (MissingWord 5)
   pub inputs_twice : IsFirstFault (codes "if -K 4 -K 5") (ExtraWord 8)
+  pub loosely_and_for_area : IsFirstFault (codes "if -A -a") (ExtraWord 6)
+  pub area_and_loosely : IsFirstFault (codes "if -a -K 4 -A x") (ExtraWord 11)
+  pub area_and_loosely_joined : IsFirstFault (codes "if -aA") (ExtraWord 3)
+  pub loosely_twice : IsFirstFault (codes "if -A -D 1 -A") (ExtraWord 11)
+  pub levels_of_mapping : IsFirstFault (codes "if -D 2; ps") (MissingWord 7)
+  pub levels_of_mapping_for_area : IsFirstFault (codes "if -a -D 2") (MissingWord 10)
+  pub extra_before_missing : IsFirstFault (codes "if -D 2 x") (ExtraWord 8)
+  pub too_many_levels : IsFirstFault (codes "if -A -D 1000001") (OutOfRange 9)
+  pub no_number_of_levels : IsFirstFault (codes "if -A -D") (MissingWord 8)
+  pub levels_no_number : IsFirstFault (codes "if -A -D -1") (BadNumber 9)
+  pub levels_of_mapping_twice : IsFirstFault (codes "if -A -D 1 -D 2") (ExtraWord 11)
+  pub levels_without_an_option : IsFirstFault (codes "if -A 2") (ExtraWord 6)
+  pub loosely_by_flow : IsFirstFault (codes "flowmap -A") (ExtraWord 8)
+  pub sharing_twice : IsFirstFault (codes "b -s -s") (ExtraWord 5)
+  pub word_behind_sharing : IsFirstFault (codes "balance -s x") (ExtraWord 11)
+  pub sharing_of_rewriting : IsFirstFault (codes "rw -s") (ExtraWord 3)
   pub area_twice : IsFirstFault (codes "if -a -a") (ExtraWord 6)
   pub lower_case_option : IsFirstFault (codes "if -k 4") (ExtraWord 3)
   pub unknown : IsFirstFault (codes "rewrit") (UnknownCommand 0)
@@ -209,6 +231,14 @@ pub record WorkedForms : Type 0 where
   pub second_number_missing : Gives two_options (codes "-C 1 -N") (Err (MissingWord 99))
   pub second_number_too_great : Gives two_options (codes "-C 1 -N 7") (Err (OutOfRange 8))
   pub second_number_twice : Gives two_options (codes "-N 1 -C 1 -N x") (Err (ExtraWord 10))
+  pub apart_alone : Gives flag_apart (codes "-A -K 2") (Ok (given (false, true, false) (Some 2) None []))
+  pub others_beside_each_other : Gives flag_apart (codes "-ba") (Ok (given (true, false, true) None None []))
+  pub first_behind_apart : Gives flag_apart (codes "-A -a") (Err (ExtraWord 3))
+  pub third_behind_apart : Gives flag_apart (codes "-Ab") (Err (ExtraWord 0))
+  pub apart_behind_the_first : Gives flag_apart (codes "-a -A") (Err (ExtraWord 3))
+  pub apart_behind_the_third : Gives flag_apart (codes "-b -K 1 -A") (Err (ExtraWord 8))
+  pub number_beside_apart : Gives flag_apart (codes "-D 5 -A") (Ok (given (false, true, false) None (Some 5) []))
+  pub number_without_apart : Gives flag_apart (codes "-D 5 -a") (Err (MissingWord 99))
   pub stray_word : Gives flags_and_workers (codes "z") (Err (ExtraWord 0))
   pub flag_before_a_name : Gives (flags_and_name 97 116) (codes "-a o") (Ok (given (true, false, false) None None (codes "o")))
   pub flag_behind_a_name : Gives (flags_and_name 97 116) (codes "o -a") (Err (ExtraWord 2))

@@ -39,8 +39,8 @@ impl From<AllocError> for FileFault {
     }
 }
 
-// The place of a fault.
-fn place_of(fault: ScriptFault) -> u32
+/// The place of a fault; 0 where memory was refused.
+pub fn place_of(fault: ScriptFault) -> u32
     ensures { result ≡ place_of fault }
 {
     match fault {

@@ -55,22 +55,25 @@ pub fn are_flags(form: &Form, letters: &[u8]) -> bool
     !letters.is_empty() && all_flags(form, letters)
 }
 
-// The options that are given with one more, by its letter; none, where it was given before.
+// The options that are given with one more, by its letter; none, where it was given before, or may not stand beside them.
 fn with_flag(form: &Form, flags: Flags, letter: u8) -> Option<Flags>
     ensures { result ≡ with_flag form.now flags letter }
 {
     let (first, second, third) = flags;
-    let (before, flags) = if is_letter(form.flags.0, letter) {
-        (first, (true, second, third))
+    let (barred, flags) = if is_letter(form.flags.0, letter) {
+        (first || (form.apart && second), (true, second, third))
     } else if is_letter(form.flags.1, letter) {
-        (second, (first, true, third))
+        (
+            second || (form.apart && (first || third)),
+            (first, true, third),
+        )
     } else {
-        (third, (first, second, true))
+        (third || (form.apart && second), (first, second, true))
     };
-    if before { None } else { Some(flags) }
+    if barred { None } else { Some(flags) }
 }
 
-/// The options that are given with those of these letters; none, where one is given twice.
+/// The options that are given with those of these letters; none, where one is given twice or may not stand beside the others.
 pub fn with_flags(form: &Form, flags: Flags, letters: &[u8]) -> Option<Flags>
     ensures { result ≡ with_flags form.now flags letters.now }
 {

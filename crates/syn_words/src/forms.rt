@@ -39,5 +39,7 @@ pub struct Form {
     pub flags: (Option<u8>, Option<u8>, Option<u8>),
     /// The options with a number.
     pub numbered: (Option<Numbered>, Option<Numbered>),
+    /// Whether the second option without a number stands apart: without the others, and the second with a number only beside it.
+    pub apart: bool,
     pub operands: Operands,
 }

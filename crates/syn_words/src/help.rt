@@ -22,6 +22,10 @@ const PASS_OPTIONS: &[u8] =
 const REPLACE_OPTIONS: &[u8] =
     b"  -N N  at most N new ANDs in place of a node, 1 or 2, by default 1\n  -C N  at most N conflicts a question, 0 to 1000000, by default 100\n  -L    keeps levels: no observed signal gets deeper\n";
 
+// The options of `if`.
+const MAP_OPTIONS: &[u8] =
+    b"  -a    looks for few LUTs: no deeper than without it, and no more or, by areas of read_lut, at no more cost\n  -A    looks for fewer, however deep: no more than with -a or, by areas of read_lut, at no more cost\n  -D N  at most N levels deeper than with -a, 0 to 1000000\n  -K N  at most N inputs, 2 to 8, by default 6 or those of read_lut\n";
+
 // The keywords in the order of their lines.
 const ORDER: &[Keyword] = &[
     Keyword::ReadBlif,
@@ -127,9 +131,9 @@ fn topic_of(keyword: Keyword) -> Topic
             b"",
         ),
         Keyword::Balance => (
-            b"balance, b",
+            b"balance, b [-s]",
             b"rebuilds trees of ANDs, the shallow operands first",
-            b"",
+            b"  -s    pairs that most trees share first: never more ANDs, but levels may rise\n",
         ),
         Keyword::Rewrite => (
             b"rewrite, rw [-z] [-L] [-l] [-w N]",
@@ -176,9 +180,9 @@ fn topic_of(keyword: Keyword) -> Topic
             b"",
         ),
         Keyword::Map => (
-            b"if [-a] [-K N]",
+            b"if [-a | -A [-D N]] [-K N]",
             b"maps to LUTs of at most N inputs",
-            b"  -a    looks for few LUTs, no more and no deeper than without it\n  -K N  at most N inputs, 2 to 8, by default 6 or those of read_lut\n",
+            MAP_OPTIONS,
         ),
         Keyword::MapByFlow => (
             b"flowmap [-K N]",

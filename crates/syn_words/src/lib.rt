@@ -36,7 +36,7 @@ mod texts;
 mod word_reader;
 mod words;
 
-pub use files::{FileFault, parse_file};
+pub use files::{FileFault, parse_file, place_of};
 pub use formats::NetworkFile;
 pub use forms::NumberRange;
 pub use inputs::{LutInputs, LutSizes};
@@ -44,12 +44,11 @@ pub use laws::{
     either_or, not_both, one_fault, one_script, worked_files, worked_forms, worked_scripts,
 };
 pub use names::FileName;
-pub use numbers::number_in;
+pub use numbers::{is_number, number_in};
 pub use recipes::{PassOptions, Recipe, ReplaceLimits, SearchLimits};
 use spelling::push_commands;
 use std::alloc::{AllocError, AllocFailed, Global};
 pub use texts::Text;
-use thiserror::Error;
 use words::{Phrases, bad_byte};
 
 /// A command of a script. Contracts see the names of files and texts as bytes.
@@ -110,31 +109,23 @@ pub enum Command {
 }
 
 /// Why a text is no script. A place is an offset in bytes, from 0.
-#[derive(Clone, Copy, Debug, PartialEq, Eq, Error)]
+#[derive(Clone, Copy, Debug, PartialEq, Eq)]
 pub enum ScriptFault {
     /// A byte that may not stand in a script.
-    #[error("script {0}: bad byte")]
     BadByte(u32),
     /// A command's first word is no command's name.
-    #[error("script {0}: unknown command")]
     UnknownCommand(u32),
     /// A command ends too early, at the semicolon or at the script's end.
-    #[error("script {0}: missing word")]
     MissingWord(u32),
     /// A word that the command doesn't expect.
-    #[error("script {0}: extra word")]
     ExtraWord(u32),
     /// A file's name that ends like none of a format.
-    #[error("script {0}: unknown ending")]
     UnknownEnding(u32),
     /// A word that should be a number isn't one.
-    #[error("script {0}: bad number")]
     BadNumber(u32),
     /// A number is outside its range.
-    #[error("script {0}: out of range")]
     OutOfRange(u32),
     /// Memory was refused.
-    #[error("out of memory")]
     NoMemory,
 }
 

@@ -26,8 +26,8 @@ fn all_digits(text: &[u8]) -> bool
     true
 }
 
-// One or more digits, and nothing else.
-fn is_number(text: &[u8]) -> bool
+/// Whether a text is one or more digits, and nothing else.
+pub fn is_number(text: &[u8]) -> bool
     ensures { result ≡ is_number text.now }
 {
     !text.is_empty() && all_digits(text)

@@ -41,6 +41,8 @@ pub enum Recipe {
     Strash,
     /// `balance`, `b`: balances the graph.
     Balance,
+    /// `balance -s`, `b -s`: rebuilds trees of ANDs, pairs that many of them share first.
+    BalanceShared,
     /// `rewrite [-z] [-L] [-w N]`, `rw`; `rwz` has `-z` set: rewrites the graph until no listed replacement saves a node.
     Rewrite(PassOptions),
     /// `refactor [-z] [-L] [-w N]`, `rf`; `rfz` has `-z` set: refactors the graph until no cone's replacement saves a node.
@@ -55,6 +57,13 @@ pub enum Recipe {
     Map {
         /// Whether few LUTs are looked for.
         area: bool,
+        /// The LUTs.
+        luts: Option<LutSizes>,
+    },
+    /// `if -A [-D d] [-K n]`: maps the network likewise, to few LUTs however deep they lie.
+    MapLoosely {
+        /// At most so many levels deeper than plain mapping's LUTs, where a number is given.
+        slack: Option<u32>,
         /// The LUTs.
         luts: Option<LutSizes>,
     },

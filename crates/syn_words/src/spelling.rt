@@ -4,7 +4,7 @@ ghost use Rattle.std.specs.Prelude.{◌≡◌, ◌⊎◌, [], ◌∷◌, Err, Ok
 ghost use Rattle.syn_words.specs.Help.{helped};
 ghost use Rattle.syn_words.specs.Quotes.{meant};
 ghost use Rattle.syn_words.specs.Texts.{echoed};
-ghost use Rattle.syn_words.specs.Commands.{commands_of, comparing, gates_of, given_conflicts, given_gates, given_limits, given_options, inputs_of, luts_of, options, reading, replace_limits, resyn, resyn2, resyn2l, said, size_of, workers_of, writing};
+ghost use Rattle.syn_words.specs.Commands.{balancing, commands_of, comparing, gates_of, given_conflicts, given_gates, given_limits, given_options, inputs_of, luts_of, mapping, options, reading, replace_limits, resyn, resyn2, resyn2l, said, size_of, slack_of, workers_of, writing};
 ghost use Rattle.syn_words.specs.Scripts.{said_onto};
 ghost use Rattle.syn_words.specs.declared.Command.TheVariants as commands;
 
@@ -13,7 +13,7 @@ use crate::help::helped;
 use crate::inputs::{LutInputs, LutSizes};
 use crate::names::{FileName, WordText};
 use crate::recipes::{PassOptions, Recipe, ReplaceLimits, SearchLimits};
-use crate::table::{Keyword, MAX_CONFLICTS, MAX_GATES, MAX_TABLES, entry_of};
+use crate::table::{Keyword, MAX_CONFLICTS, MAX_GATES, MAX_SLACK, MAX_TABLES, entry_of};
 use crate::texts::echoed;
 use crate::word_reader::{Given, given_by};
 use crate::words::Phrase;
@@ -131,6 +131,43 @@ fn replace_limits(given: &Given<'_>) -> ReplaceLimits
         gates: given_gates(given.further),
         conflicts: given_conflicts(given.number),
         levels: given.flags.1,
+    }
+}
+
+// A number of levels, at most the most, where one was given.
+fn given_slack(number: Option<u64>) -> Option<u32>
+    ensures { result ≡ option_map slack_of number }
+{
+    match number {
+        Some(number) => Some(number.min(MAX_SLACK as u64) as u32),
+        None => None,
+    }
+}
+
+// How trees of ANDs are rebuilt by what was given.
+fn balancing(given: &Given<'_>) -> Recipe
+    ensures { result ≡ balancing given.now }
+{
+    if given.flags.0 {
+        Recipe::BalanceShared
+    } else {
+        Recipe::Balance
+    }
+}
+
+// How LUTs are made by what was given.
+fn mapping(given: &Given<'_>) -> Recipe
+    ensures { result ≡ mapping given.now }
+{
+    let luts = given_luts(given.number);
+    if given.flags.1 {
+        let slack = given_slack(given.further);
+        Recipe::MapLoosely { slack, luts }
+    } else {
+        Recipe::Map {
+            area: given.flags.0,
+            luts,
+        }
     }
 }
 
@@ -293,7 +330,8 @@ fn commands_of(
     let zero = given_options(true, &given);
     let limits = given_limits(&given);
     let replacing = replace_limits(&given);
-    let luts = given_luts(given.number);
+    let trees = balancing(&given);
+    let luts = mapping(&given);
     let inputs = given_inputs(given.number);
     let (seed, size) = (given.numbers.0, size_of(given.numbers.1));
     let name = FileName::of(alloc, given.name)?;
@@ -322,7 +360,7 @@ fn commands_of(
         Keyword::Resyn2 => resyn2(alloc),
         Keyword::Resyn2Levels => resyn2l(alloc),
         Keyword::Strash => make(alloc, Recipe::Strash),
-        Keyword::Balance => make(alloc, Recipe::Balance),
+        Keyword::Balance => make(alloc, trees),
         Keyword::Rewrite => make(alloc, Recipe::Rewrite(plain)),
         Keyword::RewriteZero => make(alloc, Recipe::Rewrite(zero)),
         Keyword::Refactor => make(alloc, Recipe::Refactor(plain)),
@@ -331,7 +369,7 @@ fn commands_of(
         Keyword::ResubstituteZero => make(alloc, Recipe::Resubstitute(zero)),
         Keyword::Merge => make(alloc, Recipe::Merge(limits)),
         Keyword::Replace => make(alloc, Recipe::Replace(replacing)),
-        Keyword::Map => make(alloc, Recipe::Map { area: flag, luts }),
+        Keyword::Map => make(alloc, luts),
         Keyword::MapByFlow => make(alloc, Recipe::MapByFlow(inputs)),
         Keyword::Sweep => make(alloc, Recipe::Sweep),
     }

@@ -53,6 +53,9 @@ pub const MAX_GATES: u32 = 2;
 /// So many conflicts at most.
 pub const MAX_CONFLICTS: u32 = 1_000_000;
 
+/// So many levels more at most.
+pub const MAX_SLACK: u32 = 1_000_000;
+
 /// So many generated tables at most.
 pub const MAX_TABLES: u16 = 32_768;
 
@@ -89,6 +92,15 @@ const GATES: Numbered = Numbered {
     },
 };
 
+// The option with a number of levels.
+const SLACK: Numbered = Numbered {
+    letter: b'D',
+    range: NumberRange {
+        least: 0,
+        most: MAX_SLACK as u64,
+    },
+};
+
 // A seed.
 const SEEDS: NumberRange = NumberRange {
     least: 0,
@@ -105,6 +117,7 @@ const SIZES: NumberRange = NumberRange {
 const NOTHING: Form = Form {
     flags: (None, None, None),
     numbered: (None, None),
+    apart: false,
     operands: Operands::Nothing,
 };
 
@@ -112,6 +125,7 @@ const NOTHING: Form = Form {
 const WORDS: Form = Form {
     flags: (None, None, None),
     numbered: (None, None),
+    apart: false,
     operands: Operands::Words,
 };
 
@@ -119,6 +133,7 @@ const WORDS: Form = Form {
 const COMMAND: Form = Form {
     flags: (None, None, None),
     numbered: (None, None),
+    apart: false,
     operands: Operands::Command,
 };
 
@@ -126,6 +141,7 @@ const COMMAND: Form = Form {
 const NAME: Form = Form {
     flags: (None, None, None),
     numbered: (None, None),
+    apart: false,
     operands: Operands::Name,
 };
 
@@ -133,6 +149,7 @@ const NAME: Form = Form {
 const NAME_WITH_FORMAT: Form = Form {
     flags: (None, None, None),
     numbered: (None, None),
+    apart: false,
     operands: Operands::NameWithFormat,
 };
 
@@ -140,6 +157,7 @@ const NAME_WITH_FORMAT: Form = Form {
 const PROPERTIES_AND_NAME: Form = Form {
     flags: (Some(b'p'), None, None),
     numbered: (None, None),
+    apart: false,
     operands: Operands::Name,
 };
 
@@ -147,6 +165,7 @@ const PROPERTIES_AND_NAME: Form = Form {
 const CONFLICTS_AND_NAMES: Form = Form {
     flags: (None, None, None),
     numbered: (Some(CONFLICTS), None),
+    apart: false,
     operands: Operands::OneOrTwoNames,
 };
 
@@ -154,6 +173,7 @@ const CONFLICTS_AND_NAMES: Form = Form {
 const AIGER_NAME: Form = Form {
     flags: (Some(b'a'), Some(b't'), None),
     numbered: (None, None),
+    apart: false,
     operands: Operands::Name,
 };
 
@@ -161,6 +181,7 @@ const AIGER_NAME: Form = Form {
 const PASS: Form = Form {
     flags: (Some(b'z'), Some(b'L'), Some(b'l')),
     numbered: (Some(WORKERS), None),
+    apart: false,
     operands: Operands::Nothing,
 };
 
@@ -168,13 +189,23 @@ const PASS: Form = Form {
 const ZERO_PASS: Form = Form {
     flags: (None, Some(b'L'), Some(b'l')),
     numbered: (Some(WORKERS), None),
+    apart: false,
     operands: Operands::Nothing,
 };
 
-// `-a`, and a number of inputs.
-const AREA_AND_INPUTS: Form = Form {
-    flags: (Some(b'a'), None, None),
-    numbered: (Some(INPUTS), None),
+// `-s`.
+const SHARING: Form = Form {
+    flags: (Some(b's'), None, None),
+    numbered: (None, None),
+    apart: false,
+    operands: Operands::Nothing,
+};
+
+// `-a`, or `-A` and perhaps a number of levels; and a number of inputs.
+const MAPPING: Form = Form {
+    flags: (Some(b'a'), Some(b'A'), None),
+    numbered: (Some(INPUTS), Some(SLACK)),
+    apart: true,
     operands: Operands::Nothing,
 };
 
@@ -182,6 +213,7 @@ const AREA_AND_INPUTS: Form = Form {
 const ONLY_INPUTS: Form = Form {
     flags: (None, None, None),
     numbered: (Some(INPUTS), None),
+    apart: false,
     operands: Operands::Nothing,
 };
 
@@ -189,6 +221,7 @@ const ONLY_INPUTS: Form = Form {
 const SEARCH: Form = Form {
     flags: (None, Some(b'L'), None),
     numbered: (Some(CONFLICTS), None),
+    apart: false,
     operands: Operands::Nothing,
 };
 
@@ -196,6 +229,7 @@ const SEARCH: Form = Form {
 const GATE_SEARCH: Form = Form {
     flags: (None, Some(b'L'), None),
     numbered: (Some(CONFLICTS), Some(GATES)),
+    apart: false,
     operands: Operands::Nothing,
 };
 
@@ -203,6 +237,7 @@ const GATE_SEARCH: Form = Form {
 const SEED_AND_SIZE: Form = Form {
     flags: (None, None, None),
     numbered: (None, None),
+    apart: false,
     operands: Operands::TwoNumbers(SEEDS, SIZES),
 };
 
@@ -225,15 +260,15 @@ const TABLE: [Row; 43] = [
     (b"dress", NAME, Keyword::Dress),
     (b"strash", NOTHING, Keyword::Strash),
     (b"st", NOTHING, Keyword::Strash),
-    (b"balance", NOTHING, Keyword::Balance),
-    (b"b", NOTHING, Keyword::Balance),
+    (b"balance", SHARING, Keyword::Balance),
+    (b"b", SHARING, Keyword::Balance),
     (b"rewrite", PASS, Keyword::Rewrite),
     (b"rw", PASS, Keyword::Rewrite),
     (b"rwz", ZERO_PASS, Keyword::RewriteZero),
     (b"refactor", PASS, Keyword::Refactor),
     (b"rf", PASS, Keyword::Refactor),
     (b"rfz", ZERO_PASS, Keyword::RefactorZero),
-    (b"if", AREA_AND_INPUTS, Keyword::Map),
+    (b"if", MAPPING, Keyword::Map),
     (b"resyn2", NOTHING, Keyword::Resyn2),
     (b"resyn2l", NOTHING, Keyword::Resyn2Levels),
     (b"gen", SEED_AND_SIZE, Keyword::Generate),

@@ -2,7 +2,7 @@
 
 ghost use Rattle.std.specs.Prelude.{◌≡◌};
 ghost use Rattle.syn_words.specs.Flags.{with_flags};
-ghost use Rattle.syn_words.specs.Forms.{after_word, all_given, at_end, given_by, is_option, nothing_given, number_behind, takes_words, with_first, with_further, with_options};
+ghost use Rattle.syn_words.specs.Forms.{after_word, all_given, at_end, ends_with_options, given_by, is_option, lacks_second, nothing_given, number_behind, takes_words, with_first, with_further, with_options};
 
 use crate::ScriptFault;
 use crate::flags::{Flags, are_flags, letters_of, with_flags};
@@ -65,6 +65,13 @@ fn takes_words(operands: Operands) -> bool
     ensures { result ≡ takes_words operands }
 {
     matches!(operands, Operands::Words)
+}
+
+// Whether options alone may stand.
+fn ends_with_options(operands: Operands) -> bool
+    ensures { result ≡ ends_with_options operands }
+{
+    matches!(operands, Operands::Nothing | Operands::Command)
 }
 
 // Whether a word is an option: a hyphen and its letter.
@@ -157,7 +164,7 @@ impl<'a> Given<'a> {
         }
     }
 
-    // With a word of options without a number, by which these are given, unless one of them is given twice.
+    // With a word of options without a number, by which these are given, unless one of them may not be given.
     fn with_options(
         mut self,
         flags: Option<Flags>,
@@ -199,13 +206,20 @@ impl<'a> Given<'a> {
         }
     }
 
+    // Whether the second option without a number is missing: that with a number stands only beside it.
+    fn lacks_second(&self, form: &Form) -> bool
+        ensures { result ≡ lacks_second form.now self.now }
+    {
+        form.apart && self.further.is_some() && !self.flags.1
+    }
+
     // What was given, where no word is left.
     fn at_end(self, form: Form, end: u32, awaits: Awaits) -> Result<Given<'a>, ScriptFault>
         ensures { result ≡ at_end form end awaits self.entry }
     {
         let complete = match awaits {
             Awaits::Nothing | Awaits::SecondName => true,
-            Awaits::Options => matches!(form.operands, Operands::Nothing | Operands::Command),
+            Awaits::Options => { !self.lacks_second(&form) && ends_with_options(form.operands) }
             Awaits::OptionNumber(_) | Awaits::FurtherNumber(_) | Awaits::SecondNumber(_) => false,
         };
         if complete {

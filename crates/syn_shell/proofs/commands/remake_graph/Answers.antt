@@ -1,9 +1,9 @@
-use Rattle.std.proofs.Common.{refl, sym, subst, ◌∙◌}
+use Rattle.std.proofs.Common.{false, refl, sym, subst, ◌∙◌}
 use Rattle.syn_network.specs.declared.networks.Network.{Network}
 use Rattle.syn_words.specs.declared.recipes.Recipe.TheVariants as recipes
 use Rattle.syn_shell.specs.Makes.{IsSweptTo}
 use Rattle.syn_shell.proofs.MappedGraphs.{least_by}
-use Rattle.syn_shell.proofs.RemadeGraphs.{written}
+use Rattle.syn_shell.proofs.RemadeGraphs.{merged_freely, written}
 use Rattle.syn_shell.proofs.Recipes.{made_by}
 use Rattle.syn_shell.proofs.commands.remake_graph.Goals as goal
 
@@ -12,6 +12,11 @@ returns-in-Strash-clause-made g c = made_by _ recipes.Strash _ _ c.in-Strash.is 
 
 pub returns-in_ok-new-in-Balance-clause-made : goal.returns-in_ok-new-in-Balance-clause-made
 returns-in_ok-new-in-Balance-clause-made g c = made_by _ recipes.Balance _ _ c.in-Balance.is (c.remade.ensures.balanced c.in_ok-new-in-Balance.ensures.balanced)
+
+pub returns-in_ok-new-in-BalanceShared-clause-made : goal.returns-in_ok-new-in-BalanceShared-clause-made
+returns-in_ok-new-in-BalanceShared-clause-made g c =
+    made_by _ recipes.BalanceShared _ _ c.in-BalanceShared.is
+    (c.remade-in-BalanceShared.ensures.merged false (merged_freely _ _ c.in_ok-new-in-BalanceShared.ensures.follows))
 
 pub returns-in_ok-new-in-Merge-clause-made : goal.returns-in_ok-new-in-Merge-clause-made
 returns-in_ok-new-in-Merge-clause-made g c =
@@ -28,11 +33,14 @@ returns-in_ok-new-in-Replace-clause-made g c =
 pub returns-in_ok-made-in-Map-clause-made : goal.returns-in_ok-made-in-Map-clause-made
 returns-in_ok-made-in-Map-clause-made g c = made_by _ (recipes.Map c.in-Map.area c.in-Map.luts) _ _ c.in-Map.is c.in_ok-made-in-Map.ensures
 
+pub returns-in_ok-made-in-MapLoosely-clause-made : goal.returns-in_ok-made-in-MapLoosely-clause-made
+returns-in_ok-made-in-MapLoosely-clause-made g c = made_by _ (recipes.MapLoosely c.in-MapLoosely.slack c.in-MapLoosely.luts) _ _ c.in-MapLoosely.is c.in_ok-made-in-MapLoosely.ensures
+
 pub returns-in_ok-mapped-in-MapByFlow-clause-made : goal.returns-in_ok-mapped-in-MapByFlow-clause-made
 returns-in_ok-mapped-in-MapByFlow-clause-made g c =
     let h = c.in_ok-net-in-MapByFlow.ensures in
     made_by _ (recipes.MapByFlow c.in-MapByFlow.inputs) _ _ c.in-MapByFlow.is
-    (least_by _ _ _ _ c.number_in.ensures.number (c.in_ok-mapped-in-MapByFlow.ensures.least c.number_in.result (record { luts = record { inputs = h.inputs; count = h.count }; least = h.least; settled = record { depend = h.depend; shown = h.shown } })))
+    (least_by _ _ _ _ c.number_in.ensures.number (c.in_ok-mapped-in-MapByFlow.ensures.least c.number_in.result (record { luts = record { inputs = h.inputs; count = h.count }; least = h.least; settled = record { depend = h.depend; most = h.most; shown = h.shown } })))
 
 pub returns-in_ok-new-in-Sweep-clause-made : goal.returns-in_ok-new-in-Sweep-clause-made
 returns-in_ok-new-in-Sweep-clause-made g c =
