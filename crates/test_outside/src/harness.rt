@@ -4,7 +4,7 @@ use std::alloc::{AllocError, Global};
 use std::test::Fail;
 use std::thread::Threads;
 use std::time::Clock;
-use syn_commit::NoHook;
+use syn_commit::{CommitHook, NoHook};
 use syn_io::{MemFiles, MemLines, MemSink};
 
 /// Reads the file `a`, prints its line, and writes the file `o`.
@@ -54,17 +54,18 @@ pub fn lines_of(alloc: Global, text: &str) -> Result<MemLines, AllocError> {
     Ok(MemLines::new(bytes, Vec::new(alloc)))
 }
 
-// The status of a run.
-fn status<R: Threads + Sync + Clock>(
+/// The status of a run whose commits the hook is told.
+pub fn status<R: Threads + Sync + Clock, G: CommitHook>(
     rt: &R,
     alloc: Global,
     words: &[&str],
     files: &mut MemFiles,
     lines: &mut MemLines,
     out: &mut MemSink,
+    hook: &G,
 ) -> Result<u8, Fail> {
     let words = words_of(alloc, words)?;
-    Ok(syn_shell::run(rt, alloc, words.as_slice(), files, lines, out, &NoHook))
+    Ok(syn_shell::run(rt, alloc, words.as_slice(), files, lines, out, hook))
 }
 
 fn is_text(bytes: &[u8], text: &str) -> bool {
@@ -92,7 +93,7 @@ pub fn leaves<R: Threads + Sync + Clock>(
     mut out: MemSink,
     wanted: Outcome,
 ) -> Result<bool, Fail> {
-    let status = status(rt, alloc, words, &mut files, &mut lines, &mut out)?;
+    let status = status(rt, alloc, words, &mut files, &mut lines, &mut out, &NoHook)?;
     Ok(
         status == wanted.status
             && is_text(out.bytes(), wanted.printed)

@@ -1,6 +1,6 @@
-//! Passes under hooks that hold workers up.
+//! Passes under a hook that lets other threads run.
 
-use crate::harness::{cones, graph_of, passed};
+use crate::harness::passed;
 use std::alloc::{AllocError, Global};
 use std::sync::atomic::{AtomicU64, Ordering};
 use std::test::Fail;
@@ -11,67 +11,6 @@ use syn_gen::generate;
 use syn_graph::Graph;
 use syn_network::Network;
 use syn_workers::Workers;
-
-// How often a held worker looks at most.
-const MAX_LOOKS: u32 = 1_000_000;
-
-// A hook that holds the worker that first claims until another one has done a commit.
-#[derive(Drop)]
-struct HoldsTheFirst {
-    // 1 more than the number of the worker that is held, 0 while there is none.
-    held: AtomicU64,
-    // 1 once another worker has done a commit.
-    other_done: AtomicU64,
-    // 1 where none had while the worker was held.
-    given_up: AtomicU64,
-    // How many commits were done.
-    told: AtomicU64,
-}
-
-impl HoldsTheFirst {
-    fn new() -> HoldsTheFirst {
-        HoldsTheFirst {
-            held: AtomicU64::new(0),
-            other_done: AtomicU64::new(0),
-            given_up: AtomicU64::new(0),
-            told: AtomicU64::new(0),
-        }
-    }
-
-    // Returns once another worker has done a commit, or after so many looks.
-    fn hold(&self) {
-        for _ in 0..MAX_LOOKS {
-            if self.other_done.load(Ordering::SeqCst) == 1 {
-                return;
-            }
-            yield_now();
-        }
-        self.given_up.store(1, Ordering::SeqCst);
-    }
-}
-
-impl CommitHook for HoldsTheFirst {
-    fn at(&self, worker: u8, moment: Moment) {
-        let own = u64::from(worker) + 1;
-        match moment {
-            Moment::Claimed => {
-                let first = self
-                    .held
-                    .compare_exchange(0, own, Ordering::SeqCst, Ordering::SeqCst);
-                if first.is_ok() {
-                    self.hold();
-                }
-            }
-            Moment::Answered(true) => {
-                let _before = self.told.fetch_add(1, Ordering::SeqCst);
-                if self.held.load(Ordering::SeqCst) != own {
-                    self.other_done.store(1, Ordering::SeqCst);
-                }
-            }
-            Moment::Answered(false) => {}
-        }
-    }
-}
 
 // A hook that lets other threads run at some of the moments.
 #[derive(Drop)]
@@ -147,35 +86,6 @@ fn keeps<R: Threads + Sync>(
         }
         None => Ok(false),
     }
-}
-
-// Whether a pass of two workers on a hundred cones does what the hook is told, and gains one of each three ANDs.
-fn gains<R: Threads + Sync>(
-    rt: &R,
-    alloc: Global,
-    hook: &HoldsTheFirst,
-) -> Result<bool, AllocError> {
-    let text = cones(alloc, 100)?;
-    let Some(graph) = graph_of(alloc, text.as_str().as_bytes()) else {
-        return Ok(false);
-    };
-    match passed(rt, alloc, &graph, hook, Workers::new(2), false)? {
-        Some((next, report)) => {
-            let told = hook.told.load(Ordering::SeqCst);
-            Ok(report.done == told && told > 0 && next.count() == 200)
-        }
-        None => Ok(false),
-    }
-}
-
-// The worker that first claims goes on only once another one has done a commit. Of each cone the root alone has a proposal
-// that saves, and one worker visits it. What is left, the check takes.
-#[test]
-fn two_workers_work_at_the_same_time(rt: HostRuntime) -> Result<(), Fail> {
-    let hook = HoldsTheFirst::new();
-    assert!(rt; gains(&rt, rt.alloc(), &hook)?);
-    assert!(rt; hook.given_up.load(Ordering::SeqCst) == 0);
-    Ok(())
 }
 
 #[test]
