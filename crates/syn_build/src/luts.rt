@@ -74,7 +74,7 @@ fn input_literals(signals: &[Lit], inputs: &[u32]) -> ArrayVec<Lit, MAX_INPUTS>
     literals
 }
 
-// The literal of a LUT, from those of the signals before it: the gates of the least plan of its function that is found, in order.
+// The literal of a LUT, from those of the signals before it: the gates of factoring its function, in order.
 fn lut_literal(hashed: &mut HashedRows, signals: &[Lit], lut: &Lut) -> Result<Lit, AllocError>
     requires inputs { list_all (reads_below (length signals.now)) lut.now.inputs.items ≡ true }
     requires there { AllThere hashed.old.rows.items signals.now }
@@ -85,7 +85,7 @@ fn lut_literal(hashed: &mut HashedRows, signals: &[Lit], lut: &Lut) -> Result<Li
     ensures there { IfOk result (λ l. node_of l < length hashed.new.rows.items) }
     ensures value { IfOk result (λ l. (given : ℕ → Bool) → given 0 ≡ false → value_by given hashed.new.rows.items l ≡ ones_value (ones_of lut.now.truth) (map (value_by given hashed.old.rows.items) (map (lit_at signals.now) lut.now.inputs.items))) }
 {
-    let plan = syn_factor::least(lut.truth);
+    let plan = syn_plan::factor(lut.truth);
     let leaves = input_literals(signals, lut.inputs.as_slice());
     place_plan(hashed, leaves.as_slice(), &plan)
 }
@@ -163,10 +163,10 @@ fn build_net(alloc: Global, net: &LutNet) -> Result<Built, AllocError>
     Ok(Built { hashed, observed })
 }
 
-/// The graph of a LUT net: the LUTs in order, each by a plan of its function with at most as many gates as factoring it takes,
-/// with rows that stand once; what no observed signal reaches is dropped. The frame is copied.
+/// The graph of a LUT net: the LUTs in order, each by the gates of factoring its function, with rows that stand once; what
+/// no observed signal reaches is dropped. The frame is copied.
 ///
-/// A net whose LUTs take more than `MAX_GATES` gates to factor is refused; the only other error is want of memory.
+/// A net that takes more than `MAX_GATES` gates is refused; the only other error is want of memory.
 pub fn build_luts(alloc: Global, net: &LutNetwork) -> Result<Network, BuildFault>
     requires room { length (sources (frame_in net.now.frame)) + 1 + most_gates < NODE_LIMIT }
     ensures frame { IfOk result (λ graph. frame_in graph.frame ≡ frame_in net.now.frame) }
