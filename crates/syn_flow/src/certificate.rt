@@ -151,7 +151,7 @@ fn noted(
     ensures noted { IfOk result (λ v. AreNoted k rows.now (label_in labels.now) (map shown_of paths.now) (length paths.now) v.items) }
 {
     let mut marks = no_marks(alloc, rows.len())?;
-    let mut room = Room::of(alloc, rows.len())?;
+    let mut room = Room::of(alloc, rows)?;
     for entry in paths {
         note(rows, labels, k, entry, marks.as_mut_slice(), &mut room)?;
     }

@@ -145,7 +145,7 @@ pub(crate) fn label_all(alloc: Global, rows: &[Row], k: u8) -> Result<Labelling,
     ensures { IfOk result (IsLabelling k rows.now (length rows.now)) }
 {
     let mut labelling = Labelling::new(alloc);
-    let mut room = Room::of(alloc, rows.len())?;
+    let mut room = Room::of(alloc, rows)?;
     for n in 0..rows.len() {
         label_row(alloc, rows, k, n as u32, &mut labelling, &mut room)?;
     }

@@ -16,8 +16,9 @@ use Rattle.syn_rows.specs.Rows.{InOrder}
 use Rattle.syn_cones.specs.Cones.{refs_at}
 use Rattle.syn_paths.specs.Augmenting.{has_place, same_place}
 use Rattle.syn_paths.specs.Checking.{all_within, is_marked, NoneMarked}
+use Rattle.syn_paths.specs.Tops.{label_in}
 use Rattle.syn_paths.specs.Walking.{unmarked}
-use Rattle.syn_paths.specs.Searching.{before, CameFrom, enter_all, entered, into_out, is_found, is_seen, IsSearching, IsStart, IsTrail, next_at, NextWithin, no_step, node_at, own_out, place_at, search_left, see_in, see_out, State, state, step_at, trail_new, wait_new}
+use Rattle.syn_paths.specs.Searching.{before, before_by, CameFrom, enter_all, entered, into_out, is_found, is_seen, IsSearching, IsStart, IsTrail, nearer_last, next_at, NextWithin, no_step, node_at, own_out, place_at, search_left, see_in, see_out, State, state, step_at, trail_new, wait_new}
 use Rattle.syn_rows.proofs.Nodes.{has_at, has_cases, has_here, has_left, has_one, has_right, has_there, here_or_there}
 use Rattle.syn_paths.proofs.Falling.{refers_below}
 use Rattle.syn_paths.proofs.Checked.{marked_before, marked_here, marked_still}
@@ -308,23 +309,92 @@ before_within rows next count (In w) order to lt p h = elim (place_cases (own_ou
 ]
 before_within rows next count (Out w) order to lt p h = into_within w (next_at next w) count lt (to w) p h
 
+-- the places before a place are the same ones in whichever order
+
+two_swapped : (x y p : Place) → has_place (x ∷ y ∷ []) p ≡ true → has_place (y ∷ x ∷ []) p ≡ true
+two_swapped x y p h = elim (or_cases (same_place x p) (has_place (y ∷ []) p) h) [
+  | inl e ↦ place_tail y p (x ∷ []) (or_left (same_place x p) false e)
+  | inr t ↦ place_left (y ∷ []) (x ∷ []) p t
+]
+
+nearer_has : (near nodes : List ℕ) (p : Place) → has_place (map Out (nearer_last near nodes)) p ≡ true → has_place (map Out nodes) p ≡ true
+nearer_has near [] p h = h
+nearer_has near (a ∷ []) p h = h
+nearer_has near (a ∷ b ∷ []) p h = go (nat_lt (label_in near b) (label_in near a)) h
+  where
+    go : (c : Bool) → has_place (map Out (if c then a ∷ b ∷ [] else b ∷ a ∷ [])) p ≡ true → has_place (Out a ∷ Out b ∷ []) p ≡ true
+    go true there = there
+    go false there = two_swapped (Out b) (Out a) p there
+nearer_has near (a ∷ b ∷ c ∷ nodes) p h = h
+
+has_nearer : (near nodes : List ℕ) (p : Place) → has_place (map Out nodes) p ≡ true → has_place (map Out (nearer_last near nodes)) p ≡ true
+has_nearer near [] p h = h
+has_nearer near (a ∷ []) p h = h
+has_nearer near (a ∷ b ∷ []) p h = go (nat_lt (label_in near b) (label_in near a))
+  where
+    go : (c : Bool) → has_place (map Out (if c then a ∷ b ∷ [] else b ∷ a ∷ [])) p ≡ true
+    go true = h
+    go false = two_swapped (Out a) (Out b) p h
+has_nearer near (a ∷ b ∷ c ∷ nodes) p h = h
+
+by_before : (near : List ℕ) (rows : List Row) (next : List Next) (place p : Place) → has_place (before_by near rows next place) p ≡ true → has_place (before rows next place) p ≡ true
+by_before near rows next (In w) p h = elim (place_cases (own_out w (next_at next w)) (map Out (nearer_last near (refs_at rows w))) p h) [
+  | inl own ↦ place_left (own_out w (next_at next w)) (map Out (refs_at rows w)) p own
+  | inr ref ↦ place_right (own_out w (next_at next w)) (map Out (refs_at rows w)) p (nearer_has near (refs_at rows w) p ref)
+]
+by_before near rows next (Out w) p h = h
+
+before_too : (near : List ℕ) (rows : List Row) (next : List Next) (place p : Place) → has_place (before rows next place) p ≡ true → has_place (before_by near rows next place) p ≡ true
+before_too near rows next (In w) p h = elim (place_cases (own_out w (next_at next w)) (map Out (refs_at rows w)) p h) [
+  | inl own ↦ place_left (own_out w (next_at next w)) (map Out (nearer_last near (refs_at rows w))) p own
+  | inr ref ↦ place_right (own_out w (next_at next w)) (map Out (nearer_last near (refs_at rows w))) p (has_nearer near (refs_at rows w) p ref)
+]
+before_too near rows next (Out w) p h = h
+
+-- what is to be marked may be more
+todo_more : (rows : List Row) (next : List Next) (IsBelow : ℕ → Type 0) (stamp : ℕ) (s : State) (todo wanted : List Place) → ((p : Place) → has_place todo p ≡ true → has_place wanted p ≡ true)
+    → IsSearching rows next IsBelow stamp s todo → IsSearching rows next IsBelow stamp s wanted
+todo_more rows next IsBelow stamp s todo wanted more w = record {
+  came = w.came;
+  once = w.once;
+  seen = w.seen;
+  stands = w.stands;
+  within = w.within;
+  waits = w.waits;
+  closed = λ i lt. elim (w.closed i lt) [ inl h ↦ inl h | inr f ↦ inr (λ p there. later p (f p there)) ];
+  begun = λ v h. later (Out v) (w.begun v h);
+  inner = w.inner;
+}
+  where
+    later : (q : Place) → (is_seen s.ins s.outs stamp q ≡ true) ⊎ (has_place todo q ≡ true) → (is_seen s.ins s.outs stamp q ≡ true) ⊎ (has_place wanted q ≡ true)
+    later q (inl h) = inl h
+    later q (inr h) = inr (more q h)
+
 -- one turn of the search
 
-pub turn : (rows : List Row) (next : List Next) (IsBelow : ℕ → Type 0) (stamp : ℕ) (ins outs : List ℕ) (trail : List Step) (front : List ℕ) (i : ℕ) (todo : List Place) → InOrder rows → NextWithin next (length ins) → length outs ≡ length ins
-    → is_found rows (place_at trail i) ≡ false → IsSearching rows next IsBelow stamp (state ins outs trail (front ++ i ∷ [])) todo
-    → IsSearching rows next IsBelow stamp (enter_all stamp (state ins outs trail front) (before rows next (place_at trail i)) (Some i)) todo
-    × (search_left stamp (enter_all stamp (state ins outs trail front) (before rows next (place_at trail i)) (Some i)) < search_left stamp (state ins outs trail (front ++ i ∷ [])))
-turn rows next IsBelow stamp ins outs trail front i todo order to long lost w =
+pub turn : (near : List ℕ) (rows : List Row) (next : List Next) (IsBelow : ℕ → Type 0) (stamp : ℕ) (ins outs : List ℕ) (trail : List Step) (front : List ℕ) (i : ℕ) (todo : List Place) → InOrder rows → NextWithin next (length ins)
+    → length outs ≡ length ins → is_found rows (place_at trail i) ≡ false → IsSearching rows next IsBelow stamp (state ins outs trail (front ++ i ∷ [])) todo
+    → IsSearching rows next IsBelow stamp (enter_all stamp (state ins outs trail front) (before_by near rows next (place_at trail i)) (Some i)) todo
+    × (search_left stamp (enter_all stamp (state ins outs trail front) (before_by near rows next (place_at trail i)) (Some i)) < search_left stamp (state ins outs trail (front ++ i ∷ [])))
+turn near rows next IsBelow stamp ins outs trail front i todo order to long lost w =
     let here = w.waits i (has_right front (i ∷ []) i (has_here i [])) in
     let place = w.within i here in
-    let each = λ (p : Place) (h : has_place (before rows next (place_at trail i)) p ≡ true).
-    let lt = before_within rows next (length ins) (place_at trail i) order to place.0 p h in both p lt in (
-      enter_each rows next IsBelow stamp (state ins outs trail front) (before rows next (place_at trail i)) todo i here each (λ p h. h) (taken rows next IsBelow stamp ins outs trail front i todo lost w),
-      omega (arith, less_each stamp (state ins outs trail front) (before rows next (place_at trail i)) (Some i) each, length-append front (i ∷ [])),
+    let each = λ (p : Place) (h : has_place (before_by near rows next (place_at trail i)) p ≡ true).
+    let lt = before_within rows next (length ins) (place_at trail i) order to place.0 p (by_before near rows next (place_at trail i) p h) in both p lt in
+    let begun = todo_more rows next IsBelow stamp (state ins outs trail front) (before rows next (place_at trail i) ++ todo) (before_by near rows next (place_at trail i) ++ todo) more
+    (taken rows next IsBelow stamp ins outs trail front i todo lost w) in (
+      enter_each rows next IsBelow stamp (state ins outs trail front) (before_by near rows next (place_at trail i)) todo i here each (λ p h. by_before near rows next (place_at trail i) p h) begun,
+      omega (arith, less_each stamp (state ins outs trail front) (before_by near rows next (place_at trail i)) (Some i) each, length-append front (i ∷ [])),
     )
   where
     both : (p : Place) → node_at p < length ins → (node_at p < length ins) × (node_at p < length outs)
     both p lt = (lt, omega (arith, lt, long))
+
+    more : (p : Place) → has_place (before rows next (place_at trail i) ++ todo) p ≡ true → has_place (before_by near rows next (place_at trail i) ++ todo) p ≡ true
+    more p h = elim (place_cases (before rows next (place_at trail i)) todo p h) [
+      | inl b ↦ place_left (before_by near rows next (place_at trail i)) todo p (before_too near rows next (place_at trail i) p b)
+      | inr t ↦ place_right (before_by near rows next (place_at trail i)) todo p t
+    ]
 
 pub waits_there : (rows : List Row) (next : List Next) (IsBelow : ℕ → Type 0) (stamp : ℕ) (ins outs : List ℕ) (trail : List Step) (front : List ℕ) (i : ℕ) (todo : List Place)
     → IsSearching rows next IsBelow stamp (state ins outs trail (front ++ i ∷ [])) todo → (i < length trail) × (node_at (place_at trail i) < length ins)

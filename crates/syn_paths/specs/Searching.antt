@@ -1,5 +1,5 @@
 -- The search for one path more, from the top of a node down.
-use Rattle.std.specs.Prelude.{◌≡◌, ◌≢◌, ◌⊎◌, ℕ, ◌+◌, ◌<◌, Bool, true, false, List, [], ◌∷◌, ◌++◌, length, map, slice_index_or, Option, None, Some}
+use Rattle.std.specs.Prelude.{◌≡◌, ◌≢◌, ◌⊎◌, ℕ, ◌+◌, ◌<◌, nat_lt, if◌then◌else◌, Bool, true, false, List, [], ◌∷◌, ◌++◌, length, map, slice_index_or, Option, None, Some}
 use Rattle.std.specs.List.{sum_by}
 use Rattle.std.proofs.Math.ListN.{set}
 use Rattle.syn_rows.specs.declared.Row.{Row}
@@ -12,6 +12,7 @@ use Rattle.syn_rows.specs.Nodes.{has_node}
 use Rattle.syn_cones.specs.Cones.{is_end, Refers, refs_at}
 use Rattle.syn_paths.specs.Augmenting.{AreOnce, GoesInto, has_place}
 use Rattle.syn_paths.specs.Checking.{is_marked}
+use Rattle.syn_paths.specs.Tops.{label_in}
 use Rattle.syn_paths.specs.Walking.{unmarked}
 
 -- what comes behind a node
@@ -61,6 +62,18 @@ own_out w (To v) = Out w ∷ []
 abbrev pub before : List Row → List Next → Place → List Place
 before rows next (In w) = own_out w (next_at next w) ++ map Out (refs_at rows w)
 before rows next (Out w) = into_out w (next_at next w)
+
+-- two nodes, the one with the smaller distance last
+abbrev pub nearer_last : List ℕ → List ℕ → List ℕ
+nearer_last near [] = []
+nearer_last near (a ∷ []) = a ∷ []
+nearer_last near (a ∷ b ∷ []) = if nat_lt (label_in near b) (label_in near a) then a ∷ b ∷ [] else b ∷ a ∷ []
+nearer_last near (a ∷ b ∷ c ∷ nodes) = a ∷ b ∷ c ∷ nodes
+
+-- the places before a place, in the order in which the search enters them
+abbrev pub before_by : List ℕ → List Row → List Next → Place → List Place
+before_by near rows next (In w) = own_out w (next_at next w) ++ map Out (nearer_last near (refs_at rows w))
+before_by near rows next (Out w) = into_out w (next_at next w)
 
 -- A place that is the last of its way: below the top.
 abbrev pub IsBegun : (ℕ → Type 0) → Place → Type 0

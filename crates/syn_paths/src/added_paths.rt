@@ -6,7 +6,7 @@ ghost use Rattle.syn_paths.specs.Tops.{FallsBelow, label_in};
 ghost use Rattle.syn_paths.specs.Adding.{AreStarts};
 ghost use Rattle.syn_paths.specs.Rooms.{HoldsPaths, IsExhausted, IsRoom};
 
-use crate::path_search::{follow, search, source_of};
+use crate::path_search::{Ways, follow, search, source_of};
 use crate::room::Room;
 use std::alloc::AllocError;
 use syn_rows::Row;
@@ -38,8 +38,12 @@ fn add_path(
     let stamp = room.marks.next();
     room.trail.clear();
     room.waiting.clear();
-    let found = search(
+    let ways = Ways {
         rows,
+        near: room.near.as_slice(),
+    };
+    let found = search(
+        ways,
         room.next.as_slice(),
         room.starts.as_slice(),
         room.marks.ins.as_mut_slice(),

@@ -4,6 +4,7 @@
 
 mod added_paths;
 mod laws;
+mod nearness;
 mod node_cut;
 mod node_facts;
 mod path_checks;

@@ -8,12 +8,19 @@ ghost use Rattle.syn_paths.specs.Rooms.{AreTouched};
 ghost use Rattle.syn_paths.specs.declared.places.Place.{Place};
 ghost use Rattle.syn_paths.specs.declared.places.Place.TheVariants.{Out};
 ghost use Rattle.syn_paths.specs.Augmenting.{AreOnce, along, next_by};
-ghost use Rattle.syn_paths.specs.Searching.{IsFoundAt, IsSearching, IsStart, IsTrail, IsWayAt, NextWithin, TrailFalls, TrailWithin, left, before, enter_all, entered, into_out, is_found, is_seen, next_at, node_at, own_out, place_at, see_in, see_out, state};
+ghost use Rattle.syn_paths.specs.Searching.{IsFoundAt, IsSearching, IsStart, IsTrail, IsWayAt, NextWithin, TrailFalls, TrailWithin, left, before_by, enter_all, entered, into_out, is_found, is_seen, nearer_last, next_at, node_at, own_out, place_at, see_in, see_out, state};
 
-use crate::node_facts::{is_source, row_at};
+use crate::node_facts::{is_source, label_of, row_at};
 use crate::places::{Next, Place, Step, next_at};
 use std::alloc::AllocError;
 use syn_rows::Row;
+
+/// Rows, and how near each of their nodes is to a source.
+#[derive(Clone, Copy, Debug)]
+pub(crate) struct Ways<'a> {
+    pub(crate) rows: &'a [Row],
+    pub(crate) near: &'a [u32],
+}
 
 // Marks a place. False where it was marked already.
 fn see(ins: &mut [u32], outs: &mut [u32], stamp: u32, place: Place) -> bool
@@ -126,9 +133,20 @@ fn visit_own(
     }
 }
 
-// Marks the places out of what a node refers to.
+// Two nodes, the one that is nearer to a source last, so that a search goes on from it first.
+fn nearer_last(near: &[u32], a: u32, b: u32) -> (u32, u32)
+    ensures { result.0 ∷ result.1 ∷ [] ≡ nearer_last near.now (a ∷ b ∷ []) }
+{
+    if label_of(near, b) < label_of(near, a) {
+        (a, b)
+    } else {
+        (b, a)
+    }
+}
+
+// Marks the places out of what a node refers to, that of the node nearest to a source last.
 fn visit_refs(
-    rows: &[Row],
+    ways: Ways,
     ins: &mut [u32],
     outs: &mut [u32],
     stamp: u32,
@@ -137,23 +155,24 @@ fn visit_refs(
     node: u32,
     from: usize,
 ) -> Result<(), AllocError>
-    requires order { InOrder rows.now }
+    requires order { InOrder ways.rows.now }
     requires ins { node < length ins.old }
     requires outs { length outs.old ≡ length ins.old }
-    ensures { OnOk result (state ins.new outs.new trail.new.items waiting.new.items ≡ enter_all stamp (state ins.old outs.old trail.old.items waiting.old.items) (map Out (refs_at rows.now node)) (Some from)) }
+    ensures { OnOk result (state ins.new outs.new trail.new.items waiting.new.items ≡ enter_all stamp (state ins.old outs.old trail.old.items waiting.old.items) (map Out (nearer_last ways.entry.near.now (refs_at ways.entry.rows.now node))) (Some from)) }
 {
     if node == 0 {
         return Ok(());
     }
-    match row_at(rows, node) {
+    match row_at(ways.rows, node) {
         Row::And(a, b) => {
+            let (first, last) = nearer_last(ways.near, a.node(), b.node());
             enter(
                 ins,
                 outs,
                 stamp,
                 trail,
                 waiting,
-                Place::Out(a.node()),
+                Place::Out(first),
                 Some(from),
             )?;
             enter(
@@ -162,7 +181,7 @@ fn visit_refs(
                 stamp,
                 trail,
                 waiting,
-                Place::Out(b.node()),
+                Place::Out(last),
                 Some(from),
             )
         }
@@ -181,7 +200,7 @@ fn visit_refs(
 
 // Marks that from which a unit may go to a place. True at a place into a source, where none is marked.
 fn visit(
-    rows: &[Row],
+    ways: Ways,
     next: &[Next],
     ins: &mut [u32],
     outs: &mut [u32],
@@ -190,14 +209,14 @@ fn visit(
     waiting: &mut Vec<usize>,
     i: usize,
 ) -> Result<bool, AllocError>
-    requires order { InOrder rows.now }
+    requires order { InOrder ways.rows.now }
     requires there { i < length trail.old.items }
     requires ins { node_at (place_at trail.old.items i) < length ins.old }
     requires outs { length outs.old ≡ length ins.old }
     requires next { NextWithin next.now (length ins.old) }
-    ensures found { IfOk result (λ yes. yes ≡ is_found rows.now (place_at trail.old.items i)) }
+    ensures found { IfOk result (λ yes. yes ≡ is_found ways.entry.rows.now (place_at trail.old.items i)) }
     ensures same { IfOk result (λ yes. yes ≡ true → state ins.new outs.new trail.new.items waiting.new.items ≡ state ins.old outs.old trail.old.items waiting.old.items) }
-    ensures more { IfOk result (λ yes. yes ≡ false → state ins.new outs.new trail.new.items waiting.new.items ≡ enter_all stamp (state ins.old outs.old trail.old.items waiting.old.items) (before rows.now next.now (place_at trail.old.items i)) (Some i)) }
+    ensures more { IfOk result (λ yes. yes ≡ false → state ins.new outs.new trail.new.items waiting.new.items ≡ enter_all stamp (state ins.old outs.old trail.old.items waiting.old.items) (before_by ways.entry.near.now ways.entry.rows.now next.now (place_at trail.old.items i)) (Some i)) }
 {
     let step = trail[i];
     match step.place {
@@ -206,11 +225,11 @@ fn visit(
             Ok(false)
         }
         Place::In(node) => {
-            if is_source(rows, node) {
+            if is_source(ways.rows, node) {
                 return Ok(true);
             }
             visit_own(next, ins, outs, stamp, trail, waiting, node, i)?;
-            visit_refs(rows, ins, outs, stamp, trail, waiting, node, i)?;
+            visit_refs(ways, ins, outs, stamp, trail, waiting, node, i)?;
             Ok(false)
         }
     }
@@ -225,7 +244,7 @@ struct Starts<'a> {
 
 // Searches on until nothing waits, or a place into a source is met: the place of it in the trail.
 fn search_on(
-    rows: &[Row],
+    ways: Ways,
     next: &[Next],
     starts: Starts,
     ins: &mut [u32],
@@ -234,23 +253,23 @@ fn search_on(
     trail: &mut Vec<Step>,
     waiting: &mut Vec<usize>,
 ) -> Result<Option<usize>, AllocError>
-    requires order { InOrder rows.now }
+    requires order { InOrder ways.rows.now }
     requires outs { length outs.old ≡ length ins.old }
     requires next { NextWithin next.now (length ins.old) }
     requires ins_stamps { AreUpTo ins.old stamp }
     requires outs_stamps { AreUpTo outs.old stamp }
-    requires searching { IsSearching rows.now next.now (IsStart starts.all.now) stamp (state ins.old outs.old trail.old.items waiting.old.items) (map Out (drop starts.entered starts.all.now)) }
+    requires searching { IsSearching ways.rows.now next.now (IsStart starts.all.now) stamp (state ins.old outs.old trail.old.items waiting.old.items) (map Out (drop starts.entered starts.all.now)) }
     ensures ins_long { IfOk result (λ r. length ins.new ≡ length ins.old) }
     ensures outs_long { IfOk result (λ r. length outs.new ≡ length outs.old) }
     ensures ins_stamps { IfOk result (λ r. AreUpTo ins.new stamp) }
     ensures outs_stamps { IfOk result (λ r. AreUpTo outs.new stamp) }
-    ensures searching { IfOk result (λ r. IfNone r (IsSearching rows.now next.now (IsStart starts.entry.all.now) stamp (state ins.new outs.new trail.new.items []) (map Out (drop starts.entry.entered starts.entry.all.now)))) }
+    ensures searching { IfOk result (λ r. IfNone r (IsSearching ways.entry.rows.now next.now (IsStart starts.entry.all.now) stamp (state ins.new outs.new trail.new.items []) (map Out (drop starts.entry.entered starts.entry.all.now)))) }
     ensures empty { IfOk result (λ r. IfNone r (waiting.new.items ≡ [])) }
-    ensures found { IfOk result (λ r. IfSome r (λ i. IsFoundAt rows.now trail.new.items i)) }
-    ensures trail { IfOk result (λ r. IfSome r (λ i. IsTrail rows.now next.now (IsStart starts.entry.all.now) trail.new.items)) }
+    ensures found { IfOk result (λ r. IfSome r (λ i. IsFoundAt ways.entry.rows.now trail.new.items i)) }
+    ensures trail { IfOk result (λ r. IfSome r (λ i. IsTrail ways.entry.rows.now next.now (IsStart starts.entry.all.now) trail.new.items)) }
 {
     while let Some(i) = waiting.pop() {
-        if visit(rows, next, ins, outs, stamp, trail, waiting, i)? {
+        if visit(ways, next, ins, outs, stamp, trail, waiting, i)? {
             return Ok(Some(i));
         }
     }
@@ -259,7 +278,7 @@ fn search_on(
 
 // Searches from the starts down: the place in the trail of one into a source, or none where all that is reached was marked.
 pub(crate) fn search(
-    rows: &[Row],
+    ways: Ways,
     next: &[Next],
     starts: &[u32],
     ins: &mut [u32],
@@ -268,7 +287,7 @@ pub(crate) fn search(
     trail: &mut Vec<Step>,
     waiting: &mut Vec<usize>,
 ) -> Result<Option<usize>, AllocError>
-    requires order { InOrder rows.now }
+    requires order { InOrder ways.rows.now }
     requires outs { length outs.old ≡ length ins.old }
     requires next { NextWithin next.now (length ins.old) }
     requires ins_stamps { AreUpTo ins.old stamp }
@@ -282,9 +301,9 @@ pub(crate) fn search(
     ensures outs_long { IfOk result (λ r. length outs.new ≡ length outs.old) }
     ensures ins_stamps { IfOk result (λ r. AreUpTo ins.new stamp) }
     ensures outs_stamps { IfOk result (λ r. AreUpTo outs.new stamp) }
-    ensures searched { IfOk result (λ r. IfNone r (IsSearching rows.now next.now (IsStart starts.now) stamp (state ins.new outs.new trail.new.items []) [])) }
-    ensures found { IfOk result (λ r. IfSome r (λ i. IsFoundAt rows.now trail.new.items i)) }
-    ensures trail { IfOk result (λ r. IfSome r (λ i. IsTrail rows.now next.now (IsStart starts.now) trail.new.items)) }
+    ensures searched { IfOk result (λ r. IfNone r (IsSearching ways.entry.rows.now next.now (IsStart starts.now) stamp (state ins.new outs.new trail.new.items []) [])) }
+    ensures found { IfOk result (λ r. IfSome r (λ i. IsFoundAt ways.entry.rows.now trail.new.items i)) }
+    ensures trail { IfOk result (λ r. IfSome r (λ i. IsTrail ways.entry.rows.now next.now (IsStart starts.now) trail.new.items)) }
 {
     for at in 0..starts.len() {
         enter(
@@ -300,7 +319,7 @@ pub(crate) fn search(
             all: starts,
             entered: at + 1,
         };
-        let found = search_on(rows, next, begun, ins, outs, stamp, trail, waiting)?;
+        let found = search_on(ways, next, begun, ins, outs, stamp, trail, waiting)?;
         if found.is_some() {
             return Ok(found);
         }

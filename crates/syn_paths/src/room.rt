@@ -5,8 +5,10 @@ ghost use Rattle.syn_paths.specs.declared.places.Next.TheVariants.{Off};
 ghost use Rattle.syn_paths.specs.Checking.{AreUpTo, NoneMarked};
 ghost use Rattle.syn_paths.specs.Rooms.{AreMarks, IsReady};
 
+use crate::nearness::distances;
 use crate::places::{Next, Step};
 use std::alloc::{AllocError, Global};
+use syn_rows::Row;
 
 /// Marks of nodes: a node is marked where it has the last stamp, so that none is cleared between searches.
 #[derive(Drop)]
@@ -76,6 +78,8 @@ impl Marks {
 #[derive(Drop)]
 pub struct Room {
     pub(crate) marks: Marks,
+    /// How near each node is to a source.
+    pub(crate) near: Vec<u32>,
     /// What comes behind each node on its path.
     pub(crate) next: Vec<Next>,
     /// The sources of the paths.
@@ -100,12 +104,14 @@ fn none_on(alloc: Global, count: usize) -> Result<Vec<Next>, AllocError>
 }
 
 impl Room {
-    /// Room for graphs of so many nodes. The only error is want of memory.
-    pub fn of(alloc: Global, count: usize) -> Result<Room, AllocError>
-        ensures { IfOk result (IsReady count) }
+    /// Room for searches in these rows. The only error is want of memory.
+    pub fn of(alloc: Global, rows: &[Row]) -> Result<Room, AllocError>
+        ensures { IfOk result (IsReady (length rows.now)) }
     {
+        let count = rows.len();
         Ok(Room {
             marks: Marks::of(alloc, count)?,
+            near: distances(alloc, rows)?,
             next: none_on(alloc, count)?,
             sources: Vec::new(alloc),
             touched: Vec::new(alloc),

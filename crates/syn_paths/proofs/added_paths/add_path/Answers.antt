@@ -15,14 +15,14 @@ pub search-requires-clause-next : goal.search-requires-clause-next
 search-requires-clause-next c =
     let marks = c.next-stamp.ensures.marks (length c.args.rows.now) c.requires.room.marks in
     let long : length c.as_mut_slice.result.now ≡ length c.args.rows.now = ap (λ (l : List ℕ). length l) c.as_mut_slice.ensures.value ∙ marks.ins in
-    rw c.as_slice.ensures.value
+    rw c.as_slice-2.ensures.value
     (next_within c.args.rows.now c.args.labels.now c.args.root c.args.level c.args.room.now.next.items (length c.as_mut_slice.result.now) c.requires.paths.paths (omega (arith, c.requires.root, long)))
 
 pub search-requires-clause-starts : goal.search-requires-clause-starts
 search-requires-clause-starts c =
     let marks = c.next-stamp.ensures.marks (length c.args.rows.now) c.requires.room.marks in
     let long : length c.as_mut_slice.result.now ≡ length c.args.rows.now = ap (λ (l : List ℕ). length l) c.as_mut_slice.ensures.value ∙ marks.ins in
-    rw c.as_slice-2.ensures.value
+    rw c.as_slice-3.ensures.value
     (starts_within c.args.rows.now c.args.labels.now c.args.root c.args.level c.args.room.now.starts.items (length c.as_mut_slice.result.now) c.requires.order c.requires.starts (omega (arith, c.requires.root, long)))
 
 pub returns-in_default-clause-room : goal.returns-in_default-clause-room
@@ -45,8 +45,8 @@ returns-in_default-clause-room c =
 pub follow-requires-clause-within : goal.follow-requires-clause-within
 follow-requires-clause-within c =
     let told = rw c.in-Some.is at c.in_ok-found.ensures.trail in
-    let trail : IsTrail c.args.rows.now c.args.room.now.next.items (IsStart c.args.room.now.starts.items) c.search.new.trail.items = rw (c.as_slice.ensures.value, c.as_slice-2.ensures.value) at told in
-    rw (c.as_slice-4.ensures.value, c.as_mut_slice-3.ensures.value)
+    let trail : IsTrail c.args.rows.now c.args.room.now.next.items (IsStart c.args.room.now.starts.items) c.search.new.trail.items = rw (c.as_slice-2.ensures.value, c.as_slice-3.ensures.value) at told in
+    rw (c.as_slice-5.ensures.value, c.as_mut_slice-3.ensures.value)
     (trail_within c.args.rows.now c.args.labels.now c.args.root c.args.level c.args.room.now.next.items c.args.room.now.starts.items c.search.new.trail.items (length c.args.room.now.next.items) c.requires.order c.requires.falls
     c.requires.starts c.requires.paths.paths trail (omega (arith, c.requires.root, c.requires.room.next)))
 
@@ -76,14 +76,14 @@ returns-clause-paths c =
     let sources = c.args.room.now.sources.items in
     let next_back : (with_items c.args.room.now.next c.follow.new.next).items ≡ c.follow.new.next = with_items_is c.args.room.now.next c.follow.new.next (c.in_ok-follow.ensures.length ∙ c.as_mut_slice-3.ensures.len) in
     let told = rw c.in-Some.is at c.in_ok-found.ensures.trail in
-    let trail : IsTrail c.args.rows.now c.args.room.now.next.items (IsStart c.args.room.now.starts.items) c.search.new.trail.items = rw (c.as_slice.ensures.value, c.as_slice-2.ensures.value) at told in
+    let trail : IsTrail c.args.rows.now c.args.room.now.next.items (IsStart c.args.room.now.starts.items) c.search.new.trail.items = rw (c.as_slice-2.ensures.value, c.as_slice-3.ensures.value) at told in
     let found = rw c.in-Some.is at c.in_ok-found.ensures.found in
     let along_slice = subst (λ (t : List Step). (way : List Place) → IsWayAt t c.in-Some.i way → AreOnce (place_at t c.in-Some.i ∷ way) → (v : ℕ) → next_at c.follow.new.next v ≡ along (next_at c.as_mut_slice-3.result.now) (place_at t c.in-Some.i ∷ way) v)
-    c.as_slice-4.ensures.value c.in_ok-follow.ensures.followed in
+    c.as_slice-5.ensures.value c.in_ok-follow.ensures.followed in
     let followed = subst (λ (n : List Next). (way : List Place) → IsWayAt c.search.new.trail.items c.in-Some.i way → AreOnce (place_at c.search.new.trail.items c.in-Some.i ∷ way) → (v : ℕ) → next_at c.follow.new.next v ≡ along (next_at n) (place_at c.search.new.trail.items c.in-Some.i ∷ way) v)
     c.as_mut_slice-3.ensures.value along_slice in
     let all = added rows labels c.args.root c.args.level next c.follow.new.next c.args.room.now.starts.items c.search.new.trail.items c.in-Some.i c.requires.order c.requires.falls c.requires.starts c.requires.paths.paths trail found followed in
-    let source : all.1.0 ≡ c.source_of.result = sym (c.source_of.ensures ∙ ap (λ (t : List Step). node_at (place_at t c.in-Some.i)) c.as_slice-3.ensures.value ∙ ap node_at all.1.1) in
+    let source : all.1.0 ≡ c.source_of.result = sym (c.source_of.ensures ∙ ap (λ (t : List Step). node_at (place_at t c.in-Some.i)) c.as_slice-4.ensures.value ∙ ap node_at all.1.1) in
     let held = holds_more rows labels c.args.root c.args.level next c.follow.new.next sources c.args.room.now.touched.items all.1.0 c.requires.paths all.0 all.1.2 all.2 c.follow.new.touched.items c.in_ok-follow.ensures.touched in
     let pushed : c.push.new.self.items ≡ sources ++ all.1.0 ∷ [] = c.in_ok-push.ensures.items ∙ ap (λ v. sources ++ v ∷ []) (sym source) in
     subst (λ (l : List Next). HoldsPaths rows labels c.args.root c.args.level l c.push.new.self.items c.follow.new.touched.items) (sym next_back)

@@ -6,7 +6,7 @@ use Rattle.syn_paths.proofs.path_search.search_on.Given as goal
 
 abbrev pub invariant-loop-i : goal.invariant-loop-i
 invariant-loop-i l = record {
-  searching : IsSearching l.rows l.next (IsStart l.starts.all.now) l.stamp (state l.ins l.outs l.trail.items l.waiting.items) (map Out (drop l.starts.entered l.starts.all.now));
+  searching : IsSearching l.ways.rows.now l.next (IsStart l.starts.all.now) l.stamp (state l.ins l.outs l.trail.items l.waiting.items) (map Out (drop l.starts.entered l.starts.all.now));
   ins : AreUpTo l.ins l.stamp;
   outs : AreUpTo l.outs l.stamp;
 }
