@@ -2,6 +2,7 @@
 use Rattle.std.proofs.Common.{◌≡◌, ℕ, ◌<◌, true, false, nat_eq, nat_lt, All, List, Option, None, [], ◌∷◌, ◌++◌, length, get_or, set, refl, sym, ap, ◌∙◌, subst, inl, inr, arith}
 use Rattle.std.proofs.lemmas.Bool.{and_parts, both_ways, cases_eq, cases_lt, false_from_ne_true, ltb-true, or_cases}
 use Rattle.std.proofs.lemmas.List.{get_or_append_left, get_or_default, get_or_push, get_or-set_other, get_or-set_same, length-map, length-set, length_push}
+use Rattle.std.proofs.lemmas.List.Elements.{All-get_or, All-weaker}
 use Rattle.std.specs.Global.{Vec}
 use Rattle.arrayvec.specs.ArrayVec.{ArrayVec}
 use Rattle.syn_rows.specs.declared.Row.{Row}
@@ -9,11 +10,14 @@ use Rattle.syn_rows.specs.Nodes.{has_node}
 use Rattle.syn_rows.proofs.Nodes.{same_node}
 use Rattle.syn_cones.specs.CutTruth.{IsCutFunction}
 use Rattle.syn_cones.specs.Leaves.{are_below}
+use Rattle.syn_cuts.specs.Naming.{numbers_of}
+use Rattle.syn_cuts.proofs.Naming.{rows_again}
 use Rattle.syn_cuts.specs.Leaves.{leaves as leaves_in, leaves_of}
-use Rattle.syn_cut_functions.specs.CutTruth.{AreCarried, AreOfAll, HaveCarried, IsOwnOf}
+use Rattle.syn_cut_functions.specs.CutTruth.{AreCarried, AreFoundFor, AreFoundIn, AreOfAll, HaveCarried, IsFoundIn, IsOwnOf}
 use Rattle.syn_cut_functions.specs.Cuts.{cuts_of}
 use Rattle.syn_cut_functions.specs.declared.cut_truth.CutTruth.{CutTruth}
 use Rattle.syn_cut_functions.specs.declared.cut_truth.Functions.{Functions}
+use Rattle.syn_cut_functions.specs.declared.levels.Found.{Found}
 use Rattle.syn_cut_functions.proofs.Cuts.{leaves_is}
 
 -- the function over one of the cuts
@@ -27,6 +31,13 @@ pub at_list : (rows : List Row) (node : ℕ) (cuts : List (ArrayVec ℕ)) (lists
     → AreCarried rows node (leaves_of cuts) (get_or lists node d).carried.items
 at_list rows node cuts lists d have lt same =
     subst (λ (cs : List (List ℕ)). AreCarried rows node cs (get_or lists node d).carried.items) (sym same) (have node d lt)
+
+-- those of a node that were read
+pub carried_read : (rows : List Row) (lists : List Functions) (at node : ℕ) (own : Functions) (read : List CutTruth) → HaveCarried rows lists → at ≡ node → at < length lists → own ≡ get_or lists at own → read ≡ own.carried.items
+    → AreCarried rows node (cuts_of rows node) read
+carried_read rows lists at node own read have same lt is value =
+    subst (λ m. AreCarried rows m (cuts_of rows m) read) same
+    (subst (AreCarried rows at (cuts_of rows at)) (sym (value ∙ ap (λ (f : Functions). f.carried.items) is)) (have at own lt))
 
 -- a node isn't among nodes below it
 pub not_below : (node : ℕ) (ns : List ℕ) → are_below node ns ≡ true → has_node ns node ≡ false
@@ -98,3 +109,20 @@ pub carried_set : (rows : List Row) (lists : List Functions) (node : ℕ) (own :
     → AreCarried rows node (cuts_of rows node) carried.items → AreOfAll rows (set lists node (record { carried = carried; numbers = own.numbers }))
 carried_set rows lists node own carried are within is found =
     set_lists rows lists node (record { carried = carried; numbers = own.numbers }) are (record { carried = found; numbers = (own_at rows lists node own are within is).numbers })
+
+-- the functions of a node at a place of those that were found
+pub own_found : (rows : List Row) (found : List Found) (i node : ℕ) (d : Found) → i < length found → (get_or found i d).node ≡ node → All (IsFoundIn rows) found
+    → AreCarried rows node (cuts_of rows node) (get_or found i d).own.carried.items
+own_found rows found i node d lt same all =
+    subst (λ m. AreCarried rows m (cuts_of rows m) (get_or found i d).own.carried.items) same (All-get_or (IsFoundIn rows) found i d lt all).own.carried
+
+-- what is found, by the name of the rows
+
+pub found_named : (rows : List Row) (name : List ℕ) (list : Vec Found) → name ≡ numbers_of rows → AreFoundIn rows list → AreFoundFor name list
+found_named rows name list is are = subst (λ t. AreFoundFor t list) (sym is) (subst (λ rs. AreFoundIn rs list) (sym (rows_again rows)) are)
+
+pub found_of : (rows : List Row) (name : List ℕ) (list : Vec Found) → name ≡ numbers_of rows → AreFoundFor name list → AreFoundIn rows list
+found_of rows name list is are = subst (λ rs. AreFoundIn rs list) (rows_again rows) (subst (λ t. AreFoundFor t list) is are)
+
+pub all_found_of : (rows : List Row) (name : List ℕ) (lists : List (Vec Found)) → name ≡ numbers_of rows → All (AreFoundFor name) lists → All (λ list. All (IsFoundIn rows) list.items) lists
+all_found_of rows name lists is = All-weaker (AreFoundFor name) (λ list. All (IsFoundIn rows) list.items) (λ list are. (found_of rows name list is are).each) lists

@@ -6,7 +6,9 @@ use Rattle.std.proofs.lemmas.List.Elements.{All-take}
 use Rattle.std.specs.Global.{Vec}
 use Rattle.arrayvec.specs.ArrayVec.{ArrayVec}
 use Rattle.syn_rows.specs.declared.Row.{Row}
-use Rattle.syn_rows.specs.Rows.{row_at}
+use Rattle.syn_rows.specs.declared.Lit.{Lit}
+use Rattle.syn_rows.specs.declared.Row.TheVariants.{And}
+use Rattle.syn_rows.specs.Rows.{AllRefs, InOrder, row_at}
 use Rattle.syn_rows.specs.Reach.{is_and}
 use Rattle.syn_rows.proofs.Folds.{length-fold}
 use Rattle.syn_cuts.specs.Cuts.{listed_cuts, row_cuts}
@@ -21,6 +23,14 @@ use Rattle.syn_hashed.proofs.Orders.{and_inside, hashed_in_order}
 use Rattle.syn_cut_functions.specs.Cuts.{AreLeavesOf, cuts_of}
 use Rattle.syn_cut_functions.specs.Functions.{AreFunctionsOver, HaveFunctions}
 use Rattle.syn_cut_functions.proofs.Cuts.{leaves_at}
+
+-- the rows of a graph are in order, and so are the fan-ins of an AND
+
+pub in_order : (graph : Graph) → InOrder graph.rows
+in_order graph = hashed_in_order graph.source_count graph.rows graph.graph.hashed
+
+pub refs : (graph : Graph) (n : ℕ) (a b : Lit) → row_at graph.rows n ≡ And a b → AllRefs (λ m. m < n) (And a b)
+refs graph n a b row = subst (AllRefs (λ m. m < n)) row (in_order graph n)
 
 -- the functions of one node more
 pub more_listed : (rows : List Row) (before : List (Vec ℕ)) (one : Vec ℕ) (last : ℕ) → length before ≡ last → HaveFunctions rows before

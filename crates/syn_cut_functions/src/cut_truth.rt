@@ -3,13 +3,12 @@
 ghost use Rattle.std.specs.Prelude.{◌≡◌, ◌<◌, ◌≤◌, false, List, IfOk, IfSome, length};
 ghost use Rattle.syn_rows.specs.declared.Row.{Row};
 ghost use Rattle.syn_rows.specs.declared.Row.TheVariants.{And};
-ghost use Rattle.syn_rows.specs.Nodes.{has_node};
 ghost use Rattle.syn_rows.specs.Rows.{InOrder, node_of, row_at};
 ghost use Rattle.syn_cones.specs.CutTruth.{IsCutFunction};
 ghost use Rattle.syn_cuts.specs.Cuts.{listed_cuts};
 ghost use Rattle.syn_cuts.specs.Leaves.{leaves_of};
-ghost use Rattle.syn_cut_functions.specs.CutTruth.{AreCarried, HaveCarried};
-ghost use Rattle.syn_cut_functions.specs.Cuts.{AreLeavesOf};
+ghost use Rattle.syn_cut_functions.specs.CutTruth.{AreCarried, AreOfLit, FollowsFrom};
+ghost use Rattle.syn_cut_functions.specs.Cuts.{AreLeavesOf, cuts_of};
 
 use std::alloc::{AllocError, Global};
 use syn_cones::CutFunction;
@@ -55,42 +54,47 @@ fn from_cuts(
 // The function of a node over leaves: a leaf's own, or from its functions over cuts.
 fn fan_in(
     cuts: &CutLists,
-    lists: &[Functions],
+    known: &[CutTruth],
     node: u32,
     leaves: &[u32],
     bits: u64,
 ) -> Option<CutFunction>
     requires few { length leaves.now ≤ 4 }
-    requires node { node < length lists.now }
     requires within { node < length cuts.now }
-    ensures { IfSome result (λ f. (rows : List Row) → InOrder rows → cuts.now ≡ listed_cuts 4 rows → HaveCarried rows lists.now → IsCutFunction rows leaves.now node f) }
+    ensures { IfSome result (λ f. (rows : List Row) → InOrder rows → cuts.now ≡ listed_cuts 4 rows → AreCarried rows node (cuts_of rows node) known.now → IsCutFunction rows leaves.now node f) }
 {
     if let Some(own) = CutFunction::of_leaf(leaves, node) {
         return Some(own);
     }
-    let known = lists[node as usize].carried.as_slice();
     let found = from_cuts(node, cuts.nontrivial(node), known, leaves, bits)?;
     Some(found)
+}
+
+/// The fan-ins of an AND, and what is known of their functions over their cuts.
+#[derive(Clone, Copy)]
+pub(crate) struct FanIns<'a> {
+    pub(crate) first: Lit,
+    pub(crate) second: Lit,
+    pub(crate) left: &'a [CutTruth],
+    pub(crate) right: &'a [CutTruth],
 }
 
 // The function of an AND over leaves, from those of its fan-ins, where some of their cuts serve.
 fn from_fan_ins(
     cuts: &CutLists,
-    lists: &[Functions],
     node: u32,
-    first: Lit,
-    second: Lit,
+    known: FanIns<'_>,
     leaves: &[u32],
     bits: u64,
 ) -> Option<CutFunction>
     requires few { length leaves.now ≤ 4 }
-    requires first { (node_of first < length lists.now) × (node_of first < length cuts.now) }
-    requires second { (node_of second < length lists.now) × (node_of second < length cuts.now) }
-    ensures { IfSome result (λ f. (rows : List Row) → InOrder rows → row_at rows node ≡ And first second → has_node leaves.now node ≡ false → cuts.now ≡ listed_cuts 4 rows → HaveCarried rows lists.now → IsCutFunction rows leaves.now node f) }
+    requires first { node_of known.first < length cuts.now }
+    requires second { node_of known.second < length cuts.now }
+    ensures { IfSome result (FollowsFrom node known.entry.first known.entry.second known.entry.left.now known.entry.right.now leaves.now cuts.now) }
 {
-    let left = fan_in(cuts, lists, first.node(), leaves, bits)?;
-    let right = fan_in(cuts, lists, second.node(), leaves, bits)?;
-    Some(CutFunction::of_and(node, first, left, second, right))
+    let left = fan_in(cuts, known.left, known.first.node(), leaves, bits)?;
+    let right = fan_in(cuts, known.right, known.second.node(), leaves, bits)?;
+    Some(CutFunction::of_and(node, known.first, left, known.second, right))
 }
 
 /// The function of an AND with these fan-ins over a cut of it, and the cut's signature: from those of its fan-ins where some of
@@ -99,22 +103,20 @@ pub(crate) fn over_cut(
     alloc: Global,
     graph: &Graph,
     cuts: &CutLists,
-    lists: &[Functions],
     node: u32,
-    fan_ins: (Lit, Lit),
+    known: FanIns<'_>,
     leaves: &[u32],
 ) -> Result<CutTruth, AllocError>
     requires node { node < length graph.now.rows }
-    requires row { row_at graph.now.rows node ≡ And fan_ins.0 fan_ins.1 }
+    requires row { row_at graph.now.rows node ≡ And known.first known.second }
     requires cuts { cuts.now ≡ listed_cuts 4 graph.now.rows }
-    requires count { node ≤ length lists.now }
-    requires lists { HaveCarried graph.now.rows lists.now }
+    requires left { AreOfLit graph.now.rows known.first known.left.now }
+    requires right { AreOfLit graph.now.rows known.second known.right.now }
     requires leaves { AreLeavesOf graph.now.rows node leaves.now }
     ensures { IfOk result (λ c. IsCutFunction graph.now.rows leaves.now node c.function) }
 {
     let signature = signature(leaves);
-    let (first, second) = fan_ins;
-    if let Some(function) = from_fan_ins(cuts, lists, node, first, second, leaves, signature) {
+    if let Some(function) = from_fan_ins(cuts, node, known, leaves, signature) {
         return Ok(CutTruth {
             function,
             signature,

@@ -8,11 +8,11 @@ ghost use Rattle.syn_rows.specs.Rows.{row_at};
 ghost use Rattle.syn_cones.specs.CutTruth.{IsCutFunction};
 ghost use Rattle.syn_cuts.specs.Cuts.{listed_cuts};
 ghost use Rattle.syn_cuts.specs.Leaves.{leaves_of};
-ghost use Rattle.syn_cut_functions.specs.CutTruth.{AreCarried, HaveCarried};
+ghost use Rattle.syn_cut_functions.specs.CutTruth.{AreCarried, AreOfLit, HaveCarried};
 ghost use Rattle.syn_cut_functions.specs.Functions.{AreFunctionsOver, IsFunctionOver};
 ghost use Rattle.syn_cut_functions.specs.Cuts.{cuts_of};
 
-use crate::cut_truth::{CutTruth, Functions, over_cut};
+use crate::cut_truth::{CutTruth, FanIns, Functions, over_cut};
 use std::alloc::{AllocError, Global};
 use syn_cuts::{Cut, CutLists};
 use syn_graph::Graph;
@@ -27,20 +27,19 @@ fn number_of(one: &CutTruth, leaves: &[u32]) -> u16
     one.function.table(leaves).to_bits()
 }
 
-// The functions of an AND over its cuts, in order.
-fn carried_over(
+/// The functions of an AND over its cuts, in order, as they are carried on. The only error is want of memory.
+pub(crate) fn carried_over(
     alloc: Global,
     graph: &Graph,
     cuts: &CutLists,
-    lists: &[Functions],
     node: u32,
-    fan_ins: (Lit, Lit),
+    known: FanIns<'_>,
 ) -> Result<Vec<CutTruth>, AllocError>
     requires node { node < length graph.now.rows }
-    requires row { row_at graph.now.rows node ≡ And fan_ins.0 fan_ins.1 }
+    requires row { row_at graph.now.rows node ≡ And known.first known.second }
     requires cuts { cuts.now ≡ listed_cuts 4 graph.now.rows }
-    requires count { node ≤ length lists.now }
-    requires lists { HaveCarried graph.now.rows lists.now }
+    requires left { AreOfLit graph.now.rows known.first known.left.now }
+    requires right { AreOfLit graph.now.rows known.second known.right.now }
     ensures carried { IfOk result (λ v. AreCarried graph.now.rows node (cuts_of graph.now.rows node) v.items) }
     ensures all { IfOk result (λ v. length (cuts_of graph.now.rows node) ≤ length v.items) }
 {
@@ -48,13 +47,25 @@ fn carried_over(
     let mut carried = Vec::with_capacity(alloc, own.len())?;
     for i in 0..own.len() {
         let leaves = own[i].as_slice();
-        let one = over_cut(alloc, graph, cuts, lists, node, fan_ins, leaves)?;
+        let one = over_cut(alloc, graph, cuts, node, known, leaves)?;
         carried.push(one)?;
     }
     Ok(carried)
 }
 
-/// The functions of a node over its cuts, as they are carried on; none where it is no AND. The only error is want of memory.
+// The functions of a literal's node over its cuts; none where it has no list.
+fn carried_of(lists: &[Functions], lit: Lit) -> &[CutTruth]
+    ensures { (rows : List Row) → HaveCarried rows lists.now → AreOfLit rows lit result.now }
+{
+    let node = lit.node();
+    if (node as usize) < lists.len() {
+        return lists[node as usize].carried.as_slice();
+    }
+    &[]
+}
+
+/// The functions of a node over its cuts, as they are carried on from those of all nodes below; none where it is no AND. The
+/// only error is want of memory.
 pub(crate) fn cut_truths_at(
     alloc: Global,
     graph: &Graph,
@@ -71,7 +82,13 @@ pub(crate) fn cut_truths_at(
 {
     match graph.rows.as_slice()[node as usize] {
         Row::And(first, second) => {
-            carried_over(alloc, graph, cuts, lists, node, (first, second))
+            let known = FanIns {
+                first,
+                second,
+                left: carried_of(lists, first),
+                right: carried_of(lists, second),
+            };
+            carried_over(alloc, graph, cuts, node, known)
         }
         _ => Ok(Vec::new(alloc)),
     }

@@ -1,15 +1,16 @@
 -- Lists of cuts, as nodes get theirs.
-use Rattle.std.proofs.Common.{◌≡◌, ◌≢◌, ℕ, zero, suc, ◌+◌, ◌<◌, All, List, [], ◌∷◌, length, replicate, refl, sym, ap, ap₂, ◌∙◌, inl, inr, ◌⊎◌, arith}
+use Rattle.std.proofs.Common.{◌≡◌, ◌≢◌, ℕ, zero, suc, ◌<◌, All, List, [], ◌∷◌, ◌++◌, length, replicate, refl, sym, ap, ap₂, ◌∙◌, inl, inr, ◌⊎◌, arith}
 use Rattle.std.proofs.Math.ListN.{set, length-set}
 use Rattle.std.proofs.lemmas.Bool.Decides.{eqb_tells}
 use Rattle.std.proofs.lemmas.Grind.{get_or-set_at}
 use Rattle.std.proofs.lemmas.List.{get_or-set_other, get_or-replicate, length-replicate}
 use Rattle.std.proofs.lemmas.List.Elements.{All-head, All-tail}
+use Rattle.syn_rows.specs.declared.Lit.{Lit}
 use Rattle.syn_rows.specs.declared.Row.{Row}
 use Rattle.syn_rows.specs.declared.Row.TheVariants.{Free, Source, And, Alias}
 use Rattle.syn_rows.specs.Rows.{row_at, node_of, AllRefs, InOrder}
 use Rattle.syn_rows.proofs.Folds.{length-fold}
-use Rattle.syn_cuts.specs.Cuts.{row_cuts, listed_cuts}
+use Rattle.syn_cuts.specs.Cuts.{merge_cut_sets, row_cuts, listed_cuts}
 use Rattle.syn_cuts.specs.Lists.{list_at, with_lists, AreListed, IsFound}
 use Rattle.syn_cuts.proofs.Cutting.{row_cuts-local, listed_at}
 
@@ -22,13 +23,23 @@ AllRefs-both P Q R f (Alias a) h g = f (node_of a) h g
 pub refs_within : (rows : List Row) (n count : ℕ) → InOrder rows → n < count → AllRefs (λ m. m < count) (row_at rows n)
 refs_within rows n count order lt = AllRefs-both (λ m. m < n) (λ m. m < n) (λ m. m < count) (λ m l k. omega arith) (row_at rows n) (order n) (order n)
 
--- a node all of whose references have their lists
-pub listed_ready : (k : ℕ) (rows : List Row) (lists : List (List (List ℕ))) (n : ℕ) → InOrder rows → AreListed k rows lists → n < length rows → AllRefs (λ m. list_at lists m ≢ []) (row_at rows n)
-    → row_cuts k (list_at lists) n (row_at rows n) ≡ list_at (listed_cuts k rows) n
-listed_ready k rows lists n order are lt ready =
-    row_cuts-local k (list_at lists) (list_at (listed_cuts k rows)) n (row_at rows n)
-    (AllRefs-both (λ m. m < n) (λ m. list_at lists m ≢ []) (λ m. list_at lists m ≡ list_at (listed_cuts k rows) m) (λ m l some. elim (are.each m (omega arith)) [ inl e ↦ absurd (some e) | inr e ↦ e ]) (row_at rows n) (order n) ready)
+-- an AND both of whose fan-ins have their lists
+pub listed_and : (k : ℕ) (rows : List Row) (n : ℕ) (a b : Lit) (left right : List (List ℕ)) → InOrder rows → n < length rows → row_at rows n ≡ And a b → left ≡ list_at (listed_cuts k rows) (node_of a)
+    → right ≡ list_at (listed_cuts k rows) (node_of b) → merge_cut_sets k left right ++ (n ∷ []) ∷ [] ≡ list_at (listed_cuts k rows) n
+listed_and k rows n a b left right order lt row first second =
+    ap₂ (λ (x y : List (List ℕ)). merge_cut_sets k x y ++ (n ∷ []) ∷ []) first second
+    ∙ ap (row_cuts k (list_at (listed_cuts k rows)) n) (sym row)
     ∙ sym (listed_at k rows order n lt)
+
+-- a node that is no AND
+pub listed_other : (k : ℕ) (rows : List Row) (n : ℕ) → InOrder rows → n < length rows → ((a b : Lit) → row_at rows n ≢ And a b) → (n ∷ []) ∷ [] ≡ list_at (listed_cuts k rows) n
+listed_other k rows n order lt other = go (row_at rows n) other ∙ sym (listed_at k rows order n lt)
+  where
+    go : (row : Row) → ((a b : Lit) → row ≢ And a b) → (n ∷ []) ∷ [] ≡ row_cuts k (list_at (listed_cuts k rows)) n row
+    go Free h = refl
+    go Source h = refl
+    go (And a b) h = absurd (h a b refl)
+    go (Alias a) h = refl
 
 -- a node below which all have their lists
 pub listed_below : (k : ℕ) (rows : List Row) (lists : List (List (List ℕ))) (n : ℕ) → InOrder rows → n < length rows → ((m : ℕ) → m < n → list_at lists m ≡ list_at (listed_cuts k rows) m)

@@ -2,6 +2,7 @@ pub mod Putting
 pub mod Spans
 pub mod Cutting
 pub mod Filling
+pub mod Naming
 pub mod Ordering
 pub mod Sorting
 pub mod Rising

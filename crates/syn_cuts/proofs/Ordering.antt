@@ -1,2 +1,1 @@
 -- The rows of a graph are in order.
-use Rattle.std.proofs.Common.{◌≡◌, ◌<◌, [], ◌∷◌, ◌++◌}

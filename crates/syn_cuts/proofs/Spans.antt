@@ -1,5 +1,5 @@
 -- Lists in parts, as cuts and parts are appended and lists are set.
-use Rattle.std.proofs.Common.{◌≡◌, ℕ, zero, suc, ◌+◌, ◌<◌, ◌≤◌, All, List, [], ◌∷◌, ◌++◌, length, take, drop, replicate, refl, sym, ap, ap₂, ◌∙◌, inl, inr, ◌⊎◌, arith}
+use Rattle.std.proofs.Common.{◌≡◌, ℕ, zero, suc, ◌+◌, ◌<◌, ◌≤◌, All, List, [], ◌∷◌, ◌++◌, get_or, length, take, drop, replicate, refl, sym, ap, ap₂, ◌∙◌, inl, inr, ◌⊎◌, arith}
 use Rattle.std.proofs.Math.ListN.{set, get_or-append}
 use Rattle.std.proofs.Math.Seq.{drop-append_seam, get_or-append_seam}
 use Rattle.std.proofs.lemmas.Bool.Decides.{eqb_tells}
@@ -11,8 +11,10 @@ use Rattle.std.specs.Vec.{with_items}
 use Rattle.arrayvec.specs.ArrayVec.{ArrayVec}
 use Rattle.syn_cuts.specs.declared.found.Entry.{Entry}
 use Rattle.syn_cuts.specs.declared.lists.Span.{Span}
+use Rattle.syn_rows.specs.declared.Row.{Row}
+use Rattle.syn_cuts.specs.Cuts.{listed_cuts}
 use Rattle.syn_cuts.specs.Leaves.{leaves_of}
-use Rattle.syn_cuts.specs.Lists.{part_at, cuts_at, lists_in, IsWithin, IsInside, entry_in, found_in, span_of, with_spans, with_lists}
+use Rattle.syn_cuts.specs.Lists.{part_at, cuts_at, lists_in, IsWithin, IsFound, IsInside, entry_in, list_at, found_in, span_of, with_spans, with_lists}
 use Rattle.syn_cuts.proofs.Putting.{take_leaves}
 
 -- the leaves of the cuts from a place on
@@ -53,6 +55,13 @@ found_more part new more entries e inside is start end =
     ∙ ap₂ (λ (l : List (ℕ × List (List ℕ))) (x : List (List ℕ)). l ++ (e.node, x) ∷ [])
     (ap (λ p. found_in p entries) is ∙ found_kept part more entries inside)
     (ap (λ p. take e.len (drop e.start p)) is ∙ list_added part more e.start e.len start (omega (arith, size, start, end)))
+
+-- the list at a place, where all are listed cuts
+pub found_at : (k : ℕ) (rows : List Row) (part : List (List ℕ)) (entries : List Entry) (i : ℕ) (d : Entry) → i < length entries → All (IsFound k rows) (found_in part entries)
+    → take (get_or entries i d).len (drop (get_or entries i d).start part) ≡ list_at (listed_cuts k rows) (get_or entries i d).node
+found_at k rows part [] i d lt all = absurd (omega arith)
+found_at k rows part (e ∷ es) zero d lt all = (All-head (IsFound k rows) (entry_in part e) (found_in part es) all).1
+found_at k rows part (e ∷ es) (suc i) d lt all = found_at k rows part es i d (omega (arith, lt)) (All-tail (IsFound k rows) (entry_in part e) (found_in part es) all)
 
 -- lists in parts where nothing in a part is moved
 

@@ -1,8 +1,10 @@
 //! Lists that were found, before they are set.
 
-ghost use Rattle.std.specs.Prelude.{◌≡◌, ◌+◌, ◌++◌, ◌∷◌, ◌≤◌, [], All, IfOk, OnOk, length};
+ghost use Rattle.std.specs.Prelude.{◌≡◌, ℕ, List, ◌+◌, ◌++◌, ◌∷◌, ◌≤◌, [], All, IfOk, IfSome, OnOk, length};
+ghost use Rattle.syn_rows.specs.declared.Row.{Row};
+ghost use Rattle.syn_cuts.specs.Cuts.{listed_cuts};
 ghost use Rattle.syn_cuts.specs.Leaves.{leaves_of};
-ghost use Rattle.syn_cuts.specs.Lists.{found_in, IsInside};
+ghost use Rattle.syn_cuts.specs.Lists.{found_in, IsFound, IsInside, list_at};
 
 use crate::Cut;
 use crate::parts::Part;
@@ -57,6 +59,28 @@ impl Found {
         let len = self.part.len() - start;
         self.entries.push(Entry { node, start, len })?;
         Ok(())
+    }
+
+    // Gives back what room is left.
+    pub fn shrink_to_fit(&mut self)
+        ensures { self.new ≡ self.old }
+    {
+        self.part.shrink_to_fit();
+    }
+
+    // The list of a node, where it stands at this place.
+    #[inline]
+    pub fn list(&self, index: usize, node: u32) -> Option<&[Cut]>
+        ensures { IfSome result (λ cuts. (k : ℕ) (rows : List Row) → All (IsFound k rows) self.now → leaves_of cuts.now ≡ list_at (listed_cuts k rows) node) }
+    {
+        if index >= self.entries.len() {
+            return None;
+        }
+        let entry = self.entries[index];
+        if entry.node != node {
+            return None;
+        }
+        Some(self.part.slice(entry.start, entry.len))
     }
 
     // The lists, one after the other, and where they stand.

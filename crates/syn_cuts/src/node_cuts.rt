@@ -1,18 +1,23 @@
 //! Which cuts are listed, node by node.
 
-ghost use Rattle.std.specs.Prelude.{◌≡◌, ◌≢◌, ℕ, ◌+◌, ◌^◌, ◌++◌, ◌∷◌, ◌<◌, ◌≤◌, [], All, IfOk, IfSome, IsTrue, OnOk, length, slice_set};
+ghost use Rattle.std.specs.Prelude.{◌≡◌, ◌≢◌, ℕ, List, ◌+◌, ◌^◌, ◌++◌, ◌∷◌, ◌<◌, ◌≤◌, [], All, IfOk, IfSome, IsTrue, OnOk, length, slice_set};
 ghost use Rattle.syn_truth.specs.declared.TheConstants.{MAX_VARS};
-ghost use Rattle.syn_rows.specs.Rows.{AllRefs, InOrder, row_at};
+ghost use Rattle.syn_rows.specs.declared.Row.{Row};
+ghost use Rattle.syn_rows.specs.Rows.{AllRefs, InOrder};
 ghost use Rattle.syn_cuts.specs.Cuts.{listed_cuts, row_cuts};
 ghost use Rattle.syn_cuts.specs.Leaves.{leaves_of};
 ghost use Rattle.syn_cuts.specs.Lists.{AreListed, IsFound, IsListed, list_at};
+ghost use Rattle.syn_cuts.specs.Naming.{AreFoundFor, listing_of};
 
 use crate::Cut;
+use crate::board::Board;
 use crate::found::Found;
-use crate::levels::{Finder, set_levels};
+use crate::levels::{Finder, found_by_levels};
 use crate::lists::CutLists;
 use crate::unions::{CUTS_PER_NODE, merge_cut_sets};
 use arrayvec::ArrayVec;
+use boxcar::slot::SlotRule;
+use boxcar::tag::{Names, Tag};
 use std::alloc::{AllocError, Global};
 use std::thread::Threads;
 use syn_rows::Row;
@@ -38,58 +43,60 @@ fn has_list(lists: &CutLists, node: u32) -> bool
     !lists.of(node).is_empty()
 }
 
-// Whether the nodes that a row refers to have their lists.
-fn is_ready(lists: &CutLists, row: Row) -> bool
-    requires { AllRefs (λ m. m < length lists.now) row }
-    ensures { IsTrue result → AllRefs (λ m. list_at lists.now m ≢ []) row }
+// The listed cuts of a node, where they are found.
+fn list_of(known: &Board<Found, IsListedFor>, node: u32) -> Option<&[Cut]>
+    ensures { IfSome result (λ cuts. (k : ℕ) (rows : List Row) → known.now.tag.numbers ≡ listing_of k rows → leaves_of cuts.now ≡ list_at (listed_cuts k rows) node) }
 {
-    match row {
-        Row::And(a, b) => has_list(lists, a.node()) && has_list(lists, b.node()),
-        Row::Alias(a) => has_list(lists, a.node()),
-        _ => true,
-    }
-}
-
-// Whether a node is there, and those that it refers to have their lists.
-fn can_find(rows: &[Row], lists: &CutLists, node: u32) -> bool
-    requires order { InOrder rows.now }
-    requires count { length lists.now ≡ length rows.now }
-    ensures { IsTrue result → (node < length rows.now) × AllRefs (λ m. list_at lists.now m ≢ []) (row_at rows.now node) }
-{
-    (node as usize) < rows.len() && is_ready(lists, rows[node as usize])
+    let (found, index) = known.of(node)?;
+    let cuts = found.list(index, node)?;
+    Some(cuts)
 }
 
 // The listed cuts of a node but the last, where those that it refers to have their lists.
-fn find(rows: &[Row], lists: &CutLists, node: u32, k: usize) -> ArrayVec<Cut, CUTS_PER_NODE>
+fn find(
+    rows: &[Row],
+    known: &Board<Found, IsListedFor>,
+    node: u32,
+    k: usize,
+) -> Option<ArrayVec<Cut, CUTS_PER_NODE>>
     requires small { k ≤ MAX_VARS }
     requires order { InOrder rows.now }
-    requires lists { AreListed k rows.now lists.now }
+    requires name { known.now.tag.numbers ≡ listing_of k rows.now }
     requires node { node < length rows.now }
-    requires ready { AllRefs (λ m. list_at lists.now m ≢ []) (row_at rows.now node) }
-    ensures { IsListed k rows.now node (leaves_of result.items) }
+    ensures { IfSome result (λ kept. IsListed k rows.now node (leaves_of kept.items)) }
 {
-    row_unions(lists, rows[node as usize], k)
+    match rows[node as usize] {
+        Row::And(a, b) => {
+            let left = list_of(known, a.node())?;
+            let right = list_of(known, b.node())?;
+            Some(merge_cut_sets(left, right, k))
+        }
+        _ => Some(ArrayVec::new()),
+    }
 }
 
 // The lists of those of these nodes for which all that they refer to have their lists.
 fn find_all(
     alloc: Global,
     rows: &[Row],
-    lists: &CutLists,
+    known: &Board<Found, IsListedFor>,
     nodes: &[u32],
     k: usize,
 ) -> Result<Found, AllocError>
     requires small { k ≤ MAX_VARS }
     requires order { InOrder rows.now }
-    requires lists { AreListed k rows.now lists.now }
+    requires name { known.now.tag.numbers ≡ listing_of k rows.now }
     ensures { IfOk result (All (IsFound k rows.now)) }
 {
     let mut found = Found::with_room(alloc, nodes.len())?;
     for node in nodes {
-        if can_find(rows, lists, *node) {
-            found.push(*node, find(rows, lists, *node, k))?;
+        if (*node as usize) < rows.len() {
+            if let Some(kept) = find(rows, known, *node, k) {
+                found.push(*node, kept)?;
+            }
         }
     }
+    found.shrink_to_fit();
     Ok(found)
 }
 
@@ -142,22 +149,60 @@ struct Listing<'a> {
     ghost small: { k ≤ MAX_VARS },
 }
 
-impl<'a> Finder for Listing<'a> {
-    type Known = CutLists;
+// What is found for a listing of this name are listed cuts.
+struct IsListedFor;
 
-    type Found = Found;
+impl SlotRule<Found> for IsListedFor {
+    ghost holds = { AreFoundFor };
+}
 
-    ghost is_known = { λ l lists. InOrder l.rows.now × AreListed l.k l.rows.now lists };
+impl<'a> Names<Listing<'a>> for IsListedFor {
+    ghost numbers = { λ l. listing_of l.k l.rows.now };
+}
 
-    ghost is_found = { λ l found. All (IsFound l.k l.rows.now) found };
+impl<'a> Finder<Found, IsListedFor> for Listing<'a> {
+    ghost is_named = { λ l name. InOrder l.rows.now × (name ≡ listing_of l.k l.rows.now) };
 
-    fn find(&self, alloc: Global, known: &CutLists, nodes: &[u32]) -> Result<Found, AllocError> {
-        find_all(alloc, self.rows, known, nodes, self.k)
+    fn find(
+        &self,
+        alloc: Global,
+        known: &Board<Found, IsListedFor>,
+        nodes: &[u32],
+    ) -> Result<Found, AllocError> {
+        let found = find_all(alloc, self.rows, known, nodes, self.k)?;
+        Ok(found)
     }
+}
 
-    fn set(&self, known: &mut CutLists, found: Found) -> Result<(), AllocError> {
-        set_all(self.rows, known, found, self.k)
+// Lists of cuts as found by several workers, with at most `k` leaves.
+fn listed_by_levels<R: Threads + Sync>(
+    rt: &R,
+    alloc: Global,
+    rows: &[Row],
+    k: usize,
+    workers: Workers,
+) -> Result<Vec<Found>, AllocError>
+    requires small { k ≤ MAX_VARS }
+    requires few { length rows.now + 1 < 2 ^ 32 }
+    requires order { InOrder rows.now }
+    ensures { IfOk result (λ all. All (λ found. All (IsFound k rows.now) found) all.items) }
+{
+    let listing = Listing { rows, k };
+    let name = Tag::of::<Listing<'_>, IsListedFor>(&listing);
+    let all = found_by_levels(rt, alloc, rows, &listing, &name, workers)?;
+    Ok(all)
+}
+
+// Sets all lists that were found.
+fn set_each(rows: &[Row], lists: &mut CutLists, all: Vec<Found>, k: usize) -> Result<(), AllocError>
+    requires lists { AreListed k rows.now lists.old }
+    requires found { All (λ found. All (IsFound k rows.now) found) all.items }
+    ensures { OnOk result (AreListed k rows.now lists.new) }
+{
+    for found in all {
+        set_all(rows, lists, found, k)?;
     }
+    Ok(())
 }
 
 /// The listed cuts, with at most `k` leaves, of each node of rows in order.
@@ -178,8 +223,8 @@ pub(crate) fn listed_rows<R: Threads + Sync>(
 {
     let mut lists = CutLists::empty(alloc, rows.len())?;
     if workers.number() > 1 {
-        let listing = Listing { rows, k };
-        set_levels(rt, alloc, rows, &listing, &mut lists, workers)?;
+        let all = listed_by_levels(rt, alloc, rows, k, workers)?;
+        set_each(rows, &mut lists, all, k)?;
     }
     sweep(rows, &mut lists, k)?;
     Ok(lists)

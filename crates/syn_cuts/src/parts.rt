@@ -83,6 +83,13 @@ impl Part {
         cuts_from(&self.cuts, start, len)
     }
 
+    // Gives back what room is left.
+    pub fn shrink_to_fit(&mut self)
+        ensures { self.new ≡ self.old }
+    {
+        self.cuts.shrink_to_fit();
+    }
+
     // Appends the list of a node: these cuts, and the node alone.
     pub fn push_list(
         &mut self,

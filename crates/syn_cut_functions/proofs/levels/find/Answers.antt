@@ -1,11 +1,7 @@
 use Rattle.std.proofs.Common.{sym, subst}
 use Rattle.syn_cut_functions.specs.CutTruth.{AreCarried}
 use Rattle.syn_cut_functions.specs.Cuts.{cuts_of}
-use Rattle.syn_cut_functions.proofs.CutTruth.{have_carried}
 use Rattle.syn_cut_functions.proofs.levels.find.Goals as goal
-
-pub cut_truths_at-requires-clause-lists : goal.cut_truths_at-requires-clause-lists
-cut_truths_at-requires-clause-lists c = have_carried c.args.graph.now.rows c.args.lists.now c.requires.lists
 
 pub numbers_at-requires-clause-carried : goal.numbers_at-requires-clause-carried
 numbers_at-requires-clause-carried c =
