@@ -5,7 +5,7 @@ ghost use Rattle.syn_plan.specs.Naming.{built_of};
 ghost use Rattle.syn_library.specs.Fitting.{Computes};
 ghost use Rattle.syn_library.specs.Library.{NamesOwn};
 ghost use Rattle.syn_weighing.specs.AllNew.{AreApart};
-ghost use Rattle.syn_weighing.specs.Irredundant.{IsIrredundantPlan};
+ghost use Rattle.syn_weighing.specs.Irredundant.{IsIrredundantPlan, NamesFirst};
 ghost use Rattle.syn_function_plans.specs.PlansOf.{ArePlansOf, fitted_plans};
 
 use crate::plans::plans_of;
@@ -13,7 +13,7 @@ use arrayvec::ArrayVec;
 use std::alloc::{AllocError, Global};
 use syn_library::Prepared as Classes;
 use syn_plan::Plan;
-use syn_weighing::{AllNew, all_new_of_each, are_irredundant};
+use syn_weighing::{AllNew, all_new_of_each, are_irredundant, leaves_named_by_all};
 
 // The number of functions of four variables.
 const FUNCTIONS: usize = 65536;
@@ -30,6 +30,8 @@ pub struct FunctionPlans {
     pub plans: ArrayVec<Plan, 4>,
     /// Whether none of them has a gate in vain.
     pub irredundant: bool,
+    /// How many leaves each of them names: the first ones.
+    pub leaves_named: u8,
     /// What tells of each of them that its gates need rows, if they do.
     pub apart: ArrayVec<Option<AllNew>, 4>,
     ghost built: { map built_of plans.items ≡ fitted_plans function },
@@ -37,6 +39,7 @@ pub struct FunctionPlans {
     ghost values: { All (λ p. Computes p function) plans.items },
     ghost names: { All (λ p. NamesOwn p function) plans.items },
     ghost told: { irredundant ≡ true → All IsIrredundantPlan plans.items },
+    ghost first: { All (NamesFirst leaves_named) plans.items },
     ghost stand: { AreApart plans.items apart.items },
 }
 
@@ -47,11 +50,13 @@ impl FunctionPlans {
     {
         let plans = plans_of(classes, function);
         let irredundant = are_irredundant(plans.as_slice());
+        let leaves_named = leaves_named_by_all(plans.as_slice());
         let apart = all_new_of_each(&plans);
         FunctionPlans {
             function,
             plans,
             irredundant,
+            leaves_named,
             apart,
         }
     }
@@ -61,6 +66,7 @@ impl FunctionPlans {
     pub fn as_slice(&self) -> &[Plan]
         ensures plans { ArePlansOf self.now.function result.now }
         ensures irredundant { self.now.irredundant ≡ true → All IsIrredundantPlan result.now }
+        ensures first { All (NamesFirst self.now.leaves_named) result.now }
         ensures apart { AreApart result.now self.now.apart.items }
     {
         self.plans.as_slice()

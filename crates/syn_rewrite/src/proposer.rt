@@ -1,6 +1,6 @@
 //! The proposer.
 
-ghost use Rattle.std.specs.Prelude.{◌≡◌, ℕ, ◌<◌, ◌≤◌, ◌++◌, [], true, false, All, List, OnOk, IfNone, IfOk, IfSome, length, map};
+ghost use Rattle.std.specs.Prelude.{◌≡◌, ℕ, ◌<◌, ◌≤◌, ◌++◌, [], true, false, All, List, OnOk, IfNone, IfOk, IfSome, length, map, slice_index_or};
 ghost use Rattle.syn_rows.specs.declared.Row.{Row};
 ghost use Rattle.syn_rows.specs.Rows.{row_at};
 ghost use Rattle.syn_rows.specs.Reach.{is_and};
@@ -8,6 +8,7 @@ ghost use Rattle.syn_plan.specs.Naming.{built_of};
 ghost use Rattle.syn_library.specs.Library.{NamesOwn};
 ghost use Rattle.syn_fanout_free.specs.Bounding.{IsMostLost};
 ghost use Rattle.syn_fanout_free.specs.Saved.{count_in};
+ghost use Rattle.syn_gain.specs.Leaves.{rise_above};
 ghost use Rattle.syn_gain.specs.Proposals.{replacement, replacement_of};
 ghost use Rattle.syn_gain.specs.Uses.{IsUsesOf};
 ghost use Rattle.syn_proposals.specs.Closing.{IsFirst, SavesNothing};
@@ -33,6 +34,9 @@ use syn_workers::Workers;
 
 /// How many ANDs that go with a row are counted before its plans are looked at; hardly a plan of four leaves adds as many.
 pub(crate) const MAX_COUNTED: u32 = 16;
+
+// So few ANDs that go where no node stays aren't counted again where leaves stay: it takes as long as what it spares.
+const FEW_ANDS: u32 = 2;
 
 /// Proposes for each AND, cut by cut, the plans of its function over the cut.
 #[derive(Drop)]
@@ -95,31 +99,48 @@ fn push_plans(
     Ok(())
 }
 
-// No fewer ANDs than go with an AND's row where a cut's leaves stay, counted where they weren't before.
-fn bound_over(
-    alloc: Global,
-    graph: &Graph,
-    uses: &Uses,
-    cut: RootedCut,
-    counted: Option<u32>,
-) -> Result<u32, AllocError>
-    requires uses { IsUsesOf uses.now graph.now }
-    requires rooted { IsRooted graph.now.rows cut.root cut.leaves.now cut.function }
-    requires counted { IfSome counted (IsMostLost graph.now.rows (count_in uses.now.counts.items) cut.root cut.leaves.now) }
-    ensures { IfOk result (IsMostLost graph.now.rows (count_in uses.now.counts.items) cut.entry.root cut.entry.leaves.now) }
-{
-    match counted {
-        Some(bound) => Ok(bound),
-        None => mffc_size(alloc, graph, uses, cut.root, cut.leaves, MAX_COUNTED),
-    }
-}
-
 // Whether none of a cut's leaves is made of others.
 fn leaves_apart(graph: &Graph, cut: RootedCut) -> bool
     requires rooted { IsRooted graph.now.rows cut.root cut.leaves.now cut.function }
     ensures { result ≡ true → (levels : ℕ) × (are_apart levels graph.now.rows cut.entry.leaves.now ≡ true) }
 {
     are_apart(graph.rows.as_slice(), cut.leaves)
+}
+
+// The leaves of a cut where each of the plans over it names them all, and else none.
+fn spared_leaves<'a>(cut: RootedCut<'a>, plans: &FunctionPlans) -> &'a [u32]
+    requires rise { rise_above 0 cut.leaves.now ≡ true }
+    ensures named { length result.now ≤ plans.now.leaves_named }
+    ensures few { length result.now ≤ length cut.entry.leaves.now }
+    ensures first { (i : ℕ) → i < length result.now → slice_index_or result.now i 0 ≡ slice_index_or cut.entry.leaves.now i 0 }
+    ensures rise { rise_above 0 result.now ≡ true }
+{
+    if cut.leaves.len() <= plans.leaves_named as usize {
+        cut.leaves
+    } else {
+        &[]
+    }
+}
+
+// No fewer ANDs than go with an AND's row where these nodes stay, where `most` are no fewer than go where none stays.
+fn most_sparing(
+    alloc: Global,
+    graph: &Graph,
+    uses: &Uses,
+    root: u32,
+    spared: &[u32],
+    most: u32,
+) -> Result<u32, AllocError>
+    requires uses { IsUsesOf uses.now graph.now }
+    requires root { is_and (row_at graph.now.rows root) ≡ true }
+    requires rise { rise_above 0 spared.now ≡ true }
+    requires most { IsMostLost graph.now.rows (count_in uses.now.counts.items) root [] most }
+    ensures { IfOk result (IsMostLost graph.now.rows (count_in uses.now.counts.items) root spared.now) }
+{
+    if spared.is_empty() || most <= FEW_ANDS {
+        return Ok(most);
+    }
+    mffc_size(alloc, graph, uses, root, spared, MAX_COUNTED)
 }
 
 // Whether one of the plans of an AND's function over a cut saves, where no more than `most` ANDs go with the AND's row.
@@ -142,21 +163,30 @@ fn some_saves(
     let all = plans.as_slice();
     let told = plans.apart.as_slice();
     let leaves_apart = leaves_apart(graph, cut);
-    let mut counted = None;
+    let spared = spared_leaves(cut, plans);
+    let most = most_sparing(alloc, graph, uses, cut.root, spared, most)?;
     let mut weighed = dry_run_over(MAX_LEAVES, cut.leaves);
     for (i, plan) in all.iter().enumerate() {
         let apart = leaves_apart && names_within(told, i, cut.leaves);
         let candidate = candidate(graph, cut, plan);
         if plans.irredundant
-            && saves_nothing(alloc, graph, uses, candidate, most, apart, &mut weighed)?
+            && saves_nothing(
+                alloc,
+                graph,
+                uses,
+                candidate,
+                spared,
+                most,
+                apart,
+                &mut weighed,
+            )?
         {
             continue;
         }
-        let bound = bound_over(alloc, graph, uses, cut, counted)?;
+        let bound = mffc_size(alloc, graph, uses, cut.root, cut.leaves, MAX_COUNTED)?;
         if saves(alloc, graph, uses, candidate, bound, room)? {
             return Ok(true);
         }
-        counted = Some(bound);
     }
     Ok(false)
 }

@@ -441,7 +441,7 @@ pub whole_weight : (rows : List Row) (root most : ℕ) (r : Replacement) (s : Se
 whole_weight rows root most r s is few = all_weighed rows root most r.gates (state (constant ∷ leaf_literals r.count r.leaves) []) s is few
 
 -- ---- the leaves
-each_is : (n : ℕ) (f : ℕ → Lit) (i : ℕ) → i < n → get_or (each_below n f) i constant ≡ f i
+pub each_is : (n : ℕ) (f : ℕ → Lit) (i : ℕ) → i < n → get_or (each_below n f) i constant ≡ f i
 each_is zero f i lt = absurd (omega (arith, lt))
 each_is (suc n) f i lt = elim (cases_lt i n) [
   | inl less ↦ get_or_append_left (each_below n f) (f n ∷ []) constant i (omega (arith, less, each_long n f)) ∙ each_is n f i less

@@ -2,4 +2,5 @@ mod Own
 mod Told
 mod GoingOn
 mod AllKept
+mod Holding
 mod Weights

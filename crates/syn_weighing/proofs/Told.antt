@@ -183,7 +183,7 @@ some_is s t e = ap (or_other s) e
     or_other d None = d
     or_other d (Some u) = u
 
-needed : (o : Option Lit) (s t : Searched) → where_needed o s ≡ Some t → (o ≡ None) × (s ≡ t)
+pub needed : (o : Option Lit) (s t : Searched) → where_needed o s ≡ Some t → (o ≡ None) × (s ≡ t)
 needed None s t h = (refl, some_is s t h)
 needed (Some l) s t h = absurd (cc (h))
 

@@ -1,6 +1,6 @@
-//! Plans that have no gate in vain.
+//! Plans that have no gate in vain, and leaves that they name.
 
-ghost use Rattle.std.specs.Prelude.{◌≡◌, ◌+◌, ◌<◌, ◌^◌, true, All, length};
+ghost use Rattle.std.specs.Prelude.{◌≡◌, ℕ, ◌+◌, ◌<◌, ◌≤◌, ◌^◌, true, All, length};
 ghost use Rattle.std.specs.List.{list_any};
 ghost use Rattle.syn_weighing.specs.Irredundant as spec;
 
@@ -56,4 +56,42 @@ pub fn are_irredundant(plans: &[Plan]) -> bool
         }
     }
     true
+}
+
+// Whether a gate or the output names an index.
+fn is_named(index: u16, gates: &[(PLit, PLit)], out: PLit) -> bool
+    ensures { result ≡ spec.is_named gates.now out index }
+{
+    out.index() == index || some_names(index, gates)
+}
+
+// How many of so many leaves a gate or the output names, so far as all before them are named.
+fn first_named(leaves: u8, gates: &[(PLit, PLit)], out: PLit) -> u8
+    ensures few { result ≤ leaves }
+    ensures named { (i : ℕ) → i < result → spec.is_named gates.now out (1 + i) ≡ true }
+{
+    for i in 0..leaves {
+        if !is_named(1 + u16::from(i), gates, out) {
+            return i;
+        }
+    }
+    leaves
+}
+
+// How many leaves a plan names, so far as it names all before them.
+fn leaves_named(plan: &Plan) -> u8
+    ensures { spec.NamesFirst result plan.now }
+{
+    first_named(plan.leaves, plan.gates.as_slice(), plan.out)
+}
+
+/// How many leaves each of these plans names: the first ones.
+pub fn leaves_named_by_all(plans: &[Plan]) -> u8
+    ensures { All (spec.NamesFirst result) plans.now }
+{
+    let mut least = u8::MAX;
+    for plan in plans {
+        least = least.min(leaves_named(plan));
+    }
+    least
 }

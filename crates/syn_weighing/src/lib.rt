@@ -13,5 +13,5 @@ mod quick_reject;
 
 pub use all_new::{AllNew, all_new_of_each, are_apart, names_within};
 pub use dry_runs::{DryRun, MAX_INDEXES, dry_run, dry_run_over};
-pub use irredundant::are_irredundant;
+pub use irredundant::{are_irredundant, leaves_named_by_all};
 pub use quick_reject::saves_nothing;

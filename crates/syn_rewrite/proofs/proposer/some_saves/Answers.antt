@@ -9,6 +9,7 @@ use Rattle.syn_gain.specs.Replacements.{Replacement}
 use Rattle.syn_proposals.specs.Closing.{SavesNothing}
 use Rattle.syn_proposals.proofs.Maps.{All-read}
 use Rattle.syn_weighing.specs.AllNew.{IsApartOver, IsApartPlan}
+use Rattle.syn_weighing.specs.Irredundant.{AreNamed, NamesFirst}
 use Rattle.syn_weighing.specs.declared.all_new.AllNew.{AllNew}
 use Rattle.syn_weighing.specs.Weighing.{BeginsWith}
 use Rattle.syn_function_plans.specs.PlansOf.{ArePlansOf}
@@ -35,6 +36,15 @@ pub candidate-candidate-requires-clause-names : goal.candidate-candidate-require
 candidate-candidate-requires-clause-names c =
     subst (NamesOwn c.index-all-i.result) c.requires.function
     (All-read (λ p. NamesOwn p c.args.plans.now.function) c.as_slice-all.result.now c.loop-i.i c.index-all-i.result (omega (arith, c.loop-i-test.true)) c.index-all-i.is c.as_slice-all.ensures.plans.names)
+
+pub saves_nothing-requires-clause-spared : goal.saves_nothing-requires-clause-spared
+saves_nothing-requires-clause-spared c =
+    let spared = c.spared_leaves-spared.result.now in
+    let first : NamesFirst c.args.plans.now.leaves_named c.index-all-i.result =
+    All-read (NamesFirst c.args.plans.now.leaves_named) c.as_slice-all.result.now c.loop-i.i c.index-all-i.result (omega (arith, c.loop-i-test.true)) c.index-all-i.is c.as_slice-all.ensures.first in
+    let named : NamesFirst (length spared) c.candidate-candidate.result.plan.now = subst (NamesFirst (length spared)) (sym c.candidate-candidate.ensures.plan) (λ i lt. first i (omega (arith, lt, c.spared_leaves-spared.ensures.named))) in
+    subst (λ (ls : List ℕ). AreNamed c.candidate-candidate.result.plan.now ls spared) (sym c.candidate-candidate.ensures.leaves)
+    (record { named = named; few = c.spared_leaves-spared.ensures.few; first = c.spared_leaves-spared.ensures.first })
 
 pub saves_nothing-requires-clause-apart : goal.saves_nothing-requires-clause-apart
 saves_nothing-requires-clause-apart c = elim c.if-leaves_apart.branch [
@@ -74,5 +84,4 @@ loop-i-preserved c =
             (subst (λ (n : ℕ). BeginsWith n c.candidate-candidate.result.leaves.now w.saves_nothing.new.weighed) four w.in_ok-saves_nothing.ensures.begins))
         | else-plans-via-else-plans w ↦ subst (BeginsWith 4 c.args.cut.leaves.now) (sym w.weighed-is) c.loop-i.invariant.begins
       ];
-      counted = search rules;
     }

@@ -1,7 +1,4 @@
-use Rattle.std.proofs.Common.{IfSome}
 use Rattle.std.specs.List.{AllWithin}
-use Rattle.syn_fanout_free.specs.Bounding.{IsMostLost}
-use Rattle.syn_fanout_free.specs.Saved.{count_in}
 use Rattle.syn_plan.specs.Naming.{built_of}
 use Rattle.syn_proposals.specs.Closing.{SavesNothing}
 use Rattle.syn_weighing.specs.Weighing.{BeginsWith}
@@ -12,5 +9,4 @@ abbrev pub invariant-loop-i : goal.invariant-loop-i
 invariant-loop-i l = record {
   none : AllWithin (λ p. SavesNothing l.graph.rows l.graph.observed (over l.cut.root l.cut.leaves.now (built_of p))) l.all 0 l.i;
   begins : BeginsWith 4 l.cut.leaves.now l.weighed;
-  counted : IfSome l.counted (IsMostLost l.graph.rows (count_in l.uses.counts.items) l.cut.root l.cut.leaves.now);
 }

@@ -1,10 +1,9 @@
-use Rattle.std.proofs.Common.{rules, ◌≡◌, ◌+◌, List, ◌∷◌, length, get_or, sym, ap, ◌∙◌, subst, arith}
+use Rattle.std.proofs.Common.{rules, ◌≡◌, ◌+◌, List, length, get_or, sym, ap, ◌∙◌, subst, arith}
 use Rattle.std.proofs.lemmas.List.{take_all}
 use Rattle.syn_rows.specs.declared.Lit.{Lit}
 use Rattle.syn_rows.specs.declared.Row.{Row}
-use Rattle.syn_rows.specs.Joining.{constant, lit_of}
+use Rattle.syn_rows.specs.Joining.{lit_of}
 use Rattle.syn_gain.specs.Lookups.{ArePlaced}
-use Rattle.syn_gain.specs.Placing.{leaf_literals}
 use Rattle.syn_gain.proofs.Bounds.{below_each}
 use Rattle.syn_gain.proofs.NodesThere.{begun_placed}
 use Rattle.syn_weighing.proofs.Told.{each_long}
