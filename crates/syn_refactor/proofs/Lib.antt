@@ -1,1 +1,3 @@
 pub mod Factored
+pub mod Known
+pub mod Saving

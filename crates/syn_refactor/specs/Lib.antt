@@ -1,1 +1,3 @@
 pub mod Refactoring
+pub mod Known
+pub mod Cones

@@ -2,7 +2,9 @@
 #![tactic(auto)]
 
 mod closure;
+mod known_plans;
 mod proposer;
 
 pub use closure::refactor;
-pub use proposer::{Cones, NoLists};
+pub use known_plans::KnownPlans;
+pub use proposer::Cones;
