@@ -16,28 +16,27 @@ use Rattle.syn_lutnet.proofs.Deepest.{all_zero_at, depth_local, greatest_any, gr
 use Rattle.syn_lutnet.proofs.Folding.{In, length-luts, luts_kept, lut_step}
 use Rattle.syn_lutnet.proofs.LutParts.{lut_parts}
 use Rattle.std.proofs.lemmas.List.Sums.{sum_by-take-le}
-use Rattle.syn_absorb.specs.Costs.{NeverFalls, cost_by}
 use Rattle.syn_absorb.specs.Needed.{AllDepend}
 use Rattle.syn_absorb.specs.Reaching.{IsOpenNet, IsSwept}
 use Rattle.syn_absorb.specs.Rebuilding.{FitsLuts, FitsDepths, IsRebuilt, IsRebuiltNet, IsTrimming, read_lit}
 use Rattle.syn_absorb.proofs.Literals.{read_node, read_own, read_value}
 use Rattle.syn_absorb.proofs.Same.{inputs_in, value_local}
 
-abbrev AllFit : ℕ → List Lut → Type 0
+abbrev pub AllFit : ℕ → List Lut → Type 0
 AllFit count luts = (j : ℕ) → j < length luts → is_lut (count + 1 + j) (lut_at luts j) ≡ true
 
-inside_at : (count : ℕ) (luts : List Lut) → AllFit count luts → (j : ℕ) → j < length luts → In (count + 1 + j) (lut_at luts j).inputs
+pub inside_at : (count : ℕ) (luts : List Lut) → AllFit count luts → (j : ℕ) → j < length luts → In (count + 1 + j) (lut_at luts j).inputs
 inside_at count luts fit j lt = inputs_in (count + 1 + j) (lut_at luts j).inputs (lut_parts (count + 1 + j) (lut_at luts j) (fit j lt)).inside
 
 -- the computed values fit,
-values_fit : (count : ℕ) (luts : List Lut) (bits : List Bool) → length bits ≡ count → AllFit count luts → FitsLuts (count + 1) luts (value_in (signal_values bits luts))
+pub values_fit : (count : ℕ) (luts : List Lut) (bits : List Bool) → length bits ≡ count → AllFit count luts → FitsLuts (count + 1) luts (value_in (signal_values bits luts))
 values_fit count luts bits long fit = record {
   constant = luts_kept lut_value false (false ∷ bits) luts 0 false (omega arith);
   each = λ j lt. lut_step lut_value false value_local (false ∷ bits) luts (count + 1 + j) j (omega (arith, long)) lt (inside_at count luts fit j lt);
 }
 
 -- and so do the computed depths
-depths_fit : (count : ℕ) (luts : List Lut) → AllFit count luts → FitsDepths (count + 1) luts (depth_in (signal_depths count luts))
+pub depths_fit : (count : ℕ) (luts : List Lut) → AllFit count luts → FitsDepths (count + 1) luts (depth_in (signal_depths count luts))
 depths_fit count luts fit = record {
   others = λ n lt. luts_kept lut_depth 0 (replicate (suc count) 0) luts n 0 (omega (arith, lt, length-all_zero count)) ∙ all_zero_at (suc count) n;
   each = λ j lt. lut_step lut_depth 0 depth_local (replicate (suc count) 0) luts (count + 1 + j) j (omega (arith, length-all_zero count)) lt (inside_at count luts fit j lt);

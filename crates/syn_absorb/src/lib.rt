@@ -15,5 +15,7 @@ mod rebuild;
 mod tables;
 mod trimming;
 
+pub use luts::copy_inputs;
+pub use narrow::first_twice;
 pub use nets::absorb;
-pub use trimming::trim;
+pub use trimming::{trim, trim_luts};

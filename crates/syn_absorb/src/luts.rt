@@ -25,7 +25,7 @@ fn flips_of(first: u32, marks: &[bool], signals: &[u32]) -> ArrayVec<bool, MAX_I
 }
 
 /// The same signals.
-pub(crate) fn copy_inputs(signals: &[u32]) -> ArrayVec<u32, MAX_INPUTS>
+pub fn copy_inputs(signals: &[u32]) -> ArrayVec<u32, MAX_INPUTS>
     requires { length signals.now ≤ 8 }
     ensures { result.items ≡ signals.now }
 {

@@ -98,8 +98,8 @@ fn place_from(inputs: &[u32], from: usize, signal: u32) -> Option<usize>
     None
 }
 
-// Two places where one signal stands.
-fn first_twice(inputs: &[u32]) -> Option<(usize, usize)>
+/// Two places where one signal stands.
+pub fn first_twice(inputs: &[u32]) -> Option<(usize, usize)>
     ensures some { IfSome result (λ p. (p.0 < p.1) × (p.1 < length inputs.now) × (slice_index_or inputs.now p.0 0 ≡ slice_index_or inputs.now p.1 0)) }
     ensures none { IfNone result (distinct_numbers inputs.now ≡ true) }
 {

@@ -6,13 +6,14 @@ ghost use Rattle.syn_lutnet.specs.Data.{luts_data};
 ghost use Rattle.syn_absorb.specs.Needed.{AllDepend};
 ghost use Rattle.syn_absorb.specs.Nets.{IsTrimmed};
 ghost use Rattle.syn_absorb.specs.Reaching.{IsOpenNet};
-ghost use Rattle.syn_absorb.specs.Rebuilding.{IsRebuiltNet};
+ghost use Rattle.syn_absorb.specs.Rebuilding.{IsRebuiltNet, IsTrimming};
 
 use crate::reach::{all_marked, reached};
 use crate::rebuild::{Parts, rebuilt};
 use std::alloc::{AllocError, Global};
 use syn_lists::Items;
-use syn_lutnet::LutNet;
+use syn_lutnet::{Lut, LutNet};
+use syn_rows::Lit;
 
 // The LUTs and literals made anew without the LUTs that aren't reached, where there are such.
 fn without_unreached(
@@ -52,17 +53,37 @@ fn pruned(alloc: Global, source_count: u32, parts: Parts) -> Result<Parts, Alloc
     Ok(kept)
 }
 
-// The LUTs and literals of a net, trimmed.
-fn trimmed_parts(alloc: Global, net: &LutNet) -> Result<Parts, AllocError>
-    ensures rebuilt { IfOk result (λ p. IsRebuiltNet net.now.source_count (luts_data net.now.luts) net.now.observed (luts_data p.luts.items) p.lits.items) }
-    ensures net { IfOk result (λ p. IsLutNet net.now.source_count (luts_data p.luts.items) p.lits.items) }
+// LUTs and literals, trimmed.
+fn trimmed_parts(
+    alloc: Global,
+    source_count: u32,
+    luts: &[Lut],
+    lits: &[Lit],
+) -> Result<Parts, AllocError>
+    requires few { source_count + 1 + length luts.now < 2 ^ 31 }
+    requires net { IsOpenNet source_count (luts_data luts.now) lits.now }
+    ensures rebuilt { IfOk result (λ p. IsRebuiltNet source_count (luts_data luts.now) lits.now (luts_data p.luts.items) p.lits.items) }
+    ensures net { IfOk result (λ p. IsLutNet source_count (luts_data p.luts.items) p.lits.items) }
+{
+    let marks = reached(alloc, source_count, luts, lits)?;
+    let parts = rebuilt(alloc, source_count, luts, marks.as_slice(), lits)?;
+    pruned(alloc, source_count, parts)
+}
+
+/// The net that `trim` makes of a net with other LUTs in the place of its own: of the same function, as many, no deeper, of no
+/// more inputs and no dearer. Of these others some may not be reached. The only error is want of memory.
+pub fn trim_luts(alloc: Global, net: &LutNet, luts: &[Lut]) -> Result<LutNet, AllocError>
+    requires open { IsOpenNet net.now.source_count (luts_data luts.now) net.now.observed }
+    requires same { IsTrimming net.now.source_count (luts_data net.now.luts) net.now.observed (luts_data luts.now) net.now.observed }
+    ensures { IfOk result (IsTrimmed net.now) }
 {
     let count = net.source_count;
-    let luts = net.luts.as_slice();
-    let lits = net.observed.as_slice();
-    let marks = reached(alloc, count, luts, lits)?;
-    let parts = rebuilt(alloc, count, luts, marks.as_slice(), lits)?;
-    pruned(alloc, count, parts)
+    let Parts { luts: kept, lits } = trimmed_parts(alloc, count, luts, net.observed.as_slice())?;
+    Ok(LutNet {
+        source_count: count,
+        luts: Items::of(kept),
+        observed: Items::of(lits),
+    })
 }
 
 /// The net of the same function each LUT of which depends on each signal that it reads: what a LUT ignores it doesn't read,
@@ -71,10 +92,5 @@ fn trimmed_parts(alloc: Global, net: &LutNet) -> Result<Parts, AllocError>
 pub fn trim(alloc: Global, net: &LutNet) -> Result<LutNet, AllocError>
     ensures { IfOk result (IsTrimmed net.now) }
 {
-    let Parts { luts, lits } = trimmed_parts(alloc, net)?;
-    Ok(LutNet {
-        source_count: net.source_count,
-        luts: Items::of(luts),
-        observed: Items::of(lits),
-    })
+    trim_luts(alloc, net, net.luts.as_slice())
 }

@@ -27,7 +27,8 @@ use Rattle.syn_network.specs.GraphShape.{place}
 use Rattle.syn_network.specs.NamedGraphs.{source_lit}
 use Rattle.syn_hashed.specs.Hashed.{IsHashed, lit_at}
 use Rattle.syn_hashed.specs.Growing.{Extends, value_by}
-use Rattle.syn_build.specs.Covering.{AllThere, IsCover}
+use Rattle.syn_lut_rows.specs.LutLiterals.{AllThere}
+use Rattle.syn_build.specs.Covering.{IsCover}
 use Rattle.syn_network.specs.Networks.{HasOwnSources}
 use Rattle.syn_build.specs.Naming.{in_order, IsNamed}
 use Rattle.syn_hashed.proofs.Rising.{literal_kept, source_value}

@@ -13,7 +13,8 @@ use Rattle.syn_netlist.specs.Costs.{is_sign}
 use Rattle.syn_hashed.specs.Hashed.{IsHashed}
 use Rattle.syn_hashed.specs.Growing.{Extends, value_by, IsOr}
 use Rattle.syn_placing.proofs.Placed.{values_kept}
-use Rattle.syn_build.specs.Covering.{AllThere, IsFit, IsMatch, IsOrMatch, IsCover}
+use Rattle.syn_lut_rows.specs.LutLiterals.{AllThere}
+use Rattle.syn_build.specs.Covering.{IsFit, IsMatch, IsOrMatch, IsCover}
 use Rattle.syn_hashed.proofs.Rising.{literal_kept, source_value}
 
 pub zero_value : (count : ℕ) (rows : List Row) → IsHashed count rows → (given : ℕ → Bool) → given 0 ≡ false → value_by given rows (record { 0 = 0 }) ≡ false

@@ -1,14 +1,9 @@
 -- Literals of rows of characters and of covers.
-use Rattle.std.specs.Prelude.{◌≡◌, ℕ, ◌&&◌, ◌||◌, ◌<◌, All, Bool, false, List, length, map}
+use Rattle.std.specs.Prelude.{◌≡◌, ℕ, ◌&&◌, ◌||◌, Bool, false, List, map}
 use Rattle.syn_rows.specs.declared.Lit.{Lit}
 use Rattle.syn_rows.specs.declared.Row.{Row}
-use Rattle.syn_rows.specs.Rows.{node_of}
 use Rattle.syn_netlist.specs.Covers.{cover_value, fits_bit, matches}
 use Rattle.syn_hashed.specs.Growing.{value_by}
-
--- each of the literals is of a row that is there
-abbrev pub AllThere : List Row → List Lit → Type 0
-AllThere rows lits = All (λ l. node_of l < length rows) lits
 
 -- for all given values, the literal's value by the new rows says whether the first literal and the character's fit hold by the old ones
 abbrev pub IsFit : List Row → Lit → ℕ → Lit → List Row → Lit → Type 0

@@ -13,7 +13,7 @@ use Rattle.syn_network.specs.GraphShape.{place}
 use Rattle.syn_network.specs.NamedGraphs.{source_lit}
 use Rattle.syn_hashed.specs.Hashed.{lit_at}
 use Rattle.syn_hashed.specs.Growing.{value_by}
-use Rattle.syn_build.specs.Covering.{AllThere}
+use Rattle.syn_lut_rows.specs.LutLiterals.{AllThere}
 
 -- the netlist with its tables in the order of these numbers
 abbrev pub in_order : Netlist → List ℕ → Netlist

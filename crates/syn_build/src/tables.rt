@@ -18,7 +18,8 @@ ghost use Rattle.syn_netlist.specs.Words.{distinct};
 ghost use Rattle.syn_network.specs.NamedGraphs.{source_lit};
 ghost use Rattle.syn_hashed.specs.Hashed.{IsHashed, lit_at};
 ghost use Rattle.syn_hashed.specs.Growing.{Extends};
-ghost use Rattle.syn_build.specs.Covering.{AllThere, IsCover, IsFit, IsMatch, IsOrMatch};
+ghost use Rattle.syn_lut_rows.specs.LutLiterals.{AllThere};
+ghost use Rattle.syn_build.specs.Covering.{IsCover, IsFit, IsMatch, IsOrMatch};
 ghost use Rattle.syn_network.specs.Networks.{HasOwnSources};
 ghost use Rattle.syn_build.specs.Naming.{in_order, IsNamed};
 

@@ -26,6 +26,6 @@ mod simulation;
 mod sweep;
 mod tables;
 
-pub use questions::{equal, load_cones};
+pub use questions::{equal, load_cones, load_nearest, refresh};
 pub use simulation::Random;
 pub use sweep::{Limits, fraig};

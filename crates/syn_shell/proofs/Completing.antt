@@ -38,13 +38,14 @@ use Rattle.syn_shell.specs.Outside.{State}
 use Rattle.syn_shell.specs.Comparing.{CompareRefused, IsNotRead, cause_in}
 use Rattle.syn_shell.specs.Lines.{IsLevelsText, IsStatsLine, refusal_status}
 use Rattle.syn_shell.specs.Reads.{file_limit, AigerReadRefused, GetRefused, LutsRefused, ReadRefused}
-use Rattle.syn_shell.specs.Steps.{Denied, AigerRefused, AigerWriteRefused, GeneratingRefused, MakingRefused, PrintRefused, TextRefused, TimeRefused, WriteRefused}
+use Rattle.syn_shell.specs.Steps.{Denied, gates_for, with_luts, AigerRefused, AigerWriteRefused, GeneratingRefused, MakingRefused, PrintRefused, TextRefused, TimeRefused, WriteRefused}
 use Rattle.syn_shell.specs.Scripts.{Refused, InFile, InText, LoadFails, RunsCommands, RunsScript, Source, cause_of, nameless}
 use Rattle.syn_shell.specs.LineMode.{LineRefused, NoFurther, RunsLines, listed, most_lines}
 use Rattle.syn_usage.specs.Usage.{Usage, OneScript, OneFile, EachLine, Faulty, usage_of}
 use Rattle.syn_shell.specs.Runs.{RunsUsage, RunsWords, status_of}
 use Rattle.syn_shell.specs.Readiness.{CommandsReady, HasFirst, HasLuts, HoldsNetwork, IsComparable, IsComplete, IsLoadable, IsReadable, IsReadableAiger, LineReady, LinesReady, Needs, ScriptReady, UsageReady, WordsReady}
 use Rattle.syn_shell.proofs.Concluding.{ran_seven}
+use Rattle.syn_shell.proofs.Recipes.{filled_gates}
 
 -- statuses that a ready run may end with, if a call may have failed
 abbrev IsFine : ℕ → Type 0
@@ -176,23 +177,23 @@ text_fine : (text : List ℕ) (before after : Screen) (cause : Refusal) → Text
 text_fine text before after SinkFailed why = failed
 text_fine text before after other why = absurd why
 
--- not too many gates make the network a graph
-abbrev IsGraphable : Option Written → Type 0
-IsGraphable m = IsSomeAnd m (λ net. gates_in net ≤ most_gates)
+-- there is a network, of which not too many gates are made
+abbrev HasFewGates : (Written → ℕ) → Option Written → Type 0
+HasFewGates gates_of m = IsSomeAnd m (λ net. gates_of net ≤ most_gates)
 
-there_is_a_graph : (m : Option Written) → IsGraphable m → m ≡ None → ⊥
-there_is_a_graph None needs none = needs
-there_is_a_graph (Some net) needs none = cc
+there_is_a_graph : (gates_of : Written → ℕ) (m : Option Written) → HasFewGates gates_of m → m ≡ None → ⊥
+there_is_a_graph gates_of None needs none = needs
+there_is_a_graph gates_of (Some net) needs none = cc
 
-not_too_many : (m : Option Written) (gates : ℕ) → IsGraphable m → MakingRefused m (TooManyGates gates) → ⊥
-not_too_many None gates needs many = needs
-not_too_many (Some net) gates needs many = absurd (omega (arith, needs, many.0, many.1))
+not_too_many : (gates_of : Written → ℕ) (m : Option Written) (gates : ℕ) → HasFewGates gates_of m → MakingRefused gates_of m (TooManyGates gates) → ⊥
+not_too_many gates_of None gates needs many = needs
+not_too_many gates_of (Some net) gates needs many = absurd (omega (arith, needs, many.0, many.1))
 
-making_fine : (m : Option Written) (cause : Refusal) → IsGraphable m → MakingRefused m cause → IsFine (refusal_status cause)
-making_fine m NoNetwork needs why = absurd (there_is_a_graph m needs why)
-making_fine m (TooManyGates gates) needs why = absurd (not_too_many m gates needs why)
-making_fine m NoMemory needs why = no_memory
-making_fine m other needs why = absurd why
+making_fine : (gates_of : Written → ℕ) (m : Option Written) (cause : Refusal) → HasFewGates gates_of m → MakingRefused gates_of m cause → IsFine (refusal_status cause)
+making_fine gates_of m NoNetwork needs why = absurd (there_is_a_graph gates_of m needs why)
+making_fine gates_of m (TooManyGates gates) needs why = absurd (not_too_many gates_of m gates needs why)
+making_fine gates_of m NoMemory needs why = no_memory
+making_fine gates_of m other needs why = absurd why
 
 generating_fine : (cause : Refusal) → GeneratingRefused cause → IsFine (refusal_status cause)
 generating_fine NoMemory why = no_memory
@@ -236,8 +237,8 @@ never_unmatched f g compare.NoMemory are is other = other refl
 
 compare_fine : NothingIsBoth → (first : Option NetworkFile) (second : NetworkFile) (before : State) (d' : Disk) (s s' : Screen) (cause : Refusal) → IsComparable first second before
     → CompareRefused first second before.network before.files d' s s' cause → IsFine (refusal_status cause)
-compare_fine not_both first second before d' s s' NoNetwork needs (none, gone, same) = absurd (there_is_a_graph before.network (no_none first before needs.first_is none) gone)
-compare_fine not_both first second before d' s s' (TooManyGates gates) needs (none, many, same) = absurd (not_too_many before.network gates (no_none first before needs.first_is none) many)
+compare_fine not_both first second before d' s s' NoNetwork needs (none, gone, same) = absurd (there_is_a_graph gates_in before.network (no_none first before needs.first_is none) gone)
+compare_fine not_both first second before d' s s' (TooManyGates gates) needs (none, many, same) = absurd (not_too_many gates_in before.network gates (no_none first before needs.first_is none) many)
 compare_fine not_both first second before d' s s' (NotRead name cause) needs (why, same) = one_of_both not_both first second before d' name cause needs.first_is needs.second_is why
 compare_fine not_both first second before d' s s' (Unmatched fault) needs (why, same) = absurd (never_unmatched why.n.frame why.m.frame fault (needs.match why.n why.m why.first_is why.second_is) why.fault_is why.name)
 compare_fine not_both first second before d' s s' SinkFailed needs why = failed
@@ -258,7 +259,8 @@ denied_fine not_both (commands.WriteAiger ascii bare name) before after cause ne
 denied_fine not_both (commands.Print text) before after cause needs (stays, why, same) = text_fine text before.sink after.sink cause why
 denied_fine not_both (commands.Source name) before after cause needs none = absurd none
 denied_fine not_both commands.Quit before after cause needs none = absurd none
-denied_fine not_both (commands.Make recipe) before after cause needs (stays, why, stand, same) = making_fine before.network cause needs why
+denied_fine not_both (commands.Make recipe) before after cause needs (stays, why, stand, same) =
+    making_fine (gates_for (with_luts before.luts recipe)) before.network cause (subst (λ (gates_of : Written → ℕ). HasFewGates gates_of before.network) (sym (filled_gates before.luts recipe)) needs) why
 
 abbrev OutcomeFine : Option Refused → Type 0
 OutcomeFine outcome = IsFine (status_of (listed outcome))

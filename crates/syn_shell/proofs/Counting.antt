@@ -11,7 +11,7 @@ use Rattle.syn_shell.specs.declared.refusal.Refusal.{Refusal}
 use Rattle.syn_shell.specs.declared.refusal.Refusal.TheVariants.{Words, Script, Read, ReadAiger, ReadLuts, NotRead, Unmatched, FileTooLong, LineTooLong, TooManyGates, LatchType, NoNetwork, GetFailed, PutFailed, LineFailed, SinkFailed, NoMemory}
 use Rattle.syn_shell.specs.Outside.{State}
 use Rattle.syn_shell.specs.Reads.{GetRefused, ReadRefused, AigerReadRefused, LutsRefused}
-use Rattle.syn_shell.specs.Steps.{Accepted, Denied, GeneratingRefused, MakingRefused, PrintRefused, TextRefused, TimeRefused, WriteRefused, AigerWriteRefused}
+use Rattle.syn_shell.specs.Steps.{Accepted, Denied, gates_for, with_luts, GeneratingRefused, MakingRefused, PrintRefused, TextRefused, TimeRefused, WriteRefused, AigerWriteRefused}
 use Rattle.syn_shell.specs.Comparing.{CompareRefused, IsNotRead}
 use Rattle.syn_shell.specs.Lines.{IsLevelsText, IsStatsLine}
 use Rattle.syn_shell.specs.Scripts.{Refused, InFile, InText, OnlyCounts, RunsCommands, RunsScript, SinkGaveUp, Announced, Source, cause_of, nameless}
@@ -97,11 +97,11 @@ text_counted : (text name : List ℕ) (cause : Refusal) (d d' : Disk) (s s' : Sc
 text_counted text name SinkFailed d d' s s' part e = record { files = disk_same d d' e; sink = covers_one s.faults s'.faults part.later part.failed; lines = refl }
 text_counted text name other d d' s s' why e = absurd why
 
-making_counted : (m : Option Written) (name : List ℕ) (cause : Refusal) (d d' : Disk) (s s' : Screen) → MakingRefused m cause → d' ≡ d → s' ≡ s → Counted (record { cause = cause; name = name } ∷ []) d s d' s'
-making_counted m name NoNetwork d d' s s' why e f = record { files = disk_same d d' e; sink = sink_same s s' f; lines = refl }
-making_counted m name (TooManyGates gates) d d' s s' why e f = record { files = disk_same d d' e; sink = sink_same s s' f; lines = refl }
-making_counted m name NoMemory d d' s s' why e f = record { files = disk_same d d' e; sink = sink_same s s' f; lines = refl }
-making_counted m name other d d' s s' why e f = absurd why
+making_counted : (gates_of : Written → ℕ) (m : Option Written) (name : List ℕ) (cause : Refusal) (d d' : Disk) (s s' : Screen) → MakingRefused gates_of m cause → d' ≡ d → s' ≡ s → Counted (record { cause = cause; name = name } ∷ []) d s d' s'
+making_counted gates_of m name NoNetwork d d' s s' why e f = record { files = disk_same d d' e; sink = sink_same s s' f; lines = refl }
+making_counted gates_of m name (TooManyGates gates) d d' s s' why e f = record { files = disk_same d d' e; sink = sink_same s s' f; lines = refl }
+making_counted gates_of m name NoMemory d d' s s' why e f = record { files = disk_same d d' e; sink = sink_same s s' f; lines = refl }
+making_counted gates_of m name other d d' s s' why e f = absurd why
 
 generating_counted : (name : List ℕ) (cause : Refusal) (d d' : Disk) (s s' : Screen) → GeneratingRefused cause → d' ≡ d → s' ≡ s → Counted (record { cause = cause; name = name } ∷ []) d s d' s'
 generating_counted name NoMemory d d' s s' why e f = record { files = disk_same d d' e; sink = sink_same s s' f; lines = refl }
@@ -153,7 +153,7 @@ refused_counted (commands.WriteAiger ascii bare file) name cause before after (s
 refused_counted (commands.Print text) name cause before after (stays, why, e) = text_counted text name cause before.files after.files before.sink after.sink why e
 refused_counted (commands.Source file) name cause before after none = absurd none
 refused_counted commands.Quit name cause before after none = absurd none
-refused_counted (commands.Make recipe) name cause before after (stays, why, e, f) = making_counted before.network name cause before.files after.files before.sink after.sink why e f
+refused_counted (commands.Make recipe) name cause before after (stays, why, e, f) = making_counted (gates_for (with_luts before.luts recipe)) before.network name cause before.files after.files before.sink after.sink why e f
 
 stands_counted : (before after : State) → after ≡ before → Counted [] before.files before.sink after.files after.sink
 stands_counted before after e = record { files = disk_same before.files after.files (ap (λ (x : State). x.files) e); sink = sink_same before.sink after.sink (ap (λ (x : State). x.sink) e); lines = refl }

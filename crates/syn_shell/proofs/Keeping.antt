@@ -15,7 +15,7 @@ use Rattle.syn_words.specs.declared.recipes.Recipe.TheVariants as recipes
 use Rattle.syn_shell.specs.declared.refusal.Refusal.{Refusal}
 use Rattle.syn_shell.specs.Networks.{Written, graph_network}
 use Rattle.syn_shell.specs.Outside.{State}
-use Rattle.syn_shell.specs.Makes.{Makes, MakesOfGraph, OnGraph}
+use Rattle.syn_shell.specs.Makes.{IsMappedAndResubstituted, Makes, MakesOfGraph, OnGraph, OnLuts, luts_in}
 use Rattle.syn_shell.specs.Steps.{Denied, Remakes, SessionStep, with_luts}
 use Rattle.syn_shell.specs.Scripts.{Refused, InFile, InText, RunsCommands, RunsScript, Source}
 use Rattle.syn_shell.specs.LineMode.{EndsBySink, EndsLines, GoesOn, RunsLines}
@@ -62,8 +62,13 @@ kept_on_graph laws r true old new is (graph, remade, made) =
     let h = kept_of r graph new remade.graph made in
     (same_then laws (sweeps r) old.netlist graph.netlist new.netlist remade.ordered remade.same h.same, h.ordered)
 
+kept_on_luts : (sizes : LutSizes) (mark : Bool) (old new : Written) → OnLuts (IsMappedAndResubstituted sizes) mark old new → IsKeptIn false old new
+kept_on_luts sizes false old new made = (made.luts.same, made.luts.ordered)
+kept_on_luts sizes true old new made = (made.same, made.ordered)
+
 made_kept : AreLaws → (r : Recipe) (old new : Written) → Makes r old new → IsKeptIn (sweeps r) old new
 made_kept laws recipes.Strash old new made = (made.same, made.ordered)
+made_kept laws (recipes.ResubstituteLuts window sizes) old new made = kept_on_luts (luts_in sizes) old.mapped old new made
 made_kept laws other old new made = kept_on_graph laws other old.mapped old new refl made
 
 -- the network keeps what it came from; or there is neither

@@ -4,6 +4,7 @@ mod Putting
 mod Following
 mod RemadeGraphs
 mod MappedGraphs
+mod ResubstitutedLuts
 mod Recipes
 mod AigerFiles
 mod Hearing

@@ -58,7 +58,7 @@ abbrev pub written_luts : LutNetwork → Written
 written_luts made = mapped_network (luts.network_of made)
 
 -- what the netlist of LUTs spells
-spelled_luts : NetworkOfLuts → (made : LutNetwork) → NetworkSpellsLuts (frame_in made.frame) (luts_data made.body.luts) made.body.observed
+pub spelled_luts : NetworkOfLuts → (made : LutNetwork) → NetworkSpellsLuts (frame_in made.frame) (luts_data made.body.luts) made.body.observed
 spelled_luts spells made = spells (frame_in made.frame) (luts_data made.body.luts) made.body.observed made.frame.clocks_once made.frame.sources_once made.net
 
 -- the number of LUTs, and how deep they are

@@ -132,7 +132,7 @@ part_compared (Ok done) one second network d e after s s' n m comparison text fi
 part_compared (Err cause) one second network d e after s s' n m comparison text first same read compared is part = part_by one second network d e after s s' n m comparison text cause first same read compared is part
 
 -- too many gates make the network a graph, or memory was refused
-pub graph_refused : (second : NetworkFile) (net : Written) (d after : Disk) (s s' : Screen) (cause : Refusal) → MakingRefused (Some net) cause → s' ≡ s → CompareRefused None second (Some net) d after s s' cause
+pub graph_refused : (second : NetworkFile) (net : Written) (d after : Disk) (s s' : Screen) (cause : Refusal) → MakingRefused gates_in (Some net) cause → s' ≡ s → CompareRefused None second (Some net) d after s s' cause
 graph_refused second net d after s s' NoNetwork why stays = absurd (cc)
 graph_refused second net d after s s' (TooManyGates gates) why stays = (refl, why, stays)
 graph_refused second net d after s s' NoMemory why stays = stays

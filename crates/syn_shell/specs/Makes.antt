@@ -121,6 +121,24 @@ pub record IsMappedLoosely (sizes : LutSizes) (slack : Option ℕ) (old new : Wr
   pub depth : IfSome slack (λ levels. depth_of new.netlist ≤ depth_of few.netlist + levels)
   pub settled : AreSettled new.netlist
 
+-- What resubstitution makes of a net of LUTs: one that means the same and reads only earlier signals, of no more LUTs, at no more cost by whatever areas, no deeper, of no more inputs, and settled.
+pub record IsResubstituted (old new : Written) : Type 0 where
+  pub same : SameMeaning old.netlist new.netlist
+  pub ordered : Ordered new.netlist
+  pub mapped : new.mapped ≡ true
+  pub inputs : (k : ℕ) → LutShape old.netlist k → LutShape new.netlist k
+  pub fewer : count_of new.netlist ≤ count_of old.netlist
+  pub cost : (areas : List ℕ) → luts_cost areas (luts_of new.netlist) ≤ luts_cost areas (luts_of old.netlist)
+  pub depth : depth_of new.netlist ≤ depth_of old.netlist
+  pub settled : AreSettled new.netlist
+
+-- What it makes of a graph: a net of LUTs, which it makes of one that mapping for few LUTs makes of the graph.
+pub record IsMappedAndResubstituted (sizes : LutSizes) (old new : Written) : Type 0 where
+  pub luts : IsInLuts sizes.most old new
+  pub few : Written
+  pub for_area : IsMappedForArea sizes old few
+  pub resubstituted : IsResubstituted few new
+
 -- What mapping by flow makes of a graph: a net of LUTs, and no covering of the graph by LUTs of so many inputs at most is shallower, by the rows that it spells.
 pub record IsLeastMappedTo (inputs : ℕ) (old new : Written) : Type 0 where
   pub luts : IsInLuts inputs old new
@@ -155,6 +173,7 @@ MakesOfGraph (recipes.Replace limits) = IsMerged limits.levels
 MakesOfGraph (recipes.Map false sizes) = IsMappedTo (luts_in sizes).most
 MakesOfGraph (recipes.Map true sizes) = IsMappedForArea (luts_in sizes)
 MakesOfGraph (recipes.MapLoosely slack sizes) = IsMappedLoosely (luts_in sizes) slack
+MakesOfGraph (recipes.ResubstituteLuts window sizes) = IsMappedAndResubstituted (luts_in sizes)
 MakesOfGraph (recipes.MapByFlow inputs) = IsLeastMappedTo (most_inputs inputs)
 MakesOfGraph recipes.Sweep = IsSweptTo
 
@@ -163,9 +182,20 @@ abbrev pub OnGraph : (Written → Written → Type 0) → Bool → Written → W
 OnGraph makes false old new = makes old new
 OnGraph makes true old new = (graph : Written) × IsRemade old graph × makes graph new
 
+-- What resubstitution of LUTs makes of a network by its mark: of a net of LUTs what it makes of them as they are.
+abbrev pub OnLuts : (Written → Written → Type 0) → Bool → Written → Written → Type 0
+OnLuts makes false old new = makes old new
+OnLuts makes true old new = IsResubstituted old new
+
+-- the most LUTs of a window, where a recipe resubstitutes LUTs; each other recipe is one for graphs
+abbrev pub window_in : Recipe → Option ℕ
+window_in (recipes.ResubstituteLuts window sizes) = Some window
+window_in other = None
+
 -- What a recipe makes of a network.
 abbrev pub Makes : Recipe → Written → Written → Type 0
 Makes recipes.Strash old new = IsRemade old new
+Makes (recipes.ResubstituteLuts window sizes) old new = OnLuts (IsMappedAndResubstituted (luts_in sizes)) old.mapped old new
 Makes other old new = OnGraph (MakesOfGraph other) old.mapped old new
 
 -- Where few LUTs are looked for they are never deeper than those that plain mapping makes of the same graph, and where all cost the same there are never more of them. All cost the same where a command names how many inputs they have.

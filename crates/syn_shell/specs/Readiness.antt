@@ -23,6 +23,7 @@ use Rattle.syn_shell.specs.Networks.{gates_in}
 use Rattle.syn_shell.specs.Outside.{State}
 use Rattle.syn_shell.specs.Comparing.{IsFirst, IsReadFrom}
 use Rattle.syn_shell.specs.Reads.{file_limit}
+use Rattle.syn_shell.specs.Steps.{gates_for}
 use Rattle.syn_shell.specs.Scripts.{Refused, InFile, InText, Loads, RunsCommands, RunsScript, Source}
 use Rattle.syn_shell.specs.LineMode.{RunsLines, most_lines}
 use Rattle.syn_usage.specs.Usage.{Usage, OneScript, OneFile, EachLine, Faulty, usage_of}
@@ -57,7 +58,7 @@ pub record IsComparable (first : Option NetworkFile) (second : NetworkFile) (bef
   pub second_is : HoldsNetwork second before.files
   pub match : (n m : Netlist) → IsFirst first before.network before.files n → IsReadFrom second before.files m → AreMatched n.frame m.frame
 
--- What a command needs: its files, nothing, or a network, to make it anew or to write it as an AIGER file one that not too many gates make a graph, and for the latter one without types of latches where these aren't left out.
+-- What a command needs: its files, nothing, or a network; to write it as an AIGER file, or to make it anew but by resubstitution of LUTs, one that not too many gates make a graph, and for the file one without types of latches where these aren't left out.
 abbrev pub Needs : Command → State → Type 0
 Needs (commands.Read name) before = IsReadable name before.files
 Needs (commands.ReadAiger properties name) before = IsReadableAiger properties name before.files
@@ -72,7 +73,7 @@ Needs (commands.WriteAiger ascii bare name) before = IsSomeAnd before.network (�
 Needs (commands.Print text) before = ⊤
 Needs (commands.Source name) before = ⊤
 Needs commands.Quit before = ⊤
-Needs (commands.Make recipe) before = IsSomeAnd before.network (λ net. gates_in net ≤ most_gates)
+Needs (commands.Make recipe) before = IsSomeAnd before.network (λ net. gates_for recipe net ≤ most_gates)
 
 -- What each command that was run needs is there.
 abbrev pub CommandsReady : (commands : List Command) (before : State) (outcome : Option Refused) (after : State) → RunsCommands commands before outcome after → Type 0

@@ -80,23 +80,29 @@ AigerWriteRefused bare m name before after (TooManyGates gates) = IsSomeAnd m (�
 AigerWriteRefused bare m name before after (LatchType latch) = IsSomeAnd m (λ net. AigerRefused bare net (LatchType latch)) × (after ≡ before)
 AigerWriteRefused bare m name before after other = WriteRefused m name before after other
 
--- There is a network, not too many gates make it a graph, and the recipe makes another of it.
+-- The gates that are made before a recipe goes on: those that make the network a graph, and none where LUTs are resubstituted.
+abbrev pub gates_for : Recipe → Written → ℕ
+gates_for (recipes.ResubstituteLuts window sizes) = λ net. 0
+gates_for other = gates_in
+
+-- There is a network, not too many gates are made before, and the recipe makes another of it.
 abbrev pub Remakes : Recipe → Option Written → Option Written → Type 0
-Remakes recipe m m' = (old : Written) × (new : Written) × (m ≡ Some old) × (m' ≡ Some new) × (gates_in old ≤ most_gates) × Makes recipe old new
+Remakes recipe m m' = (old : Written) × (new : Written) × (m ≡ Some old) × (m' ≡ Some new) × (gates_for recipe old ≤ most_gates) × Makes recipe old new
 
 -- A recipe with these LUTs where it names none.
 abbrev pub with_luts : LutSizes → Recipe → Recipe
 with_luts sizes (recipes.Map area named) = recipes.Map area (Some (unwrap_or named sizes))
 with_luts sizes (recipes.MapLoosely slack named) = recipes.MapLoosely slack (Some (unwrap_or named sizes))
+with_luts sizes (recipes.ResubstituteLuts window named) = recipes.ResubstituteLuts window (Some (unwrap_or named sizes))
 with_luts sizes (recipes.MapByFlow named) = recipes.MapByFlow (Some (unwrap_or named sizes.most))
 with_luts sizes other = other
 
--- Why a network is not made anew.
-abbrev pub MakingRefused : Option Written → Refusal → Type 0
-MakingRefused m NoNetwork = m ≡ None
-MakingRefused m (TooManyGates gates) = IsSomeAnd m (λ net. (gates ≡ gates_in net) × (most_gates < gates))
-MakingRefused m NoMemory = ⊤
-MakingRefused m other = ⊥
+-- Why a network is not made anew, where so many gates of it are made before.
+abbrev pub MakingRefused : (Written → ℕ) → Option Written → Refusal → Type 0
+MakingRefused gates_of m NoNetwork = m ≡ None
+MakingRefused gates_of m (TooManyGates gates) = IsSomeAnd m (λ net. (gates ≡ gates_of net) × (most_gates < gates))
+MakingRefused gates_of m NoMemory = ⊤
+MakingRefused gates_of m other = ⊥
 
 -- Why a netlist is not generated.
 abbrev pub GeneratingRefused : Refusal → Type 0
@@ -158,7 +164,7 @@ Denied (commands.WriteAiger ascii bare name) before cause after = Stays before a
 Denied (commands.Print text) before cause after = Stays before after × TextRefused text before.sink after.sink cause × (after.files ≡ before.files)
 Denied (commands.Source name) before cause after = ⊥
 Denied commands.Quit before cause after = ⊥
-Denied (commands.Make recipe) before cause after = Stays before after × MakingRefused before.network cause × (after.files ≡ before.files) × (after.sink ≡ before.sink)
+Denied (commands.Make recipe) before cause after = Stays before after × MakingRefused (gates_for (with_luts before.luts recipe)) before.network cause × (after.files ≡ before.files) × (after.sink ≡ before.sink)
 
 -- One command, from what the session keeps, the files and the sink before it to those after it.
 abbrev pub SessionStep : Command → State → Result (Unit {0}) Refusal → State → Type 0

@@ -1,6 +1,6 @@
 //! What recipes make of a graph and of a net of LUTs.
 
-ghost use Rattle.std.specs.Prelude.{◌≡◌, ◌≤◌, ℕ, Bool, List, IfOk, IfErr, IfSome, Option, Some};
+ghost use Rattle.std.specs.Prelude.{◌≡◌, ◌≤◌, ℕ, Bool, List, IfOk, IfErr, IfSome, None, Option, Some};
 ghost use Rattle.syn_rows.specs.declared.Row.{Row};
 ghost use Rattle.syn_network.specs.Written as graphs;
 ghost use Rattle.syn_network.specs.WrittenLuts as luts;
@@ -11,14 +11,15 @@ ghost use Rattle.syn_balance.specs.Balanced as balanced;
 ghost use Rattle.syn_gain.specs.Replacements.{Replacement};
 ghost use Rattle.syn_shell.specs.Networks.{gates_in, graph_network, IsSmall, mapped_network, network_of, made_in};
 ghost use Rattle.syn_shell.specs.Bodies.{AreFewestLuts, AreLeastLuts, AreMerged, ArePlainLuts, IsLeftBy};
-ghost use Rattle.syn_shell.specs.Makes.{IsBalanced, IsLeastMappedTo, IsMappedForArea, IsMappedLoosely, IsMappedTo, IsMerged, IsPassed, IsRemade, luts_in, Makes, MakesOfGraph, most_inputs};
+ghost use Rattle.syn_shell.specs.Makes.{IsBalanced, IsLeastMappedTo, IsMappedForArea, IsMappedLoosely, IsMappedTo, IsMerged, IsPassed, IsRemade, luts_in, Makes, MakesOfGraph, most_inputs, window_in};
 ghost use Rattle.syn_settled.specs.Fewest.{AreFewLutsOf};
 ghost use Rattle.syn_words.specs.declared.inputs.LutSizes.{LutSizes};
 ghost use Rattle.syn_words.specs.declared.recipes.Recipe.TheVariants as recipes;
-ghost use Rattle.syn_shell.specs.Steps.{MakingRefused};
+ghost use Rattle.syn_shell.specs.Steps.{gates_for, MakingRefused};
 
 use crate::network::HeldNetwork;
 use crate::refusal::Refusal;
+use crate::resubstituting::resubstituted;
 use std::alloc::{AllocError, Global};
 use std::thread::Threads;
 use syn_balance::balance;
@@ -138,7 +139,23 @@ fn luts_in(sizes: &Option<LutSizes>) -> LutSizes
     }
 }
 
-// Such LUTs under a copy of a graph's names: few of them where that is asked, else those of the chosen cuts.
+// Few such LUTs under a copy of a graph's names.
+fn mapped_for_area<R: Threads + Sync>(
+    rt: &R,
+    alloc: Global,
+    network: &Network,
+    sizes: &LutSizes,
+    workers: Workers,
+) -> Result<LutNetwork, AllocError>
+    ensures { IfOk result (λ made. IsMappedForArea sizes.now (graph_network (graphs.network_of network.now)) (mapped_network (luts.network_of made))) }
+{
+    let number = sizes.most.number();
+    let areas = sizes.areas.as_slice();
+    let few = few_luts(rt, alloc, &network.body, number, areas, workers)?;
+    mapped(alloc, network, few)
+}
+
+// Such LUTs, likewise: few of them where that is asked, else those of the chosen cuts.
 fn mapped_by<R: Threads + Sync>(
     rt: &R,
     alloc: Global,
@@ -150,12 +167,10 @@ fn mapped_by<R: Threads + Sync>(
     ensures { IfOk result (λ made. MakesOfGraph (recipes.Map area.now sizes.now) (graph_network (graphs.network_of network.now)) (mapped_network (luts.network_of made))) }
 {
     let sizes = luts_in(sizes);
-    let number = sizes.most.number();
     if *area {
-        let areas = sizes.areas.as_slice();
-        let few = few_luts(rt, alloc, &network.body, number, areas, workers)?;
-        mapped(alloc, network, few)
+        mapped_for_area(rt, alloc, network, &sizes, workers)
     } else {
+        let number = sizes.most.number();
         let plain = map(rt, alloc, &network.body, number, workers)?;
         mapped(alloc, network, plain)
     }
@@ -177,6 +192,23 @@ fn mapped_loosely<R: Threads + Sync>(
     let areas = sizes.areas.as_slice();
     let fewest = fewest_luts(rt, alloc, &network.body, number, areas, *slack, workers)?;
     mapped(alloc, network, fewest)
+}
+
+// Few such LUTs, resubstituted over windows of so many LUTs at most.
+fn mapped_and_resubstituted<R: Threads + Sync>(
+    rt: &R,
+    alloc: Global,
+    network: &Network,
+    window: u32,
+    sizes: &Option<LutSizes>,
+    workers: Workers,
+) -> Result<LutNetwork, AllocError>
+    ensures { IfOk result (λ made. MakesOfGraph (recipes.ResubstituteLuts window sizes.now) (graph_network (graphs.network_of network.now)) (mapped_network (luts.network_of made))) }
+{
+    syn_netlist::same_is_transitive();
+    let sizes = luts_in(sizes);
+    let few = mapped_for_area(rt, alloc, network, &sizes, workers)?;
+    resubstituted(alloc, &few, window)
 }
 
 /// Makes a graph anew by a recipe, under its names; or gives the LUTs that the recipe makes of it, under these names too. So
@@ -243,6 +275,10 @@ pub(crate) fn remake_graph<R: Threads + Sync, G: CommitHook>(
             let made = mapped_loosely(rt, alloc, network, slack, luts, workers)?;
             Ok(Some(made))
         }
+        Recipe::ResubstituteLuts { window, luts } => {
+            let made = mapped_and_resubstituted(rt, alloc, network, *window, luts, workers)?;
+            Ok(Some(made))
+        }
         Recipe::MapByFlow(inputs) => {
             let net = least_luts(alloc, &network.body, number_in(inputs))?;
             Ok(Some(mapped(alloc, network, net)?))
@@ -261,7 +297,7 @@ pub(crate) fn graph_of(alloc: Global, net: &LutNetwork) -> Result<Network, Refus
     ensures graph { IfOk result (λ graph. IsRemade (mapped_network (luts.network_of net.now)) (graph_network (graphs.network_of graph))) }
     ensures small { IfOk result (λ graph. IsSmall (graph_network (graphs.network_of graph))) }
     ensures gates { IfOk result (λ graph. gates_in (mapped_network (luts.network_of net.now)) ≤ most_gates) }
-    ensures refused { IfErr result (MakingRefused (Some (mapped_network (luts.network_of net.now)))) }
+    ensures refused { IfErr result (MakingRefused gates_in (Some (mapped_network (luts.network_of net.now)))) }
 {
     syn_network::network_of_luts();
     match build_luts(alloc, net) {
@@ -271,8 +307,8 @@ pub(crate) fn graph_of(alloc: Global, net: &LutNetwork) -> Result<Network, Refus
     }
 }
 
-/// What a recipe makes of a net of LUTs: what it makes of its graph.
-pub(crate) fn remade_luts<R: Threads + Sync, G: CommitHook>(
+// What a recipe for graphs makes of a net of LUTs: what it makes of its graph.
+fn hashed_and_remade<R: Threads + Sync, G: CommitHook>(
     rt: &R,
     alloc: Global,
     recipe: &Recipe,
@@ -280,10 +316,10 @@ pub(crate) fn remade_luts<R: Threads + Sync, G: CommitHook>(
     workers: Workers,
     hook: &G,
 ) -> Result<HeldNetwork, Refusal>
-    requires small { IsSmall (mapped_network (luts.network_of net.now)) }
-    ensures made { IfOk result (λ new. Makes recipe.now (mapped_network (luts.network_of net.now)) (network_of new)) }
+    requires { IsSmall (mapped_network (luts.network_of net.now)) }
+    ensures made { window_in recipe.now ≡ None → IfOk result (λ new. Makes recipe.now (mapped_network (luts.network_of net.now)) (network_of new)) }
     ensures gates { IfOk result (λ new. gates_in (mapped_network (luts.network_of net.now)) ≤ most_gates) }
-    ensures refused { IfErr result (MakingRefused (Some (mapped_network (luts.network_of net.now)))) }
+    ensures refused { IfErr result (MakingRefused gates_in (Some (mapped_network (luts.network_of net.now)))) }
 {
     syn_netlist::same_is_transitive();
     let mut graph = graph_of(alloc, net)?;
@@ -296,6 +332,39 @@ pub(crate) fn remade_luts<R: Threads + Sync, G: CommitHook>(
         Err(_) => {
             drop(graph);
             Err(Refusal::NoMemory)
+        }
+    }
+}
+
+// The most LUTs of a window, where a recipe resubstitutes LUTs.
+fn window_in(recipe: &Recipe) -> Option<u32>
+    ensures { result ≡ window_in recipe.now }
+{
+    match recipe {
+        Recipe::ResubstituteLuts { window, .. } => Some(*window),
+        _ => None,
+    }
+}
+
+/// What a recipe makes of a net of LUTs: what it makes of its graph, but for resubstitution, which works on the LUTs.
+pub(crate) fn remade_luts<R: Threads + Sync, G: CommitHook>(
+    rt: &R,
+    alloc: Global,
+    recipe: &Recipe,
+    net: &LutNetwork,
+    workers: Workers,
+    hook: &G,
+) -> Result<HeldNetwork, Refusal>
+    requires small { IsSmall (mapped_network (luts.network_of net.now)) }
+    ensures made { IfOk result (λ new. Makes recipe.now (mapped_network (luts.network_of net.now)) (network_of new)) }
+    ensures gates { IfOk result (λ new. gates_for recipe.now (mapped_network (luts.network_of net.now)) ≤ most_gates) }
+    ensures refused { IfErr result (MakingRefused (gates_for recipe.now) (Some (mapped_network (luts.network_of net.now)))) }
+{
+    match window_in(recipe) {
+        None => hashed_and_remade(rt, alloc, recipe, net, workers, hook),
+        Some(window) => {
+            let made = resubstituted(alloc, net, window)?;
+            Ok(HeldNetwork::Luts(made))
         }
     }
 }

@@ -14,6 +14,7 @@ mod network;
 mod refusal;
 mod refusal_lines;
 mod reports;
+mod resubstituting;
 mod scripts;
 mod session;
 mod whole_run;

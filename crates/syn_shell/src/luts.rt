@@ -26,6 +26,10 @@ pub(crate) fn with_luts(recipe: &Recipe, sizes: &LutSizes) -> Recipe
             slack: *slack,
             luts: Some(luts.unwrap_or(*sizes)),
         },
+        Recipe::ResubstituteLuts { window, luts } => Recipe::ResubstituteLuts {
+            window: *window,
+            luts: Some(luts.unwrap_or(*sizes)),
+        },
         Recipe::MapByFlow(inputs) => Recipe::MapByFlow(Some(inputs.unwrap_or(sizes.most))),
         Recipe::Sweep => Recipe::Sweep,
     }

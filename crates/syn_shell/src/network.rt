@@ -4,9 +4,9 @@ ghost use Rattle.std.specs.Prelude.{◌≡◌, ◌≤◌, IfErr, IfOk, OnOk, Som
 ghost use Rattle.syn_netlist.specs.Faults.{IsChecked};
 ghost use Rattle.syn_netlist.specs.Views.{netlist_in};
 ghost use Rattle.syn_build.specs.BuildFaults.{most_gates};
-ghost use Rattle.syn_shell.specs.Networks.{gates_in, IsSmall, network_of};
+ghost use Rattle.syn_shell.specs.Networks.{IsSmall, network_of};
 ghost use Rattle.syn_shell.specs.Makes.{Makes};
-ghost use Rattle.syn_shell.specs.Steps.{MakingRefused};
+ghost use Rattle.syn_shell.specs.Steps.{gates_for, MakingRefused};
 
 use crate::commands::{remade_luts, remake_graph};
 use crate::refusal::Refusal;
@@ -49,10 +49,10 @@ impl HeldNetwork {
     ) -> Result<(), Refusal>
         requires { IsSmall (network_of self.old) }
         ensures made { OnOk result (Makes recipe.now (network_of self.old) (network_of self.new)) }
-        ensures gates { OnOk result (gates_in (network_of self.old) ≤ most_gates) }
+        ensures gates { OnOk result (gates_for recipe.now (network_of self.old) ≤ most_gates) }
         ensures small { OnOk result (IsSmall (network_of self.new)) }
         ensures stays { IfErr result (λ cause. network_of self.new ≡ network_of self.old) }
-        ensures refused { IfErr result (MakingRefused (Some (network_of self.old))) }
+        ensures refused { IfErr result (MakingRefused (gates_for recipe.now) (Some (network_of self.old))) }
     {
         match self {
             HeldNetwork::Graph(network) => {

@@ -14,7 +14,7 @@ ghost use Rattle.syn_command_files.specs.Told.{FileIs, FilesUnchanged};
 ghost use Rattle.syn_shell.specs.Outside.{nothing_yet, OthersUnchanged, Took, state};
 ghost use Rattle.syn_shell.specs.Comparing.{CompareRefused, Compared};
 ghost use Rattle.syn_shell.specs.Reads.{AigerReadRefused, IsLutFile, IsReadAs, IsReadAsAiger, LutsRefused, ReadRefused};
-ghost use Rattle.syn_shell.specs.Steps.{AigerWriteRefused, GeneratingRefused, IsAigerOf, MakingRefused, PrintRefused, Remakes, SessionStep, TimeRefused, with_luts, WriteRefused};
+ghost use Rattle.syn_shell.specs.Steps.{AigerWriteRefused, gates_for, GeneratingRefused, IsAigerOf, MakingRefused, PrintRefused, Remakes, SessionStep, TimeRefused, with_luts, WriteRefused};
 
 use crate::comparing::{compare_files, compare_network};
 use crate::files::get;
@@ -256,7 +256,7 @@ impl Session {
     ) -> Result<(), Refusal>
         ensures made { OnOk result (Remakes recipe.now self.old.network self.new.network) }
         ensures stays { IfErr result (λ cause. self.new.network ≡ self.old.network) }
-        ensures refused { IfErr result (MakingRefused self.old.network) }
+        ensures refused { IfErr result (MakingRefused (gates_for recipe.now) self.old.network) }
         ensures luts { self.new.luts ≡ self.old.luts }
     {
         match &mut self.network {
@@ -275,7 +275,7 @@ impl Session {
     ) -> Result<(), Refusal>
         ensures made { OnOk result (Remakes (with_luts self.old.luts recipe.now) self.old.network self.new.network) }
         ensures stays { IfErr result (λ cause. self.new.network ≡ self.old.network) }
-        ensures refused { IfErr result (MakingRefused self.old.network) }
+        ensures refused { IfErr result (MakingRefused (gates_for (with_luts self.old.luts recipe.now)) self.old.network) }
         ensures luts { self.new.luts ≡ self.old.luts }
     {
         let recipe = with_luts(recipe, &self.luts);

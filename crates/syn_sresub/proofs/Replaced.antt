@@ -1,29 +1,19 @@
 -- ANDs in place of a literal that has their value.
-use Rattle.std.proofs.Common.{◌≡◌, Option, Some, None, IfSome, IsSomeAnd, ℕ, ◌+◌, ◌-◌, ◌%◌, ◌<◌, nat_eq, not, if◌then◌else◌, Bool, true, false, List, length, refl, sym, ap, ◌∙◌, subst, arith, inl, inr}
-use Rattle.std.proofs.lemmas.Bool.{cases_lt}
+use Rattle.std.proofs.Common.{◌≡◌, Option, Some, None, IfSome, IsSomeAnd, ℕ, ◌+◌, ◌-◌, ◌%◌, ◌<◌, nat_eq, not, if◌then◌else◌, Bool, true, false, List, length, refl, sym, ap, ◌∙◌, subst, arith}
 use Rattle.std.proofs.lemmas.Option.{IfSome_then}
-use Rattle.std.proofs.lemmas.List.{get_or_append_left, get_or_past}
 use Rattle.syn_rows.specs.declared.Lit.{Lit}
 use Rattle.syn_rows.specs.declared.Row.{Row}
-use Rattle.syn_rows.specs.declared.Row.TheVariants.{Free}
 use Rattle.syn_rows.specs.Joining.{complement}
-use Rattle.syn_rows.specs.Rows.{node_of, row_at}
-use Rattle.syn_rows.specs.Values.{Fits, RowFits, lit_value, value_in, values_of}
-use Rattle.syn_rows.proofs.Folds.{one_valuation_is}
+use Rattle.syn_rows.specs.Rows.{node_of}
+use Rattle.syn_rows.specs.Values.{lit_value, value_in, values_of}
 use Rattle.syn_rows.proofs.JoinLaws.{complement_node, same_lit}
-use Rattle.syn_sat.specs.declared.clauses.Clauses.{Clauses}
 use Rattle.syn_sat.proofs.Opposites.{not_value}
 use Rattle.syn_hashed.specs.Hashed.{IsHashed}
 use Rattle.syn_hashed.specs.Growing.{Extends, IsAnd}
-use Rattle.syn_hashed.proofs.Orders.{hashed_in_order}
 use Rattle.syn_hashed.proofs.Rising.{extends_longer, literal_kept}
 use Rattle.syn_sresub.specs.Replacing.{IsAndOf, Replaces}
 use Rattle.syn_remaking.specs.Remaking.{Stands}
-use Rattle.syn_fraig.specs.Sweeping.{AreTrueBy}
-
--- the computed values of hashed rows fit
-pub computed_fit : (count : ℕ) (rows : List Row) → IsHashed count rows → (given : ℕ → Bool) → given 0 ≡ false → Fits rows (value_in (values_of given rows))
-computed_fit count rows h given zero = (one_valuation_is rows given (hashed_in_order count rows h) zero).0
+use Rattle.syn_fraig.proofs.Grown.{computed_fit}
 
 pub and_replaces : (count : ℕ) (old new : List Row) (m x y l : Lit) → IsHashed count old → IsAndOf old m x y → node_of l < length new → IsAnd old x y new l → Replaces old m new l
 and_replaces count old new m x y l h same there value = record {
@@ -36,19 +26,6 @@ pub and_found : (count : ℕ) (old new : List Row) (m x y : Lit) (found : Option
     → IfSome found (Replaces old m new)
 and_found count old new m x y None h same there value = tt
 and_found count old new m x y (Some l) h same there value = and_replaces count old new m x y l h same there value
-
--- what fits grown rows fits the rows before
-pub fits_less : (old new : List Row) (v : ℕ → Bool) → Extends old new → Fits new v → Fits old v
-fits_less old new v e f = record {
-  constant = f.constant;
-  each = λ n. elim (cases_lt n (length old)) [
-    | inl lt ↦ subst (RowFits v n) (ap (λ (rs : List Row). row_at rs n) e.is ∙ get_or_append_left old e.more Free n lt) (f.each n)
-    | inr ge ↦ subst (RowFits v n) (sym (get_or_past old n Free ge)) tt
-  ];
-}
-
-pub still_true : (old new : List Row) (clauses : Clauses) → Extends old new → AreTrueBy old clauses → AreTrueBy new clauses
-still_true old new clauses e true_by v f = true_by v (fits_less old new v e f)
 
 -- a literal in place of another, of rows that grew before
 pub kept_itself : (old new : List Row) (m : Lit) → Extends old new → node_of m < length old → Replaces old m new m

@@ -9,13 +9,16 @@ ghost use Rattle.syn_fraig.specs.Sweeping.{AreTrueBy};
 ghost use Rattle.syn_sresub.specs.Replacing.{IsAndOf, Replaces};
 
 use crate::guesses::Guess;
-use crate::loading::{load_nearest, refresh};
 use crate::questions::is_and;
 use crate::tools::Tools;
 use std::alloc::AllocError;
+use syn_fraig::{load_nearest, refresh};
 use syn_hashed::HashedRows;
 use syn_rows::{Lit, NODE_LIMIT, Row};
 use syn_sat::{Answer, Solver};
+
+/// At most so many nodes are looked at for a question, the nearest first.
+const NEAREST: usize = 1000;
 
 /// The AND of two literals, where they are there and there is room for a row more. The only error is want of memory.
 pub(crate) fn and(hashed: &mut HashedRows, a: Lit, b: Lit) -> Result<Option<Lit>, AllocError>
@@ -52,7 +55,7 @@ fn ask(
     tools.queue.push(m.node())?;
     tools.queue.push(x.node())?;
     tools.queue.push(y.node())?;
-    load_nearest(rows, &mut tools.queue, solver)?;
+    load_nearest(rows, &mut tools.queue, solver, NEAREST)?;
     is_and(solver, m, x, y, tools.conflicts)
 }
 

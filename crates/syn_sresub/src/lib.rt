@@ -11,7 +11,6 @@ mod alike;
 mod attempts;
 mod divisors;
 mod guesses;
-mod loading;
 mod questions;
 mod references;
 mod remaking;

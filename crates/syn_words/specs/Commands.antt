@@ -78,6 +78,15 @@ replace_limits given = record { gates = given_gates given.further; conflicts = g
 abbrev pub slack_of : ℕ → ℕ
 slack_of number = min number 1000000
 
+-- A number of LUTs of a window, 1 at least and 1000 at most; the form lets no other through.
+abbrev pub window_of : ℕ → ℕ
+window_of number = max 1 (min number 1000)
+
+-- The number of LUTs of a window that was given, 100 where none was.
+abbrev pub given_window : Option ℕ → ℕ
+given_window None = 100
+given_window (Some number) = window_of number
+
 -- How trees of ANDs are rebuilt by what was given behind a name: with `-s` or without.
 abbrev pub balancing : Given → Recipe
 balancing given = if given.flags.0 then recipes.BalanceShared else recipes.Balance
@@ -185,6 +194,7 @@ commands_of keywords.Merge given = make (recipes.Merge (given_limits given)) ∷
 commands_of keywords.Replace given = make (recipes.Replace (replace_limits given)) ∷ []
 commands_of keywords.Map given = make (mapping given) ∷ []
 commands_of keywords.MapByFlow given = make (recipes.MapByFlow (option_map inputs_of given.number)) ∷ []
+commands_of keywords.ResubstituteLuts given = make (recipes.ResubstituteLuts (given_window given.number) None) ∷ []
 commands_of keywords.Sweep given = make recipes.Sweep ∷ []
 
 -- What a phrase says by the row of its name: the commands that it spells, or its first fault.

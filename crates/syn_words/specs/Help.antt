@@ -33,6 +33,7 @@ topic_of keywords.Resyn2 = (codes "resyn2, compress2", codes "is b; rw; rf; b; r
 topic_of keywords.Resyn2Levels = (codes "resyn2l", codes "is rwz; b; rf; b; rw; rwz; b; rfz; rwz; b, with -L on all but b", [])
 topic_of keywords.Map = (codes "if [-a | -A [-D N]] [-K N]", codes "maps to LUTs of at most N inputs", topics.MAP_OPTIONS.now)
 topic_of keywords.MapByFlow = (codes "flowmap [-K N]", codes "maps to LUTs of at most N inputs, at the least depth", codes "  -K N  at most N inputs, 2 to 8, by default 6 or those of read_lut" ++ 10 ∷ [])
+topic_of keywords.ResubstituteLuts = (codes "mfs [-w N]", codes "saves LUTs, and inputs of LUTs, by don't-cares; maps a graph first, as if -a does", codes "  -w N  by windows of at most N LUTs, 1 to 1000, by default 100; not by threads" ++ 10 ∷ [])
 topic_of keywords.Echo = (codes "echo WORDS", codes "prints the words, one blank apart", [])
 topic_of keywords.Help = (codes "help [COMMAND]", codes "prints a line a command, or what is to know of one", [])
 topic_of keywords.Source = (codes "source FILE", codes "runs the commands of a file", [])

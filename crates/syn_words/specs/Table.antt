@@ -74,6 +74,14 @@ slack_option = record { letter = 68; range = record { least = 0; most = 1000000 
 abbrev pub mapping_options : Form
 mapping_options = record { flags = (Some 97, Some 65, None); numbered = (Some inputs_option, Some slack_option); apart = true; operands = operands.Nothing }
 
+-- The option `-w` with a number of LUTs of a window from 1 to 1000.
+abbrev pub window_option : Numbered
+window_option = record { letter = 119; range = record { least = 1; most = 1000 } }
+
+-- Options alone: `-w` with a number of LUTs.
+abbrev pub window_alone : Form
+window_alone = record { flags = (None, None, None); numbered = (Some window_option, None); apart = false; operands = operands.Nothing }
+
 -- Two numbers alone: a seed of 64 bits, and a number of tables from 1 to 32768.
 abbrev pub seed_and_size : Form
 seed_and_size = record { flags = (None, None, None); numbered = (None, None); apart = false; operands = operands.TwoNumbers (record { least = 0; most = 18446744073709551615 }) (record { least = 1; most = 32768 }) }
@@ -119,6 +127,7 @@ table =
     ∷ (codes "rs", with_workers (Some 122), keywords.Resubstitute)
     ∷ (codes "rsz", with_workers None, keywords.ResubstituteZero)
     ∷ (codes "flowmap", inputs_alone, keywords.MapByFlow)
+    ∷ (codes "mfs", window_alone, keywords.ResubstituteLuts)
     ∷ (codes "fraig", with_conflicts None, keywords.Merge)
     ∷ (codes "sresub", with_conflicts (Some gates_option), keywords.Replace)
     ∷ (codes "srs", with_conflicts (Some gates_option), keywords.Replace)

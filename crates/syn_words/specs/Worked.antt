@@ -9,7 +9,7 @@ use Rattle.syn_words.specs.Forms.{given_by}
 use Rattle.syn_words.specs.Scripts.{IsScript, IsFirstFault}
 use Rattle.syn_words.specs.declared.Command.{Command}
 use Rattle.syn_words.specs.declared.Command.TheVariants.{Read, Write, ReadAiger, WriteAiger, Stats, Levels, Compare, Time, Print, Quit, Source, ReadLuts, Generate, Make}
-use Rattle.syn_words.specs.declared.recipes.Recipe.TheVariants.{Strash, Balance, BalanceShared, Rewrite, Refactor, Resubstitute, Merge, Replace, Map, MapLoosely, MapByFlow, Sweep}
+use Rattle.syn_words.specs.declared.recipes.Recipe.TheVariants.{Strash, Balance, BalanceShared, Rewrite, Refactor, Resubstitute, Merge, Replace, Map, MapLoosely, MapByFlow, ResubstituteLuts, Sweep}
 use Rattle.syn_words.specs.declared.ScriptFault.{ScriptFault}
 use Rattle.syn_words.specs.declared.ScriptFault.TheVariants.{BadByte, UnknownCommand, MissingWord, ExtraWord, UnknownEnding, BadNumber, OutOfRange}
 use Rattle.syn_words.specs.declared.formats.Format.TheVariants.{Blif}
@@ -72,6 +72,7 @@ pub record WorkedScripts : Type 0 where
   pub mapping_loosely : IsScript (codes "if -A; if -K 4 -A; if -D 0 -A; if -A -K 4 -D 1000000") (Make (MapLoosely None None) ∷ Make (MapLoosely None (Some (luts_alike 4))) ∷ Make (MapLoosely (Some 0) None) ∷ Make (MapLoosely (Some 1000000) (Some (luts_alike 4))) ∷ [])
   pub sharing : IsScript (codes "b -s; balance -s; b") (Make BalanceShared ∷ Make BalanceShared ∷ Make Balance ∷ [])
   pub mapping_by_flow : IsScript (codes "flowmap; flowmap -K 2; flowmap -K 8") (Make (MapByFlow None) ∷ Make (MapByFlow (Some 2)) ∷ Make (MapByFlow (Some 8)) ∷ [])
+  pub resubstituting_luts : IsScript (codes "mfs; mfs -w 1; mfs -w 01000") (Make (ResubstituteLuts 100 None) ∷ Make (ResubstituteLuts 1 None) ∷ Make (ResubstituteLuts 1000 None) ∷ [])
   pub ten_commands : IsScript (codes "resyn2")
       (Make Balance ∷ Make (Rewrite (options false false None)) ∷ Make (Refactor (options false false None)) ∷ Make Balance ∷ Make (Rewrite (options false false None)) ∷ Make (Rewrite (options true false None)) ∷ Make Balance ∷ Make (Refactor (options true false None)) ∷ Make (Rewrite (options true false None)) ∷ Make Balance ∷ [])
   pub ten_commands_keeping_levels : IsScript (codes "resyn2l")
@@ -178,6 +179,13 @@ pub record WorkedScripts : Type 0 where
   pub loosely_twice : IsFirstFault (codes "if -A -D 1 -A") (ExtraWord 11)
   pub levels_of_mapping : IsFirstFault (codes "if -D 2; ps") (MissingWord 7)
   pub levels_of_mapping_for_area : IsFirstFault (codes "if -a -D 2") (MissingWord 10)
+  pub no_window : IsFirstFault (codes "mfs -w 0") (OutOfRange 7)
+  pub too_great_a_window : IsFirstFault (codes "mfs -w 1001") (OutOfRange 7)
+  pub window_no_number : IsFirstFault (codes "mfs -w x") (BadNumber 7)
+  pub no_number_of_a_window : IsFirstFault (codes "mfs -w; ps") (MissingWord 6)
+  pub window_twice : IsFirstFault (codes "mfs -w 1 -w 2") (ExtraWord 9)
+  pub inputs_of_resubstituting_luts : IsFirstFault (codes "mfs -K 4") (ExtraWord 4)
+  pub window_without_an_option : IsFirstFault (codes "mfs 100") (ExtraWord 4)
   pub extra_before_missing : IsFirstFault (codes "if -D 2 x") (ExtraWord 8)
   pub too_many_levels : IsFirstFault (codes "if -A -D 1000001") (OutOfRange 9)
   pub no_number_of_levels : IsFirstFault (codes "if -A -D") (MissingWord 8)

@@ -55,6 +55,7 @@ const ORDER: &[Keyword] = &[
     Keyword::Resyn2Levels,
     Keyword::Map,
     Keyword::MapByFlow,
+    Keyword::ResubstituteLuts,
     Keyword::Echo,
     Keyword::Help,
     Keyword::Source,
@@ -188,6 +189,11 @@ fn topic_of(keyword: Keyword) -> Topic
             b"flowmap [-K N]",
             b"maps to LUTs of at most N inputs, at the least depth",
             b"  -K N  at most N inputs, 2 to 8, by default 6 or those of read_lut\n",
+        ),
+        Keyword::ResubstituteLuts => (
+            b"mfs [-w N]",
+            b"saves LUTs, and inputs of LUTs, by don't-cares; maps a graph first, as if -a does",
+            b"  -w N  by windows of at most N LUTs, 1 to 1000, by default 100; not by threads\n",
         ),
         Keyword::Echo => (b"echo WORDS", b"prints the words, one blank apart", b""),
         Keyword::Help => (

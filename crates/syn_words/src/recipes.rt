@@ -67,6 +67,13 @@ pub enum Recipe {
         /// The LUTs.
         luts: Option<LutSizes>,
     },
+    /// `mfs [-w n]`: drops and replaces what LUTs read, and LUTs, by don't-cares; maps a graph first, as `if -a` does.
+    ResubstituteLuts {
+        /// The most LUTs of a window.
+        window: u32,
+        /// The LUTs that a graph is mapped to.
+        luts: Option<LutSizes>,
+    },
     /// `flowmap [-K n]`: maps the network to LUTs of so many inputs at most, likewise, at the least depth that there is.
     MapByFlow(Option<LutInputs>),
     /// `scl`: drops latches that no output needs, and makes one of latches that always hold the same.

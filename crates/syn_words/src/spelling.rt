@@ -4,16 +4,19 @@ ghost use Rattle.std.specs.Prelude.{◌≡◌, ◌⊎◌, [], ◌∷◌, Err, Ok
 ghost use Rattle.syn_words.specs.Help.{helped};
 ghost use Rattle.syn_words.specs.Quotes.{meant};
 ghost use Rattle.syn_words.specs.Texts.{echoed};
-ghost use Rattle.syn_words.specs.Commands.{balancing, commands_of, comparing, gates_of, given_conflicts, given_gates, given_limits, given_options, inputs_of, luts_of, mapping, options, reading, replace_limits, resyn, resyn2, resyn2l, said, size_of, slack_of, workers_of, writing};
+ghost use Rattle.syn_words.specs.Commands.{balancing, commands_of, comparing, gates_of, given_conflicts, given_gates, given_limits, given_options, given_window, inputs_of, luts_of, mapping, options, reading, replace_limits, resyn, resyn2, resyn2l, said, size_of, slack_of, window_of, workers_of, writing};
 ghost use Rattle.syn_words.specs.Scripts.{said_onto};
 ghost use Rattle.syn_words.specs.declared.Command.TheVariants as commands;
+ghost use Rattle.syn_words.specs.declared.recipes.Recipe.TheVariants as recipes;
 
 use crate::formats::{Format, NetworkFile};
 use crate::help::helped;
 use crate::inputs::{LutInputs, LutSizes};
 use crate::names::{FileName, WordText};
 use crate::recipes::{PassOptions, Recipe, ReplaceLimits, SearchLimits};
-use crate::table::{Keyword, MAX_CONFLICTS, MAX_GATES, MAX_SLACK, MAX_TABLES, entry_of};
+use crate::table::{
+    Keyword, MAX_CONFLICTS, MAX_GATES, MAX_SLACK, MAX_TABLES, MAX_WINDOW, entry_of,
+};
 use crate::texts::echoed;
 use crate::word_reader::{Given, given_by};
 use crate::words::Phrase;
@@ -26,6 +29,9 @@ const USUAL_CONFLICTS: u32 = 100;
 
 // So many new ANDs in place of a node where no number is given.
 const USUAL_GATES: u32 = 1;
+
+// So many LUTs of a window where no number is given.
+const USUAL_WINDOW: u32 = 100;
 
 // A number of workers, one at least and the most at most.
 fn workers_of(number: u64) -> Workers
@@ -141,6 +147,33 @@ fn given_slack(number: Option<u64>) -> Option<u32>
     match number {
         Some(number) => Some(number.min(MAX_SLACK as u64) as u32),
         None => None,
+    }
+}
+
+// A number of LUTs of a window, one at least and the most at most.
+fn window_of(number: u64) -> u32
+    ensures { result ≡ window_of number }
+{
+    number.min(MAX_WINDOW as u64).max(1) as u32
+}
+
+// The number of LUTs of a window that was given, and the usual one where none was.
+fn given_window(number: Option<u64>) -> u32
+    ensures { result ≡ given_window number }
+{
+    match number {
+        None => USUAL_WINDOW,
+        Some(number) => window_of(number),
+    }
+}
+
+// How LUTs are resubstituted by what was given.
+fn resubstituting(given: &Given<'_>) -> Recipe
+    ensures { result ≡ recipes.ResubstituteLuts (given_window given.now.number) None }
+{
+    Recipe::ResubstituteLuts {
+        window: given_window(given.number),
+        luts: None,
     }
 }
 
@@ -333,6 +366,7 @@ fn commands_of(
     let trees = balancing(&given);
     let luts = mapping(&given);
     let inputs = given_inputs(given.number);
+    let fewer = resubstituting(&given);
     let (seed, size) = (given.numbers.0, size_of(given.numbers.1));
     let name = FileName::of(alloc, given.name)?;
     match keyword {
@@ -371,6 +405,7 @@ fn commands_of(
         Keyword::Replace => make(alloc, Recipe::Replace(replacing)),
         Keyword::Map => make(alloc, luts),
         Keyword::MapByFlow => make(alloc, Recipe::MapByFlow(inputs)),
+        Keyword::ResubstituteLuts => make(alloc, fewer),
         Keyword::Sweep => make(alloc, Recipe::Sweep),
     }
 }

@@ -35,6 +35,7 @@ pub enum Keyword {
     Resubstitute,
     ResubstituteZero,
     MapByFlow,
+    ResubstituteLuts,
     Merge,
     Replace,
     Resyn,
@@ -55,6 +56,9 @@ pub const MAX_CONFLICTS: u32 = 1_000_000;
 
 /// So many levels more at most.
 pub const MAX_SLACK: u32 = 1_000_000;
+
+/// So many LUTs of a window at most.
+pub const MAX_WINDOW: u32 = 1_000;
 
 /// So many generated tables at most.
 pub const MAX_TABLES: u16 = 32_768;
@@ -98,6 +102,15 @@ const SLACK: Numbered = Numbered {
     range: NumberRange {
         least: 0,
         most: MAX_SLACK as u64,
+    },
+};
+
+// The option with a number of LUTs of a window.
+const WINDOW: Numbered = Numbered {
+    letter: b'w',
+    range: NumberRange {
+        least: 1,
+        most: MAX_WINDOW as u64,
     },
 };
 
@@ -217,6 +230,14 @@ const ONLY_INPUTS: Form = Form {
     operands: Operands::Nothing,
 };
 
+// A number of LUTs of a window.
+const ONLY_WINDOW: Form = Form {
+    flags: (None, None, None),
+    numbered: (Some(WINDOW), None),
+    apart: false,
+    operands: Operands::Nothing,
+};
+
 // `-L`, and a number of conflicts.
 const SEARCH: Form = Form {
     flags: (None, Some(b'L'), None),
@@ -242,7 +263,7 @@ const SEED_AND_SIZE: Form = Form {
 };
 
 // The names, long and short.
-const TABLE: [Row; 43] = [
+const TABLE: [Row; 44] = [
     (b"read_blif", NAME, Keyword::ReadBlif),
     (b"write_blif", NAME, Keyword::WriteBlif),
     (b"print_stats", NOTHING, Keyword::PrintStats),
@@ -277,6 +298,7 @@ const TABLE: [Row; 43] = [
     (b"rs", PASS, Keyword::Resubstitute),
     (b"rsz", ZERO_PASS, Keyword::ResubstituteZero),
     (b"flowmap", ONLY_INPUTS, Keyword::MapByFlow),
+    (b"mfs", ONLY_WINDOW, Keyword::ResubstituteLuts),
     (b"fraig", SEARCH, Keyword::Merge),
     (b"sresub", GATE_SEARCH, Keyword::Replace),
     (b"srs", GATE_SEARCH, Keyword::Replace),

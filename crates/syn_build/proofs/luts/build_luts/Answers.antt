@@ -10,7 +10,7 @@ use Rattle.syn_network.specs.Networks.{HasOwnSources}
 use Rattle.syn_lutnet.specs.Data.{luts_data}
 use Rattle.syn_network.specs.WrittenLuts.{network_of}
 use Rattle.syn_build.specs.GraphOfLuts.{IsGraphOfLuts}
-use Rattle.syn_build.specs.Covering.{AllThere}
+use Rattle.syn_lut_rows.specs.LutLiterals.{AllThere}
 use Rattle.syn_lutnet.specs.LutData.{Lut, luts_function}
 use Rattle.syn_lutnet.proofs.LutParts.{eight_exceeded_by_none}
 use Rattle.syn_network.proofs.Naming.{own_stays}

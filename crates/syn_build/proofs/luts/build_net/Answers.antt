@@ -9,9 +9,11 @@ use Rattle.syn_hashed.specs.Hashed.{IsHashed, lit_at}
 use Rattle.syn_lutnet.specs.LutData.{fold_luts, lut_value, net_gates}
 use Rattle.syn_lutnet.specs.declared.luts.Lut.{Lut}
 use Rattle.syn_lutnet.specs.Data.{lut_data, luts_data}
-use Rattle.syn_build.specs.Covering.{AllThere}
-use Rattle.syn_build.specs.LutLiterals.{ReadEarlier, plain_literals, signed_by}
-use Rattle.syn_build.proofs.LutValues.{length-plain, net_reads_earlier, net_function, signed_stay, signed_there, plain_at, plain_there}
+use Rattle.syn_lut_rows.specs.LutLiterals.{AllThere}
+use Rattle.syn_lut_rows.specs.LutLiterals.{ReadEarlier, plain_literals}
+use Rattle.syn_build.specs.LutLiterals.{signed_by}
+use Rattle.syn_lut_rows.proofs.Literals.{length-plain, net_reads_earlier, plain_at, plain_there}
+use Rattle.syn_build.proofs.LutValues.{net_function, signed_stay, signed_there}
 use Rattle.syn_build.proofs.luts.build_net.Goals as goal
 
 -- so many signals are there at the end

@@ -2,7 +2,7 @@ use Rattle.std.proofs.Common.{◌≡◌, ◌+◌, ◌<◌, ◌≤◌, sum_by, dr
 use Rattle.syn_rows.specs.Rows.{node_of}
 use Rattle.syn_netlist.specs.Costs.{row_cost}
 use Rattle.syn_hashed.specs.Growing.{Extends}
-use Rattle.syn_build.specs.Covering.{AllThere}
+use Rattle.syn_lut_rows.specs.LutLiterals.{AllThere}
 use Rattle.syn_build.proofs.Matching.{IsSome}
 use Rattle.syn_build.proofs.tables.table_literal.Given as goal
 

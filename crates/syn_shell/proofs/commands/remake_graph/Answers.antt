@@ -36,6 +36,10 @@ returns-in_ok-made-in-Map-clause-made g c = made_by _ (recipes.Map c.in-Map.area
 pub returns-in_ok-made-in-MapLoosely-clause-made : goal.returns-in_ok-made-in-MapLoosely-clause-made
 returns-in_ok-made-in-MapLoosely-clause-made g c = made_by _ (recipes.MapLoosely c.in-MapLoosely.slack c.in-MapLoosely.luts) _ _ c.in-MapLoosely.is c.in_ok-made-in-MapLoosely.ensures
 
+pub returns-in_ok-made-in-ResubstituteLuts-clause-made : goal.returns-in_ok-made-in-ResubstituteLuts-clause-made
+returns-in_ok-made-in-ResubstituteLuts-clause-made g c =
+    made_by _ (recipes.ResubstituteLuts c.in-ResubstituteLuts.window c.in-ResubstituteLuts.luts) _ _ c.in-ResubstituteLuts.is c.in_ok-made-in-ResubstituteLuts.ensures
+
 pub returns-in_ok-mapped-in-MapByFlow-clause-made : goal.returns-in_ok-mapped-in-MapByFlow-clause-made
 returns-in_ok-mapped-in-MapByFlow-clause-made g c =
     let h = c.in_ok-net-in-MapByFlow.ensures in

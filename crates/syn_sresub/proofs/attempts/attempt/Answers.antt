@@ -2,7 +2,7 @@ use Rattle.std.proofs.Common.{List, subst, sym}
 use Rattle.syn_rows.specs.declared.Row.{Row}
 use Rattle.syn_sresub.specs.Replacing.{IsAndOf}
 use Rattle.syn_fraig.specs.Sweeping.{AreTrueBy}
-use Rattle.syn_sresub.proofs.Replaced.{still_true}
+use Rattle.syn_fraig.proofs.Grown.{still_true}
 use Rattle.syn_remaking.proofs.Results.{OnOk-of}
 use Rattle.syn_sresub.proofs.attempts.attempt.Goals as goal
 

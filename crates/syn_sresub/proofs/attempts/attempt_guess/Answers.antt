@@ -1,5 +1,6 @@
 use Rattle.std.proofs.lemmas.Result.{IfOk-weaker}
-use Rattle.syn_sresub.proofs.Replaced.{found_later, found_turned, still_true}
+use Rattle.syn_fraig.proofs.Grown.{still_true}
+use Rattle.syn_sresub.proofs.Replaced.{found_later, found_turned}
 use Rattle.syn_sresub.proofs.attempts.attempt_guess.Goals as goal
 
 pub returns-in_default-clause-clauses : goal.returns-in_default-clause-clauses

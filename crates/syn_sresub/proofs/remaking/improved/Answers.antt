@@ -1,5 +1,6 @@
 use Rattle.syn_hashed.proofs.Rising.{extends_through}
-use Rattle.syn_sresub.proofs.Replaced.{stands_replaced, still_true}
+use Rattle.syn_fraig.proofs.Grown.{still_true}
+use Rattle.syn_sresub.proofs.Replaced.{stands_replaced}
 use Rattle.syn_sresub.proofs.remaking.improved.Goals as goal
 
 pub improve-requires-clause-there : goal.improve-requires-clause-there

@@ -1,0 +1,3 @@
+pub mod Functions
+pub mod Later
+pub mod Placings
